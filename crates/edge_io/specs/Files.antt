@@ -1,0 +1,29 @@
+-- What a host tells of its files: a finite map from names to contents, or nothing.
+use Rattle.std.specs.Prelude.{◌≡◌, ℕ, ◌<◌, List, Option, Some, None, ⊤, length, IsSome}
+use Rattle.std.specs.Ordering.{nat_cmp}
+use Rattle.std.specs.Cmp.Lexicographic.{slice_cmp}
+use Rattle.std.specs.FinMap.{FinMap, get}
+
+-- from names to contents, both as bytes
+abbrev pub Files : Type 0
+Files = FinMap (slice_cmp nat_cmp) (List ℕ)
+
+-- these bytes are what the name holds, as far as contents are told
+abbrev pub Holds : Option Files → List ℕ → List ℕ → Type 0
+Holds None name bytes = ⊤
+Holds (Some files) name bytes = get files name ≡ Some bytes
+
+-- contents are told, and the name is not among them
+abbrev pub Lacks : Option Files → List ℕ → Type 0
+Lacks None name = ⊥
+Lacks (Some files) name = get files name ≡ None
+
+-- contents are told, and those of the name are longer than the limit
+abbrev pub IsLonger : Option Files → List ℕ → ℕ → Type 0
+IsLonger None name limit = ⊤
+IsLonger (Some files) name limit = (bytes : List ℕ) × (get files name ≡ Some bytes) × (limit < length bytes)
+
+-- what is left of a capture is the whole of the name's contents, as far as contents are told
+abbrev pub IsOpened : Option Files → List ℕ → Option (List ℕ) → Type 0
+IsOpened None name left = ⊤
+IsOpened (Some files) name left = (left ≡ get files name) × IsSome left

@@ -1,0 +1,10 @@
+pub mod Told
+pub mod Files
+pub mod Refusals
+pub mod Policies
+pub mod Calls
+pub mod HeldFiles
+pub mod PutFiles
+pub mod HeldBytes
+pub mod Matching
+pub mod Literals

@@ -1,0 +1,14 @@
+-- What a maker of literal patterns stands for.
+use Rattle.std.specs.Prelude.{List, map}
+use Rattle.edge_io.specs.declared.literal.Refused.{Refused}
+use Rattle.edge_io.specs.Refusals.{Refusal}
+use Rattle.edge_io.specs.Calls.{Calls}
+
+-- what it refused so far, in order, and the calls of `make`
+pub record LiteralCalls : Type 0 where
+  pub refusals : List Refusal
+  pub calls : Calls
+
+-- the refusals, from the list in which it keeps them
+abbrev pub refusals_of : List Refused → List Refusal
+refusals_of refused = map (λ one. record { text = one.text; flags = one.flags }) refused

@@ -1,0 +1,102 @@
+ghost use Rattle.std.specs.Prelude.{◌≡◌, ℕ, ◌+◌, ◌<◌, ◌≤◌, ◌++◌, ◌⊎◌, Option, List, length, take, drop, vec_len, IfOk, OnOk, OnErr, IsErrOf};
+ghost use Rattle.edge_io.specs.Told.{before, NothingLeft, Rose};
+ghost use Rattle.edge_io.specs.Files.{Files, Holds, Lacks, IsLonger, IsOpened};
+
+use crate::{Failed, NoMemory};
+use std::alloc::{AllocError, AllocFailed};
+
+/// Why a file was not loaded.
+#[derive(Clone, Copy, Debug, PartialEq, Eq)]
+pub enum LoadFault {
+    /// The host failed, or has no such file.
+    Failed,
+    /// The file is longer than the limit.
+    TooLarge,
+    /// Memory ran out.
+    NoMemory,
+}
+
+/// Files by name, and one open capture that is read piece by piece.
+///
+/// The meanings: `contents`, the files where they are told; `left`, the bytes left of the open
+/// capture where they are told, none where nothing is open; `faults`, a count that never falls.
+pub trait Host {
+    ghost contents: { Self → Option Files };
+
+    ghost left: { Self → Option (List ℕ) };
+
+    ghost faults: { Self → ℕ };
+
+    /// Appends the whole contents of a file of at most `limit` bytes to `out`.
+    fn load(&mut self, name: &str, limit: usize, out: &mut Vec<u8>) -> Result<(), LoadFault>
+        ensures appends { OnOk result (out.new.items ≡ out.old.items ++ drop (vec_len out.old) out.new.items) }
+        ensures whole { OnOk result (Holds (contents self.old) name.now (drop (vec_len out.old) out.new.items)) }
+        ensures within { OnOk result (vec_len out.new ≤ vec_len out.old + limit) }
+        ensures too_large { IsErrOf result LoadFault.TooLarge → IsLonger (contents self.old) name.now limit }
+        ensures failed { IsErrOf result LoadFault.Failed
+            → Rose (faults self.old) (faults self.new) ⊎ Lacks (contents self.old) name.now }
+        ensures refused { OnErr result (out.new.items ≡ out.old.items) }
+        ensures same_contents { contents self.new ≡ contents self.old }
+        ensures same_left { left self.new ≡ left self.old }
+        ensures later { faults self.old ≤ faults self.new };
+
+    /// Opens a file as the capture, in place of one that was open.
+    fn open(&mut self, name: &str) -> Result<(), Failed>
+        ensures opened { OnOk result (IsOpened (contents self.old) name.now (left self.new)) }
+        ensures failed { OnErr result (Rose (faults self.old) (faults self.new) ⊎ Lacks (contents self.old) name.now) }
+        ensures closed { OnErr result (NothingLeft (left self.new)) }
+        ensures same_contents { contents self.new ≡ contents self.old }
+        ensures later { faults self.old ≤ faults self.new };
+
+    /// Takes bytes off the front of the open capture into the front of `buf`, as many as the answer
+    /// says: 0 only where nothing is left or nothing is open. The rest of `buf` is left open.
+    fn read(&mut self, buf: &mut [u8]) -> Result<usize, Failed>
+        requires { 0 < length buf.old }
+        ensures within { IfOk result (λ count. count ≤ length buf.old) }
+        ensures taken { IfOk result (λ count. left self.old ≡ before (take count buf.new) (left self.new)) }
+        ensures ended { IfOk result (λ count. count ≡ 0 → NothingLeft (left self.old)) }
+        ensures failed { OnErr result (Rose (faults self.old) (faults self.new)) }
+        ensures nothing_taken { OnErr result (left self.new ≡ left self.old) }
+        ensures same_contents { contents self.new ≡ contents self.old }
+        ensures later { faults self.old ≤ faults self.new };
+}
+
+impl From<Failed> for LoadFault {
+    ghost use Rattle.edge_io.specs.declared.host.LoadFault.TheVariants.{Failed as outside_failed};
+
+    ghost from_gives = { λ _ fault. fault ≡ outside_failed };
+
+    fn from(_error: Failed) -> LoadFault {
+        LoadFault::Failed
+    }
+}
+
+impl From<NoMemory> for LoadFault {
+    ghost use Rattle.edge_io.specs.declared.host.LoadFault.TheVariants.{NoMemory as out_of_memory};
+
+    ghost from_gives = { λ _ fault. fault ≡ out_of_memory };
+
+    fn from(_error: NoMemory) -> LoadFault {
+        LoadFault::NoMemory
+    }
+}
+
+impl From<AllocError> for LoadFault {
+    ghost use Rattle.edge_io.specs.declared.host.LoadFault.TheVariants.{NoMemory as out_of_memory};
+
+    ghost from_gives = { λ _ fault. fault ≡ out_of_memory };
+
+    fn from(_error: AllocError) -> LoadFault {
+        LoadFault::NoMemory
+    }
+}
+
+impl<T: Drop> From<AllocFailed<T>> for LoadFault {
+    ghost use Rattle.edge_io.specs.declared.host.LoadFault.TheVariants.{NoMemory as out_of_memory};
+
+    ghost from_gives = { λ _ fault. fault ≡ out_of_memory };
+
+    fn from(_error: AllocFailed<T>) -> LoadFault {
+        LoadFault::NoMemory
+    }
+}

@@ -1,0 +1,50 @@
+//! The outside of the detector: what it reads from, writes to and asks, as traits with meanings.
+//!
+//! Everything above this crate is proved over these traits. A meaning says what an object stands
+//! for: the files of a host and what is left of its open capture, the bytes that a sink was given,
+//! what a pattern finds. A real file or terminal leaves its meanings untold, and then the clauses
+//! about contents hold of nothing; the clauses about faults hold all the same. The memory
+//! implementations tell their meanings and are proved against them, and the few lines over real
+//! files and streams are the trusted edge. Beside the traits stand the base types that all crates
+//! share: text, lists, addresses, moments.
+#![tactic(auto)]
+
+mod address;
+mod calls;
+mod crossing;
+mod fault;
+mod file_host;
+mod gate;
+mod host;
+mod items;
+mod link;
+mod literal;
+mod mem_host;
+mod mem_sink;
+mod moment;
+mod pattern;
+mod policy;
+mod sink;
+mod std_sink;
+mod text;
+
+pub use address::Addr;
+pub use crossing::{items_cross_threads, types_cross_threads};
+pub use fault::{Failed, NoMemory};
+pub use file_host::FileHost;
+pub use gate::{Gate, OpenGate};
+pub use host::{Host, LoadFault};
+pub use items::Items;
+pub use link::Link;
+pub use literal::{Literal, LiteralMaker};
+pub use mem_host::MemHost;
+pub use mem_sink::MemSink;
+pub use moment::Moment;
+pub use pattern::{MakeFault, Pattern, PatternFlags, PatternMaker, Span};
+pub use policy::{FragPolicy, Preference, StreamPolicy};
+pub use sink::{Sink, WriteStop, write_all};
+pub use std_sink::StdSink;
+pub use text::Text;
+
+#[cfg(test)]
+mod tests;
