@@ -1,0 +1,12 @@
+pub mod Fronts
+pub mod Words
+pub mod Digits
+pub mod Entries
+pub mod Pieces
+pub mod Appended
+pub mod Steps
+pub mod Accepted
+pub mod Derived
+pub mod Prefixes
+pub mod Starts
+pub mod ListParts

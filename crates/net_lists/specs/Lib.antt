@@ -1,0 +1,10 @@
+pub mod Membership
+pub mod Chain
+pub mod Parts
+pub mod Tokens
+pub mod Lists
+pub mod Machine
+pub mod Variables
+pub mod Stored
+pub mod Forms
+pub mod Expansion

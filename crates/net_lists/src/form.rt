@@ -1,0 +1,164 @@
+ghost use Rattle.std.specs.Prelude.{◌≡◌, ◌≤◌, ◌<◌, length, IfSome};
+ghost use Rattle.net_lists.specs.Forms.{form_at, bare, parenthesized, named_form, closed, name_len, IsSpan, otherwise_span};
+ghost use Rattle.net_lists.specs.Variables.{continues_name};
+ghost use Rattle.std.specs.List.{prefix_len};
+
+use crate::decimal::place_of;
+use crate::name::{begins_name, continues_name};
+use edge_io::Span;
+
+/// What stands for an undefined variable.
+#[derive(Clone, Copy, Debug, PartialEq, Eq)]
+pub enum Otherwise {
+    /// These bytes of the text, copied.
+    Default(Span),
+    /// Nothing: these bytes of the text are shown.
+    Refused(Span),
+}
+
+/// A form that names a variable, by places in the text.
+#[derive(Clone, Copy, Debug, PartialEq, Eq)]
+pub struct Form {
+    pub name: Span,
+    /// The place behind the form.
+    pub end: usize,
+    pub otherwise: Otherwise,
+}
+
+/// The form whose `$` stands right before this place.
+#[tactic(auto, unfolding(crate::specs::Forms::form_at))]
+pub fn form_at(text: &[u8], place: usize) -> Option<Form>
+    requires { place ≤ length text.now }
+    ensures form { result ≡ form_at text.now place }
+    ensures behind { IfSome result (λ form. place < form.end) }
+    ensures within { IfSome result (λ form. form.end ≤ length text.now) }
+    ensures name { IfSome result (λ form. IsSpan text.now form.name) }
+    ensures otherwise { IfSome result (λ form. IsSpan text.now (otherwise_span form.otherwise)) }
+{
+    if text[place..].starts_with(b"(") {
+        return parenthesized(text, place + 1);
+    }
+    bare(text, place)
+}
+
+/// The form that is a name alone, from this place on.
+#[tactic(auto, unfolding(crate::specs::Forms::bare))]
+fn bare(text: &[u8], place: usize) -> Option<Form>
+    requires { place ≤ length text.now }
+    ensures form { result ≡ bare text.now place }
+    ensures behind { IfSome result (λ form. place < form.end) }
+    ensures within { IfSome result (λ form. form.end ≤ length text.now) }
+    ensures name { IfSome result (λ form. IsSpan text.now form.name) }
+    ensures otherwise { IfSome result (λ form. IsSpan text.now (otherwise_span form.otherwise)) }
+{
+    let len = name_len(&text[place..]);
+    if len == 0 {
+        return None;
+    }
+    let name = Span {
+        start: place,
+        end: place + len,
+    };
+    Some(Form {
+        name,
+        end: place + len,
+        otherwise: Otherwise::Refused(name),
+    })
+}
+
+/// The form in parentheses whose name begins at this place.
+#[tactic(auto, unfolding(crate::specs::Forms::parenthesized))]
+fn parenthesized(text: &[u8], place: usize) -> Option<Form>
+    requires { place ≤ length text.now }
+    ensures form { result ≡ parenthesized text.now place }
+    ensures behind { IfSome result (λ form. place < form.end) }
+    ensures within { IfSome result (λ form. form.end ≤ length text.now) }
+    ensures name { IfSome result (λ form. IsSpan text.now form.name) }
+    ensures otherwise { IfSome result (λ form. IsSpan text.now (otherwise_span form.otherwise)) }
+{
+    let len = name_len(&text[place..]);
+    if len == 0 {
+        return None;
+    }
+    named_form(
+        text,
+        Span {
+            start: place,
+            end: place + len,
+        },
+    )
+}
+
+/// The form in parentheses with this name, by what stands behind the name.
+#[tactic(auto, unfolding(crate::specs::Forms::named_form))]
+fn named_form(text: &[u8], name: Span) -> Option<Form>
+    requires { IsSpan text.now name }
+    ensures form { result ≡ named_form text.now name }
+    ensures behind { IfSome result (λ form. name.end < form.end) }
+    ensures within { IfSome result (λ form. form.end ≤ length text.now) }
+    ensures name { IfSome result (λ form. form.name ≡ name) }
+    ensures otherwise { IfSome result (λ form. IsSpan text.now (otherwise_span form.otherwise)) }
+{
+    let behind = &text[name.end..];
+    if behind.starts_with(b")") {
+        return Some(Form {
+            name,
+            end: name.end + 1,
+            otherwise: Otherwise::Refused(name),
+        });
+    }
+    if behind.starts_with(b":-") {
+        let default = closed(text, name.end + 2)?;
+        return Some(Form {
+            name,
+            end: default.end + 1,
+            otherwise: Otherwise::Default(default),
+        });
+    }
+    if behind.starts_with(b":?") {
+        let shown = closed(text, name.end + 2)?;
+        return Some(Form {
+            name,
+            end: shown.end + 1,
+            otherwise: Otherwise::Refused(shown),
+        });
+    }
+    None
+}
+
+/// What stands from this place up to the first `)`.
+#[tactic(auto, unfolding(crate::specs::Forms::closed))]
+fn closed(text: &[u8], place: usize) -> Option<Span>
+    requires { place ≤ length text.now }
+    ensures span { result ≡ closed text.now place }
+    ensures within { IfSome result (λ span. (span.start ≡ place) × (place ≤ span.end) × (span.end < length text.now)) }
+{
+    let count = place_of(&text[place..], b')')?;
+    Some(Span {
+        start: place,
+        end: place + count,
+    })
+}
+
+/// How many bytes of a name stand in front.
+#[tactic(auto, unfolding(crate::specs::Forms::name_len))]
+fn name_len(text: &[u8]) -> usize
+    ensures len { result ≡ name_len text.now }
+    ensures within { result ≤ length text.now }
+{
+    match text {
+        [first, rest @ ..] if begins_name(*first) => 1 + continued_len(rest),
+        _ => 0,
+    }
+}
+
+/// How many bytes in front continue a name.
+#[tactic(auto, using(crate::proofs::Fronts::fronts))]
+fn continued_len(text: &[u8]) -> usize
+    ensures len { result ≡ prefix_len continues_name text.now }
+    ensures within { result ≤ length text.now }
+{
+    text.iter()
+        .position(|byte| !continues_name(*byte))
+        .unwrap_or(text.len())
+}

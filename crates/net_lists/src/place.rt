@@ -1,0 +1,168 @@
+ghost use Rattle.std.specs.Prelude.{◌≡◌, ◌+◌, ◌<◌, ◌^◌, IfSome};
+ghost use Rattle.net_lists.specs.Parts.{bounds_of};
+ghost use Rattle.net_lists.specs.Tokens.{symbol_of};
+ghost use Rattle.net_lists.specs.Machine.{IsNext, step_of, start, is_end, is_negated, no_part, at, behind_word, behind_open, behind_close, behind_comma, behind_not};
+
+use crate::kind::Kind;
+use crate::part::Part;
+use crate::token::Token;
+
+/// What may stand next inside the brackets of a list.
+#[derive(Clone, Copy, Debug, PartialEq, Eq)]
+pub enum Wanted {
+    /// A part, a bracket or a `!`.
+    Item,
+    /// A part or a bracket, behind a `!`.
+    Operand,
+    /// A comma or the end of a bracket.
+    Separator,
+}
+
+/// How far the symbols of a list were read.
+#[derive(Clone, Copy, Debug, PartialEq, Eq)]
+pub struct Place {
+    pub wanted: Wanted,
+    /// How many brackets are open, the outermost aside.
+    pub depth: usize,
+    /// How many of all open brackets, from the innermost on, lie in a negated one or are it.
+    pub negated: usize,
+}
+
+/// A step behind a token: the next place, and the part that the token is.
+#[derive(Clone, Copy, Debug, PartialEq, Eq)]
+pub struct Step {
+    pub place: Place,
+    pub part: Option<Part>,
+}
+
+impl Place {
+    /// Before the first symbol of a list's brackets, which a `!` may stand before.
+    pub fn start(negated: bool) -> Place
+        ensures { result ≡ start negated }
+    {
+        Place {
+            wanted: Wanted::Item,
+            depth: 0,
+            negated: usize::from(negated),
+        }
+    }
+
+    /// Whether the text may end here.
+    pub fn is_end(self) -> bool
+        ensures { result ≡ is_end self }
+    {
+        self.wanted == Wanted::Separator && self.depth == 0
+    }
+
+    /// The step behind this token, if it may stand here.
+    pub fn step(self, kind: Kind, token: Token<'_>) -> Option<Step>
+        requires depth { self.depth + 1 < 2 ^ 64 }
+        requires negated { self.negated + 1 < 2 ^ 64 }
+        ensures step { result ≡ step_of (bounds_of kind) self (symbol_of token.entry) }
+        ensures next { IfSome result (λ step. IsNext self step.place) }
+    {
+        match token {
+            Token::Open => self.behind_open(),
+            Token::Close => self.behind_close(),
+            Token::Comma => self.behind_comma(),
+            Token::Not => self.behind_not(),
+            Token::Word(word) => self.behind_word(kind, word),
+        }
+    }
+
+    fn is_negated(self) -> bool
+        ensures { result ≡ is_negated self }
+    {
+        self.wanted == Wanted::Operand || self.negated > 0
+    }
+
+    #[tactic(auto, unfolding(crate::specs::Machine::behind_word))]
+    fn behind_word(self, kind: Kind, word: &[u8]) -> Option<Step>
+        ensures step { result ≡ behind_word (bounds_of kind) self word.now }
+        ensures next { IfSome result (λ step. IsNext self step.place) }
+    {
+        if self.wanted == Wanted::Separator {
+            return None;
+        }
+        let bounds = kind.bounds(word)?;
+        Some(Step {
+            place: Place {
+                wanted: Wanted::Separator,
+                depth: self.depth,
+                negated: self.negated,
+            },
+            part: Some(bounds.signed(self.is_negated())),
+        })
+    }
+
+    #[tactic(auto, unfolding(crate::specs::Machine::behind_open))]
+    fn behind_open(self) -> Option<Step>
+        requires depth { self.depth + 1 < 2 ^ 64 }
+        requires negated { self.negated + 1 < 2 ^ 64 }
+        ensures step { result ≡ behind_open self }
+        ensures next { IfSome result (λ step. IsNext self step.place) }
+    {
+        if self.wanted == Wanted::Separator {
+            return None;
+        }
+        let negated = if self.is_negated() {
+            self.negated + 1
+        } else {
+            0
+        };
+        Some(Step::to(Wanted::Item, self.depth + 1, negated))
+    }
+
+    #[tactic(auto, unfolding(crate::specs::Machine::behind_close))]
+    fn behind_close(self) -> Option<Step>
+        ensures step { result ≡ behind_close self }
+        ensures next { IfSome result (λ step. IsNext self step.place) }
+    {
+        if self.wanted != Wanted::Separator || self.depth == 0 {
+            return None;
+        }
+        Some(Step::to(
+            Wanted::Separator,
+            self.depth - 1,
+            self.negated.saturating_sub(1),
+        ))
+    }
+
+    #[tactic(auto, unfolding(crate::specs::Machine::behind_comma))]
+    fn behind_comma(self) -> Option<Step>
+        ensures step { result ≡ behind_comma self }
+        ensures next { IfSome result (λ step. IsNext self step.place) }
+    {
+        if self.wanted != Wanted::Separator {
+            return None;
+        }
+        Some(Step::to(Wanted::Item, self.depth, self.negated))
+    }
+
+    #[tactic(auto, unfolding(crate::specs::Machine::behind_not))]
+    fn behind_not(self) -> Option<Step>
+        ensures step { result ≡ behind_not self }
+        ensures next { IfSome result (λ step. IsNext self step.place) }
+    {
+        if self.wanted != Wanted::Item || self.negated > 0 {
+            return None;
+        }
+        Some(Step::to(Wanted::Operand, self.depth, self.negated))
+    }
+}
+
+impl Step {
+    /// A step behind a mark, which is no part.
+    fn to(wanted: Wanted, depth: usize, negated: usize) -> Step
+        ensures { result ≡ no_part (at wanted depth negated) }
+    {
+        Step {
+            place: Place {
+                wanted,
+                depth,
+                negated,
+            },
+            part: None,
+        }
+    }
+}

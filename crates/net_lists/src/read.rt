@@ -1,0 +1,152 @@
+ghost use Rattle.std.specs.Prelude.{◌≡◌, ◌++◌, OnOk, option_copied, option_to_list};
+ghost use Rattle.net_lists.specs.Parts.{bounds_of};
+ghost use Rattle.net_lists.specs.Machine.{Reads, ReadsList, group_parts, operand_parts, signed_parts, list_parts, bracketed};
+
+use crate::kind::Kind;
+use crate::part::Part;
+use crate::place::Place;
+use crate::token::next_token;
+use std::alloc::{AllocError, AllocFailed, Global};
+
+/// Parts that a list may have.
+const MOST_PARTS: usize = 1024;
+
+/// Why a text is not read as a list of its kind.
+#[derive(Clone, Copy, Debug, PartialEq, Eq)]
+pub enum ReadFault {
+    /// It is none.
+    Bad,
+    /// It has more than 1024 parts.
+    TooLong,
+    /// Memory ran out.
+    NoMemory,
+}
+
+impl From<AllocError> for ReadFault {
+    ghost use Rattle.std.specs.Prelude.{◌≡◌};
+    ghost use Rattle.net_lists.specs.declared.read.ReadFault.TheVariants.{NoMemory as out_of_memory};
+
+    ghost from_gives = { λ _ fault. fault ≡ out_of_memory };
+
+    fn from(_error: AllocError) -> ReadFault {
+        ReadFault::NoMemory
+    }
+}
+
+impl<T: Drop> From<AllocFailed<T>> for ReadFault {
+    ghost use Rattle.std.specs.Prelude.{◌≡◌};
+    ghost use Rattle.net_lists.specs.declared.read.ReadFault.TheVariants.{NoMemory as out_of_memory};
+
+    ghost from_gives = { λ _ fault. fault ≡ out_of_memory };
+
+    fn from(_error: AllocFailed<T>) -> ReadFault {
+        ReadFault::NoMemory
+    }
+}
+
+/// The parts of a list of this kind.
+pub fn read_list(alloc: Global, kind: Kind, text: &[u8]) -> Result<Vec<Part>, ReadFault>
+    ensures { ReadsList (λ parts. parts.items) result (list_parts (bounds_of kind) text.now) }
+{
+    match all_parts(alloc, kind, text) {
+        Ok(parts) => {
+            if parts.len() > MOST_PARTS {
+                return Err(ReadFault::TooLong);
+            }
+            Ok(parts)
+        }
+        Err(fault) => Err(fault),
+    }
+}
+
+/// The parts of a list, however many.
+#[tactic(auto, unfolding(crate::specs::Machine::list_parts))]
+fn all_parts(alloc: Global, kind: Kind, text: &[u8]) -> Result<Vec<Part>, ReadFault>
+    ensures { Reads (λ parts. parts.items) result (list_parts (bounds_of kind) text.now) }
+{
+    if text == b"any".as_slice() {
+        return Ok(Vec::new(alloc));
+    }
+    signed_parts(alloc, kind, text)
+}
+
+/// The parts of a list other than `any`.
+#[tactic(auto, unfolding(crate::specs::Machine::signed_parts))]
+fn signed_parts(alloc: Global, kind: Kind, text: &[u8]) -> Result<Vec<Part>, ReadFault>
+    ensures { Reads (λ parts. parts.items) result (signed_parts (bounds_of kind) text.now) }
+{
+    match text.split_first() {
+        Some((b'!', operand)) => operand_parts(alloc, kind, true, operand),
+        _ => operand_parts(alloc, kind, false, text),
+    }
+}
+
+/// The parts of a part or of a group in brackets.
+#[tactic(auto, unfolding(crate::specs::Machine::operand_parts))]
+fn operand_parts(
+    alloc: Global,
+    kind: Kind,
+    negated: bool,
+    text: &[u8],
+) -> Result<Vec<Part>, ReadFault>
+    ensures { Reads (λ parts. parts.items) result (operand_parts (bounds_of kind) negated text.now) }
+{
+    match bracketed(text) {
+        Some(inner) => group_parts(alloc, kind, negated, inner),
+        None => match kind.bounds(text) {
+            Some(bounds) => Ok(vec![in alloc; bounds.signed(negated)]?),
+            None => Err(ReadFault::Bad),
+        },
+    }
+}
+
+/// What stands between a `[` in front and a `]` at the end.
+#[tactic(auto, unfolding(crate::specs::Machine::bracketed))]
+fn bracketed(text: &[u8]) -> Option<&[u8]>
+    ensures { option_copied result ≡ bracketed text.now }
+{
+    let len = text.len();
+    if len < 2 || text[0] != b'[' || text[len - 1] != b']' {
+        return None;
+    }
+    Some(&text[1..len - 1])
+}
+
+/// The parts of a group that stands in brackets.
+fn group_parts(
+    alloc: Global,
+    kind: Kind,
+    negated: bool,
+    inner: &[u8],
+) -> Result<Vec<Part>, ReadFault>
+    ensures { Reads (λ parts. parts.items) result (group_parts (bounds_of kind) negated inner.now) }
+{
+    let mut parts = Vec::new(alloc);
+    let mut place = Place::start(negated);
+    let mut rest = inner;
+    while let Some((token, behind)) = next_token(rest) {
+        let Some(step) = place.step(kind, token) else {
+            return Err(ReadFault::Bad);
+        };
+        push_part(&mut parts, step.part)?;
+        place = step.place;
+        rest = behind;
+    }
+    if !place.is_end() {
+        return Err(ReadFault::Bad);
+    }
+    Ok(parts)
+}
+
+/// Adds a part behind the last, if there is one.
+fn push_part(parts: &mut Vec<Part>, part: Option<Part>) -> Result<(), AllocError>
+    ensures { OnOk result (parts.new.items ≡ parts.old.items ++ option_to_list part) }
+{
+    match part {
+        Some(part) => {
+            parts.push(part)?;
+            Ok(())
+        }
+        None => Ok(()),
+    }
+}
