@@ -1,0 +1,8 @@
+pub mod Numbers
+pub mod Filling
+pub mod Told
+pub mod Laws
+pub mod Heads
+pub mod Records
+pub mod Endings
+pub mod Steps

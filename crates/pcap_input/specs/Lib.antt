@@ -1,0 +1,3 @@
+pub mod Savefile
+pub mod Reader
+pub mod Pieces

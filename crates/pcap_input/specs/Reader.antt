@@ -1,0 +1,103 @@
+-- What a reader of a capture stands for, and how its answers follow from the bytes of the file.
+--
+-- A reader has a head, has given some records, and stands at the place behind them; or it has
+-- refused, and answers that refusal from then on. Its answers are those of the libpcap savefile
+-- format (`Savefile`), but that memory may lack and the host may fail.
+-- To try it on: a reader that has given no record stands at 24; where a record of 5 bytes stands
+-- there, it gives that record, has taken 21 bytes and stands at 45.
+use Rattle.std.specs.Prelude.{◌≡◌, ℕ, ◌+◌, ◌≤◌, List, ◌++◌, length, Option, Some, None, Result, Ok, Err, ⊤}
+use Rattle.std.specs.FinMap.{get}
+use Rattle.edge_io.specs.Told.{before}
+use Rattle.edge_io.specs.Files.{Files, IsOpened}
+use Rattle.pcap_input.specs.declared.capture.CaptureHead.{CaptureHead}
+use Rattle.pcap_input.specs.declared.capture.Record.{Record}
+use Rattle.pcap_input.specs.declared.capture.CaptureFault.{CaptureFault}
+use Rattle.pcap_input.specs.declared.capture.CaptureFault.TheVariants as fault
+use Rattle.pcap_input.specs.Savefile.{head_of, Ending, Clean, Refused, Next, Ends, Stands, next_of, place_behind}
+
+-- a reader: its head, how many records it has given, where it stands, and what it has refused
+pub record Reading : Type 0 where
+  pub head : CaptureHead
+  pub number : ℕ
+  pub at : ℕ
+  pub refused : Option CaptureFault
+
+-- a reader that has given so many records and stands at this place
+abbrev pub standing : CaptureHead → ℕ → ℕ → Reading
+standing head number place = record { head = head; number = number; at = place; refused = None }
+
+-- a reader that has given no record
+abbrev pub begun : CaptureHead → Reading
+begun head = standing head 0 24
+
+-- the reader behind a record, or where it was
+abbrev pub moved : Reading → Option Record → Reading
+moved reader None = reader
+moved reader (Some given) =
+    record { head = reader.head; number = reader.number + 1; at = place_behind reader.at given; refused = reader.refused }
+
+-- the reader with a refusal, which it keeps
+abbrev pub refusing : Reading → CaptureFault → Reading
+refusing reader why = record { head = reader.head; number = reader.number; at = reader.at; refused = Some why }
+
+-- the reader that a head gives
+abbrev pub reader_of : Result CaptureHead CaptureFault → Result Reading CaptureFault
+reader_of (Ok head) = Ok (begun head)
+reader_of (Err why) = Err why
+
+-- the answer is what the head says, unless the host failed
+abbrev pub Opens : Result Reading CaptureFault → Result CaptureHead CaptureFault → Type 0
+Opens (Ok reader) head = reader_of head ≡ Ok reader
+Opens (Err fault.Failed) head = ⊤
+Opens (Err why) head = head ≡ Err why
+
+-- contents are told, and these bytes are what the name holds
+abbrev pub Tells : Option Files → List ℕ → List ℕ → Type 0
+Tells None name bytes = ⊥
+Tells (Some files) name bytes = get files name ≡ Some bytes
+
+-- at most 24 bytes were taken off the front of what the name held, and the answer is theirs
+pub record TakesHead (contents : Option Files) (name : List ℕ) (answer : Result Reading CaptureFault) (left : Option (List ℕ)) : Type 0 where
+  pub whole : Option (List ℕ)
+  pub opened : IsOpened contents name whole
+  pub taken : List ℕ
+  pub took : whole ≡ before taken left
+  pub few : length taken ≤ 24
+  pub answers : Opens answer (head_of taken)
+
+-- the faults of a file header, and that the host failed
+abbrev pub IsOfHead : CaptureFault → Type 0
+IsOfHead fault.NotPcap = ⊤
+IsOfHead (fault.LinkType link_type) = ⊤
+IsOfHead (fault.Truncated place) = place ≡ 0
+IsOfHead (fault.TooLong place len) = ⊥
+IsOfHead fault.TooMany = ⊥
+IsOfHead fault.Failed = ⊤
+IsOfHead fault.NoMemory = ⊥
+
+-- the answer is what stands next, unless memory lacked or the host failed
+abbrev pub Gives : Result (Option Record) CaptureFault → Next → Type 0
+Gives (Ok None) next = next ≡ Ends Clean
+Gives (Ok (Some given)) next = (rest : List ℕ) × (next ≡ Stands given rest)
+Gives (Err fault.NoMemory) next = ⊤
+Gives (Err fault.Failed) next = ⊤
+Gives (Err why) next = next ≡ Ends (Refused why)
+
+-- exactly the bytes of the record were taken: whatever follows them, that record stands first
+pub record TakesRecord (reader : Reading) (given : Record) (old new : Option (List ℕ)) : Type 0 where
+  pub taken : List ℕ
+  pub took : old ≡ before taken new
+  pub size : length taken ≡ 16 + length given.bytes
+  pub goes : (more : List ℕ) → next_of reader.head reader.number reader.at (taken ++ more) ≡ Stands given more
+
+-- these bytes alone show the refusal; where memory lacked or the host failed, they hold no record
+abbrev pub Shows : CaptureFault → Next → Type 0
+Shows fault.NoMemory next = (ending : Ending) × (next ≡ Ends ending)
+Shows fault.Failed next = (ending : Ending) × (next ≡ Ends ending)
+Shows why next = next ≡ Ends (Refused why)
+
+-- no record is whole within the bytes that were taken, and they show the refusal
+pub record TakesNone (reader : Reading) (why : CaptureFault) (old new : Option (List ℕ)) : Type 0 where
+  pub taken : List ℕ
+  pub took : old ≡ before taken new
+  pub shows : Shows why (next_of reader.head reader.number reader.at taken)

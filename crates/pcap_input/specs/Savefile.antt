@@ -1,0 +1,166 @@
+-- What a capture holds: its head, its records and how it ends.
+--
+-- The libpcap savefile format, version 2.4, as the manual page pcap-savefile(5) states it. A file
+-- header of 24 bytes (magic number at 0, major version at 4, link type at 20) is followed by
+-- records, each a header of 16 bytes (seconds at 0, their fraction at 4, captured length at 8,
+-- original length at 12) and so many captured bytes. All numbers stand in the byte order that the
+-- magic number tells. The limits of 262144 captured bytes and 4294967295 records are this project's.
+-- To try it on: the 24 bytes d4c3b2a1 0200 0400 00000000 00000000 ffff0000 01000000 alone have the
+-- head Ethernet, least significant byte first, microseconds, no record and a clean ending; with one
+-- byte behind them the ending is Truncated at 24; without the last of them the head is refused as
+-- Truncated at 0.
+use Rattle.std.specs.Prelude.{◌≡◌, ◌<◌, ⊤, ℕ, zero, suc, ◌+◌, ◌*◌, ◌%◌, ◌==◌, nat_lt, nat_le, Bool, true, false, if◌then◌else◌, List, [], ◌∷◌, length, take, drop, Option, Some, None, Result, Ok, Err}
+use Rattle.byteorder.specs.Endian.{big_from, little_from}
+use Rattle.edge_io.specs.declared.link.Link.TheVariants.{Ethernet, RawIp, Cooked}
+use Rattle.pcap_input.specs.declared.capture.CaptureHead.{CaptureHead}
+use Rattle.pcap_input.specs.declared.capture.Record.{Record}
+use Rattle.pcap_input.specs.declared.capture.CaptureFault.{CaptureFault}
+use Rattle.pcap_input.specs.declared.capture.CaptureFault.TheVariants.{NotPcap, LinkType, Truncated, TooLong, TooMany, Failed, NoMemory}
+
+-- the number in the `count` bytes from a place on: most significant byte first where the file is
+-- swapped, least significant byte first where not
+unfoldable pub number_at : Bool → ℕ → ℕ → List ℕ → ℕ
+number_at swapped place count bytes =
+    if swapped then big_from place count bytes else little_from place count bytes
+
+-- the head with this link type, where it is one of the three
+unfoldable pub head_with : Bool → Bool → ℕ → Result CaptureHead CaptureFault
+head_with swapped nanos link_type =
+    if link_type == 1 then Ok (record { link = Ethernet; swapped = swapped; nanos = nanos }) else
+    if link_type == 101 then Ok (record { link = RawIp; swapped = swapped; nanos = nanos }) else
+    if link_type == 113 then Ok (record { link = Cooked; swapped = swapped; nanos = nanos }) else
+    Err (LinkType link_type)
+
+-- the head of a file header behind its magic number: the major version is 2, and the low 16 bits of
+-- the last field are the link type
+unfoldable pub head_behind : Bool → Bool → List ℕ → Result CaptureHead CaptureFault
+head_behind swapped nanos bytes =
+    if number_at swapped 4 2 bytes == 2
+    then head_with swapped nanos (number_at swapped 20 4 bytes % 65536)
+    else Err NotPcap
+
+-- the head of a file, or why it has none: the magic number is a1b2c3d4 where the fractions are
+-- microseconds and a1b23c4d where they are nanoseconds, and tells the byte order
+unfoldable pub head_of : List ℕ → Result CaptureHead CaptureFault
+head_of bytes =
+    if nat_lt (length bytes) 24 then Err (Truncated 0) else
+    if number_at false 0 4 bytes == 0xa1b2_c3d4 then head_behind false false bytes else
+    if number_at false 0 4 bytes == 0xa1b2_3c4d then head_behind false true bytes else
+    if number_at true 0 4 bytes == 0xa1b2_c3d4 then head_behind true false bytes else
+    if number_at true 0 4 bytes == 0xa1b2_3c4d then head_behind true true bytes else
+    Err NotPcap
+
+-- how many bytes a record header says were captured
+unfoldable pub captured_length : CaptureHead → List ℕ → ℕ
+captured_length head header = number_at head.swapped 8 4 header
+
+-- a record header's moment in nanoseconds: its seconds, and their fraction, which may pass a second
+unfoldable pub moment_of : CaptureHead → List ℕ → ℕ
+moment_of head header =
+    number_at head.swapped 0 4 header * 1000000000
+    + number_at head.swapped 4 4 header * (if head.nanos then 1 else 1000)
+
+-- the record of this header and these captured bytes
+unfoldable pub record_of : CaptureHead → ℕ → List ℕ → List ℕ → Record
+record_of head number header bytes = record {
+  number = number;
+  moment = record { nanos = moment_of head header };
+  original = number_at head.swapped 12 4 header;
+  bytes = bytes;
+}
+
+-- how a capture ends: at its end or at a limit, or at what can't be read
+pub data Ending : Type 0 where
+  Clean : Ending
+  Refused : CaptureFault → Ending
+
+-- what stands at a place: the ending, or a record and the bytes behind it
+pub data Next : Type 0 where
+  Ends : Ending → Next
+  Stands : Record → List ℕ → Next
+
+-- what stands where these 16 bytes of a header stand at `place`, before these bytes
+unfoldable pub next_behind : CaptureHead → ℕ → ℕ → List ℕ → List ℕ → Next
+next_behind head number place header bytes =
+    if nat_lt 262144 (captured_length head header) then Ends (Refused (TooLong place (captured_length head header))) else
+    if nat_lt (length bytes) (captured_length head header) then Ends (Refused (Truncated place)) else
+    Stands (record_of head number header (take (captured_length head header) bytes)) (drop (captured_length head header) bytes)
+
+-- what stands behind `number` records, at `place`, where these bytes are left
+unfoldable pub next_of : CaptureHead → ℕ → ℕ → List ℕ → Next
+next_of head number place rest =
+    if length rest == 0 then Ends Clean else
+    if nat_le 4294967295 number then Ends (Refused TooMany) else
+    if nat_lt (length rest) 16 then Ends (Refused (Truncated place)) else
+    next_behind head number place (take 16 rest) (drop 16 rest)
+
+-- records in order, and the ending behind them
+pub record Cut : Type 0 where
+  pub records : List Record
+  pub ending : Ending
+
+-- no record, and this ending
+abbrev pub no_more : Ending → Cut
+no_more ending = record { records = []; ending = ending }
+
+-- a record, and then these
+abbrev pub with_first : Record → Cut → Cut
+with_first first cut = record { records = first ∷ cut.records; ending = cut.ending }
+
+-- the place behind a record that begins at this place
+abbrev pub place_behind : ℕ → Record → ℕ
+place_behind place record_here = place + 16 + length record_here.bytes
+
+-- at most `most` records, one behind the other, and then the ending
+unfoldable pub cut_up : ℕ → CaptureHead → ℕ → ℕ → List ℕ → Cut
+cut_up zero head number place rest = no_more Clean
+cut_up (suc most) head number place rest =
+    elim (next_of head number place rest) [
+      | Ends ending ↦ no_more ending
+      | Stands first more ↦ with_first first (cut_up most head (number + 1) (place_behind place first) more)
+    ]
+
+-- the records and the ending of these bytes, which stand behind `number` records at `place`: there
+-- are fewer records than bytes, so all of them
+unfoldable pub records_left : CaptureHead → ℕ → ℕ → List ℕ → Cut
+records_left head number place rest = cut_up (length rest + 1) head number place rest
+
+-- the records and the ending by what stands next: that ending, or the record and what is left behind it
+abbrev pub left_by : CaptureHead → ℕ → ℕ → Next → Cut
+left_by head number place (Ends ending) = no_more ending
+left_by head number place (Stands first more) = with_first first (records_left head (number + 1) (place_behind place first) more)
+
+-- the place behind these records, of which the first begins at this place
+abbrev pub place_after : ℕ → List Record → ℕ
+place_after place [] = place
+place_after place (first ∷ others) = place_after (place_behind place first) others
+
+-- a refusal that names a place names this one
+abbrev pub IsAt : ℕ → Ending → Type 0
+IsAt place Clean = ⊤
+IsAt place (Refused NotPcap) = ⊥
+IsAt place (Refused (LinkType link_type)) = ⊥
+IsAt place (Refused (Truncated at)) = at ≡ place
+IsAt place (Refused (TooLong at len)) = (at ≡ place) × (262144 < len)
+IsAt place (Refused TooMany) = ⊤
+IsAt place (Refused Failed) = ⊥
+IsAt place (Refused NoMemory) = ⊥
+
+-- the first records where there is a limit, which is then a clean ending; all where it isn't reached
+unfoldable pub limited : Option ℕ → Cut → Cut
+limited None cut = cut
+limited (Some limit) cut =
+    if nat_le limit (length cut.records) then record { records = take limit cut.records; ending = Clean } else cut
+
+-- a whole capture
+pub record Capture : Type 0 where
+  pub head : CaptureHead
+  pub cut : Cut
+
+-- the capture that these bytes are, up to the limit where there is one, or why its head is refused
+unfoldable pub savefile : List ℕ → Option ℕ → Result Capture CaptureFault
+savefile bytes limit =
+    elim (head_of bytes) [
+      | Ok head ↦ Ok (record { head = head; cut = limited limit (records_left head 0 24 (drop 24 bytes)) })
+      | Err fault ↦ Err fault
+    ]

@@ -1,0 +1,133 @@
+ghost use Rattle.std.specs.Prelude.{◌≡◌, ◌+◌, ◌<◌, ◌≤◌, ◌^◌, length};
+ghost use Rattle.pcap_input.specs.Savefile.{number_at, head_with, head_behind, head_of, captured_length, moment_of};
+
+use crate::{CaptureFault, CaptureHead};
+use byteorder::{BigEndian, ByteOrder, LittleEndian};
+use edge_io::{Link, Moment};
+
+/// The bytes of a file header.
+pub const FILE_HEADER: usize = 24;
+
+/// The bytes of a record header.
+pub const RECORD_HEADER: usize = 16;
+
+/// The magic number of a capture whose fractions are microseconds.
+const MICROSECONDS: u32 = 0xa1b2_c3d4;
+
+/// The magic number of a capture whose fractions are nanoseconds.
+const NANOSECONDS: u32 = 0xa1b2_3c4d;
+
+/// The major version of the format.
+const MAJOR: u16 = 2;
+
+/// The number of 32 bits at a place, in the file's byte order.
+#[tactic(auto, using(crate::proofs::Numbers::numbers), unfolding(crate::specs::Savefile::number_at))]
+fn u32_at(swapped: bool, bytes: &[u8], place: usize) -> u32
+    requires { place + 4 ≤ length bytes.now }
+    ensures { result ≡ number_at swapped place 4 bytes.now }
+{
+    let bytes = &bytes[place..];
+    if swapped {
+        BigEndian::read_u32(bytes)
+    } else {
+        LittleEndian::read_u32(bytes)
+    }
+}
+
+/// The number of 16 bits at a place, in the file's byte order.
+#[tactic(auto, using(crate::proofs::Numbers::numbers), unfolding(crate::specs::Savefile::number_at))]
+fn u16_at(swapped: bool, bytes: &[u8], place: usize) -> u16
+    requires { place + 2 ≤ length bytes.now }
+    ensures { result ≡ number_at swapped place 2 bytes.now }
+{
+    let bytes = &bytes[place..];
+    if swapped {
+        BigEndian::read_u16(bytes)
+    } else {
+        LittleEndian::read_u16(bytes)
+    }
+}
+
+/// The head with this link type, where it is one that is read.
+#[tactic(auto, unfolding(crate::specs::Savefile::head_with))]
+fn with_link(swapped: bool, nanos: bool, link_type: u32) -> Result<CaptureHead, CaptureFault>
+    ensures { result ≡ head_with swapped nanos link_type }
+{
+    let link = match link_type {
+        1 => Link::Ethernet,
+        101 => Link::RawIp,
+        113 => Link::Cooked,
+        other => return Err(CaptureFault::LinkType(other)),
+    };
+    Ok(CaptureHead {
+        link,
+        swapped,
+        nanos,
+    })
+}
+
+/// The head of a file header, by what its magic number told.
+#[tactic(auto, unfolding(crate::specs::Savefile::head_behind))]
+fn behind_magic(swapped: bool, nanos: bool, bytes: &[u8]) -> Result<CaptureHead, CaptureFault>
+    requires { length bytes.now ≡ 24 }
+    ensures { result ≡ head_behind swapped nanos bytes.now }
+{
+    if u16_at(swapped, bytes, 4) != MAJOR {
+        return Err(CaptureFault::NotPcap);
+    }
+    with_link(swapped, nanos, u32_at(swapped, bytes, 20) % 65536)
+}
+
+/// The head of a file header.
+#[tactic(auto, unfolding(crate::specs::Savefile::head_of))]
+pub fn read_head(bytes: &[u8]) -> Result<CaptureHead, CaptureFault>
+    requires { length bytes.now ≡ 24 }
+    ensures { result ≡ head_of bytes.now }
+{
+    let least_first = u32_at(false, bytes, 0);
+    let most_first = u32_at(true, bytes, 0);
+    if least_first == MICROSECONDS {
+        behind_magic(false, false, bytes)
+    } else if least_first == NANOSECONDS {
+        behind_magic(false, true, bytes)
+    } else if most_first == MICROSECONDS {
+        behind_magic(true, false, bytes)
+    } else if most_first == NANOSECONDS {
+        behind_magic(true, true, bytes)
+    } else {
+        Err(CaptureFault::NotPcap)
+    }
+}
+
+impl CaptureHead {
+    /// How many bytes a record header says were captured.
+    #[tactic(auto, unfolding(crate::specs::Savefile::captured_length))]
+    pub fn captured(self, header: &[u8]) -> u32
+        requires { length header.now ≡ 16 }
+        ensures { result ≡ captured_length self header.now }
+    {
+        u32_at(self.swapped, header, 8)
+    }
+
+    /// How many bytes a record header says that the packet had.
+    pub fn original(self, header: &[u8]) -> u32
+        requires { length header.now ≡ 16 }
+        ensures { result ≡ number_at self.swapped 12 4 header.now }
+    {
+        u32_at(self.swapped, header, 12)
+    }
+
+    /// A record header's moment. It never wraps: both parts are below 2 ^ 32.
+    #[tactic(auto, unfolding(crate::specs::Savefile::moment_of))]
+    pub fn moment(self, header: &[u8]) -> Moment
+        requires { length header.now ≡ 16 }
+        ensures { result.nanos ≡ moment_of self header.now }
+    {
+        let seconds = u64::from(u32_at(self.swapped, header, 0));
+        let fraction = u64::from(u32_at(self.swapped, header, 4));
+        let nanos_each = if self.nanos { 1 } else { 1000 };
+        Moment {
+            nanos: seconds * 1_000_000_000 + fraction * nanos_each,
+        }
+    }
+}

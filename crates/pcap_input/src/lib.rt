@@ -1,0 +1,20 @@
+//! The reader of classic pcap captures: the records of a file, one by one.
+//!
+//! A capture is a file header and records, as the libpcap savefile format has them (`Savefile` in
+//! `specs/`). `CaptureReader` takes the bytes of a host's open capture piece by piece and gives
+//! exactly the head, the records and the ending that the whole text has by that definition. At
+//! each record it has taken that record's bytes and none behind them. The decoder of packets and
+//! the run over a capture stand on it.
+#![tactic(auto)]
+
+mod capture;
+mod crossing;
+mod fill;
+mod header;
+mod reader;
+#[cfg(test)]
+mod tests;
+
+pub use capture::{CaptureFault, CaptureHead, Record};
+pub use crossing::types_cross_threads;
+pub use reader::CaptureReader;

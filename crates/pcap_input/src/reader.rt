@@ -1,0 +1,241 @@
+ghost use Rattle.std.specs.Prelude.{◌≡◌, ◌+◌, ◌*◌, ◌<◌, ◌≤◌, ◌⊎◌, List, ℕ, Option, None, Some, length, drop, Result, IfOk, IfErr, IfSome, IfNone, OnOk, Err, IsErrOf};
+ghost use Rattle.edge_io.specs.Told.{before, NothingLeft, Rose};
+ghost use Rattle.edge_io.specs.Files.{Lacks};
+ghost use Rattle.pcap_input.specs.Savefile.{head_of, next_of, next_behind};
+ghost use Rattle.pcap_input.specs.Reader.{standing, moved, refusing, Opens, Tells, TakesHead, IsOfHead, Gives, TakesRecord, TakesNone};
+ghost use Rattle.pcap_input.specs.Pieces.{Reads, TakesFileHeader, GivesOne, TakesBytes, TakesFewer, TakesLess};
+
+use crate::fill::fill;
+use crate::header::{FILE_HEADER, RECORD_HEADER, read_head};
+use crate::{CaptureFault, CaptureHead, Record};
+use edge_io::{Host, Text};
+use std::alloc::Global;
+use std::marker::Model;
+
+/// The most bytes that a record may have.
+const LONGEST: u32 = 262_144;
+
+/// A reader of the host's open capture. Contracts see its head, how many records it has given,
+/// where it stands, and what it has refused.
+#[derive(Debug, Drop)]
+pub struct CaptureReader {
+    head: CaptureHead,
+    number: u32,
+    at: u64,
+    refused: Option<CaptureFault>,
+}
+
+impl Model for CaptureReader {
+    ghost use Rattle.std.specs.Prelude.{◌+◌, ◌*◌, ◌≤◌};
+    ghost use Rattle.pcap_input.specs.Reader.{Reading};
+
+    ghost Value = { Reading };
+
+    ghost view = { λ r. record { head = r.head; number = r.number; at = r.at; refused = r.refused } };
+
+    ghost invariant = { λ r. r.at ≤ 24 + r.number * 262160 };
+}
+
+impl CaptureReader {
+    /// Opens a file of the host as its capture and reads the file header. Takes no memory.
+    pub fn open<H: Host>(host: &mut H, name: &str) -> Result<CaptureReader, CaptureFault>
+        // Where contents are told, the head is that of the file's bytes, or its refusal.
+        ensures gives { (bytes : List ℕ) → Tells (H.contents host.old) name.now bytes → Opens result (head_of bytes) }
+        ensures rest { (bytes : List ℕ) → Tells (H.contents host.old) name.now bytes
+            → OnOk result (H.left host.new ≡ Some (drop 24 bytes)) }
+
+        // At most 24 bytes are taken; where the opening itself failed, nothing is open.
+        ensures takes { TakesHead (H.contents host.old) name.now result (H.left host.new)
+            ⊎ (IsErrOf result CaptureFault.Failed × NothingLeft (H.left host.new)) }
+
+        ensures kinds { IfErr result IsOfHead }
+        ensures failed { IsErrOf result CaptureFault.Failed
+            → Rose (H.faults host.old) (H.faults host.new) ⊎ Lacks (H.contents host.old) name.now }
+        ensures same_contents { H.contents host.new ≡ H.contents host.old }
+        ensures later { H.faults host.old ≤ H.faults host.new }
+    {
+        host.open(name)?;
+        let head = opened_head(host)?;
+        Ok(CaptureReader::resume(head, 0, FILE_HEADER as u64))
+    }
+
+    /// The head that `open` read, or that `resume` was given. Takes no memory.
+    pub fn head(&self) -> CaptureHead
+        ensures { result ≡ self.now.head }
+    {
+        self.head
+    }
+
+    /// A reader that has given `number` records and stands at the byte `at` of the capture. Takes
+    /// no memory.
+    pub fn resume(head: CaptureHead, number: u32, at: u64) -> CaptureReader
+        requires behind_header { 24 ≤ at }
+        requires within_records { at ≤ 24 + number * 262160 }
+        ensures { result ≡ standing head number at }
+    {
+        CaptureReader {
+            head,
+            number,
+            at,
+            refused: None,
+        }
+    }
+
+    /// Reads the next record, or None where no byte is left. A record's bytes are read into memory
+    /// that is reserved once. After a refusal the reader answers that refusal, without reading.
+    pub fn next<H: Host>(
+        &mut self,
+        alloc: Global,
+        host: &mut H,
+    ) -> Result<Option<Record>, CaptureFault>
+        // Where the bytes left are told, the answer is what stands next in them.
+        ensures gives { self.old.refused ≡ None → (rest : List ℕ) → H.left host.old ≡ Some rest
+            → Gives result (next_of self.old.head self.old.number self.old.at rest) }
+
+        // What is taken: the bytes of the record that is given and none behind it. Before a refusal
+        // no record is whole within what is taken.
+        ensures takes { IfOk result (λ given. IfSome given (λ r. TakesRecord self.old r (H.left host.old) (H.left host.new))) }
+        ensures ended { IfOk result (λ given. IfNone given (H.left host.new ≡ H.left host.old)) }
+        ensures partial { self.old.refused ≡ None
+            → IfErr result (λ why. TakesNone self.old why (H.left host.old) (H.left host.new)) }
+
+        // Where the reader stands afterwards.
+        ensures moved { IfOk result (λ given. self.new ≡ moved self.old given) }
+        ensures refused { IfErr result (λ why. self.new ≡ refusing self.old why) }
+
+        // A refusal is repeated, and nothing is read.
+        ensures again { (why : CaptureFault) → self.old.refused ≡ Some why → result ≡ Err why }
+        ensures untouched { (why : CaptureFault) → self.old.refused ≡ Some why → host.new ≡ host.old }
+
+        ensures failed { IsErrOf result CaptureFault.Failed
+            → Rose (H.faults host.old) (H.faults host.new) ⊎ (self.old.refused ≡ Some CaptureFault.Failed) }
+        ensures same_contents { H.contents host.new ≡ H.contents host.old }
+        ensures later { H.faults host.old ≤ H.faults host.new }
+    {
+        if let Some(why) = self.refused {
+            return Err(why);
+        }
+        match read_record(alloc, host, self.head, self.number, self.at) {
+            Ok(None) => Ok(None),
+            Ok(Some(given)) => {
+                self.number += 1;
+                self.at += (RECORD_HEADER + given.bytes.bytes().len()) as u64;
+                Ok(Some(given))
+            }
+            Err(why) => {
+                self.refused = Some(why);
+                Err(why)
+            }
+        }
+    }
+}
+
+/// Reads the file header of the capture that was opened.
+fn opened_head<H: Host>(host: &mut H) -> Result<CaptureHead, CaptureFault>
+    ensures gives { (bytes : List ℕ) → H.left host.old ≡ Some bytes → Reads result (head_of bytes) }
+    ensures rest { (bytes : List ℕ) → H.left host.old ≡ Some bytes → OnOk result (H.left host.new ≡ Some (drop 24 bytes)) }
+    ensures takes { TakesFileHeader result (H.left host.old) (H.left host.new) }
+    ensures kinds { IfErr result IsOfHead }
+    ensures failed { IsErrOf result CaptureFault.Failed → Rose (H.faults host.old) (H.faults host.new) }
+    ensures same_contents { H.contents host.new ≡ H.contents host.old }
+    ensures later { H.faults host.old ≤ H.faults host.new }
+{
+    let mut header = [0; FILE_HEADER];
+    let Ok(count) = fill(host, &mut header) else {
+        return Err(CaptureFault::Failed);
+    };
+    if count < FILE_HEADER {
+        return Err(CaptureFault::Truncated { at: 0 });
+    }
+    read_head(&header)
+}
+
+/// Reads the record that stands at `at` behind `number` records.
+fn read_record<H: Host>(
+    alloc: Global,
+    host: &mut H,
+    head: CaptureHead,
+    number: u32,
+    at: u64,
+) -> Result<Option<Record>, CaptureFault>
+    ensures gives { (rest : List ℕ) → H.left host.old ≡ Some rest → Gives result (next_of head number at rest) }
+    ensures takes { IfOk result (λ given. IfSome given (λ r. TakesRecord (standing head number at) r (H.left host.old) (H.left host.new))) }
+    ensures ended { IfOk result (λ given. IfNone given (H.left host.new ≡ H.left host.old)) }
+    ensures partial { IfErr result (λ why. TakesNone (standing head number at) why (H.left host.old) (H.left host.new)) }
+    ensures fits { IfOk result (λ given. IfSome given (λ r. (length r.bytes ≤ 262144) × (number < 4294967295))) }
+    ensures failed { IsErrOf result CaptureFault.Failed → Rose (H.faults host.old) (H.faults host.new) }
+    ensures same_contents { H.contents host.new ≡ H.contents host.old }
+    ensures later { H.faults host.old ≤ H.faults host.new }
+{
+    let mut header = [0; RECORD_HEADER];
+    let Ok(count) = fill(host, &mut header) else {
+        return Err(CaptureFault::Failed);
+    };
+    if count == 0 {
+        return Ok(None);
+    }
+    if number == u32::MAX {
+        return Err(CaptureFault::TooMany);
+    }
+    if count < RECORD_HEADER {
+        return Err(CaptureFault::Truncated { at });
+    }
+    let given = read_behind(alloc, host, head, number, at, &header)?;
+    Ok(Some(given))
+}
+
+/// Reads the captured bytes behind a record header that stands at `at`.
+fn read_behind<H: Host>(
+    alloc: Global,
+    host: &mut H,
+    head: CaptureHead,
+    number: u32,
+    at: u64,
+    header: &[u8],
+) -> Result<Record, CaptureFault>
+    requires { length header.now ≡ 16 }
+    ensures gives { (rest : List ℕ) → H.left host.old ≡ Some rest → GivesOne result (next_behind head number at header.now rest) }
+    ensures takes { IfOk result (λ given. TakesBytes head number at header.now given (H.left host.old) (H.left host.new)) }
+    ensures partial { IfErr result (λ why. TakesFewer head number at header.now why (H.left host.old) (H.left host.new)) }
+    ensures fits { IfOk result (λ given. length given.bytes ≤ 262144) }
+    ensures failed { IsErrOf result CaptureFault.Failed → Rose (H.faults host.old) (H.faults host.new) }
+    ensures same_contents { H.contents host.new ≡ H.contents host.old }
+    ensures later { H.faults host.old ≤ H.faults host.new }
+{
+    let len = head.captured(header);
+    if len > LONGEST {
+        return Err(CaptureFault::TooLong { at, len });
+    }
+    let bytes = read_bytes(alloc, host, at, len as usize)?;
+    Ok(Record {
+        number,
+        moment: head.moment(header),
+        original: head.original(header),
+        bytes: Text::from_vec(bytes),
+    })
+}
+
+/// Reads so many captured bytes of the record that stands at `at`, into memory that is reserved
+/// once.
+fn read_bytes<H: Host>(
+    alloc: Global,
+    host: &mut H,
+    at: u64,
+    len: usize,
+) -> Result<Vec<u8>, CaptureFault>
+    ensures whole { IfOk result (λ bytes. (length bytes.items ≡ len) × (H.left host.old ≡ before bytes.items (H.left host.new))) }
+    ensures partial { IfErr result (λ why. TakesLess at len why (H.left host.old) (H.left host.new)) }
+    ensures failed { IsErrOf result CaptureFault.Failed → Rose (H.faults host.old) (H.faults host.new) }
+    ensures same_contents { H.contents host.new ≡ H.contents host.old }
+    ensures later { H.faults host.old ≤ H.faults host.new }
+{
+    let mut bytes = Vec::with_capacity(alloc, len)?;
+    bytes.resize(len, 0)?;
+    let Ok(count) = fill(host, &mut bytes) else {
+        return Err(CaptureFault::Failed);
+    };
+    if count < len {
+        return Err(CaptureFault::Truncated { at });
+    }
+    Ok(bytes)
+}

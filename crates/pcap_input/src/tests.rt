@@ -1,0 +1,337 @@
+//! Whole captures in memory: every head, records and endings worked out by hand from the format.
+
+use crate::{CaptureFault, CaptureHead, CaptureReader, Record};
+use edge_io::{Host, Link, MemHost, Moment};
+use std::alloc::Global;
+use std::test::Fail;
+
+/// A file header of microseconds, least significant byte first, for Ethernet.
+const PLAIN: &[u8; 24] = b"\xd4\xc3\xb2\xa1\x02\0\x04\0\0\0\0\0\0\0\0\0\xff\xff\0\0\x01\0\0\0";
+
+/// A capture of two records, of three bytes at 24 and of two bytes at 43, and its moments.
+const PAIR: &[u8; 61] = b"\xd4\xc3\xb2\xa1\x02\0\x04\0\0\0\0\0\0\0\0\0\xff\xff\0\0\x01\0\0\0\
+    \x01\0\0\0\xa0\x25\x26\0\x03\0\0\0\x09\0\0\0abc\
+    \xff\xff\xff\xff\xff\xff\xff\xff\x02\0\0\0\x02\0\0\0de";
+
+/// The same two records of nanoseconds, most significant byte first, on raw IP.
+const SWAPPED_PAIR: &[u8; 61] =
+    b"\xa1\xb2\x3c\x4d\0\x02\0\x04\0\0\0\0\0\0\0\0\0\0\xff\xff\0\0\0\x65\
+    \0\0\0\x01\0\x26\x25\xa0\0\0\0\x03\0\0\0\x09abc\
+    \xff\xff\xff\xff\xff\xff\xff\xff\0\0\0\x02\0\0\0\x02de";
+
+fn host_of(alloc: Global, file: &[u8]) -> Result<MemHost, Fail> {
+    let mut host = MemHost::new(alloc);
+    host.put("p", file)?;
+    Ok(host)
+}
+
+/// How many records are given, of at most five, and what is refused behind them.
+fn ending(alloc: Global, host: &mut MemHost) -> (u32, Option<CaptureFault>) {
+    let mut reader = match CaptureReader::open(host, "p") {
+        Ok(reader) => reader,
+        Err(why) => return (0, Some(why)),
+    };
+    for given in 0..5 {
+        match reader.next(alloc, host) {
+            Ok(Some(_)) => {}
+            Ok(None) => return (given, None),
+            Err(why) => return (given, Some(why)),
+        }
+    }
+    (5, None)
+}
+
+fn head(link: Link, swapped: bool, nanos: bool) -> Result<CaptureHead, CaptureFault> {
+    Ok(CaptureHead {
+        link,
+        swapped,
+        nanos,
+    })
+}
+
+#[test]
+fn heads_are_read(rt: HostRuntime) -> Result<(), Fail> {
+    let not_pcap = Err(CaptureFault::NotPcap);
+    let truncated = Err(CaptureFault::Truncated { at: 0 });
+    // the magic number, the version, the last field, and what they give
+    let rows: [(
+        &[u8; 4],
+        &[u8; 4],
+        &[u8; 4],
+        Result<CaptureHead, CaptureFault>,
+    ); 14] = [
+        (
+            b"\xd4\xc3\xb2\xa1",
+            b"\x02\0\x04\0",
+            b"\x01\0\0\0",
+            head(Link::Ethernet, false, false),
+        ),
+        (
+            b"\x4d\x3c\xb2\xa1",
+            b"\x02\0\x04\0",
+            b"\x65\0\0\0",
+            head(Link::RawIp, false, true),
+        ),
+        (
+            b"\xa1\xb2\xc3\xd4",
+            b"\0\x02\0\x04",
+            b"\0\0\0\x71",
+            head(Link::Cooked, true, false),
+        ),
+        (
+            b"\xa1\xb2\x3c\x4d",
+            b"\0\x02\0\x04",
+            b"\0\0\0\x01",
+            head(Link::Ethernet, true, true),
+        ),
+        // the high 16 bits of the last field say other things
+        (
+            b"\xd4\xc3\xb2\xa1",
+            b"\x02\0\x04\0",
+            b"\x01\0\xff\x54",
+            head(Link::Ethernet, false, false),
+        ),
+        (
+            b"\xa1\xb2\xc3\xd4",
+            b"\0\x02\0\x04",
+            b"\x54\0\0\x65",
+            head(Link::RawIp, true, false),
+        ),
+        (
+            b"\xd4\xc3\xb2\xa1",
+            b"\x02\0\x04\0",
+            b"\x69\0\x01\0",
+            Err(CaptureFault::LinkType(105)),
+        ),
+        (
+            b"\xa1\xb2\xc3\xd4",
+            b"\0\x02\0\x04",
+            b"\0\x01\x01\0",
+            Err(CaptureFault::LinkType(256)),
+        ),
+        // any minor version, and only the major version 2
+        (
+            b"\xd4\xc3\xb2\xa1",
+            b"\x02\0\x09\0",
+            b"\x01\0\0\0",
+            head(Link::Ethernet, false, false),
+        ),
+        (
+            b"\xd4\xc3\xb2\xa1",
+            b"\x03\0\x04\0",
+            b"\x01\0\0\0",
+            not_pcap,
+        ),
+        (
+            b"\xa1\xb2\xc3\xd4",
+            b"\x02\0\x04\0",
+            b"\0\0\0\x01",
+            not_pcap,
+        ),
+        // other magic numbers
+        (
+            b"\x0a\x0d\x0d\x0a",
+            b"\x02\0\x04\0",
+            b"\x01\0\0\0",
+            not_pcap,
+        ),
+        (
+            b"\xc3\xd4\xa1\xb2",
+            b"\x02\0\x04\0",
+            b"\x01\0\0\0",
+            not_pcap,
+        ),
+        (
+            b"\xd4\xc3\xb2\xa2",
+            b"\x02\0\x04\0",
+            b"\x69\0\0\0",
+            not_pcap,
+        ),
+    ];
+    for (magic, version, link_type, want) in rows {
+        let mut file = Vec::new(rt.alloc());
+        file.extend_from_slice(magic)?;
+        file.extend_from_slice(version)?;
+        file.extend_from_slice(b"\0\0\0\0\0\0\0\0\xff\xff\0\0")?;
+        file.extend_from_slice(link_type)?;
+        let mut host = host_of(rt.alloc(), &file)?;
+        let got = CaptureReader::open(&mut host, "p").map(|reader| reader.head());
+        assert_eq!(rt; got, want, "at {magic:?}, {version:?}, {link_type:?}");
+        // one byte less, with any magic number
+        file.truncate(23);
+        let mut host = host_of(rt.alloc(), &file)?;
+        let got = CaptureReader::open(&mut host, "p").map(|reader| reader.head());
+        assert_eq!(rt; got, truncated, "at {magic:?}, {version:?}, {link_type:?}");
+    }
+    let mut host = MemHost::new(rt.alloc());
+    let got = CaptureReader::open(&mut host, "p").map(|reader| reader.head());
+    assert_eq!(rt; got, Err(CaptureFault::Failed));
+    Ok(())
+}
+
+fn expect_record(
+    rt: &impl std::process::Abort,
+    got: Option<Record>,
+    number: u32,
+    nanos: u64,
+    original: u32,
+    bytes: &[u8],
+) {
+    match got {
+        Some(record) => {
+            assert_eq!(rt; record.number, number);
+            assert_eq!(rt; record.moment, Moment { nanos });
+            assert_eq!(rt; record.original, original);
+            assert_eq!(rt; record.bytes.bytes(), bytes);
+        }
+        None => assert!(rt; false, "no record {number}"),
+    }
+}
+
+#[test]
+fn records_are_read(rt: HostRuntime) -> Result<(), Fail> {
+    let alloc = rt.alloc();
+    // 1 second and 2.5 million microseconds; 2 ^ 32 - 1 of both
+    let mut host = host_of(alloc, PAIR)?;
+    let mut reader = CaptureReader::open(&mut host, "p")?;
+    expect_record(
+        &rt,
+        reader.next(alloc, &mut host)?,
+        0,
+        3_500_000_000,
+        9,
+        b"abc",
+    );
+    expect_record(
+        &rt,
+        reader.next(alloc, &mut host)?,
+        1,
+        4_294_971_589_967_295_000,
+        2,
+        b"de",
+    );
+    assert!(rt; reader.next(alloc, &mut host)?.is_none());
+    // 1 second and 2.5 million nanoseconds; 2 ^ 32 - 1 of both
+    let mut host = host_of(alloc, SWAPPED_PAIR)?;
+    let mut reader = CaptureReader::open(&mut host, "p")?;
+    expect_record(
+        &rt,
+        reader.next(alloc, &mut host)?,
+        0,
+        1_002_500_000,
+        9,
+        b"abc",
+    );
+    expect_record(
+        &rt,
+        reader.next(alloc, &mut host)?,
+        1,
+        4_294_967_299_294_967_295,
+        2,
+        b"de",
+    );
+    assert!(rt; reader.next(alloc, &mut host)?.is_none());
+    Ok(())
+}
+
+#[test]
+fn every_cut_ends_at_its_record(rt: HostRuntime) -> Result<(), Fail> {
+    for file in [PAIR, SWAPPED_PAIR] {
+        for len in 0..=61 {
+            let mut host = host_of(rt.alloc(), &file[..len])?;
+            let want = match len {
+                0..24 => (0, Some(CaptureFault::Truncated { at: 0 })),
+                24 => (0, None),
+                25..43 => (0, Some(CaptureFault::Truncated { at: 24 })),
+                43 => (1, None),
+                44..61 => (1, Some(CaptureFault::Truncated { at: 43 })),
+                _ => (2, None),
+            };
+            assert_eq!(rt; ending(rt.alloc(), &mut host), want, "at {len}");
+        }
+    }
+    Ok(())
+}
+
+#[test]
+fn records_of_any_length_follow_each_other(rt: HostRuntime) -> Result<(), Fail> {
+    let alloc = rt.alloc();
+    // three records of no bytes, and one of the most bytes
+    let mut file = Vec::new(alloc);
+    file.extend_from_slice(PLAIN)?;
+    file.resize(24 + 3 * 16, 0)?;
+    file.extend_from_slice(b"\0\0\0\0\0\0\0\0\0\0\x04\0\x01\0\0\0")?;
+    file.resize(24 + 4 * 16 + 262_144, 7)?;
+    let mut host = host_of(alloc, &file)?;
+    assert_eq!(rt; ending(alloc, &mut host), (4, None));
+    // and a byte more
+    file.push(0)?;
+    let mut host = host_of(alloc, &file)?;
+    assert_eq!(rt;
+        ending(alloc, &mut host),
+        (4, Some(CaptureFault::Truncated { at: 262_232 }))
+    );
+    Ok(())
+}
+
+/// What a reader that has given `number` records answers where these bytes are left at 24, and
+/// what it answers then.
+fn resumed(alloc: Global, number: u32, rest: &[u8]) -> Result<[Option<CaptureFault>; 2], Fail> {
+    let mut host = host_of(alloc, rest)?;
+    let _ = host.open("p");
+    let head = CaptureHead {
+        link: Link::Ethernet,
+        swapped: false,
+        nanos: false,
+    };
+    let mut reader = CaptureReader::resume(head, number, 24);
+    let first = reader.next(alloc, &mut host).err();
+    Ok([first, reader.next(alloc, &mut host).err()])
+}
+
+#[test]
+fn resumed_readers_refuse_at_the_limits(rt: HostRuntime) -> Result<(), Fail> {
+    let alloc = rt.alloc();
+    let too_many = Some(CaptureFault::TooMany);
+    let too_long = Some(CaptureFault::TooLong {
+        at: 24,
+        len: 262_145,
+    });
+    let header = b"\0\0\0\0\0\0\0\0\x01\0\x04\0\0\0\0\0";
+    assert_eq!(rt; resumed(alloc, u32::MAX, b"x")?, [too_many, too_many]);
+    assert_eq!(rt; resumed(alloc, u32::MAX, b"")?, [None, None]);
+    assert_eq!(rt; resumed(alloc, 0, header)?, [too_long, too_long]);
+    // the last number that a record may have
+    let empty = b"\0\0\0\0\0\0\0\0\0\0\0\0\0\0\0\0";
+    assert_eq!(rt; resumed(alloc, u32::MAX - 1, empty)?, [None, None]);
+    assert_eq!(rt;
+        resumed(alloc, u32::MAX - 1, b"\0\0\0\0\0\0\0\0\0\0\0\0\0\0\0\0x")?,
+        [None, too_many]
+    );
+    Ok(())
+}
+
+#[test]
+fn a_failing_read_is_repeated(rt: HostRuntime) -> Result<(), Fail> {
+    let alloc = rt.alloc();
+    // the open, the file header, a header and the bytes of each record, and the end
+    for (call, records) in [(0, 0), (1, 0), (2, 0), (3, 0), (4, 1), (5, 1), (6, 2)] {
+        let mut host = host_of(alloc, PAIR)?;
+        host.fail_calls(&[call])?;
+        assert_eq!(rt;
+            ending(alloc, &mut host),
+            (records, Some(CaptureFault::Failed)),
+            "at {call}"
+        );
+    }
+    let mut host = host_of(alloc, PAIR)?;
+    host.fail_calls(&[3])?;
+    let mut reader = CaptureReader::open(&mut host, "p")?;
+    for _ in 0..3 {
+        assert_eq!(rt;
+            reader.next(alloc, &mut host).err(),
+            Some(CaptureFault::Failed)
+        );
+    }
+    Ok(())
+}
