@@ -1,0 +1,4 @@
+pub mod Sums
+pub mod Flags
+pub mod Parts
+mod Carries

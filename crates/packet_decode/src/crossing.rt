@@ -1,0 +1,16 @@
+//! The types of a packet may move to another thread and be shared by threads: each call below is
+//! proved only for a type that may.
+
+use crate::{Body, Checks, IpHead, Packet, Skip, TcpHead};
+
+fn crosses_threads<T: Send + Sync>() {}
+
+/// All types of this crate.
+pub fn types_cross_threads() {
+    crosses_threads::<Body>();
+    crosses_threads::<Checks>();
+    crosses_threads::<IpHead>();
+    crosses_threads::<Packet<'static>>();
+    crosses_threads::<Skip>();
+    crosses_threads::<TcpHead>();
+}

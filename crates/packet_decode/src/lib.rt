@@ -1,0 +1,30 @@
+//! The decoder: the bytes of a captured record become the fields of one IPv4 packet, exactly.
+//!
+//! `decode` walks the link header, the IPv4 header and the transport header of a record, and
+//! `decode_datagram` the transport header alone, of a datagram that was put together from
+//! fragments. Each gives a packet whose payload is lent from the bytes, or the reason why the
+//! record is skipped. Both meet the definitions of `specs/Decoding`, which name every field by its
+//! place in the whole record, for every link and all bytes; the checksums are those of
+//! `specs/Checksum`. Neither takes memory. Reassembly, sessions, rule headers and alert lines stand
+//! on the types of this crate.
+#![tactic(auto)]
+
+mod checks;
+mod checksum;
+mod crossing;
+mod ipv4;
+mod numbers;
+mod packet;
+mod records;
+mod skip;
+mod start;
+#[cfg(test)]
+mod tests;
+mod transport;
+
+pub use checks::Checks;
+pub use crossing::types_cross_threads;
+pub use packet::{Body, IpHead, Packet, TcpHead};
+pub use records::decode;
+pub use skip::Skip;
+pub use transport::decode_datagram;

@@ -1,0 +1,69 @@
+use edge_io::Addr;
+
+/// The fields of an IPv4 header (RFC 791, section 3.1).
+#[derive(Clone, Copy, Debug, PartialEq, Eq)]
+pub struct IpHead {
+    pub src: Addr,
+    pub dst: Addr,
+    /// The protocol number: 6 for TCP, 17 for UDP, 1 for ICMP.
+    pub protocol: u8,
+    /// Time to live.
+    pub ttl: u8,
+    /// Type of service.
+    pub tos: u8,
+    /// The identification; that of IPv4 has 16 bits.
+    pub id: u32,
+    /// The reserved bit.
+    pub reserved: bool,
+    /// Don't fragment.
+    pub dont: bool,
+    /// More fragments.
+    pub more: bool,
+    /// The fragment offset, in units of 8 bytes.
+    pub offset: u16,
+}
+
+/// The fields of a TCP header (RFC 793, section 3.1).
+#[derive(Clone, Copy, Debug, PartialEq, Eq)]
+pub struct TcpHead {
+    pub sport: u16,
+    pub dport: u16,
+    pub seq: u32,
+    pub ack: u32,
+    /// All eight bits of the byte at offset 13: FIN is 1, SYN 2, RST 4, PSH 8, ACK 16, URG 32.
+    pub flags: u8,
+    pub window: u16,
+}
+
+/// What a packet carries behind its IPv4 header.
+#[derive(Clone, Copy, Debug, PartialEq, Eq)]
+pub enum Body {
+    Tcp(TcpHead),
+    Udp {
+        sport: u16,
+        dport: u16,
+    },
+    Icmp {
+        kind: u8,
+        code: u8,
+        id: u16,
+        seq: u16,
+    },
+    /// A protocol without a reader here: the payload is all that it carries.
+    Other,
+    /// A fragment: the payload is its part of the datagram.
+    Fragment,
+    /// A stretch of a reassembled stream. No call of this crate makes it.
+    Stream {
+        sport: u16,
+        dport: u16,
+    },
+}
+
+/// A packet, its payload lent from the record.
+#[derive(Clone, Copy, Debug, PartialEq, Eq)]
+pub struct Packet<'a> {
+    pub ip: IpHead,
+    pub body: Body,
+    pub payload: &'a [u8],
+}

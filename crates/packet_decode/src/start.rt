@@ -1,0 +1,82 @@
+ghost use Rattle.std.specs.Prelude.{◌≡◌, ◌+◌, ◌≤◌, length, IfOk};
+ghost use Rattle.packet_decode.specs.Decoding.{behind_tag, typed_start, link_start};
+
+use crate::Skip;
+use crate::numbers::be16;
+use edge_io::Link;
+
+const ETHERNET_LEN: usize = 14;
+
+const COOKED_LEN: usize = 16;
+
+const TYPE_LEN: usize = 2;
+
+const TAG_LEN: usize = 4;
+
+const TAGGED: u16 = 0x8100;
+
+const IPV4: u16 = 0x0800;
+
+/// The place of the next type field where the one at `place` is a tag's, and else `place`.
+#[tactic(auto, unfolding(crate::specs::Decoding::behind_tag))]
+fn behind_tag(bytes: &[u8], place: usize) -> Result<usize, Skip>
+    requires { place + 2 ≤ length bytes.now }
+    ensures exact { result ≡ behind_tag bytes.now place }
+    ensures within { IfOk result (λ inner. inner + 2 ≤ length bytes.now) }
+{
+    if be16(bytes, place) != TAGGED {
+        return Ok(place);
+    }
+    if bytes.len() < place + TAG_LEN + TYPE_LEN {
+        return Err(Skip::Short);
+    }
+    Ok(place + TAG_LEN)
+}
+
+/// Where the IPv4 header starts behind the type field at `place`, and behind at most two tags.
+#[tactic(auto, unfolding(crate::specs::Decoding::typed_start))]
+fn typed_start(bytes: &[u8], place: usize) -> Result<usize, Skip>
+    requires { place + 2 ≤ length bytes.now }
+    ensures exact { result ≡ typed_start bytes.now place }
+    ensures within { IfOk result (λ start. start ≤ length bytes.now) }
+{
+    let inner = behind_tag(bytes, place)?;
+    let innermost = behind_tag(bytes, inner)?;
+    if be16(bytes, innermost) == IPV4 {
+        Ok(innermost + TYPE_LEN)
+    } else {
+        Err(Skip::OtherProtocol)
+    }
+}
+
+/// Where the IPv4 header of a record starts.
+#[tactic(auto, unfolding(crate::specs::Decoding::link_start))]
+pub fn link_start(link: Link, bytes: &[u8]) -> Result<usize, Skip>
+    ensures exact { result ≡ link_start link bytes.now }
+    ensures within { IfOk result (λ start. start ≤ length bytes.now) }
+{
+    match link {
+        Link::Ethernet => {
+            if bytes.len() < ETHERNET_LEN {
+                return Err(Skip::Short);
+            }
+            typed_start(bytes, ETHERNET_LEN - TYPE_LEN)
+        }
+        Link::Cooked => {
+            if bytes.len() < COOKED_LEN {
+                return Err(Skip::Short);
+            }
+            typed_start(bytes, COOKED_LEN - TYPE_LEN)
+        }
+        Link::RawIp => {
+            if bytes.is_empty() {
+                return Err(Skip::Short);
+            }
+            if bytes[0] / 16 == 4 {
+                Ok(0)
+            } else {
+                Err(Skip::OtherProtocol)
+            }
+        }
+    }
+}
