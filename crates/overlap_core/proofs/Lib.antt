@@ -1,0 +1,5 @@
+pub mod Arrivals
+pub mod Covered
+pub mod Ends
+pub mod Laws
+pub mod OneList

@@ -1,0 +1,14 @@
+//! A queue and its runs may move to another thread and be shared by threads: the call below is
+//! proved only for types that may.
+
+use crate::{Bounds, Queue, Run, Segment};
+
+fn crosses_threads<T: Send + Sync>() {}
+
+/// The types of this crate.
+pub fn types_cross_threads() {
+    crosses_threads::<Bounds>();
+    crosses_threads::<Queue>();
+    crosses_threads::<Run>();
+    crosses_threads::<Segment>();
+}

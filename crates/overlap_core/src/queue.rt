@@ -1,0 +1,173 @@
+ghost use Rattle.std.specs.Prelude.{◌≡◌, ℕ, ◌+◌, ◌^◌, ◌<◌, ◌≤◌, ◌↔◌, [], None, Some, length, IsTrue, IsSome, OnOk, OnErr};
+ghost use Rattle.std.specs.Bool.{OnTrue};
+ghost use Rattle.overlap_core.specs.Overlap.{chosen_byte, covered_end, is_covered, IsCoveredEnd};
+ghost use Rattle.overlap_core.specs.QueueState.{byte_of, with_room, with_segment, from_floor};
+ghost use Rattle.overlap_core.specs.Runs.{AppendsRuns, AreBytes};
+
+use crate::choice::chosen;
+use crate::runs::{append_runs, filled, greatest_end};
+use crate::{Bounds, Run, Segment};
+use edge_io::{NoMemory, Preference, Text};
+use std::alloc::Global;
+use std::marker::Model;
+
+/// Memory for the bytes of one segment of these bounds.
+#[derive(Drop)]
+struct Room {
+    bounds: Bounds,
+    spare: Vec<u8>,
+}
+
+/// The segments of one datagram or of one direction of a stream, in order of arrival.
+///
+/// Contracts see the floor, below which no byte is given any more, the preference, the segments
+/// whole, and the bounds of the one segment for which room stands.
+#[derive(Drop)]
+pub struct Queue {
+    alloc: Global,
+    floor: u64,
+    preference: Preference,
+    segments: Vec<Segment>,
+    room: Option<Room>,
+}
+
+impl Model for Queue {
+    ghost use Rattle.overlap_core.specs.QueueState.{QueueState};
+
+    ghost Value = { QueueState };
+
+    ghost use Rattle.overlap_core.specs.Inside.{state_of, IsSound};
+
+    ghost view = { state_of };
+
+    ghost invariant = { IsSound };
+}
+
+impl Queue {
+    /// A queue with no segment. Takes no memory.
+    pub fn new(alloc: Global, preference: Preference, floor: u64) -> Queue
+        ensures { result ≡ record { floor = floor; preference = preference; segments = []; room = None } }
+    {
+        Queue {
+            alloc,
+            floor,
+            preference,
+            segments: Vec::new(alloc),
+            room: None,
+        }
+    }
+
+    /// Makes room for one segment of `len` bytes at `start`, in place of any room that stood.
+    /// Without memory no room stands, and nothing else changes.
+    pub fn reserve(&mut self, start: u64, len: usize) -> Result<(), NoMemory>
+        requires some { 0 < len }
+        requires fits { start + len < 2 ^ 64 }
+        ensures ok { OnOk result (self.new ≡ with_room self.old (Some (record { start = start; end = start + len }))) }
+        ensures err { OnErr result (self.new ≡ with_room self.old None) }
+    {
+        self.room = None;
+        self.segments.reserve(1)?;
+        let spare = Vec::with_capacity(self.alloc, len)?;
+        let end = start + len as u64;
+        self.room = Some(Room {
+            bounds: Bounds { start, end },
+            spare,
+        });
+        Ok(())
+    }
+
+    /// Adds a segment for which room stands, and uses up the room. Takes no memory.
+    pub fn insert_reserved(&mut self, start: u64, bytes: &[u8])
+        requires { self.old.room ≡ Some (record { start = start; end = start + length bytes.now }) }
+        ensures { self.new ≡ with_segment self.old (record { start = start; bytes = bytes.now }) }
+    {
+        if let Some(room) = self.room.take() {
+            let Room {
+                bounds: _,
+                mut spare,
+            } = room;
+            let _ = spare.extend_from_slice(bytes);
+            let _ = self.segments.push(Segment {
+                start,
+                bytes: Text::from_vec(spare),
+            });
+        }
+    }
+
+    /// Makes room for a segment and adds it. Without memory no segment and no byte changes. No
+    /// room stands afterwards.
+    pub fn insert(&mut self, start: u64, bytes: &[u8]) -> Result<(), NoMemory>
+        requires some { 0 < length bytes.now }
+        requires fits { start + length bytes.now < 2 ^ 64 }
+        ensures ok { OnOk result (self.new ≡ with_segment self.old (record { start = start; bytes = bytes.now })) }
+        ensures err { OnErr result (self.new ≡ with_room self.old None) }
+    {
+        self.reserve(start, bytes.len())?;
+        self.insert_reserved(start, bytes);
+        Ok(())
+    }
+
+    /// The byte that the host keeps at the place: none exactly below the floor and where no segment
+    /// covers the place. Takes no memory.
+    pub fn byte(&self, place: u64) -> Option<u8>
+        ensures value { result ≡ byte_of self.now place }
+        ensures some { IsSome result ↔ ((self.now.floor ≤ place) × IsTrue (is_covered self.now.segments place)) }
+    {
+        if place < self.floor {
+            return None;
+        }
+        chosen(self.preference, &self.segments, place)
+    }
+
+    /// The larger of the floor and the greatest end of a segment. Takes no memory.
+    pub fn covered_end(&self) -> u64
+        ensures value { result ≡ covered_end self.now.floor self.now.segments }
+        ensures greatest { IsCoveredEnd self.now.floor self.now.segments result }
+    {
+        greatest_end(self.floor, &self.segments)
+    }
+
+    /// The place below which no byte is given. Takes no memory.
+    pub fn floor(&self) -> u64
+        ensures { result ≡ self.now.floor }
+    {
+        self.floor
+    }
+
+    /// Whether every place from the floor on has a byte, as many places as `out` is long; then
+    /// `out` holds these bytes. Otherwise the bytes of `out` are open. Takes no memory.
+    pub fn fill(&self, out: &mut [u8]) -> bool
+        requires { self.now.floor + length out.old < 2 ^ 64 }
+        ensures whole { IsTrue result ↔ ((k : ℕ) → k < length out.old → IsSome (chosen_byte self.now.preference self.now.segments (self.now.floor + k))) }
+        ensures bytes { OnTrue result (AreBytes (chosen_byte self.now.preference self.now.segments) self.now.floor out.new) }
+    {
+        filled(self.preference, &self.segments, self.floor, out)
+    }
+
+    /// Appends the maximal runs of covered places from the floor on and below `below`, in order,
+    /// and makes `below` the floor; no room stands then. Without memory the queue and `out` stay.
+    pub fn take_runs(
+        &mut self,
+        alloc: Global,
+        below: u64,
+        out: &mut Vec<Run>,
+    ) -> Result<(), NoMemory>
+        requires { self.old.floor ≤ below }
+        ensures runs { OnOk result (AppendsRuns (chosen_byte self.old.preference self.old.segments) self.old.floor below out.old.items out.new.items) }
+        ensures floor { OnOk result (self.new ≡ from_floor self.old below) }
+        ensures err { OnErr result (self.new ≡ self.old) }
+        ensures unchanged { OnErr result (out.new.items ≡ out.old.items) }
+    {
+        append_runs(
+            alloc,
+            self.preference,
+            &self.segments,
+            self.floor,
+            below,
+            out,
+        )?;
+        self.floor = below;
+        self.room = None;
+        Ok(())
+    }
+}

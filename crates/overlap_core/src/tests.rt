@@ -1,0 +1,198 @@
+//! The overlap table worked out by hand, and each call once.
+
+use crate::{Bounds, Queue, Run, types_cross_threads, wins};
+use edge_io::{FragPolicy, NoMemory, Preference, StreamPolicy, Text};
+use std::alloc::Global;
+use std::process::Abort;
+use std::test::Fail;
+
+const PREFERENCES: [Preference; 7] = [
+    Preference::First,
+    Preference::Last,
+    Preference::Bsd,
+    Preference::BsdRight,
+    Preference::Linux,
+    Preference::Windows,
+    Preference::Solaris,
+];
+
+/// Compares the bytes from place 0 on with those kept, a dot for a place without a byte.
+fn compare(
+    rt: &impl Abort,
+    alloc: Global,
+    preference: Preference,
+    arrivals: &[(u64, &str)],
+    kept: &str,
+) -> Result<(), NoMemory> {
+    let mut queue = Queue::new(alloc, preference, 0);
+    for (start, bytes) in arrivals {
+        let bytes = bytes.as_bytes();
+        assert!(rt; *start < 100 && !bytes.is_empty());
+        queue.insert(*start, bytes)?;
+    }
+    for (place, byte) in kept.as_bytes().iter().enumerate() {
+        let wanted = if *byte == b'.' { None } else { Some(*byte) };
+        assert_eq!(rt; queue.byte(place as u64), wanted, "place {place} of {kept}");
+    }
+    Ok(())
+}
+
+/// Compares a second segment beside "aaaa" at 4 under each preference: what is kept where the second
+/// one wins and where it doesn't, and the preferences under which it wins, by their first letters.
+fn compare_second(
+    rt: &impl Abort,
+    alloc: Global,
+    second: (u64, &str),
+    taken: &str,
+    left: &str,
+    winners: &str,
+) -> Result<(), NoMemory> {
+    for (preference, winner) in PREFERENCES.iter().zip(winners.as_bytes()) {
+        if *winner == b'.' {
+            compare(rt, alloc, *preference, &[(4, "aaaa"), second], left)?;
+        } else {
+            compare(rt, alloc, *preference, &[(4, "aaaa"), second], taken)?;
+        }
+    }
+    Ok(())
+}
+
+#[test]
+fn two_segments_by_the_table(rt: HostRuntime) -> Result<(), Fail> {
+    for (second, taken, left, winners) in [
+        ((2, "bbbb"), "..bbbbaa..", "..bbaaaa..", ".LB.L.."),
+        ((2, "bbbbbb"), "..bbbbbb..", "..bbaaaa..", ".LB.L.S"),
+        ((2, "bbbbbbbb"), "..bbbbbbbb", "..bbaaaabb", ".LB.LWS"),
+        ((4, "bbbb"), "....bbbb..", "....aaaa..", ".L.RL.."),
+        ((4, "bbbbbb"), "....bbbbbb", "....aaaabb", ".L.RL.."),
+        ((4, "bb"), "....bbaa..", "....aaaa..", ".L.RL.."),
+        ((5, "bb"), "....abba..", "....aaaa..", ".L.R..."),
+        ((5, "bbb"), "....abbb..", "....aaaa..", ".L.R..."),
+        ((6, "bbbb"), "....aabbbb", "....aaaabb", ".L.R..."),
+    ] {
+        compare_second(&rt, rt.alloc(), second, taken, left, winners)?;
+    }
+    Ok(())
+}
+
+/// Three and four segments, whose whole bounds are compared.
+#[test]
+fn whole_bounds_by_the_table(rt: HostRuntime) -> Result<(), Fail> {
+    let stair = [(2, "aaaa"), (4, "bbbb"), (3, "ccccccc")];
+    let descent = [(4, "aaaa"), (2, "bbbbbb"), (0, "cccccc")];
+    let again = [(0, "aaaa"), (2, "bbbb"), (0, "cccc")];
+    let (first, second) = (
+        "WWWWWWWWXXXXXXXXYYYYYYYYYYYYYYYY",
+        "WWWWWWWWZZZZZZZZZZZZZZZZZZZZZZZZ",
+    );
+    let trimmed = [
+        (0, "WWWWWWWW"),
+        (8, "XXXXXXXX"),
+        (8, "YYYYYYYYYYYYYYYYYYYYYYYY"),
+        (8, "ZZZZZZZZZZZZZZZZZZZZZZZZ"),
+    ];
+    let rows = [
+        ("..aaaabbcc", "ccbbaaaa", "aaaabb", first),
+        ("..accccccc", "ccccccbb", "ccccbb", second),
+        ("..aaaacccc", "ccccccbb", "aaaabb", first),
+        ("..acbbbbcc", "ccbbaaaa", "ccbbbb", second),
+        ("..aaaacccc", "ccccccbb", "ccccbb", second),
+        ("..aaaacccc", "ccbbaaaa", "aaaabb", first),
+        ("..aaaacccc", "ccbbbbbb", "aaaabb", first),
+    ];
+    for (preference, (stairs, descents, agains, trims)) in PREFERENCES.iter().zip(rows) {
+        compare(&rt, rt.alloc(), *preference, &stair, stairs)?;
+        compare(&rt, rt.alloc(), *preference, &descent, descents)?;
+        compare(&rt, rt.alloc(), *preference, &again, agains)?;
+        compare(&rt, rt.alloc(), *preference, &trimmed, trims)?;
+    }
+    Ok(())
+}
+
+fn assert_run(rt: &impl Abort, run: Option<&Run>, start: u64, bytes: &str) {
+    assert_eq!(rt; run.map(|run| run.start), Some(start));
+    assert_eq!(rt; run.map(|run| run.bytes.bytes()), Some(bytes.as_bytes()));
+}
+
+/// Each call once.
+#[test]
+fn queue_gives_bytes_and_runs(rt: HostRuntime) -> Result<(), Fail> {
+    let alloc = rt.alloc();
+    let (old, new) = (Bounds { start: 4, end: 8 }, Bounds { start: 2, end: 8 });
+    assert!(rt; wins(Preference::Solaris, old, new) && !wins(Preference::Windows, old, new));
+    types_cross_threads();
+
+    let mut queue = Queue::new(alloc, Preference::Last, 1);
+    queue.reserve(0, 2)?;
+    queue.insert_reserved(0, b"ab");
+    queue.insert(5, b"e")?;
+    queue.insert(2, b"cd")?;
+    assert_eq!(rt; queue.floor(), 1);
+    assert_eq!(rt; queue.covered_end(), 6);
+    assert_eq!(rt;
+        [queue.byte(0), queue.byte(1), queue.byte(4)],
+        [None, Some(b'b'), None]
+    );
+    let mut bytes = [0; 3];
+    assert!(rt; queue.fill(&mut bytes));
+    assert_eq!(rt; bytes, *b"bcd");
+    assert!(rt; !queue.fill(&mut [0; 4]));
+
+    let mut runs = Vec::new(alloc);
+    runs.push(Run {
+        start: 9,
+        bytes: Text::copy(alloc, b"z")?,
+    })?;
+    queue.take_runs(alloc, 3, &mut runs)?;
+    assert_eq!(rt; [queue.byte(2), queue.byte(3)], [None, Some(b'd')]);
+    queue.take_runs(alloc, 9, &mut runs)?;
+    assert_eq!(rt; (queue.floor(), queue.covered_end(), runs.len()), (9, 9, 4));
+    assert_run(&rt, runs.get(0), 9, "z");
+    assert_run(&rt, runs.get(1), 1, "bc");
+    assert_run(&rt, runs.get(2), 3, "d");
+    assert_run(&rt, runs.get(3), 5, "e");
+    Ok(())
+}
+
+/// The policies by their names, in either case, and the rows that they stand for.
+#[test]
+fn policies_have_their_rows(rt: HostRuntime) {
+    let fragments = [
+        ("first", Preference::First),
+        ("LAST", Preference::Last),
+        ("bsd", Preference::Bsd),
+        ("BSD-Right", Preference::BsdRight),
+        ("linux", Preference::Linux),
+        ("Windows", Preference::Windows),
+        ("solaris", Preference::Solaris),
+    ];
+    for (name, want) in fragments {
+        let row = FragPolicy::read(name.as_bytes()).map(|policy| policy.preference());
+        assert_eq!(rt; row, Some(want), "at {name}");
+    }
+    let streams = [
+        ("first", Preference::First),
+        ("vista", Preference::First),
+        ("last", Preference::Last),
+        ("bsd", Preference::Bsd),
+        ("old-linux", Preference::Bsd),
+        ("HPUX", Preference::Bsd),
+        ("irix", Preference::Bsd),
+        ("macos", Preference::Bsd),
+        ("linux", Preference::Linux),
+        ("windows", Preference::Windows),
+        ("Win2003", Preference::Windows),
+        ("solaris", Preference::Solaris),
+        ("hpux10", Preference::BsdRight),
+    ];
+    for (name, want) in streams {
+        let row = StreamPolicy::read(name.as_bytes()).map(|policy| policy.preference());
+        assert_eq!(rt; row, Some(want), "at {name}");
+    }
+    for name in ["", "bsd ", "bsdright", "hpux1", "first,last"] {
+        assert!(rt; FragPolicy::read(name.as_bytes()).is_none(), "at {name}");
+        assert!(rt; StreamPolicy::read(name.as_bytes()).is_none(), "at {name}");
+    }
+    assert!(rt; FragPolicy::read(b"vista").is_none());
+    assert!(rt; StreamPolicy::read(b"bsd-right").is_none());
+}
