@@ -1,0 +1,8 @@
+use Rattle.std.proofs.Common.{◌≡◌, length}
+use Rattle.piece_list.proofs.list.PieceList.drop.Given as goal
+
+abbrev pub invariant-loop-value : goal.invariant-loop-value
+invariant-loop-value g l = l.self.place ≡ 0
+
+abbrev pub decreases-loop-value : goal.decreases-loop-value
+decreases-loop-value g l = length l.self.list

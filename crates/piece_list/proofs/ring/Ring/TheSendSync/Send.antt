@@ -1,0 +1,7 @@
+use denote.RattleType.{RattleType}
+use denote.Param.Send.{IsSend}
+use Rattle.piece_list.proofs.Crosses.{Ring-send}
+use Rattle.piece_list.specs.contracts.ring.Ring.{the_row}
+
+pub send : (V : RattleType) → IsSend V → IsSend (the_row V)
+send = Ring-send

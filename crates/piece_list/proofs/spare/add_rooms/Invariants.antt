@@ -1,0 +1,5 @@
+use Rattle.std.proofs.Common.{◌≡◌, ◌+◌, ◌≤◌, vec_capacity, vec_len}
+use Rattle.piece_list.proofs.spare.add_rooms.Given as goal
+
+abbrev pub invariant-loop-room : goal.invariant-loop-room
+invariant-loop-room g l = (vec_len l.spare ≡ vec_len l.fn.spare + l._room) × (vec_capacity l.fn.spare ≤ vec_capacity l.spare)

@@ -1,0 +1,5 @@
+pub mod Held
+pub mod Linked
+pub mod Ownership
+pub mod Pieces
+pub mod Stands

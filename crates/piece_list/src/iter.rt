@@ -1,0 +1,99 @@
+//! The elements in order, by the links between their nodes.
+ghost use Rattle.std.specs.Prelude.{◌≡◌, length};
+ghost use Rattle.std.specs.Iterator.{YieldsFirstRef, item_count};
+ghost use Rattle.piece_list.specs.Held.{left_of};
+ghost use Rattle.piece_list.specs.Linked.{values, first_place};
+
+use crate::node::NodePtr;
+use crate::ring::Ring;
+use std::marker::Model;
+
+/// What is left of a ring's values. `from` counts those that were given, which only the proof needs.
+#[derive(Drop)]
+pub(crate) struct ChainIter<'a, T> {
+    ring: &'a Ring<T>,
+    here: NodePtr<T>,
+    from: usize,
+    left: usize,
+}
+
+impl<'a, T> Model for ChainIter<'a, T> {
+    ghost use Rattle.std.specs.Prelude.{◌+◌, ◌^◌, ◌<◌, List, drop};
+    ghost use Rattle.piece_list.specs.Linked.{values};
+    ghost use Rattle.piece_list.specs.Stands.{Stands};
+
+    ghost Value = { List T };
+
+    ghost view = { λ i. drop i.from (values i.ring.now.nodes) };
+
+    ghost invariant = { λ i. Stands i.ring.now.head i.ring.now.tail i.ring.now.nodes i.ring.now.head i.ring.now.tail i.here.ptr (i.from + i.left) i.from
+        × (i.from + i.left < 2 ^ 64) };
+}
+
+impl<'a, T> ChainIter<'a, T> {
+    pub(crate) fn new(ring: &'a Ring<T>, first: NodePtr<T>, len: usize) -> ChainIter<'a, T>
+        requires { (len ≡ length ring.now.nodes) × (first.ptr ≡ first_place ring.now.nodes ring.now.tail) }
+        ensures { result ≡ values ring.now.nodes }
+    {
+        ChainIter {
+            ring,
+            here: first,
+            from: 0,
+            left: len,
+        }
+    }
+}
+
+impl<'a, T> Iterator for ChainIter<'a, T> {
+    type Item = &'a T;
+
+    ghost next_gives = { YieldsFirstRef (λ left. left) };
+
+    ghost remaining = { item_count (λ left. left) };
+
+    fn next(&mut self) -> Option<&'a T> {
+        if self.left == 0 {
+            return None;
+        }
+        let (ring, here) = (self.ring, self.here);
+        self.here = ring.next(here);
+        self.from += 1;
+        self.left -= 1;
+        Some(ring.value(here))
+    }
+}
+
+/// The elements of a list that are left to give, from the first to the last.
+#[derive(Drop)]
+pub struct Iter<'a, T> {
+    chain: Option<ChainIter<'a, T>>,
+}
+
+impl<'a, T> Model for Iter<'a, T> {
+    ghost use Rattle.std.specs.Prelude.{List};
+    ghost use Rattle.piece_list.specs.Held.{left_of};
+
+    ghost Value = { List T };
+
+    ghost view = { λ i. left_of i.chain };
+}
+
+impl<'a, T> Iter<'a, T> {
+    pub(crate) fn over(chain: Option<ChainIter<'a, T>>) -> Iter<'a, T>
+        ensures { result ≡ left_of chain.entry }
+    {
+        Iter { chain }
+    }
+}
+
+impl<'a, T> Iterator for Iter<'a, T> {
+    type Item = &'a T;
+
+    ghost next_gives = { YieldsFirstRef (λ left. left) };
+
+    ghost remaining = { item_count (λ left. left) };
+
+    fn next(&mut self) -> Option<&'a T> {
+        self.chain.as_mut()?.next()
+    }
+}

@@ -1,0 +1,22 @@
+//! A list with a place in it, over raw nodes that are linked both ways.
+//!
+//! `PieceList` is seen as its elements, a place from 0 to their number, and the number of spare nodes
+//! (`specs/Pieces.antt`). All but `reserve` take no memory. Underneath, `node` says who owns which
+//! part of a block, `ring` links the nodes between two sentinels, and `chain` puts a place into a
+//! ring. Only `node` and `ring` touch raw pointers, each step proved by hand under one invariant
+//! (`specs/Ownership.antt`); all else sees lists. The queue of segments stands on this crate.
+#![tactic(auto)]
+
+mod chain;
+mod crossing;
+mod iter;
+mod list;
+mod node;
+mod ring;
+mod spare;
+#[cfg(test)]
+mod tests;
+
+pub use crossing::list_moves_between_threads;
+pub use iter::Iter;
+pub use list::PieceList;
