@@ -1,0 +1,6 @@
+pub mod Dealing
+pub mod Ends
+pub mod Falling
+pub mod Finding
+pub mod Numbers
+pub mod Parts

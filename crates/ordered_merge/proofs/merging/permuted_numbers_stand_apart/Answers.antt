@@ -1,0 +1,5 @@
+use Rattle.ordered_merge.proofs.Finding.{apart_permuted}
+use Rattle.ordered_merge.proofs.merging.permuted_numbers_stand_apart.Goals as goal
+
+pub returns : goal.returns
+returns c = apart_permuted
