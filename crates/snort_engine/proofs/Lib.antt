@@ -1,0 +1,17 @@
+pub mod Spans
+pub mod LineLemmas
+pub mod Digits
+pub mod RuleSteps
+pub mod RuleLaw
+pub mod SetupLemmas
+pub mod Dates
+pub mod PaddedDigits
+pub mod Prefixes
+pub mod PieceLists
+pub mod LineTexts
+pub mod Occurring
+pub mod Showing
+pub mod Watched
+pub mod Reporting
+pub mod Captures
+pub mod Runs

@@ -1,0 +1,16 @@
+-- The work is under way, and no count fell.
+use Rattle.std.proofs.Common.{◌≡◌, ◌≤◌, ◌-◌}
+use Rattle.snort_engine.specs.Watching.{IsUnderWay}
+use Rattle.snort_engine.proofs.watch.watch_records.Given as goal
+
+abbrev pub invariant-records : goal.invariant-records
+invariant-records g l = record {
+  going : IsUnderWay l.rules l.fn.reader l.reader (g.H.Host.left l.fn.host) (g.H.Host.left l.host) (g.A.Sink.written l.fn.alerts) (g.A.Sink.written l.alerts);
+  link : l.link ≡ l.reader.head.link;
+  contents : g.H.Host.contents l.host ≡ g.H.Host.contents l.fn.host;
+  later : g.H.Host.faults l.fn.host ≤ g.H.Host.faults l.host;
+  later_alerts : g.A.Sink.faults l.fn.alerts ≤ g.A.Sink.faults l.alerts;
+}
+
+abbrev pub decreases-records : goal.decreases-records
+decreases-records g l = 4294967296 - l.reader.number

@@ -1,0 +1,15 @@
+pub mod CommandLine
+pub mod ContentRule
+pub mod Setup
+pub mod Calendar
+pub mod Pieces
+pub mod Prefix
+pub mod Line
+pub mod Messages
+pub mod Status
+pub mod Alerting
+pub mod Watching
+pub mod Answer
+pub mod Ending
+pub mod Report
+pub mod SetupEnding

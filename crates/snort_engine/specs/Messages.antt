@@ -1,0 +1,62 @@
+-- The texts of the messages that end a run.
+--
+-- Each is a line of its own with a line feed at its end, on the stream for errors. The wording is this
+-- project's own. To try it on: the first 23 bytes of a capture file end a run with
+-- `ERROR: capture is truncated at byte 0`.
+use Rattle.std.specs.Prelude.{ℕ, List, ◌++◌, codes, decimal}
+use Rattle.snort_engine.specs.declared.messages.Message.{Message}
+use Rattle.snort_engine.specs.declared.messages.Message.TheVariants.{CommandLine, OutsideProfile, CannotRead, CannotWrite, NoMemory, NotPcap, LinkType, Truncated, TooLong, TooMany}
+
+-- the command line is faulty
+unfoldable pub command_line_text : List ℕ
+command_line_text = codes "ERROR: command line\n"
+
+-- a line of a file asks for what this detector does not do
+unfoldable pub outside_profile_text : List ℕ → ℕ → List ℕ
+outside_profile_text file line = codes "ERROR: " ++ file ++ codes "(" ++ decimal line ++ codes ") outside this profile\n"
+
+-- a file cannot be read
+unfoldable pub cannot_read_text : List ℕ → List ℕ
+cannot_read_text name = codes "ERROR: cannot read " ++ name ++ codes "\n"
+
+-- the alert lines cannot be written
+unfoldable pub cannot_write_text : List ℕ
+cannot_write_text = codes "ERROR: cannot write\n"
+
+-- memory ran out
+unfoldable pub no_memory_text : List ℕ
+no_memory_text = codes "ERROR: no memory\n"
+
+-- the capture does not begin as a libpcap savefile does
+unfoldable pub not_pcap_text : List ℕ
+not_pcap_text = codes "ERROR: capture is not a pcap file\n"
+
+-- the capture has a link type that is not read
+unfoldable pub link_type_text : ℕ → List ℕ
+link_type_text link = codes "ERROR: capture has link type " ++ decimal link ++ codes "\n"
+
+-- the capture ends within its head or within the record that begins at this byte
+unfoldable pub truncated_text : ℕ → List ℕ
+truncated_text at = codes "ERROR: capture is truncated at byte " ++ decimal at ++ codes "\n"
+
+-- a record of the capture, which begins at this byte, is longer than any packet
+unfoldable pub too_long_text : ℕ → ℕ → List ℕ
+too_long_text at len =
+    codes "ERROR: capture has a record of " ++ decimal len ++ codes " bytes at byte " ++ decimal at ++ codes "\n"
+
+-- the capture has more records than are read
+unfoldable pub too_many_text : List ℕ
+too_many_text = codes "ERROR: capture has too many records\n"
+
+-- the text of each message
+unfoldable pub message_text : Message → List ℕ
+message_text CommandLine = command_line_text
+message_text (OutsideProfile file line) = outside_profile_text file.now line
+message_text (CannotRead name) = cannot_read_text name.now
+message_text CannotWrite = cannot_write_text
+message_text NoMemory = no_memory_text
+message_text NotPcap = not_pcap_text
+message_text (LinkType link) = link_type_text link
+message_text (Truncated at) = truncated_text at
+message_text (TooLong at len) = too_long_text at len
+message_text TooMany = too_many_text

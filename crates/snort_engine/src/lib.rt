@@ -1,0 +1,32 @@
+//! The detector as one call: `run` reads the words of a command, the configuration and the capture
+//! that they name, and writes a line for each match.
+//!
+//! Its contract is the detector's theorem, from bytes to bytes: where the host tells its files, the
+//! alert bytes, the error bytes and the status are those of `answer` (`specs/Answer`), which tries
+//! every rule on each packet of the whole capture; after a fault or want of memory they are a stated
+//! beginning (`specs/Ending`). The layers below are used by their public contracts alone: the host and
+//! the sinks of `edge_io`, the reader of `pcap_input`, the decoder of `packet_decode`. The program
+//! stands on this crate.
+#![tactic(auto)]
+
+mod content_rule;
+mod crossing;
+mod detector;
+mod endpoint;
+mod flight;
+mod line;
+mod messages;
+mod pieces;
+mod report;
+mod setup;
+mod show;
+mod status;
+#[cfg(test)]
+mod tests;
+mod utc;
+mod watch;
+mod words;
+
+pub use crossing::types_cross_threads;
+pub use detector::run;
+pub use status::Status;

@@ -1,0 +1,30 @@
+ghost use Rattle.std.specs.Prelude.{◌≡◌, map, string_bytes};
+ghost use Rattle.std.specs.Option.{option_map};
+ghost use Rattle.snort_engine.specs.CommandLine.{command_line, options_of};
+
+/// The files that a command names.
+#[derive(Clone, Copy, Debug)]
+pub struct Options<'a> {
+    /// The configuration, behind `-c`.
+    pub conf: &'a str,
+    /// The capture, behind `-r`.
+    pub capture: &'a str,
+}
+
+/// Reads the words of a command, the program's name among them: `snort -c CONF -r CAPTURE`.
+#[tactic(auto, unfolding(crate::specs::CommandLine::command_line))]
+pub fn read_words(words: &[String]) -> Option<Options<'_>>
+    // Some exactly with the names that the words have, and None exactly for other words.
+    ensures { option_map options_of result ≡ command_line (map string_bytes words.now) }
+{
+    let [_, second, conf, fourth, capture] = words else {
+        return None;
+    };
+    if second.as_str() != "-c" || fourth.as_str() != "-r" {
+        return None;
+    }
+    Some(Options {
+        conf: conf.as_str(),
+        capture: capture.as_str(),
+    })
+}
