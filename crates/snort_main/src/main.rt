@@ -1,0 +1,42 @@
+//! The program `snort`: the real files, streams and words around the proved call `run`.
+//!
+//! It makes the host over real files, the sinks over standard output and standard error, a maker of
+//! literal patterns and an open gate, and ends with the code of the status. What the words, the
+//! configuration and the capture mean, and what is written, is the contract of `run`.
+#![tactic(auto)]
+
+use edge_io::{FileHost, LiteralMaker, OpenGate, StdSink};
+use snort_engine::{Status, run};
+use std::process::ExitCode;
+use std::rt::Env;
+use std::{env, io};
+
+/// The words of the command. There are none where one of them isn't text: no command has such a word.
+fn words(rt: &(impl Env + AllocGlobal)) -> io::Result<Vec<String>> {
+    match env::args(rt) {
+        Ok(args) => Ok(args.collect(rt.alloc())?),
+        Err(error) if error.kind() == io::ErrorKind::InvalidData => Ok(Vec::new(rt.alloc())),
+        Err(error) => Err(error),
+    }
+}
+
+fn main(rt: HostRuntime) -> ExitCode {
+    let alloc = rt.alloc();
+    let mut alerts = StdSink::output(rt.stdout());
+    let mut errors = StdSink::errors(rt.stderr());
+    // Where memory is lacking for the words or the host, there is no message.
+    let (Ok(words), Ok(mut host)) = (words(&rt), FileHost::new(alloc, &rt)) else {
+        return ExitCode::from(Status::NoMemory.code());
+    };
+    let status = run(
+        &rt,
+        alloc,
+        &words,
+        &mut host,
+        &mut LiteralMaker::new(alloc),
+        &mut alerts,
+        &mut errors,
+        &OpenGate,
+    );
+    ExitCode::from(status.code())
+}
