@@ -27,3 +27,8 @@ IsLonger (Some files) name limit = (bytes : List ℕ) × (get files name ≡ Som
 abbrev pub IsOpened : Option Files → List ℕ → Option (List ℕ) → Type 0
 IsOpened None name left = ⊤
 IsOpened (Some files) name left = (left ≡ get files name) × IsSome left
+
+-- contents are told, and nothing is open
+abbrev pub IsUnopened : Option Files → Option (List ℕ) → Type 0
+IsUnopened None left = ⊥
+IsUnopened (Some files) left = left ≡ None

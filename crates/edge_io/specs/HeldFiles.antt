@@ -2,20 +2,19 @@
 --
 -- To try it on: where "a" holds five bytes, a load of "a" with limit 4 answers TooLarge, and one of
 -- "b" answers Failed, with the count of faults as it was.
-use Rattle.std.specs.Prelude.{ℕ, List, [], Option, Some, None, Result, Ok, Err, length, drop, min, nat_lt, unwrap_or, if◌then◌else◌, refl}
+use Rattle.std.specs.Prelude.{ℕ, List, [], Option, Some, None, Result, Ok, Err, length, drop, min, nat_lt, option_map, unwrap_or, if◌then◌else◌, refl}
 use Rattle.std.specs.FinMap.{get, empty}
 use Rattle.std.specs.FinMap as map
-use Rattle.std.specs.Coded.{Coded, code_by, coded×, coded_ℕ, coded_list}
+use Rattle.std.specs.Coded.{Coded, code_by, coded×, coded_ℕ, coded_list, coded_option}
 use Rattle.edge_io.specs.declared.host.LoadFault.{LoadFault}
 use Rattle.edge_io.specs.declared.host.LoadFault.TheVariants.{Failed, TooLarge}
 use Rattle.edge_io.specs.Files.{Files}
 use Rattle.edge_io.specs.Calls.{Calls, calls_code, fails, counted, one_more}
 
--- the files, what is left of the open capture (nothing where none is open), the count of faults, the
--- calls
+-- the files, what is left of the open capture if one is open, the count of faults, the calls
 pub record HeldFiles : Type 0 where
   pub files : Files
-  pub left : List ℕ
+  pub left : Option (List ℕ)
   pub faults : ℕ
   pub calls : Calls
 
@@ -23,15 +22,15 @@ pub record HeldFiles : Type 0 where
 abbrev pub held_files_code : Coded HeldFiles
 held_files_code =
     code_by
-    (Files × (List ℕ × (ℕ × Calls)))
-    (coded× (map.code (coded_list coded_ℕ) (coded_list coded_ℕ)) (coded× (coded_list coded_ℕ) (coded× coded_ℕ calls_code)))
+    (Files × (Option (List ℕ) × (ℕ × Calls)))
+    (coded× (map.code (coded_list coded_ℕ) (coded_list coded_ℕ)) (coded× (coded_option (coded_list coded_ℕ)) (coded× coded_ℕ calls_code)))
     (λ host. (host.files, (host.left, (host.faults, host.calls))))
     (λ parts. record { files = parts.0; left = parts.1.0; faults = parts.1.1.0; calls = parts.1.1.1 })
     (λ _. refl)
 
--- no files, and no call made or named
+-- no files, nothing open, and no call made or named
 abbrev pub no_files : HeldFiles
-no_files = record { files = empty; left = []; faults = 0; calls = record { made = 0; failing = [] } }
+no_files = record { files = empty; left = None; faults = 0; calls = record { made = 0; failing = [] } }
 
 -- after a call: it is counted, and where it fails by its number, so is the fault
 abbrev pub after_call : HeldFiles → HeldFiles
@@ -57,15 +56,24 @@ loaded_of limit (Some bytes) = within limit bytes
 abbrev pub loaded : HeldFiles → List ℕ → ℕ → Result (List ℕ) LoadFault
 loaded host name limit = loaded_of limit (held host name)
 
--- what an open finds: the whole of the file, where the call does not fail and the file is there; the
--- same is left afterwards, and nothing where none was found
+-- after an open: the whole of the file is left, where the call does not fail and the file is there,
+-- and else nothing is open
 abbrev pub after_open : HeldFiles → List ℕ → HeldFiles
-after_open host name = record (after_call host) { left = unwrap_or (held host name) [] }
+after_open host name = record (after_call host) { left = held host name }
+
+-- what reads can still give: nothing where nothing is open
+abbrev pub rest : HeldFiles → List ℕ
+rest host = unwrap_or host.left []
+
+-- these bytes are off what is left, where something is open
+abbrev pub advanced : ℕ → HeldFiles → HeldFiles
+advanced count host = record host { left = option_map (drop count) host.left }
 
 -- how many bytes a read takes into a buffer of this length, where the call does not fail
 abbrev pub read_count : HeldFiles → ℕ → ℕ
-read_count host room = min room (length host.left)
+read_count host room = min room (length (rest host))
 
 -- after a read: its bytes are taken off, where the call does not fail
 abbrev pub after_read : HeldFiles → ℕ → HeldFiles
-after_read host room = record (after_call host) { left = (if fails host.calls then host.left else drop (read_count host room) host.left) }
+after_read host room =
+    if fails host.calls then after_call host else advanced (read_count host room) (after_call host)

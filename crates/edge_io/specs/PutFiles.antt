@@ -13,10 +13,10 @@ files_of held = fold (λ files file. insert files file.name file.bytes) empty he
 abbrev pub bytes_at : List HeldFile → ℕ → List ℕ
 bytes_at held place = (slice_index_or held place (record { name = []; bytes = [] })).bytes
 
--- what is left of the open capture: the bytes at the end of its file
-abbrev pub left_of : List HeldFile → Option Reading → List ℕ
-left_of held None = []
-left_of held (Some reading) = drop (length (bytes_at held reading.file) - reading.left) (bytes_at held reading.file)
+-- what is left of the open capture, if one is open: the bytes at the end of its file
+abbrev pub left_of : List HeldFile → Option Reading → Option (List ℕ)
+left_of held None = None
+left_of held (Some reading) = Some (drop (length (bytes_at held reading.file) - reading.left) (bytes_at held reading.file))
 
 -- the open capture is one of the files, and no more is left than it has
 abbrev pub IsReading : List HeldFile → Option Reading → Type 0

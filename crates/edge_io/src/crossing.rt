@@ -6,7 +6,8 @@ use crate::{
     PatternFlags, Span, Text,
 };
 
-fn crosses_threads<T: Send + Sync>() {}
+/// A call of this is proved only for a type that may move to another thread and be shared.
+pub fn crosses_threads<T: Send + Sync>() {}
 
 /// The types without parameters.
 pub fn types_cross_threads() {

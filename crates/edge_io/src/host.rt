@@ -1,6 +1,6 @@
-ghost use Rattle.std.specs.Prelude.{◌≡◌, ℕ, ◌+◌, ◌<◌, ◌≤◌, ◌++◌, ◌⊎◌, Option, List, length, take, drop, vec_len, IfOk, OnOk, OnErr, IsErrOf};
+ghost use Rattle.std.specs.Prelude.{◌≡◌, ℕ, ◌+◌, ◌<◌, ◌≤◌, ◌++◌, ◌⊎◌, Option, None, List, length, take, drop, vec_len, IfOk, OnOk, OnErr, IsErrOf};
 ghost use Rattle.edge_io.specs.Told.{before, NothingLeft, Rose};
-ghost use Rattle.edge_io.specs.Files.{Files, Holds, Lacks, IsLonger, IsOpened};
+ghost use Rattle.edge_io.specs.Files.{Files, Holds, Lacks, IsLonger, IsOpened, IsUnopened};
 
 use crate::{Failed, NoMemory};
 use std::alloc::{AllocError, AllocFailed};
@@ -19,7 +19,7 @@ pub enum LoadFault {
 /// Files by name, and one open capture that is read piece by piece.
 ///
 /// The meanings: `contents`, the files where they are told; `left`, the bytes left of the open
-/// capture where they are told, none where nothing is open; `faults`, a count that never falls.
+/// capture where one is open and they are told; `faults`, a count that never falls.
 pub trait Host {
     ghost contents: { Self → Option Files };
 
@@ -40,21 +40,22 @@ pub trait Host {
         ensures same_left { left self.new ≡ left self.old }
         ensures later { faults self.old ≤ faults self.new };
 
-    /// Opens a file as the capture, in place of one that was open.
+    /// Opens a file as the capture, in place of one that was open. After a refusal nothing is open.
     fn open(&mut self, name: &str) -> Result<(), Failed>
         ensures opened { OnOk result (IsOpened (contents self.old) name.now (left self.new)) }
         ensures failed { OnErr result (Rose (faults self.old) (faults self.new) ⊎ Lacks (contents self.old) name.now) }
-        ensures closed { OnErr result (NothingLeft (left self.new)) }
+        ensures closed { OnErr result (left self.new ≡ None) }
         ensures same_contents { contents self.new ≡ contents self.old }
         ensures later { faults self.old ≤ faults self.new };
 
     /// Takes bytes off the front of the open capture into the front of `buf`, as many as the answer
-    /// says: 0 only where nothing is left or nothing is open. The rest of `buf` is left open.
+    /// says: 0 exactly where nothing is left or nothing is open. The rest of `buf` is left open.
     fn read(&mut self, buf: &mut [u8]) -> Result<usize, Failed>
         requires { 0 < length buf.old }
         ensures within { IfOk result (λ count. count ≤ length buf.old) }
         ensures taken { IfOk result (λ count. left self.old ≡ before (take count buf.new) (left self.new)) }
         ensures ended { IfOk result (λ count. count ≡ 0 → NothingLeft (left self.old)) }
+        ensures unopened { IsUnopened (contents self.old) (left self.old) → IfOk result (λ count. count ≡ 0) }
         ensures failed { OnErr result (Rose (faults self.old) (faults self.new)) }
         ensures nothing_taken { OnErr result (left self.new ≡ left self.old) }
         ensures same_contents { contents self.new ≡ contents self.old }

@@ -29,7 +29,7 @@ mod std_sink;
 mod text;
 
 pub use address::Addr;
-pub use crossing::{items_cross_threads, types_cross_threads};
+pub use crossing::{crosses_threads, items_cross_threads, types_cross_threads};
 pub use fault::{Failed, NoMemory};
 pub use file_host::FileHost;
 pub use gate::{Gate, OpenGate};

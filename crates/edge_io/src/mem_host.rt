@@ -2,7 +2,7 @@ ghost use Rattle.std.specs.Prelude.{◌≡◌, ◌⊎◌, ◌<◌, ◌≤◌, �
 ghost use Rattle.std.specs.FinMap.{get, insert};
 ghost use Rattle.std.specs.Option.{option_copied};
 ghost use Rattle.edge_io.specs.Calls.{fails};
-ghost use Rattle.edge_io.specs.HeldFiles.{no_files, after_call};
+ghost use Rattle.edge_io.specs.HeldFiles.{no_files, after_call, advanced, rest as rest_of};
 ghost use Rattle.edge_io.specs.PutFiles.{files_of, bytes_at};
 ghost use Rattle.edge_io.specs.Told.{before, NothingLeft, Rose};
 ghost use Rattle.edge_io.specs.Files.{Files, Holds, Lacks, IsLonger, IsOpened};
@@ -113,9 +113,9 @@ impl MemHost {
         Some(self.held[place].bytes.bytes())
     }
 
-    /// The bytes that are left of the open capture.
+    /// The bytes that are left of the open capture; none where nothing is open.
     fn rest(&self) -> &[u8]
-        ensures { result.now ≡ self.now.left }
+        ensures { result.now ≡ rest_of self.now }
     {
         match self.reading {
             None => &[],
@@ -128,8 +128,8 @@ impl MemHost {
 
     /// Takes bytes off the front of what is left of the open capture.
     fn advance(&mut self, count: usize)
-        requires { count ≤ length self.old.left }
-        ensures { self.new ≡ record self.old { left = drop count self.old.left } }
+        requires { count ≤ length (rest_of self.old) }
+        ensures { self.new ≡ advanced count self.old }
     {
         if let Some(reading) = &mut self.reading {
             reading.left -= count;
@@ -138,7 +138,7 @@ impl MemHost {
 
     /// Closes the open capture, and opens the file of this name, if there is one.
     fn reopen(&mut self, name: &str) -> Result<(), Failed>
-        ensures opened { self.new ≡ record self.old { left = unwrap_or (get self.old.files name.now) [] } }
+        ensures opened { self.new ≡ record self.old { left = get self.old.files name.now } }
         ensures found { OnOk result (IsSome (get self.old.files name.now)) }
         ensures lacking { OnErr result (get self.old.files name.now ≡ None) }
     {
@@ -161,7 +161,7 @@ impl Host for MemHost {
 
     ghost contents = { λ host. Some host.files };
 
-    ghost left = { λ host. Some host.left };
+    ghost left = { λ host. host.left };
 
     ghost faults = { λ host. host.faults };
 
@@ -202,8 +202,8 @@ impl Host for MemHost {
         requires { 0 < length buf.old }
         ensures state { self.new ≡ after_read self.old (length buf.old) }
         ensures count { IfOk result (λ count. count ≡ read_count self.old (length buf.old)) }
-        ensures filled { IfOk result (λ count. buf.new ≡ take count self.old.left ++ drop count buf.old) }
-        ensures taken { IfOk result (λ count. Some self.old.left ≡ before (take count buf.new) (Some self.new.left)) }
+        ensures filled { IfOk result (λ count. buf.new ≡ take count (rest_of self.old) ++ drop count buf.old) }
+        ensures taken { IfOk result (λ count. self.old.left ≡ before (take count buf.new) self.new.left) }
         ensures failed { OnErr result (IsTrue (fails self.old.calls)) }
         ensures failing { IsTrue (fails self.old.calls) → IsErr result }
         ensures later { self.old.faults ≤ self.new.faults }

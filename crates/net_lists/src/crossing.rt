@@ -2,8 +2,7 @@
 //! below is proved only for a type that may.
 
 use crate::{AddrList, ExpandFault, ListFault, Part, PortList, Vars};
-
-fn crosses_threads<T: Send + Sync>() {}
+use edge_io::crosses_threads;
 
 /// The types of this crate.
 pub fn types_cross_threads() {

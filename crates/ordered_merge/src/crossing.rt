@@ -2,8 +2,7 @@
 //! call below is proved only for a type that may.
 
 use crate::Numbered;
-
-fn crosses_threads<T: Send + Sync>() {}
+use edge_io::crosses_threads;
 
 /// A numbered value, where the value may.
 pub fn numbered_crosses_threads<T: Send + Sync>() {

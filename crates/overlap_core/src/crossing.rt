@@ -2,8 +2,7 @@
 //! proved only for types that may.
 
 use crate::{Bounds, Queue, Run, Segment};
-
-fn crosses_threads<T: Send + Sync>() {}
+use edge_io::crosses_threads;
 
 /// The types of this crate.
 pub fn types_cross_threads() {

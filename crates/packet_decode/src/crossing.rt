@@ -2,8 +2,7 @@
 //! proved only for a type that may.
 
 use crate::{Body, Checks, IpHead, Packet, Skip, TcpHead};
-
-fn crosses_threads<T: Send + Sync>() {}
+use edge_io::crosses_threads;
 
 /// All types of this crate.
 pub fn types_cross_threads() {

@@ -2,8 +2,7 @@
 //! only for types that may.
 
 use crate::{CaptureFault, CaptureHead, CaptureReader, Record};
-
-fn crosses_threads<T: Send + Sync>() {}
+use edge_io::crosses_threads;
 
 /// The types of a capture.
 pub fn types_cross_threads() {

@@ -1,4 +1,5 @@
 ghost use Rattle.std.specs.Prelude.{◌≡◌, ◌<◌, ◌≤◌, length, take, IfOk, IfErr, OnErr};
+ghost use Rattle.edge_io.specs.Files.{IsUnopened};
 ghost use Rattle.edge_io.specs.Told.{before, NothingLeft, Rose};
 
 use edge_io::{Failed, Host};
@@ -16,6 +17,7 @@ pub fn fill<H: Host>(host: &mut H, buf: &mut [u8]) -> Result<usize, FillStop>
     ensures within { IfOk result (λ count. count ≤ length buf.old) }
     ensures taken { IfOk result (λ count. H.left host.old ≡ before (take count buf.new) (H.left host.new)) }
     ensures ended { IfOk result (λ count. count < length buf.old → NothingLeft (H.left host.new)) }
+    ensures unopened { IsUnopened (H.contents host.old) (H.left host.old) → IfOk result (λ count. count ≡ 0) }
     ensures stopped { IfErr result (λ stop. H.left host.old ≡ before (take stop.done buf.new) (H.left host.new)) }
     ensures short { IfErr result (λ stop. stop.done < length buf.old) }
     ensures failed { OnErr result (Rose (H.faults host.old) (H.faults host.new)) }

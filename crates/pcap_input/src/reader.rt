@@ -1,7 +1,7 @@
 ghost use Rattle.std.specs.Prelude.{◌≡◌, ◌+◌, ◌*◌, ◌<◌, ◌≤◌, ◌⊎◌, List, ℕ, Option, None, Some, length, drop, Result, IfOk, IfErr, IfSome, IfNone, OnOk, Err, IsErrOf};
-ghost use Rattle.edge_io.specs.Told.{before, NothingLeft, Rose};
-ghost use Rattle.edge_io.specs.Files.{Lacks};
-ghost use Rattle.pcap_input.specs.Savefile.{head_of, next_of, next_behind};
+ghost use Rattle.edge_io.specs.Told.{before, Rose};
+ghost use Rattle.edge_io.specs.Files.{Lacks, IsUnopened};
+ghost use Rattle.pcap_input.specs.Savefile.{Clean, Ends, head_of, next_of, next_behind};
 ghost use Rattle.pcap_input.specs.Reader.{standing, moved, refusing, Opens, Tells, TakesHead, IsOfHead, Gives, TakesRecord, TakesNone};
 ghost use Rattle.pcap_input.specs.Pieces.{Reads, TakesFileHeader, GivesOne, TakesBytes, TakesFewer, TakesLess};
 
@@ -46,7 +46,7 @@ impl CaptureReader {
 
         // At most 24 bytes are taken; where the opening itself failed, nothing is open.
         ensures takes { TakesHead (H.contents host.old) name.now result (H.left host.new)
-            ⊎ (IsErrOf result CaptureFault.Failed × NothingLeft (H.left host.new)) }
+            ⊎ (IsErrOf result CaptureFault.Failed × (H.left host.new ≡ None)) }
 
         ensures kinds { IfErr result IsOfHead }
         ensures failed { IsErrOf result CaptureFault.Failed
@@ -88,9 +88,12 @@ impl CaptureReader {
         alloc: Global,
         host: &mut H,
     ) -> Result<Option<Record>, CaptureFault>
-        // Where the bytes left are told, the answer is what stands next in them.
+        // Where the bytes left are told, the answer is what stands next in them; where nothing is
+        // open, it is the end.
         ensures gives { self.old.refused ≡ None → (rest : List ℕ) → H.left host.old ≡ Some rest
             → Gives result (next_of self.old.head self.old.number self.old.at rest) }
+        ensures unopened { self.old.refused ≡ None → IsUnopened (H.contents host.old) (H.left host.old)
+            → Gives result (Ends Clean) }
 
         // What is taken: the bytes of the record that is given and none behind it. Before a refusal
         // no record is whole within what is taken.
@@ -159,6 +162,7 @@ fn read_record<H: Host>(
     at: u64,
 ) -> Result<Option<Record>, CaptureFault>
     ensures gives { (rest : List ℕ) → H.left host.old ≡ Some rest → Gives result (next_of head number at rest) }
+    ensures unopened { IsUnopened (H.contents host.old) (H.left host.old) → Gives result (Ends Clean) }
     ensures takes { IfOk result (λ given. IfSome given (λ r. TakesRecord (standing head number at) r (H.left host.old) (H.left host.new))) }
     ensures ended { IfOk result (λ given. IfNone given (H.left host.new ≡ H.left host.old)) }
     ensures partial { IfErr result (λ why. TakesNone (standing head number at) why (H.left host.old) (H.left host.new)) }

@@ -3,7 +3,7 @@ use Rattle.std.proofs.Common.{◌≡◌, ℕ, ◌<◌, ◌≤◌, List, [], ◌+
 use Rattle.std.specs.FinMap.{get}
 use Rattle.std.proofs.Math.ListN.{drop_of_length-le}
 use Rattle.std.proofs.lemmas.List.{take-append-drop, length-take-le, drop_at}
-use Rattle.edge_io.specs.Told.{behind, NothingLeft}
+use Rattle.edge_io.specs.Told.{behind}
 use Rattle.edge_io.specs.Files.{Files, IsOpened}
 use Rattle.edge_io.proofs.Told.{behind-nil}
 use Rattle.pcap_input.specs.declared.capture.CaptureHead.{CaptureHead}
@@ -36,10 +36,10 @@ unfolding capture_answer
 refused_answer rules name bytes why is = ap (answer_of rules name) (savefile-err bytes None why is)
 
 -- the capture that bytes with this head are
-abbrev capture_with : CaptureHead → List ℕ → Capture
+abbrev pub capture_with : CaptureHead → List ℕ → Capture
 capture_with head bytes = record { head = head; cut = records_left head 0 24 (drop 24 bytes) }
 
-whole_capture : (bytes : List ℕ) (head : CaptureHead) → head_of bytes ≡ Ok head → savefile bytes None ≡ Ok (capture_with head bytes)
+pub whole_capture : (bytes : List ℕ) (head : CaptureHead) → head_of bytes ≡ Ok head → savefile bytes None ≡ Ok (capture_with head bytes)
 whole_capture bytes head is =
     savefile-ok bytes None head is ∙ ap (λ (cut : Cut). Ok (record { head = head; cut = cut })) (limited-none (records_left head 0 24 (drop 24 bytes)))
 
@@ -70,36 +70,36 @@ few_lines : (rules : List ContentRule) (bytes : List ℕ) → length bytes ≤ 2
 few_lines rules bytes few = few_by rules bytes (head_of bytes) refl (drop_of_length-le bytes few)
 
 -- what a name holds, where it was opened
-held_opened : (files : Files) (name : List ℕ) (whole : Option (List ℕ)) → IsOpened (Some files) name whole → (bytes : List ℕ) × (get files name ≡ Some bytes) × (whole ≡ Some bytes)
+pub held_opened : (files : Files) (name : List ℕ) (whole : Option (List ℕ)) → IsOpened (Some files) name whole → (bytes : List ℕ) × (get files name ≡ Some bytes) × (whole ≡ Some bytes)
 held_opened files name (Some bytes) opened = (bytes, sym opened.0, refl)
 held_opened files name None opened = let none = opened.1 in absurd cc
 
 -- the head was not read: nothing was written
 pub open_cut : (rules : List ContentRule) (files : Files) (name : List ℕ) (answer : Result Reading CaptureFault) (left written : Option (List ℕ))
-    → (TakesHead (Some files) name answer left ⊎ ((answer ≡ Err fault.Failed) × NothingLeft left))
+    → (TakesHead (Some files) name answer left ⊎ ((answer ≡ Err fault.Failed) × (left ≡ None)))
     → IsCutShort rules name (get files name) left (cannot_read_text name) written written
 open_cut rules files name answer left written takes =
     ⊎_elim
     (λ (head : TakesHead (Some files) name answer left).
     let held = held_opened files name head.whole head.opened in
     let split = split_told head.whole left head.taken held.0 head.took held.2 in
-    let of : IsTakenOf (get files name) head.taken left = inl (split.rest, held.1 ∙ ap Some split.joined, split.still) in
+    let of : IsTakenOf (get files name) head.taken left = subst (IsTakenOf (get files name) head.taken) (sym split.still) (held.1 ∙ ap Some split.joined) in
     let alerts : written ≡ behind written (lines_within rules head.taken) = sym (behind-nil written) ∙ ap (behind written) (sym (few_lines rules head.taken head.few)) in
     let cut : IsCutShort rules name (get files name) left (cannot_read_text name) written written = record { errors = refl; taken = head.taken; of = of; alerts = alerts } in cut)
-    (λ (nothing : (answer ≡ Err fault.Failed) × NothingLeft left).
+    (λ (nothing : (answer ≡ Err fault.Failed) × (left ≡ None)).
     let few : length {A = ℕ} [] ≤ 24 = omega arith in
-    let of : IsTakenOf (get files name) [] left = inr (refl, nothing.1) in
+    let of : IsTakenOf (get files name) [] left = subst (IsTakenOf (get files name) []) (sym nothing.1) refl in
     let alerts : written ≡ behind written (lines_within rules []) = sym (behind-nil written) ∙ ap (behind written) (sym (few_lines rules [] few)) in
     let cut : IsCutShort rules name (get files name) left (cannot_read_text name) written written = record { errors = refl; taken = []; of = of; alerts = alerts } in cut)
     takes
 
 -- a name that was opened holds bytes
-held_of : (files : Files) (name : List ℕ) (answer : Result Reading CaptureFault) (left : Option (List ℕ)) → (answer ≡ Err fault.Failed → ⊥)
-    → (TakesHead (Some files) name answer left ⊎ ((answer ≡ Err fault.Failed) × NothingLeft left)) → (bytes : List ℕ) × (get files name ≡ Some bytes)
+pub held_of : (files : Files) (name : List ℕ) (answer : Result Reading CaptureFault) (left : Option (List ℕ)) → (answer ≡ Err fault.Failed → ⊥)
+    → (TakesHead (Some files) name answer left ⊎ ((answer ≡ Err fault.Failed) × (left ≡ None))) → (bytes : List ℕ) × (get files name ≡ Some bytes)
 held_of files name answer left other takes =
     ⊎_elim
     (λ (head : TakesHead (Some files) name answer left). let held = held_opened files name head.whole head.opened in let found : (bytes : List ℕ) × (get files name ≡ Some bytes) = (held.0, held.1) in found)
-    (λ (nothing : (answer ≡ Err fault.Failed) × NothingLeft left). absurd (other nothing.0))
+    (λ (nothing : (answer ≡ Err fault.Failed) × (left ≡ None)). absurd (other nothing.0))
     takes
 
 -- the answer for a head that is refused, before anything was written
@@ -136,7 +136,7 @@ opening reader = Ok reader
 -- the head was refused or not read
 pub open_ends : (rules : List ContentRule) (files : Files) (name : List ℕ) (why : CaptureFault) (left written : Option (List ℕ)) (rose : Type 0)
     → ((bytes : List ℕ) → get files name ≡ Some bytes → Opens (Err why) (head_of bytes))
-    → (TakesHead (Some files) name (refusing_open why) left ⊎ ((refusing_open why ≡ Err fault.Failed) × NothingLeft left))
+    → (TakesHead (Some files) name (refusing_open why) left ⊎ ((refusing_open why ≡ Err fault.Failed) × (left ≡ None)))
     → IsOfHead why → (refusing_open why ≡ Err fault.Failed → rose ⊎ (get files name ≡ None))
     → Ends (capture_answer rules name (get files name)) rose (IsCutShort rules name (get files name) left (fault_text name why) written written) (fault_status why) (fault_text name why) written written
 open_ends rules files name fault.NotPcap left written rose gives takes kind failed =
@@ -155,7 +155,7 @@ open_ends rules files name fault.Failed left written rose gives takes kind faile
 )
 
 -- a reader that was opened has the head of the bytes
-opened_by : (bytes : List ℕ) (reader : Reading) (read : Result CaptureHead CaptureFault) → head_of bytes ≡ read → reader_of read ≡ Ok reader → (head : CaptureHead) × (head_of bytes ≡ Ok head) × (reader ≡ begun head)
+pub opened_by : (bytes : List ℕ) (reader : Reading) (read : Result CaptureHead CaptureFault) → head_of bytes ≡ read → reader_of read ≡ Ok reader → (head : CaptureHead) × (head_of bytes ≡ Ok head) × (reader ≡ begun head)
 opened_by bytes reader (Ok head) is opens = (head, is, cc)
 opened_by bytes reader (Err why) is opens = cc
 
@@ -168,17 +168,22 @@ long_enough : (bytes : List ℕ) (head : CaptureHead) → head_of bytes ≡ Ok h
 long_enough bytes head is =
     at_least (length bytes) 24 (λ few. let truncated = head_of_truncated bytes few in cc)
 
--- the records within the head and some more bytes
-lines_behind_head : (rules : List ContentRule) (bytes taken : List ℕ) (head : CaptureHead) → head_of bytes ≡ Ok head → lines_within rules (take 24 bytes ++ taken) ≡ lines_left rules (begun head) taken
-lines_behind_head rules bytes taken head is =
+-- the front of a file that has a head is 24 bytes, and has that head with whatever follows
+pub head_of_front : (bytes taken : List ℕ) (head : CaptureHead) → head_of bytes ≡ Ok head → (length (take 24 bytes) ≡ 24) × (head_of (take 24 bytes ++ taken) ≡ Ok head)
+head_of_front bytes taken head is =
     let enough = long_enough bytes head is in
     let whole : length (take 24 bytes) ≡ 24 = length-take-le 24 bytes enough in
     let front : 24 ≤ length (take 24 bytes) = omega arith in
     let of_front : head_of (take 24 bytes) ≡ Ok head =
     sym (head_of-append (take 24 bytes) (drop 24 bytes) front) ∙ ap head_of (take-append-drop 24 bytes) ∙ is in
-    let same : head_of (take 24 bytes ++ taken) ≡ Ok head = head_of-append (take 24 bytes) taken front ∙ of_front in
-    lines_within-ok rules (take 24 bytes ++ taken) head same
-    ∙ ap (λ (rest : List ℕ). alert_lines rules head.link (records_left head 0 24 rest).records) (drop_at (take 24 bytes) taken 24 whole)
+    (whole, head_of-append (take 24 bytes) taken front ∙ of_front)
+
+-- the records within the head and some more bytes
+lines_behind_head : (rules : List ContentRule) (bytes taken : List ℕ) (head : CaptureHead) → head_of bytes ≡ Ok head → lines_within rules (take 24 bytes ++ taken) ≡ lines_left rules (begun head) taken
+lines_behind_head rules bytes taken head is =
+    let front = head_of_front bytes taken head is in
+    lines_within-ok rules (take 24 bytes ++ taken) head front.1
+    ∙ ap (λ (rest : List ℕ). alert_lines rules head.link (records_left head 0 24 rest).records) (drop_at (take 24 bytes) taken 24 front.0)
 
 -- the answer for a capture whose records were watched to this ending
 answered_watch : (rules : List ContentRule) (files : Files) (name bytes : List ℕ) (head : CaptureHead) (ending : Ending) (old new : Option (List ℕ)) → get files name ≡ Some bytes → head_of bytes ≡ Ok head
@@ -211,7 +216,7 @@ cut_behind_head rules files name bytes head left_first left old new held is told
     record {
       errors = refl;
       taken = take 24 bytes ++ cut.taken;
-      of = inl (split.rest, held ∙ ap Some (sym whole), split.still);
+      of = subst (IsTakenOf (get files name) (take 24 bytes ++ cut.taken)) (sym split.still) (held ∙ ap Some (sym whole));
       alerts = cut.wrote ∙ ap (behind old) (sym (lines_behind_head rules bytes cut.taken head is));
     }
 
@@ -235,7 +240,7 @@ watched_by rules files name bytes head left_first left old new rose (stopped_rea
 
 -- a capture that was opened, and its watching stopped
 pub stopped_ends : (rules : List ContentRule) (files : Files) (name : List ℕ) (reader : Reading) (left_opened left_first left old new : Option (List ℕ)) (rose : Type 0) (stop : WatchStop)
-    → (TakesHead (Some files) name (Ok reader) left_opened ⊎ ((opening reader ≡ Err fault.Failed) × NothingLeft left_opened))
+    → (TakesHead (Some files) name (Ok reader) left_opened ⊎ ((opening reader ≡ Err fault.Failed) × (left_opened ≡ None)))
     → ((bytes : List ℕ) → get files name ≡ Some bytes → Opens (Ok reader) (head_of bytes))
     → ((bytes : List ℕ) → get files name ≡ Some bytes → left_first ≡ Some (drop 24 bytes))
     → Watches rules reader left_first left old new (Err stop) → (IsReadFault stop → rose)
@@ -248,7 +253,7 @@ stopped_ends rules files name reader left_opened left_first left old new rose st
 
 -- a capture that was opened and watched to its clean end
 pub clean_ends : (rules : List ContentRule) (files : Files) (name : List ℕ) (reader : Reading) (left_opened left_first left old new : Option (List ℕ))
-    → (TakesHead (Some files) name (Ok reader) left_opened ⊎ ((opening reader ≡ Err fault.Failed) × NothingLeft left_opened))
+    → (TakesHead (Some files) name (Ok reader) left_opened ⊎ ((opening reader ≡ Err fault.Failed) × (left_opened ≡ None)))
     → ((bytes : List ℕ) → get files name ≡ Some bytes → Opens (Ok reader) (head_of bytes))
     → ((bytes : List ℕ) → get files name ≡ Some bytes → left_first ≡ Some (drop 24 bytes))
     → Watches rules reader left_first left old new (Ok tt)

@@ -14,4 +14,5 @@ pub mod Showing
 pub mod Watched
 pub mod Reporting
 pub mod Captures
+pub mod Ahead
 pub mod Runs

@@ -17,6 +17,7 @@ use Rattle.snort_engine.specs.Prefix.{WritesPart}
 use Rattle.snort_engine.specs.Messages.{command_line_text, cannot_read_text, cannot_write_text, no_memory_text}
 use Rattle.snort_engine.specs.Answer.{Answer, only, answer, command_answer, setup_answer, capture_answer}
 use Rattle.snort_engine.specs.Ending.{IsAnswered, IsPartly, IsCutShort, LeavesWhole, Ends, WritesMessage, IsStated, EndsAsStated, LeavesPart, LeavesRead}
+use Rattle.snort_engine.specs.ReadAhead.{IsReadAhead, ReadsNothing, ReadsClosed, ReadsCapture, ReadsAhead}
 use Rattle.snort_engine.proofs.Showing.{WritesPart-none}
 
 -- a message alone is the answer, and nothing was written
@@ -67,6 +68,37 @@ capture_ends words files options rules rose rose_more ended message left_old lef
     let more : IsCutShort rules options.capture (get files options.capture) left message old new → LeavesWhole words files left_old left message old new = λ cut. (options, is, inr (rules, means, cut)) in
     let E : Answer → Type 0 = λ a. Ends a rose_more (LeavesWhole words files left_old left message old new) ended message old new in
     subst E (sym (by_setup words files options (Rules rules) is means)) (ends_more _ rose rose_more _ _ ended message old new risen more ends)
+
+-- ---- how far is read ahead
+
+-- no setup: nothing was read
+pub setup_ahead : (reads_nothing reads_closed reads_capture : Type 0) (stop : SetupStop) → reads_nothing → ReadsAhead reads_nothing reads_closed reads_capture (setup_status stop)
+setup_ahead reads_nothing reads_closed reads_capture (stops.Refused line) read = read
+setup_ahead reads_nothing reads_closed reads_capture stops.Failed read = inl read
+setup_ahead reads_nothing reads_closed reads_capture stops.NoMemory read = inl read
+
+-- more said of nothing and of a capture
+ahead_more : (reads_nothing nothing_more reads_closed reads_capture capture_more : Type 0) (ended : Status) → (reads_nothing → nothing_more) → (reads_capture → capture_more)
+    → ReadsAhead reads_nothing reads_closed reads_capture ended → ReadsAhead nothing_more reads_closed capture_more ended
+ahead_more reads_nothing nothing_more reads_closed reads_capture capture_more status.Done nothing capture read = capture read
+ahead_more reads_nothing nothing_more reads_closed reads_capture capture_more status.Refused nothing capture read = nothing read
+ahead_more reads_nothing nothing_more reads_closed reads_capture capture_more status.BadCapture nothing capture read = capture read
+ahead_more reads_nothing nothing_more reads_closed reads_capture capture_more status.HostFault nothing capture (inl r) = inl (nothing r)
+ahead_more reads_nothing nothing_more reads_closed reads_capture capture_more status.HostFault nothing capture (inr (inl r)) = inr (inl r)
+ahead_more reads_nothing nothing_more reads_closed reads_capture capture_more status.HostFault nothing capture (inr (inr r)) = inr (inr (capture r))
+ahead_more reads_nothing nothing_more reads_closed reads_capture capture_more status.WriteFault nothing capture read = capture read
+ahead_more reads_nothing nothing_more reads_closed reads_capture capture_more status.NoMemory nothing capture (inl r) = inl (nothing r)
+ahead_more reads_nothing nothing_more reads_closed reads_capture capture_more status.NoMemory nothing capture (inr r) = inr (capture r)
+
+-- a configuration with a setup: what is said of the capture of its words
+pub capture_ahead : (words : List (List ℕ)) (files : Files) (options : Options) (rules : List ContentRule) (ended : Status) (left_old left_then left old new : Option (List ℕ)) → command_line words ≡ Some options
+    → setup files options.conf ≡ Rules rules → left_then ≡ left_old
+    → ReadsAhead (ReadsNothing left_then left old new) (ReadsClosed left old new) (IsReadAhead rules (get files options.capture) left old new) ended
+    → ReadsAhead (ReadsNothing left_old left old new) (ReadsClosed left old new) (ReadsCapture words files left old new) ended
+capture_ahead words files options rules ended left_old left_then left old new is means still read =
+    let nothing : ReadsNothing left_then left old new → ReadsNothing left_old left old new = λ r. (r.0 ∙ still, r.1) in
+    let capture : IsReadAhead rules (get files options.capture) left old new → ReadsCapture words files left old new = λ r. (options, is, (rules, means, r)) in
+    ahead_more _ _ _ _ _ ended nothing capture read
 
 -- ---- the parts
 

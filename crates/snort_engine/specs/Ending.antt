@@ -6,7 +6,7 @@
 -- `ERROR: cannot write`.
 use Rattle.std.specs.Prelude.{◌≡◌, ℕ, List, [], ◌++◌, Option, Some, None, Result, Ok, Err, ⊤, ◌⊎◌}
 use Rattle.std.specs.FinMap.{get}
-use Rattle.edge_io.specs.Told.{behind, NothingLeft}
+use Rattle.edge_io.specs.Told.{behind}
 use Rattle.edge_io.specs.Files.{Files}
 use Rattle.pcap_input.specs.declared.capture.CaptureFault.{CaptureFault}
 use Rattle.pcap_input.specs.Savefile.{Capture, savefile}
@@ -40,9 +40,10 @@ lines_of rules (Err why) = []
 unfoldable pub lines_within : List ContentRule → List ℕ → List ℕ
 lines_within rules taken = lines_of rules (savefile taken None)
 
--- the bytes that were taken of a capture, by what is left of it; none where nothing was opened
+-- the bytes that were taken of a capture, by what is left of it; none where nothing is open
 abbrev pub IsTakenOf : Option (List ℕ) → List ℕ → Option (List ℕ) → Type 0
-IsTakenOf held taken left = ((rest : List ℕ) × (held ≡ Some (taken ++ rest)) × (left ≡ Some rest)) ⊎ ((taken ≡ []) × NothingLeft left)
+IsTakenOf held taken None = taken ≡ []
+IsTakenOf held taken (Some rest) = held ≡ Some (taken ++ rest)
 
 -- the reading of the capture was cut off: the lines are those of the records that are whole within
 -- the bytes taken

@@ -11,5 +11,6 @@ pub mod Alerting
 pub mod Watching
 pub mod Answer
 pub mod Ending
+pub mod ReadAhead
 pub mod Report
 pub mod SetupEnding

@@ -3,8 +3,9 @@
 -- A reader has given some records, and the lines of these were written. What is left for it are the
 -- records that it has yet to give. To try it on: behind the first of two records the lines of the
 -- first were written, and those of the second are the lines left.
-use Rattle.std.specs.Prelude.{◌≡◌, ℕ, List, ◌++◌, Option, Some, None, Result, Ok, Err, ⊤}
+use Rattle.std.specs.Prelude.{◌≡◌, ℕ, ◌≤◌, List, ◌++◌, length, Option, Some, None, Result, Ok, Err, ⊤}
 use Rattle.edge_io.specs.Told.{before, behind}
+use Rattle.pcap_input.specs.declared.capture.Record.{Record}
 use Rattle.pcap_input.specs.declared.capture.CaptureFault.{CaptureFault}
 use Rattle.pcap_input.specs.declared.capture.CaptureFault.TheVariants as fault
 use Rattle.pcap_input.specs.Savefile.{Cut, Ending, Clean, Refused, records_left}
@@ -28,16 +29,20 @@ cut_left reader rest = records_left reader.head reader.number reader.at rest
 abbrev pub lines_left : List ContentRule → Reading → List ℕ → List ℕ
 lines_left rules reader rest = alert_lines rules reader.head.link (cut_left reader rest).records
 
--- the first reader has become the second: bytes were taken, and the lines of their records were
--- written; whatever follows, the rest of the work is the second one's
+-- some records, and then what is cut up behind them
+abbrev pub with_front : List Record → Cut → Cut
+with_front given cut = record { records = given ++ cut.records; ending = cut.ending }
+
+-- the first reader has become the second: the bytes of some records were taken, and the lines of
+-- these were written; whatever follows, the rest of the records and the ending are the second one's
 pub record IsUnderWay (rules : List ContentRule) (first reader : Reading) (left_first left written_first written : Option (List ℕ)) : Type 0 where
   pub fresh : reader.refused ≡ None
+  pub head : reader.head ≡ first.head
   pub taken : List ℕ
-  pub shown : List ℕ
+  pub given : List Record
   pub took : left_first ≡ before taken left
-  pub wrote : written ≡ behind written_first shown
-  pub lines : (more : List ℕ) → lines_left rules first (taken ++ more) ≡ shown ++ lines_left rules reader more
-  pub ending : (more : List ℕ) → (cut_left first (taken ++ more)).ending ≡ (cut_left reader more).ending
+  pub wrote : written ≡ behind written_first (alert_lines rules first.head.link given)
+  pub cut : (more : List ℕ) → cut_left first (taken ++ more) ≡ with_front given (cut_left reader more)
 
 -- all lines of the bytes that were left were written, and they end so
 pub record IsWatched (rules : List ContentRule) (reader : Reading) (rest : List ℕ) (ending : Ending) (written_first written : Option (List ℕ)) : Type 0 where
@@ -49,6 +54,18 @@ pub record IsCutOff (rules : List ContentRule) (reader : Reading) (left_first le
   pub taken : List ℕ
   pub took : left_first ≡ before taken left
   pub wrote : written ≡ behind written_first (lines_left rules reader taken)
+
+-- of the records that are whole within the bytes taken, the lines of all but the last were written,
+-- and maybe more
+pub record IsCloseBehind (rules : List ContentRule) (reader : Reading) (left_first left written_first written : Option (List ℕ)) : Type 0 where
+  pub taken : List ℕ
+  pub took : left_first ≡ before taken left
+  pub given : List Record
+  pub last : List Record
+  pub are : (cut_left reader taken).records ≡ given ++ last
+  pub one : length last ≤ 1
+  pub more : List ℕ
+  pub wrote : written ≡ behind written_first (alert_lines rules reader.head.link given ++ more)
 
 -- what a part of the lines that were left, and no other byte, means
 abbrev pub WritesSome : List ContentRule → Reading → Option (List ℕ) → Option (List ℕ) → Option (List ℕ) → Type 0

@@ -3,8 +3,7 @@
 
 use crate::Status;
 use crate::content_rule::ContentRule;
-
-fn crosses_threads<T: Send + Sync>() {}
+use edge_io::crosses_threads;
 
 /// The types of a run.
 pub fn types_cross_threads() {

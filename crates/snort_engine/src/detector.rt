@@ -3,6 +3,7 @@ ghost use Rattle.edge_io.specs.Files.{Files, Lacks};
 ghost use Rattle.edge_io.specs.Told.{behind, Rose};
 ghost use Rattle.snort_engine.specs.Answer.{answer};
 ghost use Rattle.snort_engine.specs.Ending.{Ends, EndsAsStated, IsStated, LacksOne, LeavesPart, LeavesRead, LeavesWhole};
+ghost use Rattle.snort_engine.specs.ReadAhead.{ReadsAhead, ReadsCapture, ReadsClosed, ReadsNothing};
 ghost use Rattle.snort_engine.specs.Messages.{cannot_write_text, no_memory_text};
 ghost use Rattle.snort_engine.specs.SetupEnding.{setup_status, setup_text};
 ghost use Rattle.snort_engine.specs.Prefix.{WritesPart};
@@ -53,6 +54,10 @@ fn detect<'a, H: Host, A: Sink>(
         → Ends (answer (map string_bytes words.now) files) (Rose (H.faults host.old) (H.faults host.new))
         (LeavesWhole (map string_bytes words.now) files (H.left host.old) (H.left host.new) (report_text result) (A.written alerts.old) (A.written alerts.new))
         result.status (report_text result) (A.written alerts.old) (A.written alerts.new) }
+    ensures read_ahead { (files : Files) → H.contents host.old ≡ Some files
+        → ReadsAhead (ReadsNothing (H.left host.old) (H.left host.new) (A.written alerts.old) (A.written alerts.new))
+        (ReadsClosed (H.left host.new) (A.written alerts.old) (A.written alerts.new))
+        (ReadsCapture (map string_bytes words.now) files (H.left host.new) (A.written alerts.old) (A.written alerts.new)) result.status }
     ensures write_fault { result.status ≡ Status.WriteFault → Rose (A.faults alerts.old) (A.faults alerts.new) }
     ensures read_fault { result.status ≡ Status.HostFault
         → Rose (H.faults host.old) (H.faults host.new) ⊎ LacksOne (H.contents host.old) (map string_bytes words.now) }
@@ -117,6 +122,12 @@ pub fn run<H: Host, M: PatternMaker, A: Sink, E: Sink, G: Gate, R: Threads + Syn
         → LeavesPart (answer (map string_bytes words.now) files) no_memory_text
         (A.written alerts.old) (A.written alerts.new)
         (E.written errors.old) (E.written errors.new) (Rose (E.faults errors.old) (E.faults errors.new)) }
+
+    // However the run ends, one record at most was read ahead of the lines.
+    ensures read_ahead { (files : Files) → H.contents host.old ≡ Some files
+        → ReadsAhead (ReadsNothing (H.left host.old) (H.left host.new) (A.written alerts.old) (A.written alerts.new))
+        (ReadsClosed (H.left host.new) (A.written alerts.old) (A.written alerts.new))
+        (ReadsCapture (map string_bytes words.now) files (H.left host.new) (A.written alerts.old) (A.written alerts.new)) result }
 
     // A fault is answered only where its count rose, or a name is lacking.
     ensures write_fault { result ≡ Status.WriteFault → Rose (A.faults alerts.old) (A.faults alerts.new) }

@@ -5,7 +5,8 @@ ghost use Rattle.edge_io.specs.Told.{Rose};
 ghost use Rattle.snort_engine.specs.Report.{report_text};
 ghost use Rattle.snort_engine.specs.Answer.{capture_answer};
 ghost use Rattle.snort_engine.specs.Ending.{Ends, IsCutShort};
-ghost use Rattle.snort_engine.specs.Watching.{Watches, IsWriteFault, IsReadFault, stop_status, stop_text};
+ghost use Rattle.snort_engine.specs.ReadAhead.{IsReadAhead, ReadsAhead, ReadsClosed, ReadsNothing};
+ghost use Rattle.snort_engine.specs.Watching.{Watches, IsCloseBehind, IsWriteFault, IsReadFault, stop_status, stop_text};
 
 use crate::content_rule::ContentRule;
 use crate::messages::Message;
@@ -55,6 +56,7 @@ pub(crate) fn watch_records<H: Host, A: Sink>(
 ) -> Result<(), WatchStop>
     requires { reader.old.refused ≡ None }
     ensures watches { Watches rules.now reader.old (H.left host.old) (H.left host.new) (A.written alerts.old) (A.written alerts.new) result }
+    ensures close { IsCloseBehind rules.now reader.old (H.left host.old) (H.left host.new) (A.written alerts.old) (A.written alerts.new) }
     ensures write_fault { IfErr result (λ stop. IsWriteFault stop → Rose (A.faults alerts.old) (A.faults alerts.new)) }
     ensures read_fault { IfErr result (λ stop. IsReadFault stop → Rose (H.faults host.old) (H.faults host.new)) }
     ensures same_contents { H.contents host.new ≡ H.contents host.old }
@@ -96,6 +98,10 @@ pub(crate) fn watch_capture<'a, H: Host, A: Sink>(
         → Ends (capture_answer rules.now name.now (get files name.now)) (Rose (H.faults host.old) (H.faults host.new))
         (IsCutShort rules.now name.now (get files name.now) (H.left host.new) (report_text result) (A.written alerts.old) (A.written alerts.new))
         result.status (report_text result) (A.written alerts.old) (A.written alerts.new) }
+    ensures read_ahead { (files : Files) → H.contents host.old ≡ Some files
+        → ReadsAhead (ReadsNothing (H.left host.old) (H.left host.new) (A.written alerts.old) (A.written alerts.new))
+        (ReadsClosed (H.left host.new) (A.written alerts.old) (A.written alerts.new))
+        (IsReadAhead rules.now (get files name.now) (H.left host.new) (A.written alerts.old) (A.written alerts.new)) result.status }
     ensures write_fault { result.status ≡ Status.WriteFault → Rose (A.faults alerts.old) (A.faults alerts.new) }
     ensures read_fault { result.status ≡ Status.HostFault
         → Rose (H.faults host.old) (H.faults host.new) ⊎ Lacks (H.contents host.old) name.now }

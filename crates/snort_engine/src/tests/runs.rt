@@ -2,7 +2,7 @@
 //! capture, the headers and the line.
 
 use crate::run;
-use edge_io::{Host, LiteralMaker, MemHost, MemSink, OpenGate};
+use edge_io::{Host, LiteralMaker, MemHost, MemSink, NoMemory, OpenGate};
 use std::alloc::{AllocError, Global};
 use std::test::Fail;
 use std::thread::Threads;
@@ -384,6 +384,12 @@ fn other_words_and_missing_files_are_refused(rt: HostRuntime) -> Result<(), Fail
     Ok(())
 }
 
+/// Whether the host has been called so often: its next call is made to fail by that number.
+fn next_call_is(host: &mut MemHost, number: u32) -> Result<bool, NoMemory> {
+    host.fail_calls(&[number])?;
+    Ok(host.read(&mut [0]).is_err())
+}
+
 #[test]
 fn a_read_fault_leaves_the_lines_of_whole_records(rt: HostRuntime) -> Result<(), Fail> {
     // The calls: load, open, and the reads of the two headers, of the packet and of the end.
@@ -400,10 +406,14 @@ fn a_read_fault_leaves_the_lines_of_whole_records(rt: HostRuntime) -> Result<(),
             host: &[failing],
             ..NO_FAULTS
         };
-        let outcome = run_case(&rt, rt.alloc(), &ONE, &faults)?;
+        let mut outcome = run_case(&rt, rt.alloc(), &ONE, &faults)?;
         assert_eq!(rt; outcome.code, code, "at {failing}");
         assert_eq!(rt; outcome.alerts.bytes(), alerts.as_bytes(), "at {failing}");
         assert_eq!(rt; outcome.errors.bytes(), errors.as_bytes(), "at {failing}");
+
+        // The call that fails is the last one.
+        let calls = failing.min(5) + 1;
+        assert!(rt; next_call_is(&mut outcome.host, calls)?, "at {failing}");
     }
     Ok(())
 }
@@ -455,7 +465,9 @@ fn nothing_is_read_far_ahead_of_the_lines(rt: HostRuntime) -> Result<(), Fail> {
     assert_eq!(rt; outcome.code, 4);
     assert_eq!(rt; outcome.alerts.bytes(), b"".as_slice());
 
-    // At most 256 records were taken, of 61 bytes each.
+    // The calls: load, open, and the reads of the two headers and of one packet of 61 bytes.
+    assert!(rt; next_call_is(&mut outcome.host, 5)?);
+    outcome.host.fail_calls(&[])?;
     let mut rest = [0; 36_600];
     let left = outcome.host.read(&mut rest)?;
     assert_eq!(rt; left, 599 * 61);

@@ -1,11 +1,13 @@
 -- The front of the buffer is what was taken off the capture so far.
 use Rattle.std.proofs.Common.{◌≡◌, ◌≤◌, ◌-◌, length, take}
+use Rattle.edge_io.specs.Files.{IsUnopened}
 use Rattle.edge_io.specs.Told.{before}
 use Rattle.pcap_input.proofs.fill.fill.Given as goal
 
 abbrev pub invariant-loop-done : goal.invariant-loop-done
 invariant-loop-done g l = record {
   within : l.done ≤ length l.buf;
+  unopened : IsUnopened (g.H.Host.contents l.fn.host) (g.H.Host.left l.fn.host) → l.done ≡ 0;
   took : g.H.Host.left l.fn.host ≡ before (take l.done l.buf) (g.H.Host.left l.host);
   contents : g.H.Host.contents l.host ≡ g.H.Host.contents l.fn.host;
   later : g.H.Host.faults l.fn.host ≤ g.H.Host.faults l.host;

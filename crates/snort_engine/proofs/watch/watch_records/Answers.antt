@@ -2,7 +2,7 @@ use Rattle.std.proofs.Common.{◌≡◌, ◌+◌, ◌<◌, sym, ap, ◌∙◌, r
 use Rattle.std.proofs.lemmas.Result.{err_from_is_err_and}
 use Rattle.pcap_input.specs.Savefile.{Clean}
 use Rattle.pcap_input.specs.Reader.{Reading}
-use Rattle.snort_engine.proofs.Watched.{under_way-start, under_way-step, watched-ends, part_of_record, capture_stops, none_ends, number_below}
+use Rattle.snort_engine.proofs.Watched.{under_way-start, under_way-step, watched-ends, part_of_record, capture_stops, none_ends, number_below, close_at_the_end, close_at_a_refusal, close_at_a_record, said_of_none}
 use Rattle.snort_engine.proofs.watch.watch_records.Goals as goal
 
 pub records-init : goal.records-init
@@ -51,3 +51,17 @@ pub returns-clause-watches : goal.returns-clause-watches
 returns-clause-watches g c =
     watched-ends _ _ _ _ _ _ _ Clean c.records.invariant.going
     (λ rest told. none_ends c.in_ok-given.field-0 _ c.in_default.not-Some (c.in_ok-given.ensures.gives c.records.invariant.going.fresh rest told))
+
+pub returns-in_err-given-clause-close : goal.returns-in_err-given-clause-close
+returns-in_err-given-clause-close g c =
+    close_at_a_refusal _ _ _ _ _ _ _ _ _ c.records.invariant.going (c.in_err-given.ensures.partial c.records.invariant.going.fresh)
+
+pub returns-in_err-show_record-clause-close : goal.returns-in_err-show_record-clause-close
+returns-in_err-show_record-clause-close g c =
+    let takes = rw c.in-Some.is at c.in_ok-given.ensures.takes in
+    let part = rw c.records.invariant.link at c.in_err-show_record.ensures.stopped in
+    close_at_a_record _ _ _ _ _ _ _ _ _ _ c.records.invariant.going takes part
+
+pub returns-clause-close : goal.returns-clause-close
+returns-clause-close g c =
+    close_at_the_end _ _ _ _ _ _ _ _ c.records.invariant.going (said_of_none c.in_ok-given.field-0 _ c.in_default.not-Some c.in_ok-given.ensures.ended)
