@@ -8,3 +8,5 @@ pub mod PutFiles
 pub mod HeldBytes
 pub mod Matching
 pub mod Literals
+pub mod RealFiles
+pub mod RealStreams

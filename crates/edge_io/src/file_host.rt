@@ -1,6 +1,7 @@
-ghost use Rattle.std.specs.Prelude.{◌≡◌, ◌≤◌, ◌+◌, List, None, length, vec_len, take, IfOk, OnOk, OnErr};
+ghost use Rattle.std.specs.Prelude.{◌≡◌, ◌<◌, ◌≤◌, ◌+◌, ◌++◌, [], None, length, vec_len, take, drop, min, IfOk, IfSome, OnOk, OnErr, IsSome, IsErrOf};
+ghost use Rattle.std.specs.Io.KnownBytes.{Consumes, Keeps, IsAtEnd, ReadConsumes};
 ghost use Rattle.edge_io.specs.Told.{Rose};
-ghost use Rattle.edge_io.specs.Files.{Files as ToldFiles};
+ghost use Rattle.edge_io.specs.RealFiles.{nothing_open, coming, IsWhole, IsLongerThan};
 
 use crate::{Failed, Host, LoadFault, NoMemory};
 use std::alloc::Global;
@@ -18,8 +19,10 @@ const LOAD_BLOCK: usize = 16384;
 
 /// The real files of a runtime.
 ///
-/// It tells nothing of what they contain; contracts see the count of faults. Each failure of the
-/// system is counted, want of memory among them. The capture is read through a buffer.
+/// It tells nothing of what they contain, since the system keeps that. Contracts see the open
+/// capture, with what the standard library says of its file, the bytes read ahead of it, and the
+/// count of faults. Each failure of the system is counted, want of memory among them. The capture is
+/// read through a buffer.
 #[derive(Drop)]
 pub struct FileHost<R: Files> {
     rt: R,
@@ -32,13 +35,25 @@ pub struct FileHost<R: Files> {
 }
 
 impl<R: Files> Model for FileHost<R> {
-    ghost use Rattle.std.specs.Prelude.{ℕ, ◌≤◌, vec_len};
+    ghost use Rattle.std.specs.Prelude.{◌-◌, ◌<◌, ◌≤◌, take, drop, vec_len};
+    ghost use Rattle.edge_io.specs.RealFiles.{RealFiles, real_files_code, IsFromCapture};
 
-    ghost Value = { ℕ };
+    ghost Value = { RealFiles R.File };
 
-    ghost view = { λ host. host.faults };
+    ghost coded = { real_files_code R.File.code };
 
-    ghost invariant = { λ host. (host.start ≤ host.end) × (host.end ≤ vec_len host.block) };
+    ghost view = { λ host. record {
+      capture = host.capture;
+      pending = take (host.end - host.start) (drop host.start host.block.items);
+      faults = host.faults;
+    } };
+
+    ghost invariant = { λ host. record {
+      ordered : host.start ≤ host.end;
+      within : host.end ≤ vec_len host.block;
+      roomy : 0 < vec_len host.block;
+      from_capture : IsFromCapture host.capture (take (host.end - host.start) (drop host.start host.block.items));
+    } };
 }
 
 impl<R: Files> FileHost<R> {
@@ -46,7 +61,7 @@ impl<R: Files> FileHost<R> {
     pub fn new(alloc: Global, rt: R) -> Result<FileHost<R>, NoMemory>
     where
         R: Drop,
-        ensures { IfOk result (λ host. host ≡ 0) }
+        ensures { IfOk result (λ host. host ≡ nothing_open) }
     {
         Ok(FileHost {
             rt,
@@ -60,36 +75,83 @@ impl<R: Files> FileHost<R> {
 
     /// Counts a failure.
     fn count_fault(&mut self)
-        ensures rose { Rose self.old self.new }
-        ensures later { self.old ≤ self.new }
+        ensures rose { Rose self.old.faults self.new.faults }
+        ensures later { self.old.faults ≤ self.new.faults }
+        ensures same_capture { self.new.capture ≡ self.old.capture }
+        ensures same_pending { self.new.pending ≡ self.old.pending }
     {
         self.faults = self.faults.saturating_add(1);
     }
 
-    /// Reads the next block of the open capture; none where it is at its end or nothing is open.
-    fn fill(&mut self) -> Result<(), Failed>
-        ensures { self.new ≡ self.old }
+    /// Closes the capture, and lets go of what was read from it.
+    fn close(&mut self)
+        ensures { self.new ≡ record self.old { capture = None; pending = [] } }
     {
-        let count = match &mut self.capture {
-            None => 0,
-            Some(capture) => read_once(capture, &mut self.block)?,
-        };
         self.start = 0;
-        self.end = count;
+        self.end = 0;
+        self.capture = None;
+    }
+
+    /// Takes a file that was opened as the capture.
+    fn keep(&mut self, file: R::File)
+        ensures { self.new ≡ record self.old { capture = Some file; pending = [] } }
+    {
+        self.start = 0;
+        self.end = 0;
+        self.capture = Some(file);
+    }
+
+    /// Reads the next block of the open capture where nothing waits to be given out. Then nothing
+    /// waits only where the capture is at its end or nothing is open.
+    fn refill(&mut self) -> Result<(), Failed>
+        ensures kept { Keeps (coming R.File.remaining self.old) (coming R.File.remaining self.new) }
+        ensures ended { OnOk result (self.new.pending ≡ [] → IsAtEnd (coming R.File.remaining self.new)) }
+        ensures none_waiting { OnErr result (self.old.pending ≡ []) }
+        ensures same_faults { self.new.faults ≡ self.old.faults }
+    {
+        if self.start < self.end {
+            return Ok(());
+        }
+        if let Some(capture) = &mut self.capture {
+            let count = read_once(capture, &mut self.block)?;
+            self.start = 0;
+            self.end = count;
+        }
         Ok(())
+    }
+
+    /// Gives out bytes that wait.
+    fn give(&mut self, buf: &mut [u8]) -> usize
+        ensures count { result ≡ min (length self.old.pending) (length buf.old) }
+        ensures taken { Consumes (coming R.File.remaining self.old) (coming R.File.remaining self.new) (take result buf.new) }
+        ensures same_faults { self.new.faults ≡ self.old.faults }
+    {
+        let ready = &self.block[self.start..self.end];
+        let count = ready.len().min(buf.len());
+        buf[..count].copy_from_slice(&ready[..count]);
+        self.start += count;
+        count
     }
 }
 
 impl<R: Files> Host for FileHost<R> {
-    ghost use Rattle.edge_io.specs.Files.{Files as ToldFiles};
-
     ghost contents = { λ _. None };
 
     ghost left = { λ _. None };
 
-    ghost faults = { λ host. host };
+    ghost faults = { λ host. host.faults };
 
-    fn load(&mut self, name: &str, limit: usize, out: &mut Vec<u8>) -> Result<(), LoadFault> {
+    fn load(&mut self, name: &str, limit: usize, out: &mut Vec<u8>) -> Result<(), LoadFault>
+        ensures appends { OnOk result (out.new.items ≡ out.old.items ++ drop (vec_len out.old) out.new.items) }
+        ensures whole { OnOk result (IsWhole R.File.remaining (drop (vec_len out.old) out.new.items)) }
+        ensures within { OnOk result (vec_len out.new ≤ vec_len out.old + limit) }
+        ensures too_large { IsErrOf result LoadFault.TooLarge → IsLongerThan R.File.remaining limit }
+        ensures failed { IsErrOf result LoadFault.Failed → Rose self.old.faults self.new.faults }
+        ensures refused { OnErr result (out.new.items ≡ out.old.items) }
+        ensures same_capture { self.new.capture ≡ self.old.capture }
+        ensures same_pending { self.new.pending ≡ self.old.pending }
+        ensures later { self.old.faults ≤ self.new.faults }
+    {
         let start = out.len();
         match append_named(&self.rt, name, limit, out) {
             Ok(()) => Ok(()),
@@ -103,13 +165,17 @@ impl<R: Files> Host for FileHost<R> {
         }
     }
 
-    fn open(&mut self, name: &str) -> Result<(), Failed> {
-        self.start = 0;
-        self.end = 0;
-        self.capture = None;
+    fn open(&mut self, name: &str) -> Result<(), Failed>
+        ensures opened { OnOk result (IsSome self.new.capture) }
+        ensures closed { OnErr result (self.new.capture ≡ None) }
+        ensures fresh { self.new.pending ≡ [] }
+        ensures failed { OnErr result (Rose self.old.faults self.new.faults) }
+        ensures later { self.old.faults ≤ self.new.faults }
+    {
+        self.close();
         match open_file(&self.rt, name) {
             Ok(file) => {
-                self.capture = Some(file);
+                self.keep(file);
                 Ok(())
             }
             Err(Failed) => {
@@ -119,17 +185,24 @@ impl<R: Files> Host for FileHost<R> {
         }
     }
 
-    #[tactic(auto, unfolding(crate::specs::Told::before))]
-    fn read(&mut self, buf: &mut [u8]) -> Result<usize, Failed> {
-        if self.start == self.end && self.fill().is_err() {
-            self.count_fault();
-            return Err(Failed);
+    #[tactic(auto, using(crate::proofs::Known::kept_then_taken))]
+    fn read(&mut self, buf: &mut [u8]) -> Result<usize, Failed>
+        requires { 0 < length buf.old }
+        ensures within { IfOk result (λ count. count ≤ length buf.old) }
+        ensures taken { IfOk result (λ count. Consumes (coming R.File.remaining self.old) (coming R.File.remaining self.new) (take count buf.new)) }
+        ensures ended { IfOk result (λ count. count ≡ 0 → IsAtEnd (coming R.File.remaining self.old)) }
+        ensures failed { OnErr result (Rose self.old.faults self.new.faults) }
+        ensures none_waiting { OnErr result (self.old.pending ≡ []) }
+        ensures nothing_taken { OnErr result (Keeps (coming R.File.remaining self.old) (coming R.File.remaining self.new)) }
+        ensures later { self.old.faults ≤ self.new.faults }
+    {
+        match self.refill() {
+            Ok(()) => Ok(self.give(buf)),
+            Err(Failed) => {
+                self.count_fault();
+                Err(Failed)
+            }
         }
-        let ready = &self.block[self.start..self.end];
-        let count = ready.len().min(buf.len());
-        buf[..count].copy_from_slice(&ready[..count]);
-        self.start += count;
-        Ok(count)
     }
 }
 
@@ -152,7 +225,9 @@ fn append_named<R: Files>(
     out: &mut Vec<u8>,
 ) -> Result<(), LoadFault>
     ensures front { take (vec_len out.old) out.new.items ≡ out.old.items }
+    ensures whole { OnOk result (IsWhole R.File.remaining (drop (vec_len out.old) out.new.items)) }
     ensures within { OnOk result (vec_len out.new ≤ vec_len out.old + limit) }
+    ensures too_large { IsErrOf result LoadFault.TooLarge → IsLongerThan R.File.remaining limit }
 {
     let mut file = open_file(rt, name)?;
     append_file(&mut file, limit, out)
@@ -160,31 +235,55 @@ fn append_named<R: Files>(
 
 /// Appends what a file still gives, if that is at most `limit` bytes. It reads no further than one
 /// byte past the limit. A refusal may leave part of it.
+#[tactic(auto, using(crate::proofs::Known::read_whole))]
 fn append_file<F: Read>(file: &mut F, limit: usize, out: &mut Vec<u8>) -> Result<(), LoadFault>
     ensures front { take (vec_len out.old) out.new.items ≡ out.old.items }
+    ensures whole { OnOk result (IfSome (F.remaining file.old) (λ whole. drop (vec_len out.old) out.new.items ≡ whole)) }
     ensures within { OnOk result (vec_len out.new ≤ vec_len out.old + limit) }
+    ensures too_large { IsErrOf result LoadFault.TooLarge → IfSome (F.remaining file.old) (λ whole. limit < length whole) }
 {
     let mut block = [0; LOAD_BLOCK];
     let mut room = limit;
     for _ in 0..u64::MAX {
-        // A byte more than there is room for shows that the file is too large.
-        let wanted = room.saturating_add(1).min(LOAD_BLOCK);
-        let count = read_once(file, &mut block[..wanted])?;
+        let count = append_some(file, room, &mut block, out)?;
         if count == 0 {
             return Ok(());
         }
-        if room < count {
-            return Err(LoadFault::TooLarge);
-        }
-        out.extend_from_slice(&block[..count])?;
         room -= count;
     }
     Err(LoadFault::Failed)
 }
 
+/// Reads once into the block, and appends what came if there is room for it: 0 only at the end.
+fn append_some<F: Read>(
+    file: &mut F,
+    room: usize,
+    block: &mut [u8],
+    out: &mut Vec<u8>,
+) -> Result<usize, LoadFault>
+    requires { 0 < length block.old }
+    ensures front { take (vec_len out.old) out.new.items ≡ out.old.items }
+    ensures count { IfOk result (λ count. vec_len out.new ≡ vec_len out.old + count) }
+    ensures none { IfOk result (λ count. count ≡ 0 → out.new.items ≡ out.old.items) }
+    ensures fits { IfOk result (λ count. count ≤ room) }
+    ensures taken { OnOk result (Consumes (F.remaining file.old) (F.remaining file.new) (drop (vec_len out.old) out.new.items)) }
+    ensures ended { IfOk result (λ count. count ≡ 0 → IsAtEnd (F.remaining file.old)) }
+    ensures too_large { IsErrOf result LoadFault.TooLarge → IfSome (F.remaining file.old) (λ rest. room < length rest) }
+{
+    // A byte more than there is room for shows that the file is too large.
+    let wanted = room.saturating_add(1).min(block.len());
+    let count = read_once(file, &mut block[..wanted])?;
+    if room < count {
+        return Err(LoadFault::TooLarge);
+    }
+    out.extend_from_slice(&block[..count])?;
+    Ok(count)
+}
+
 /// Reads once, and again after an interruption.
 fn read_once<F: Read>(file: &mut F, buf: &mut [u8]) -> Result<usize, Failed>
-    ensures { IfOk result (λ count. count ≤ length buf.old) }
+    ensures within { IfOk result (λ count. count ≤ length buf.old) }
+    ensures taken { ReadConsumes (F.remaining file.old) (F.remaining file.new) result buf.new }
 {
     for _ in 0..u64::MAX {
         match file.read(buf) {

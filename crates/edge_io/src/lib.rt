@@ -4,9 +4,10 @@
 //! for: the files of a host and what is left of its open capture, the bytes that a sink was given,
 //! what a pattern finds. A real file or terminal leaves its meanings untold, and then the clauses
 //! about contents hold of nothing; the clauses about faults hold all the same. The memory
-//! implementations tell their meanings and are proved against them, and the few lines over real
-//! files and streams are the trusted edge. Beside the traits stand the base types that all crates
-//! share: text, lists, addresses, moments.
+//! implementations tell their meanings and are proved against them. Those over real files and
+//! streams have clauses of their own as well, over what the standard library says of the bytes of a
+//! file or a stream. Beside the traits stand the base types that all crates share: text, lists,
+//! addresses, moments.
 #![tactic(auto)]
 
 mod address;

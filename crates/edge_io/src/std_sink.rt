@@ -1,4 +1,6 @@
-ghost use Rattle.std.specs.Prelude.{◌≡◌, ◌≤◌, None, length, IfOk};
+ghost use Rattle.std.specs.Prelude.{◌≡◌, ◌<◌, ◌≤◌, None, length, IfOk, OnErr};
+ghost use Rattle.std.specs.Io.KnownBytes.{WriteAppends};
+ghost use Rattle.edge_io.specs.Told.{Rose};
 
 use crate::{Failed, Sink};
 use std::io::{ErrorKind, Stderr, Stdout, Write};
@@ -6,8 +8,9 @@ use std::marker::Model;
 
 /// A standard stream of the process.
 ///
-/// It tells nothing of what was written; contracts see the count of faults. Each failure of the
-/// system is counted, and so is a write that takes nothing.
+/// It tells nothing of what was written, since the system keeps that. Contracts see the stream, with
+/// what the standard library says of it, and the count of faults. Each failure of the system is
+/// counted, and so is a write that takes nothing.
 #[derive(Drop)]
 pub struct StdSink<W: Write> {
     stream: W,
@@ -15,17 +18,19 @@ pub struct StdSink<W: Write> {
 }
 
 impl<W: Write> Model for StdSink<W> {
-    ghost use Rattle.std.specs.Prelude.{ℕ};
+    ghost use Rattle.edge_io.specs.RealStreams.{RealStream, real_stream_code};
 
-    ghost Value = { ℕ };
+    ghost Value = { RealStream W };
 
-    ghost view = { λ sink. sink.faults };
+    ghost coded = { real_stream_code W.code };
+
+    ghost view = { λ sink. record { stream = sink.stream; faults = sink.faults } };
 }
 
 impl StdSink<Stdout> {
     /// A sink of standard output.
     pub fn output(stream: Stdout) -> StdSink<Stdout>
-        ensures { result ≡ 0 }
+        ensures { result ≡ record { stream = stream; faults = 0 } }
     {
         StdSink { stream, faults: 0 }
     }
@@ -34,7 +39,7 @@ impl StdSink<Stdout> {
 impl StdSink<Stderr> {
     /// A sink of standard error.
     pub fn errors(stream: Stderr) -> StdSink<Stderr>
-        ensures { result ≡ 0 }
+        ensures { result ≡ record { stream = stream; faults = 0 } }
     {
         StdSink { stream, faults: 0 }
     }
@@ -43,10 +48,16 @@ impl StdSink<Stderr> {
 impl<W: Write> Sink for StdSink<W> {
     ghost written = { λ _. None };
 
-    ghost faults = { λ sink. sink };
+    ghost faults = { λ sink. sink.faults };
 
-    #[tactic(auto, unfolding(crate::specs::Told::behind))]
-    fn write(&mut self, piece: &[u8]) -> Result<usize, Failed> {
+    fn write(&mut self, piece: &[u8]) -> Result<usize, Failed>
+        requires { 0 < length piece.now }
+        ensures some { IfOk result (λ count. 1 ≤ count) }
+        ensures within { IfOk result (λ count. count ≤ length piece.now) }
+        ensures appended { WriteAppends (W.contents self.old.stream) (W.contents self.new.stream) result piece.now }
+        ensures failed { OnErr result (Rose self.old.faults self.new.faults) }
+        ensures later { self.old.faults ≤ self.new.faults }
+    {
         match write_once(&mut self.stream, piece) {
             Ok(count) => Ok(count),
             Err(Failed) => {
@@ -61,6 +72,7 @@ impl<W: Write> Sink for StdSink<W> {
 fn write_once<W: Write>(stream: &mut W, piece: &[u8]) -> Result<usize, Failed>
     ensures some { IfOk result (λ count. 1 ≤ count) }
     ensures within { IfOk result (λ count. count ≤ length piece.now) }
+    ensures appended { WriteAppends (W.contents stream.old) (W.contents stream.new) result piece.now }
 {
     for _ in 0..u64::MAX {
         match stream.write(piece) {
