@@ -281,7 +281,7 @@ fn append_some<F: Read>(
 }
 
 /// Reads once, and again after an interruption.
-fn read_once<F: Read>(file: &mut F, buf: &mut [u8]) -> Result<usize, Failed>
+pub(crate) fn read_once<F: Read>(file: &mut F, buf: &mut [u8]) -> Result<usize, Failed>
     ensures within { IfOk result (λ count. count ≤ length buf.old) }
     ensures taken { ReadConsumes (F.remaining file.old) (F.remaining file.new) result buf.new }
 {

@@ -27,12 +27,21 @@ impl<W: Write> Model for StdSink<W> {
     ghost view = { λ sink. record { stream = sink.stream; faults = sink.faults } };
 }
 
+impl<W: Write> StdSink<W> {
+    /// A sink of a stream, with no fault.
+    pub(crate) fn over(stream: W) -> StdSink<W>
+        ensures { result ≡ record { stream = stream; faults = 0 } }
+    {
+        StdSink { stream, faults: 0 }
+    }
+}
+
 impl StdSink<Stdout> {
     /// A sink of standard output.
     pub fn output(stream: Stdout) -> StdSink<Stdout>
         ensures { result ≡ record { stream = stream; faults = 0 } }
     {
-        StdSink { stream, faults: 0 }
+        StdSink::over(stream)
     }
 }
 
@@ -41,7 +50,7 @@ impl StdSink<Stderr> {
     pub fn errors(stream: Stderr) -> StdSink<Stderr>
         ensures { result ≡ record { stream = stream; faults = 0 } }
     {
-        StdSink { stream, faults: 0 }
+        StdSink::over(stream)
     }
 }
 

@@ -1,13 +1,17 @@
 //! What no clause says: that calls succeed where memory is ample, and what real files and streams
 //! do.
 
+ghost use Rattle.std.specs.Prelude.{◌≤◌, IfOk};
+
+use crate::file_host::read_once;
 use crate::{
     Failed, FileHost, Gate, Host, Items, LiteralMaker, LoadFault, MakeFault, MemHost, MemSink,
     OpenGate, Pattern, PatternFlags, PatternMaker, Sink, Span, StdSink, Text, WriteStop,
     items_cross_threads, types_cross_threads, write_all,
 };
-use std::fs;
+use std::io::{ErrorKind, Read, Write};
 use std::test::Fail;
+use std::{fs, io};
 
 #[test]
 fn texts_and_items_keep_what_they_are_given(rt: HostRuntime) -> Result<(), Fail> {
@@ -174,5 +178,80 @@ fn standard_streams_take_what_is_written(rt: HostRuntime) -> Result<(), Fail> {
     assert_eq!(rt; output.write(b"a"), Ok(1));
     assert_eq!(rt; write_all(&mut output, b"n alert\n"), Ok(()));
     assert_eq!(rt; write_all(&mut errors, b"a message\n"), Ok(()));
+    Ok(())
+}
+
+/// A stream that is interrupted so often, and then gives or takes bytes as far as there is room,
+/// or fails.
+#[derive(Drop)]
+struct Unsteady {
+    interruptions: u32,
+    room: usize,
+    fails: bool,
+}
+
+impl Unsteady {
+    fn take(&mut self, len: usize) -> io::Result<usize>
+        ensures { IfOk result (λ count. count ≤ len) }
+    {
+        if 0 < self.interruptions {
+            self.interruptions -= 1;
+            return Err(io::Error::from(ErrorKind::Interrupted));
+        }
+        if self.fails {
+            return Err(io::Error::from(ErrorKind::PermissionDenied));
+        }
+        let count = len.min(self.room);
+        self.room -= count;
+        Ok(count)
+    }
+}
+
+impl Read for Unsteady {
+    fn read(&mut self, buf: &mut [u8]) -> io::Result<usize> {
+        let count = self.take(buf.len())?;
+        buf[..count].fill(7);
+        Ok(count)
+    }
+}
+
+impl Write for Unsteady {
+    fn write(&mut self, buf: &[u8]) -> io::Result<usize> {
+        self.take(buf.len())
+    }
+
+    fn flush(&mut self) -> io::Result<()> {
+        Ok(())
+    }
+}
+
+#[test]
+fn an_interrupted_call_goes_on(rt: HostRuntime) -> Result<(), Fail> {
+    for (interruptions, room, fails, given, taken) in [
+        (0, 9, false, Ok(4), Ok(4)),
+        (3, 9, false, Ok(4), Ok(4)),
+        (3, 2, false, Ok(2), Ok(2)),
+        // The end of a file is no failure; a stream that takes nothing has failed.
+        (3, 0, false, Ok(0), Err(Failed)),
+        (3, 9, true, Err(Failed), Err(Failed)),
+    ] {
+        let mut file = Unsteady {
+            interruptions,
+            room,
+            fails,
+        };
+        let mut buf = [0; 4];
+        assert_eq!(rt;
+            read_once(&mut file, &mut buf),
+            given,
+            "{interruptions}, {room}"
+        );
+        let mut sink = StdSink::over(Unsteady {
+            interruptions,
+            room,
+            fails,
+        });
+        assert_eq!(rt; sink.write(b"line"), taken, "{interruptions}, {room}");
+    }
     Ok(())
 }
