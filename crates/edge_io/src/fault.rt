@@ -1,4 +1,8 @@
+ghost use Rattle.std.specs.Prelude.{◌≡◌, ◌≤◌};
+ghost use Rattle.edge_io.specs.Calls.{one_more};
+
 use std::alloc::{AllocError, AllocFailed};
+use std::marker::Model;
 
 /// Memory ran out. This answer is free: no contract ties it to a refused allocation.
 #[derive(Clone, Copy, Debug, PartialEq, Eq)]
@@ -17,5 +21,37 @@ impl From<AllocError> for NoMemory {
 impl<T: Drop> From<AllocFailed<T>> for NoMemory {
     fn from(_error: AllocFailed<T>) -> NoMemory {
         NoMemory
+    }
+}
+
+/// A count of faults. At the end of its type it stands still.
+#[derive(Debug, Drop)]
+pub(crate) struct FaultCount {
+    count: u64,
+}
+
+impl Model for FaultCount {
+    ghost use Rattle.std.specs.Prelude.{ℕ};
+
+    ghost Value = { ℕ };
+
+    ghost view = { λ faults. faults.count };
+}
+
+impl FaultCount {
+    /// No fault yet.
+    pub fn new() -> FaultCount
+        ensures { result ≡ 0 }
+    {
+        FaultCount { count: 0 }
+    }
+
+    /// Counts a fault, and answers it.
+    pub fn add(&mut self) -> Failed
+        ensures counted { self.new ≡ one_more self.old }
+        ensures later { self.old ≤ self.new }
+    {
+        self.count = self.count.saturating_add(1);
+        Failed
     }
 }

@@ -3,6 +3,7 @@ ghost use Rattle.std.specs.Io.KnownBytes.{Consumes, Keeps, IsAtEnd, ReadConsumes
 ghost use Rattle.edge_io.specs.Told.{Rose};
 ghost use Rattle.edge_io.specs.RealFiles.{nothing_open, coming, IsWhole, IsLongerThan};
 
+use crate::fault::FaultCount;
 use crate::{Failed, Host, LoadFault, NoMemory};
 use std::alloc::Global;
 use std::fs;
@@ -31,7 +32,7 @@ pub struct FileHost<R: Files> {
     block: Vec<u8>,
     start: usize,
     end: usize,
-    faults: u64,
+    faults: FaultCount,
 }
 
 impl<R: Files> Model for FileHost<R> {
@@ -69,18 +70,8 @@ impl<R: Files> FileHost<R> {
             block: vec![in alloc; 0; CAPTURE_BLOCK]?,
             start: 0,
             end: 0,
-            faults: 0,
+            faults: FaultCount::new(),
         })
-    }
-
-    /// Counts a failure.
-    fn count_fault(&mut self)
-        ensures rose { Rose self.old.faults self.new.faults }
-        ensures later { self.old.faults ≤ self.new.faults }
-        ensures same_capture { self.new.capture ≡ self.old.capture }
-        ensures same_pending { self.new.pending ≡ self.old.pending }
-    {
-        self.faults = self.faults.saturating_add(1);
     }
 
     /// Closes the capture, and lets go of what was read from it.
@@ -107,13 +98,14 @@ impl<R: Files> FileHost<R> {
         ensures kept { Keeps (coming R.File.remaining self.old) (coming R.File.remaining self.new) }
         ensures ended { OnOk result (self.new.pending ≡ [] → IsAtEnd (coming R.File.remaining self.new)) }
         ensures none_waiting { OnErr result (self.old.pending ≡ []) }
-        ensures same_faults { self.new.faults ≡ self.old.faults }
+        ensures failed { OnErr result (Rose self.old.faults self.new.faults) }
+        ensures later { self.old.faults ≤ self.new.faults }
     {
         if self.start < self.end {
             return Ok(());
         }
         if let Some(capture) = &mut self.capture {
-            let count = read_once(capture, &mut self.block)?;
+            let count = read_once(capture, &mut self.block, &mut self.faults)?;
             self.start = 0;
             self.end = count;
         }
@@ -153,16 +145,12 @@ impl<R: Files> Host for FileHost<R> {
         ensures later { self.old.faults ≤ self.new.faults }
     {
         let start = out.len();
-        match append_named(&self.rt, name, limit, out) {
-            Ok(()) => Ok(()),
-            Err(fault) => {
-                out.truncate(start);
-                if fault == LoadFault::Failed {
-                    self.count_fault();
-                }
-                Err(fault)
-            }
+        let mut file = open_file(&self.rt, name, &mut self.faults)?;
+        let loaded = append_file(&mut file, limit, out, &mut self.faults);
+        if loaded.is_err() {
+            out.truncate(start);
         }
+        loaded
     }
 
     fn open(&mut self, name: &str) -> Result<(), Failed>
@@ -173,16 +161,9 @@ impl<R: Files> Host for FileHost<R> {
         ensures later { self.old.faults ≤ self.new.faults }
     {
         self.close();
-        match open_file(&self.rt, name) {
-            Ok(file) => {
-                self.keep(file);
-                Ok(())
-            }
-            Err(Failed) => {
-                self.count_fault();
-                Err(Failed)
-            }
-        }
+        let file = open_file(&self.rt, name, &mut self.faults)?;
+        self.keep(file);
+        Ok(())
     }
 
     #[tactic(auto, using(crate::proofs::Known::kept_then_taken))]
@@ -196,62 +177,51 @@ impl<R: Files> Host for FileHost<R> {
         ensures nothing_taken { OnErr result (Keeps (coming R.File.remaining self.old) (coming R.File.remaining self.new)) }
         ensures later { self.old.faults ≤ self.new.faults }
     {
-        match self.refill() {
-            Ok(()) => Ok(self.give(buf)),
-            Err(Failed) => {
-                self.count_fault();
-                Err(Failed)
-            }
-        }
+        self.refill()?;
+        Ok(self.give(buf))
     }
 }
 
 /// Opens a file that is no directory.
-fn open_file<R: Files>(rt: &R, name: &str) -> Result<R::File, Failed> {
+fn open_file<R: Files>(rt: &R, name: &str, faults: &mut FaultCount) -> Result<R::File, Failed>
+    ensures failed { OnErr result (Rose faults.old faults.new) }
+    ensures later { faults.old ≤ faults.new }
+{
     let Ok(file) = fs::open(rt, name) else {
-        return Err(Failed);
+        return Err(faults.add());
     };
     match file.metadata() {
         Ok(metadata) if !metadata.is_dir() => Ok(file),
-        _ => Err(Failed),
+        _ => Err(faults.add()),
     }
-}
-
-/// Appends the whole of a file of at most `limit` bytes. A refusal may leave part of it.
-fn append_named<R: Files>(
-    rt: &R,
-    name: &str,
-    limit: usize,
-    out: &mut Vec<u8>,
-) -> Result<(), LoadFault>
-    ensures front { take (vec_len out.old) out.new.items ≡ out.old.items }
-    ensures whole { OnOk result (IsWhole R.File.remaining (drop (vec_len out.old) out.new.items)) }
-    ensures within { OnOk result (vec_len out.new ≤ vec_len out.old + limit) }
-    ensures too_large { IsErrOf result LoadFault.TooLarge → IsLongerThan R.File.remaining limit }
-{
-    let mut file = open_file(rt, name)?;
-    append_file(&mut file, limit, out)
 }
 
 /// Appends what a file still gives, if that is at most `limit` bytes. It reads no further than one
 /// byte past the limit. A refusal may leave part of it.
 #[tactic(auto, using(crate::proofs::Known::read_whole))]
-fn append_file<F: Read>(file: &mut F, limit: usize, out: &mut Vec<u8>) -> Result<(), LoadFault>
+fn append_file<F: Read>(
+    file: &mut F,
+    limit: usize,
+    out: &mut Vec<u8>,
+    faults: &mut FaultCount,
+) -> Result<(), LoadFault>
     ensures front { take (vec_len out.old) out.new.items ≡ out.old.items }
     ensures whole { OnOk result (IfSome (F.remaining file.old) (λ whole. drop (vec_len out.old) out.new.items ≡ whole)) }
     ensures within { OnOk result (vec_len out.new ≤ vec_len out.old + limit) }
     ensures too_large { IsErrOf result LoadFault.TooLarge → IfSome (F.remaining file.old) (λ whole. limit < length whole) }
+    ensures failed { IsErrOf result LoadFault.Failed → Rose faults.old faults.new }
+    ensures later { faults.old ≤ faults.new }
 {
     let mut block = [0; LOAD_BLOCK];
     let mut room = limit;
     for _ in 0..u64::MAX {
-        let count = append_some(file, room, &mut block, out)?;
+        let count = append_some(file, room, &mut block, out, faults)?;
         if count == 0 {
             return Ok(());
         }
         room -= count;
     }
-    Err(LoadFault::Failed)
+    Err(faults.add().into())
 }
 
 /// Reads once into the block, and appends what came if there is room for it: 0 only at the end.
@@ -260,6 +230,7 @@ fn append_some<F: Read>(
     room: usize,
     block: &mut [u8],
     out: &mut Vec<u8>,
+    faults: &mut FaultCount,
 ) -> Result<usize, LoadFault>
     requires { 0 < length block.old }
     ensures front { take (vec_len out.old) out.new.items ≡ out.old.items }
@@ -269,10 +240,12 @@ fn append_some<F: Read>(
     ensures taken { OnOk result (Consumes (F.remaining file.old) (F.remaining file.new) (drop (vec_len out.old) out.new.items)) }
     ensures ended { IfOk result (λ count. count ≡ 0 → IsAtEnd (F.remaining file.old)) }
     ensures too_large { IsErrOf result LoadFault.TooLarge → IfSome (F.remaining file.old) (λ rest. room < length rest) }
+    ensures failed { IsErrOf result LoadFault.Failed → Rose faults.old faults.new }
+    ensures later { faults.old ≤ faults.new }
 {
     // A byte more than there is room for shows that the file is too large.
     let wanted = room.saturating_add(1).min(block.len());
-    let count = read_once(file, &mut block[..wanted])?;
+    let count = read_once(file, &mut block[..wanted], faults)?;
     if room < count {
         return Err(LoadFault::TooLarge);
     }
@@ -281,16 +254,22 @@ fn append_some<F: Read>(
 }
 
 /// Reads once, and again after an interruption.
-pub(crate) fn read_once<F: Read>(file: &mut F, buf: &mut [u8]) -> Result<usize, Failed>
+pub(crate) fn read_once<F: Read>(
+    file: &mut F,
+    buf: &mut [u8],
+    faults: &mut FaultCount,
+) -> Result<usize, Failed>
     ensures within { IfOk result (λ count. count ≤ length buf.old) }
     ensures taken { ReadConsumes (F.remaining file.old) (F.remaining file.new) result buf.new }
+    ensures failed { OnErr result (Rose faults.old faults.new) }
+    ensures later { faults.old ≤ faults.new }
 {
     for _ in 0..u64::MAX {
         match file.read(buf) {
             Ok(count) => return Ok(count),
             Err(error) if error.kind() == ErrorKind::Interrupted => {}
-            Err(_) => return Err(Failed),
+            Err(_) => break,
         }
     }
-    Err(Failed)
+    Err(faults.add())
 }

@@ -8,6 +8,7 @@ ghost use Rattle.edge_io.specs.Told.{before, NothingLeft, Rose};
 ghost use Rattle.edge_io.specs.Files.{Files, Holds, Lacks, IsLonger, IsOpened};
 
 use crate::calls::CallPlan;
+use crate::fault::FaultCount;
 use crate::{Failed, Host, LoadFault, NoMemory, Text};
 use std::alloc::Global;
 use std::marker::Model;
@@ -35,7 +36,7 @@ pub struct MemHost {
     // In the order in which they were put: of those with one name the last counts.
     held: Vec<HeldFile>,
     reading: Option<Reading>,
-    faults: u64,
+    faults: FaultCount,
     calls: CallPlan,
 }
 
@@ -66,7 +67,7 @@ impl MemHost {
         MemHost {
             held: Vec::new(alloc),
             reading: None,
-            faults: 0,
+            faults: FaultCount::new(),
             calls: CallPlan::new(alloc),
         }
     }
@@ -100,7 +101,7 @@ impl MemHost {
     {
         let fails = self.calls.next_fails();
         if fails {
-            self.faults = self.faults.saturating_add(1);
+            self.faults.add();
         }
         fails
     }

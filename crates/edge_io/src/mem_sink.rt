@@ -3,6 +3,7 @@ ghost use Rattle.edge_io.specs.HeldBytes.{nothing_written, refuses, taken_count,
 ghost use Rattle.edge_io.specs.Told.{behind};
 
 use crate::calls::CallPlan;
+use crate::fault::FaultCount;
 use crate::{Failed, NoMemory, Sink};
 use std::alloc::Global;
 use std::marker::Model;
@@ -16,7 +17,7 @@ pub struct MemSink {
     written: Vec<u8>,
     step: usize,
     room: usize,
-    faults: u64,
+    faults: FaultCount,
     calls: CallPlan,
 }
 
@@ -47,7 +48,7 @@ impl MemSink {
             written: Vec::with_capacity(alloc, room)?,
             step,
             room,
-            faults: 0,
+            faults: FaultCount::new(),
             calls: CallPlan::new(alloc),
         })
     }
@@ -87,8 +88,7 @@ impl Sink for MemSink {
         let fails = self.calls.next_fails();
         let spare = self.room - self.written.len();
         if fails || spare == 0 {
-            self.faults = self.faults.saturating_add(1);
-            return Err(Failed);
+            return Err(self.faults.add());
         }
         let count = piece.len().min(self.step).min(spare);
         match self.written.extend_from_slice(&piece[..count]) {

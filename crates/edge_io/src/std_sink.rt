@@ -2,6 +2,7 @@ ghost use Rattle.std.specs.Prelude.{◌≡◌, ◌<◌, ◌≤◌, None, length,
 ghost use Rattle.std.specs.Io.KnownBytes.{WriteAppends};
 ghost use Rattle.edge_io.specs.Told.{Rose};
 
+use crate::fault::FaultCount;
 use crate::{Failed, Sink};
 use std::io::{ErrorKind, Stderr, Stdout, Write};
 use std::marker::Model;
@@ -14,7 +15,7 @@ use std::marker::Model;
 #[derive(Drop)]
 pub struct StdSink<W: Write> {
     stream: W,
-    faults: u64,
+    faults: FaultCount,
 }
 
 impl<W: Write> Model for StdSink<W> {
@@ -32,7 +33,10 @@ impl<W: Write> StdSink<W> {
     pub(crate) fn over(stream: W) -> StdSink<W>
         ensures { result ≡ record { stream = stream; faults = 0 } }
     {
-        StdSink { stream, faults: 0 }
+        StdSink {
+            stream,
+            faults: FaultCount::new(),
+        }
     }
 }
 
@@ -67,29 +71,30 @@ impl<W: Write> Sink for StdSink<W> {
         ensures failed { OnErr result (Rose self.old.faults self.new.faults) }
         ensures later { self.old.faults ≤ self.new.faults }
     {
-        match write_once(&mut self.stream, piece) {
-            Ok(count) => Ok(count),
-            Err(Failed) => {
-                self.faults = self.faults.saturating_add(1);
-                Err(Failed)
-            }
-        }
+        write_once(&mut self.stream, piece, &mut self.faults)
     }
 }
 
 /// Writes once, and again after an interruption. A write that takes nothing has failed.
-fn write_once<W: Write>(stream: &mut W, piece: &[u8]) -> Result<usize, Failed>
+fn write_once<W: Write>(
+    stream: &mut W,
+    piece: &[u8],
+    faults: &mut FaultCount,
+) -> Result<usize, Failed>
+    requires { 0 < length piece.now }
     ensures some { IfOk result (λ count. 1 ≤ count) }
     ensures within { IfOk result (λ count. count ≤ length piece.now) }
     ensures appended { WriteAppends (W.contents stream.old) (W.contents stream.new) result piece.now }
+    ensures failed { OnErr result (Rose faults.old faults.new) }
+    ensures later { faults.old ≤ faults.new }
 {
     for _ in 0..u64::MAX {
         match stream.write(piece) {
-            Ok(0) => return Err(Failed),
+            Ok(0) => break,
             Ok(count) => return Ok(count),
             Err(error) if error.kind() == ErrorKind::Interrupted => {}
-            Err(_) => return Err(Failed),
+            Err(_) => break,
         }
     }
-    Err(Failed)
+    Err(faults.add())
 }

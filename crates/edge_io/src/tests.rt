@@ -3,6 +3,7 @@
 
 ghost use Rattle.std.specs.Prelude.{◌≤◌, IfOk};
 
+use crate::fault::FaultCount;
 use crate::file_host::read_once;
 use crate::{
     Failed, FileHost, Gate, Host, Items, LiteralMaker, LoadFault, MakeFault, MemHost, MemSink,
@@ -241,8 +242,9 @@ fn an_interrupted_call_goes_on(rt: HostRuntime) -> Result<(), Fail> {
             fails,
         };
         let mut buf = [0; 4];
+        let mut faults = FaultCount::new();
         assert_eq!(rt;
-            read_once(&mut file, &mut buf),
+            read_once(&mut file, &mut buf, &mut faults),
             given,
             "{interruptions}, {room}"
         );

@@ -14,4 +14,5 @@ loop-preserved g c =
       longer = omega (arith, more.count);
       room = omega (arith, more.count, more.fits);
       taken = Consumes-appended _ _ _ mid.items c.append_some.new.out.items old.len mid.len within more.front c.loop.invariant.taken more.taken;
+      later = omega (arith, more.later, c.loop.invariant.later);
     }

@@ -9,4 +9,5 @@ invariant-loop g l = record {
   longer : vec_len l.fn.out ≤ vec_len l.out;
   room : vec_len l.out + l.room ≡ vec_len l.fn.out + l.limit;
   taken : Consumes (g.F.Read.remaining l.fn.file) (g.F.Read.remaining l.file) (drop (vec_len l.fn.out) l.out.items);
+  later : l.fn.faults ≤ l.faults;
 }

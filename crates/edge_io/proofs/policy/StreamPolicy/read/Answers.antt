@@ -1,4 +1,4 @@
-use Rattle.std.proofs.Common.{ℕ, ◌<◌, List, [], ◌∷◌, Option, Some, None, IfNone, length, slice_index_or, lit<}
+use Rattle.std.proofs.Common.{ℕ, List, [], ◌∷◌, Option, Some, None, IfNone, lit<}
 use Rattle.std.specs.List.{All}
 use Rattle.edge_io.specs.declared.policy.StreamPolicy.{StreamPolicy}
 use Rattle.edge_io.specs.declared.policy.StreamPolicy.TheVariants.{First, Last, Bsd, Linux, OldLinux, Windows, Win2003, Vista, Solaris, Hpux, Hpux10, Irix, Macos}
