@@ -1,8 +1,8 @@
 -- How far the watching of a capture reads ahead of the lines.
-use Rattle.std.proofs.Common.{◌≡◌, ℕ, ◌+◌, ◌-◌, ◌≤◌, List, [], ◌++◌, Option, Some, None, Result, Ok, Err, length, take, drop, refl, sym, ap, subst, append_assoc, ◌∙◌, arith, inl, inr, ◌⊎◌, ⊎_elim}
+use Rattle.std.proofs.Common.{◌≡◌, ℕ, ◌-◌, ◌≤◌, List, [], ◌++◌, Option, Some, None, Result, Ok, Err, length, take, drop, refl, sym, ap, subst, append_assoc, ◌∙◌, arith, inl, inr, ◌⊎◌, ⊎_elim}
 use Rattle.std.specs.FinMap.{get}
 use Rattle.std.proofs.Math.ListN.{drop_of_length-le}
-use Rattle.std.proofs.lemmas.List.{append-nil, take-append-drop, length-append, length-take-le, drop_at, take-append-le}
+use Rattle.std.proofs.lemmas.List.{append-nil, take-append-drop, length-append, drop_at, take-append-le}
 use Rattle.edge_io.specs.Told.{behind}
 use Rattle.edge_io.specs.Files.{Files}
 use Rattle.edge_io.proofs.Told.{behind-nil}
@@ -13,7 +13,7 @@ use Rattle.pcap_input.specs.declared.capture.CaptureFault.TheVariants as fault
 use Rattle.pcap_input.specs.Savefile.{Cut, Clean, head_of, records_left}
 use Rattle.pcap_input.specs.Reader.{Reading, begun, Opens, TakesHead, IsOfHead}
 use Rattle.pcap_input.proofs.Records.{records_left-ends}
-use Rattle.pcap_input.proofs.Laws.{head_of-append, next_of_nothing}
+use Rattle.pcap_input.proofs.Laws.{next_of_nothing}
 use Rattle.pcap_input.proofs.Endings.{savefile-err}
 use Rattle.pcap_input.proofs.Told.{split_told}
 use Rattle.snort_engine.specs.declared.content_rule.ContentRule.{ContentRule}
