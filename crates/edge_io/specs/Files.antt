@@ -1,4 +1,7 @@
 -- What a host tells of its files: a finite map from names to contents, or nothing.
+--
+-- To try it on: files with 1, 2 under "a" hold 1, 2 there, which is longer than 1, and lack "b"; a
+-- host that tells nothing holds anything under any name and lacks none.
 use Rattle.std.specs.Prelude.{◌≡◌, ℕ, ◌<◌, List, Option, Some, None, ⊤, length, IsSome}
 use Rattle.std.specs.Ordering.{nat_cmp}
 use Rattle.std.specs.Cmp.Lexicographic.{slice_cmp}

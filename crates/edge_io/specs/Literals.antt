@@ -1,4 +1,7 @@
 -- What a maker of literal patterns stands for.
+--
+-- To try it on: where call 0 is named, the first `make` is refused and its text stands in the list;
+-- the second makes a pattern and leaves the list.
 use Rattle.std.specs.Prelude.{List, map}
 use Rattle.edge_io.specs.declared.literal.Refused.{Refused}
 use Rattle.edge_io.specs.Refusals.{Refusal}

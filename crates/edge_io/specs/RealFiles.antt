@@ -3,8 +3,8 @@
 -- The runtime says what a file has left, in the standard library's words. A file of the system says
 -- nothing, and there every fact below holds; of a runtime that knows its files' bytes they are exact.
 -- To try it on: where a file with 3, 4 left is open and 1, 2 wait to be given out, 1, 2, 3, 4 are
--- coming; a load of it gave the whole at 3, 4, and found it longer than 1.
-use Rattle.std.specs.Prelude.{◌≡◌, ℕ, ◌<◌, List, [], Option, Some, None, length, IfSome, refl}
+-- coming; a load of a file with 3, 4 left gave 3, 4, or found more than 1.
+use Rattle.std.specs.Prelude.{◌≡◌, ℕ, ◌<◌, List, [], Option, Some, None, length, IfSome, refl, ⊤}
 use Rattle.std.specs.Io.KnownBytes.{prepend_known}
 use Rattle.std.specs.Coded.{Coded, code_by, coded×, coded_ℕ, coded_list, coded_option}
 
@@ -41,12 +41,12 @@ coming remaining files = coming_of remaining files.capture files.pending
 -- nothing waits to be given out where no file is open
 abbrev pub IsFromCapture : {File : Type 0} → Option File → List ℕ → Type 0
 IsFromCapture None pending = pending ≡ []
-IsFromCapture (Some file) pending = Unit {0}
+IsFromCapture (Some file) pending = ⊤
 
--- there is a file of which these bytes are the whole, where that is known
-abbrev pub IsWhole : {File : Type 0} → (File → Option (List ℕ)) → List ℕ → Type 0
-IsWhole {File} remaining bytes = (file : File) × IfSome (remaining file) (λ whole. bytes ≡ whole)
+-- some file, as far as it was read then, had exactly these bytes left, where that is known
+abbrev pub SomeHasLeft : {File : Type 0} → (File → Option (List ℕ)) → List ℕ → Type 0
+SomeHasLeft {File} remaining bytes = (file : File) × IfSome (remaining file) (λ whole. bytes ≡ whole)
 
--- there is a file that is longer than the limit, where that is known
-abbrev pub IsLongerThan : {File : Type 0} → (File → Option (List ℕ)) → ℕ → Type 0
-IsLongerThan {File} remaining limit = (file : File) × IfSome (remaining file) (λ whole. limit < length whole)
+-- some file, as far as it was read then, had more bytes left than the limit, where that is known
+abbrev pub SomeHasMoreLeft : {File : Type 0} → (File → Option (List ℕ)) → ℕ → Type 0
+SomeHasMoreLeft {File} remaining limit = (file : File) × IfSome (remaining file) (λ whole. limit < length whole)

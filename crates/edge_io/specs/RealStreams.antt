@@ -1,6 +1,7 @@
 -- What a sink over a stream of the process stands for.
 --
 -- The stream says what it holds, in the standard library's words; one of the system says nothing.
+-- To try it on: behind a write of 1, 2 that took one byte, a stream that held 0 holds 0, 1.
 use Rattle.std.specs.Prelude.{ℕ, refl}
 use Rattle.std.specs.Coded.{Coded, code_by, coded×, coded_ℕ}
 

@@ -1,4 +1,6 @@
 -- What a maker of patterns refused.
+--
+-- To try it on: behind a refusal of "a(" the list ends with that text and its flags.
 use Rattle.std.specs.Prelude.{ℕ, List}
 use Rattle.edge_io.specs.declared.pattern.PatternFlags.{PatternFlags}
 

@@ -2,8 +2,9 @@
 //! shared by threads: each call below is proved only for a type that may.
 
 use crate::{
-    Addr, Failed, Items, Link, Literal, LiteralMaker, MemHost, MemSink, Moment, NoMemory, OpenGate,
-    PatternFlags, Span, Text,
+    Addr, Failed, FragPolicy, Items, Link, Literal, LiteralMaker, LoadFault, MakeFault, MemHost,
+    MemSink, Moment, NoMemory, OpenGate, PatternFlags, Preference, Span, StreamPolicy, Text,
+    WriteStop,
 };
 
 /// A call of this is proved only for a type that may move to another thread and be shared.
@@ -13,17 +14,23 @@ pub fn crosses_threads<T: Send + Sync>() {}
 pub fn types_cross_threads() {
     crosses_threads::<Addr>();
     crosses_threads::<Failed>();
+    crosses_threads::<FragPolicy>();
     crosses_threads::<Link>();
     crosses_threads::<Literal>();
     crosses_threads::<LiteralMaker>();
+    crosses_threads::<LoadFault>();
+    crosses_threads::<MakeFault>();
     crosses_threads::<MemHost>();
     crosses_threads::<MemSink>();
     crosses_threads::<Moment>();
     crosses_threads::<NoMemory>();
     crosses_threads::<OpenGate>();
     crosses_threads::<PatternFlags>();
+    crosses_threads::<Preference>();
     crosses_threads::<Span>();
+    crosses_threads::<StreamPolicy>();
     crosses_threads::<Text>();
+    crosses_threads::<WriteStop>();
 }
 
 /// A list, where its elements may.

@@ -1,7 +1,7 @@
 ghost use Rattle.std.specs.Prelude.{◌≡◌, ◌<◌, ◌≤◌, ◌+◌, ◌++◌, [], None, length, vec_len, take, drop, min, IfOk, IfSome, OnOk, OnErr, IsSome, IsErrOf};
 ghost use Rattle.std.specs.Io.KnownBytes.{Consumes, Keeps, IsAtEnd, ReadConsumes};
-ghost use Rattle.edge_io.specs.Told.{Rose};
-ghost use Rattle.edge_io.specs.RealFiles.{nothing_open, coming, IsWhole, IsLongerThan};
+ghost use Rattle.edge_io.specs.Calls.{one_more};
+ghost use Rattle.edge_io.specs.RealFiles.{nothing_open, coming, SomeHasLeft, SomeHasMoreLeft};
 
 use crate::fault::FaultCount;
 use crate::{Failed, Host, LoadFault, NoMemory};
@@ -23,7 +23,7 @@ const LOAD_BLOCK: usize = 16384;
 /// It tells nothing of what they contain, since the system keeps that. Contracts see the open
 /// capture, with what the standard library says of its file, the bytes read ahead of it, and the
 /// count of faults. Each failure of the system is counted, want of memory among them. The capture is
-/// read through a buffer.
+/// read through a buffer. A name is a path of the system, from the folder in which the process runs.
 #[derive(Drop)]
 pub struct FileHost<R: Files> {
     rt: R,
@@ -58,7 +58,7 @@ impl<R: Files> Model for FileHost<R> {
 }
 
 impl<R: Files> FileHost<R> {
-    /// The host of these files, with nothing open and no fault.
+    /// The host of these files, with nothing open and no fault. It reserves a buffer of 64 KiB.
     pub fn new(alloc: Global, rt: R) -> Result<FileHost<R>, NoMemory>
     where
         R: Drop,
@@ -74,22 +74,13 @@ impl<R: Files> FileHost<R> {
         })
     }
 
-    /// Closes the capture, and lets go of what was read from it.
-    fn close(&mut self)
-        ensures { self.new ≡ record self.old { capture = None; pending = [] } }
+    /// Takes a file that was opened as the capture, or none, and lets go of what was read before.
+    fn set_capture(&mut self, capture: Option<R::File>)
+        ensures { self.new ≡ record self.old { capture = capture; pending = [] } }
     {
         self.start = 0;
         self.end = 0;
-        self.capture = None;
-    }
-
-    /// Takes a file that was opened as the capture.
-    fn keep(&mut self, file: R::File)
-        ensures { self.new ≡ record self.old { capture = Some file; pending = [] } }
-    {
-        self.start = 0;
-        self.end = 0;
-        self.capture = Some(file);
+        self.capture = capture;
     }
 
     /// Reads the next block of the open capture where nothing waits to be given out. Then nothing
@@ -98,7 +89,8 @@ impl<R: Files> FileHost<R> {
         ensures kept { Keeps (coming R.File.remaining self.old) (coming R.File.remaining self.new) }
         ensures ended { OnOk result (self.new.pending ≡ [] → IsAtEnd (coming R.File.remaining self.new)) }
         ensures none_waiting { OnErr result (self.old.pending ≡ []) }
-        ensures failed { OnErr result (Rose self.old.faults self.new.faults) }
+        ensures failed { OnErr result (self.new.faults ≡ one_more self.old.faults) }
+        ensures unfailed { OnOk result (self.new.faults ≡ self.old.faults) }
         ensures later { self.old.faults ≤ self.new.faults }
     {
         if self.start < self.end {
@@ -135,10 +127,11 @@ impl<R: Files> Host for FileHost<R> {
 
     fn load(&mut self, name: &str, limit: usize, out: &mut Vec<u8>) -> Result<(), LoadFault>
         ensures appends { OnOk result (out.new.items ≡ out.old.items ++ drop (vec_len out.old) out.new.items) }
-        ensures whole { OnOk result (IsWhole R.File.remaining (drop (vec_len out.old) out.new.items)) }
+        ensures whole { OnOk result (SomeHasLeft R.File.remaining (drop (vec_len out.old) out.new.items)) }
         ensures within { OnOk result (vec_len out.new ≤ vec_len out.old + limit) }
-        ensures too_large { IsErrOf result LoadFault.TooLarge → IsLongerThan R.File.remaining limit }
-        ensures failed { IsErrOf result LoadFault.Failed → Rose self.old.faults self.new.faults }
+        ensures too_large { IsErrOf result LoadFault.TooLarge → SomeHasMoreLeft R.File.remaining limit }
+        ensures failed { IsErrOf result LoadFault.Failed → self.new.faults ≡ one_more self.old.faults }
+        ensures unfailed { (IsErrOf result LoadFault.Failed → ⊥) → self.new.faults ≡ self.old.faults }
         ensures refused { OnErr result (out.new.items ≡ out.old.items) }
         ensures same_capture { self.new.capture ≡ self.old.capture }
         ensures same_pending { self.new.pending ≡ self.old.pending }
@@ -157,12 +150,13 @@ impl<R: Files> Host for FileHost<R> {
         ensures opened { OnOk result (IsSome self.new.capture) }
         ensures closed { OnErr result (self.new.capture ≡ None) }
         ensures fresh { self.new.pending ≡ [] }
-        ensures failed { OnErr result (Rose self.old.faults self.new.faults) }
+        ensures failed { OnErr result (self.new.faults ≡ one_more self.old.faults) }
+        ensures unfailed { OnOk result (self.new.faults ≡ self.old.faults) }
         ensures later { self.old.faults ≤ self.new.faults }
     {
-        self.close();
+        self.set_capture(None);
         let file = open_file(&self.rt, name, &mut self.faults)?;
-        self.keep(file);
+        self.set_capture(Some(file));
         Ok(())
     }
 
@@ -172,9 +166,11 @@ impl<R: Files> Host for FileHost<R> {
         ensures within { IfOk result (λ count. count ≤ length buf.old) }
         ensures taken { IfOk result (λ count. Consumes (coming R.File.remaining self.old) (coming R.File.remaining self.new) (take count buf.new)) }
         ensures ended { IfOk result (λ count. count ≡ 0 → IsAtEnd (coming R.File.remaining self.old)) }
-        ensures failed { OnErr result (Rose self.old.faults self.new.faults) }
+        ensures failed { OnErr result (self.new.faults ≡ one_more self.old.faults) }
+        ensures unfailed { OnOk result (self.new.faults ≡ self.old.faults) }
         ensures none_waiting { OnErr result (self.old.pending ≡ []) }
         ensures nothing_taken { OnErr result (Keeps (coming R.File.remaining self.old) (coming R.File.remaining self.new)) }
+        ensures untouched { OnErr result (buf.new ≡ buf.old) }
         ensures later { self.old.faults ≤ self.new.faults }
     {
         self.refill()?;
@@ -184,7 +180,8 @@ impl<R: Files> Host for FileHost<R> {
 
 /// Opens a file that is no directory.
 fn open_file<R: Files>(rt: &R, name: &str, faults: &mut FaultCount) -> Result<R::File, Failed>
-    ensures failed { OnErr result (Rose faults.old faults.new) }
+    ensures failed { OnErr result (faults.new ≡ one_more faults.old) }
+    ensures unfailed { OnOk result (faults.new ≡ faults.old) }
     ensures later { faults.old ≤ faults.new }
 {
     let Ok(file) = fs::open(rt, name) else {
@@ -209,19 +206,19 @@ fn append_file<F: Read>(
     ensures whole { OnOk result (IfSome (F.remaining file.old) (λ whole. drop (vec_len out.old) out.new.items ≡ whole)) }
     ensures within { OnOk result (vec_len out.new ≤ vec_len out.old + limit) }
     ensures too_large { IsErrOf result LoadFault.TooLarge → IfSome (F.remaining file.old) (λ whole. limit < length whole) }
-    ensures failed { IsErrOf result LoadFault.Failed → Rose faults.old faults.new }
+    ensures failed { IsErrOf result LoadFault.Failed → faults.new ≡ one_more faults.old }
+    ensures unfailed { (IsErrOf result LoadFault.Failed → ⊥) → faults.new ≡ faults.old }
     ensures later { faults.old ≤ faults.new }
 {
     let mut block = [0; LOAD_BLOCK];
     let mut room = limit;
-    for _ in 0..u64::MAX {
+    loop {
         let count = append_some(file, room, &mut block, out, faults)?;
         if count == 0 {
             return Ok(());
         }
         room -= count;
     }
-    Err(faults.add().into())
 }
 
 /// Reads once into the block, and appends what came if there is room for it: 0 only at the end.
@@ -240,7 +237,8 @@ fn append_some<F: Read>(
     ensures taken { OnOk result (Consumes (F.remaining file.old) (F.remaining file.new) (drop (vec_len out.old) out.new.items)) }
     ensures ended { IfOk result (λ count. count ≡ 0 → IsAtEnd (F.remaining file.old)) }
     ensures too_large { IsErrOf result LoadFault.TooLarge → IfSome (F.remaining file.old) (λ rest. room < length rest) }
-    ensures failed { IsErrOf result LoadFault.Failed → Rose faults.old faults.new }
+    ensures failed { IsErrOf result LoadFault.Failed → faults.new ≡ one_more faults.old }
+    ensures unfailed { (IsErrOf result LoadFault.Failed → ⊥) → faults.new ≡ faults.old }
     ensures later { faults.old ≤ faults.new }
 {
     // A byte more than there is room for shows that the file is too large.
@@ -253,7 +251,8 @@ fn append_some<F: Read>(
     Ok(count)
 }
 
-/// Reads once, and again after an interruption.
+/// Reads once, and again after an interruption. The count of tries only bounds the loop: no run
+/// comes to its end.
 pub(crate) fn read_once<F: Read>(
     file: &mut F,
     buf: &mut [u8],
@@ -261,7 +260,8 @@ pub(crate) fn read_once<F: Read>(
 ) -> Result<usize, Failed>
     ensures within { IfOk result (λ count. count ≤ length buf.old) }
     ensures taken { ReadConsumes (F.remaining file.old) (F.remaining file.new) result buf.new }
-    ensures failed { OnErr result (Rose faults.old faults.new) }
+    ensures failed { OnErr result (faults.new ≡ one_more faults.old) }
+    ensures unfailed { OnOk result (faults.new ≡ faults.old) }
     ensures later { faults.old ≤ faults.new }
 {
     for _ in 0..u64::MAX {

@@ -2,8 +2,8 @@ ghost use Rattle.std.specs.Prelude.{◌≡◌, ℕ, ◌+◌, ◌<◌, ◌≤◌,
 ghost use Rattle.edge_io.specs.Told.{before, NothingLeft, Rose};
 ghost use Rattle.edge_io.specs.Files.{Files, Holds, Lacks, IsLonger, IsOpened, IsUnopened};
 
-use crate::{Failed, NoMemory};
-use std::alloc::{AllocError, AllocFailed};
+use crate::Failed;
+use std::alloc::AllocError;
 
 /// Why a file was not loaded.
 #[derive(Clone, Copy, Debug, PartialEq, Eq)]
@@ -49,7 +49,8 @@ pub trait Host {
         ensures later { faults self.old ≤ faults self.new };
 
     /// Takes bytes off the front of the open capture into the front of `buf`, as many as the answer
-    /// says: 0 exactly where nothing is left or nothing is open. The rest of `buf` is left open.
+    /// says: 0 exactly where nothing is left or nothing is open. The rest of `buf` is left open. A
+    /// refusal leaves `buf` as it was.
     fn read(&mut self, buf: &mut [u8]) -> Result<usize, Failed>
         requires { 0 < length buf.old }
         ensures within { IfOk result (λ count. count ≤ length buf.old) }
@@ -58,6 +59,7 @@ pub trait Host {
         ensures unopened { IsUnopened (contents self.old) (left self.old) → IfOk result (λ count. count ≡ 0) }
         ensures failed { OnErr result (Rose (faults self.old) (faults self.new)) }
         ensures nothing_taken { OnErr result (left self.new ≡ left self.old) }
+        ensures untouched { OnErr result (buf.new ≡ buf.old) }
         ensures same_contents { contents self.new ≡ contents self.old }
         ensures later { faults self.old ≤ faults self.new };
 }
@@ -72,32 +74,12 @@ impl From<Failed> for LoadFault {
     }
 }
 
-impl From<NoMemory> for LoadFault {
-    ghost use Rattle.edge_io.specs.declared.host.LoadFault.TheVariants.{NoMemory as out_of_memory};
-
-    ghost from_gives = { λ _ fault. fault ≡ out_of_memory };
-
-    fn from(_error: NoMemory) -> LoadFault {
-        LoadFault::NoMemory
-    }
-}
-
 impl From<AllocError> for LoadFault {
     ghost use Rattle.edge_io.specs.declared.host.LoadFault.TheVariants.{NoMemory as out_of_memory};
 
     ghost from_gives = { λ _ fault. fault ≡ out_of_memory };
 
     fn from(_error: AllocError) -> LoadFault {
-        LoadFault::NoMemory
-    }
-}
-
-impl<T: Drop> From<AllocFailed<T>> for LoadFault {
-    ghost use Rattle.edge_io.specs.declared.host.LoadFault.TheVariants.{NoMemory as out_of_memory};
-
-    ghost from_gives = { λ _ fault. fault ≡ out_of_memory };
-
-    fn from(_error: AllocFailed<T>) -> LoadFault {
         LoadFault::NoMemory
     }
 }

@@ -1,11 +1,10 @@
-ghost use Rattle.std.specs.Prelude.{◌≡◌, ◌⊎◌, ◌<◌, ◌≤◌, ◌++◌, [], Option, Some, None, length, drop, take, vec_len, min, Ok, Err, IfOk, OnOk, OnErr, IfSome, IfNone, IsErrOf, IsErr, IsSome, IsTrue, unwrap_or};
+ghost use Rattle.std.specs.Prelude.{◌≡◌, ◌<◌, ◌≤◌, ◌++◌, [], Option, Some, None, length, drop, take, vec_len, min, Ok, Err, IfOk, OnOk, OnErr, IfSome, IfNone, IsErrOf, IsErr, IsSome, IsTrue};
 ghost use Rattle.std.specs.FinMap.{get, insert};
 ghost use Rattle.std.specs.Option.{option_copied};
 ghost use Rattle.edge_io.specs.Calls.{fails};
 ghost use Rattle.edge_io.specs.HeldFiles.{no_files, after_call, advanced, rest as rest_of};
 ghost use Rattle.edge_io.specs.PutFiles.{files_of, bytes_at};
-ghost use Rattle.edge_io.specs.Told.{before, NothingLeft, Rose};
-ghost use Rattle.edge_io.specs.Files.{Files, Holds, Lacks, IsLonger, IsOpened};
+ghost use Rattle.edge_io.specs.Told.{before};
 
 use crate::calls::CallPlan;
 use crate::fault::FaultCount;
@@ -206,6 +205,7 @@ impl Host for MemHost {
         ensures filled { IfOk result (λ count. buf.new ≡ take count (rest_of self.old) ++ drop count buf.old) }
         ensures taken { IfOk result (λ count. self.old.left ≡ before (take count buf.new) self.new.left) }
         ensures failed { OnErr result (IsTrue (fails self.old.calls)) }
+        ensures untouched { OnErr result (buf.new ≡ buf.old) }
         ensures failing { IsTrue (fails self.old.calls) → IsErr result }
         ensures later { self.old.faults ≤ self.new.faults }
     {

@@ -2,7 +2,7 @@ ghost use Rattle.std.specs.Prelude.{◌≡◌, ℕ, ◌≤◌, [], ◌∷◌, �
 ghost use Rattle.edge_io.specs.Refusals.{Refusal};
 
 use crate::NoMemory;
-use std::alloc::{AllocError, AllocFailed, Global};
+use std::alloc::Global;
 
 /// How a pattern reads its text: the flags `i`, `s`, `m` and `x` of a `pcre` option.
 #[derive(Clone, Copy, Debug, PartialEq, Eq)]
@@ -79,26 +79,6 @@ impl From<NoMemory> for MakeFault {
     ghost from_gives = { λ _ fault. fault ≡ out_of_memory };
 
     fn from(_error: NoMemory) -> MakeFault {
-        MakeFault::NoMemory
-    }
-}
-
-impl From<AllocError> for MakeFault {
-    ghost use Rattle.edge_io.specs.declared.pattern.MakeFault.TheVariants.{NoMemory as out_of_memory};
-
-    ghost from_gives = { λ _ fault. fault ≡ out_of_memory };
-
-    fn from(_error: AllocError) -> MakeFault {
-        MakeFault::NoMemory
-    }
-}
-
-impl<T: Drop> From<AllocFailed<T>> for MakeFault {
-    ghost use Rattle.edge_io.specs.declared.pattern.MakeFault.TheVariants.{NoMemory as out_of_memory};
-
-    ghost from_gives = { λ _ fault. fault ≡ out_of_memory };
-
-    fn from(_error: AllocFailed<T>) -> MakeFault {
         MakeFault::NoMemory
     }
 }

@@ -68,6 +68,7 @@ impl FragPolicy {
             .find(|policy| name.eq_ignore_ascii_case(policy.name()))
     }
 
+    /// Its name in lower case.
     fn name(self) -> &'static [u8]
         ensures { result.now ≡ frag_name self }
     {
@@ -123,6 +124,8 @@ impl StreamPolicy {
         StreamPolicy::among(&StreamPolicy::ALL, name)
     }
 
+    /// The first of these policies that has this name. They are a parameter so that the proof needn't
+    /// go over the thirteen by name.
     fn among(policies: &[StreamPolicy], name: &[u8]) -> Option<StreamPolicy>
         ensures some { IfSome result (λ policy. IsNamed name.now (stream_name policy)) }
         ensures none { IfNone result (All (λ policy. ¬ IsNamed name.now (stream_name policy)) policies.now) }
@@ -133,6 +136,7 @@ impl StreamPolicy {
             .find(|policy| name.eq_ignore_ascii_case(policy.name()))
     }
 
+    /// Its name in lower case.
     fn name(self) -> &'static [u8]
         ensures { result.now ≡ stream_name self }
     {

@@ -1,6 +1,6 @@
-ghost use Rattle.std.specs.Prelude.{◌≡◌, ◌<◌, ◌≤◌, None, length, IfOk, OnErr};
+ghost use Rattle.std.specs.Prelude.{◌≡◌, ◌<◌, ◌≤◌, None, length, IfOk, OnOk, OnErr};
 ghost use Rattle.std.specs.Io.KnownBytes.{WriteAppends};
-ghost use Rattle.edge_io.specs.Told.{Rose};
+ghost use Rattle.edge_io.specs.Calls.{one_more};
 
 use crate::fault::FaultCount;
 use crate::{Failed, Sink};
@@ -68,14 +68,16 @@ impl<W: Write> Sink for StdSink<W> {
         ensures some { IfOk result (λ count. 1 ≤ count) }
         ensures within { IfOk result (λ count. count ≤ length piece.now) }
         ensures appended { WriteAppends (W.contents self.old.stream) (W.contents self.new.stream) result piece.now }
-        ensures failed { OnErr result (Rose self.old.faults self.new.faults) }
+        ensures failed { OnErr result (self.new.faults ≡ one_more self.old.faults) }
+        ensures unfailed { OnOk result (self.new.faults ≡ self.old.faults) }
         ensures later { self.old.faults ≤ self.new.faults }
     {
         write_once(&mut self.stream, piece, &mut self.faults)
     }
 }
 
-/// Writes once, and again after an interruption. A write that takes nothing has failed.
+/// Writes once, and again after an interruption. A write that takes nothing has failed. The count of
+/// tries only bounds the loop: no run comes to its end.
 fn write_once<W: Write>(
     stream: &mut W,
     piece: &[u8],
@@ -85,7 +87,8 @@ fn write_once<W: Write>(
     ensures some { IfOk result (λ count. 1 ≤ count) }
     ensures within { IfOk result (λ count. count ≤ length piece.now) }
     ensures appended { WriteAppends (W.contents stream.old) (W.contents stream.new) result piece.now }
-    ensures failed { OnErr result (Rose faults.old faults.new) }
+    ensures failed { OnErr result (faults.new ≡ one_more faults.old) }
+    ensures unfailed { OnOk result (faults.new ≡ faults.old) }
     ensures later { faults.old ≤ faults.new }
 {
     for _ in 0..u64::MAX {

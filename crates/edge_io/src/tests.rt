@@ -1,15 +1,16 @@
 //! What no clause says: that calls succeed where memory is ample, and what real files and streams
 //! do.
 
-ghost use Rattle.std.specs.Prelude.{◌≤◌, IfOk};
+ghost use Rattle.std.specs.Prelude.{◌≡◌, ◌≤◌, [], ◌∷◌, IfOk};
 
 use crate::fault::FaultCount;
 use crate::file_host::read_once;
 use crate::{
-    Failed, FileHost, Gate, Host, Items, LiteralMaker, LoadFault, MakeFault, MemHost, MemSink,
-    OpenGate, Pattern, PatternFlags, PatternMaker, Sink, Span, StdSink, Text, WriteStop,
-    items_cross_threads, types_cross_threads, write_all,
+    Failed, FileHost, FragPolicy, Gate, Host, Items, LiteralMaker, LoadFault, MakeFault, MemHost,
+    MemSink, NoMemory, OpenGate, Pattern, PatternFlags, PatternMaker, Preference, Sink, Span,
+    StdSink, StreamPolicy, Text, WriteStop, items_cross_threads, types_cross_threads, write_all,
 };
+use std::alloc::Global;
 use std::io::{ErrorKind, Read, Write};
 use std::test::Fail;
 use std::{fs, io};
@@ -29,10 +30,71 @@ fn texts_and_items_keep_what_they_are_given(rt: HostRuntime) -> Result<(), Fail>
     let again = Items::from_vec(items.into_vec());
     assert_eq!(rt; again.as_slice(), [7u16, 9].as_slice());
 
+    let texts = texts_of(alloc, b"first", b"second")?;
+    for (text, want) in texts.as_slice().iter().zip(["first", "second"]) {
+        assert_eq!(rt; text.bytes(), want.as_bytes());
+    }
+    Ok(())
+}
+
+/// A list of texts, which contracts see as a list of lists of bytes.
+fn texts_of(alloc: Global, first: &[u8], second: &[u8]) -> Result<Items<Text>, NoMemory>
+    ensures { IfOk result (λ texts. texts ≡ first.now ∷ second.now ∷ []) }
+{
+    let mut texts = Items::new(alloc);
+    texts.push(Text::copy(alloc, first)?)?;
+    texts.push(Text::copy(alloc, second)?)?;
+    Ok(texts)
+}
+
+#[test]
+fn gates_are_passed_and_types_cross_threads(_rt: HostRuntime) {
     OpenGate.pass(3);
     types_cross_threads();
     items_cross_threads::<u8>();
-    Ok(())
+}
+
+/// The policies by their names, in either case, and the rows that they stand for.
+#[test]
+fn policies_have_their_rows(rt: HostRuntime) {
+    let fragments = [
+        ("first", Preference::First),
+        ("LAST", Preference::Last),
+        ("bsd", Preference::Bsd),
+        ("BSD-Right", Preference::BsdRight),
+        ("linux", Preference::Linux),
+        ("Windows", Preference::Windows),
+        ("solaris", Preference::Solaris),
+    ];
+    for (name, want) in fragments {
+        let row = FragPolicy::read(name.as_bytes()).map(|policy| policy.preference());
+        assert_eq!(rt; row, Some(want), "at {name}");
+    }
+    let streams = [
+        ("first", Preference::First),
+        ("vista", Preference::First),
+        ("last", Preference::Last),
+        ("bsd", Preference::Bsd),
+        ("old-linux", Preference::Bsd),
+        ("HPUX", Preference::Bsd),
+        ("irix", Preference::Bsd),
+        ("macos", Preference::Bsd),
+        ("linux", Preference::Linux),
+        ("windows", Preference::Windows),
+        ("Win2003", Preference::Windows),
+        ("solaris", Preference::Solaris),
+        ("hpux10", Preference::BsdRight),
+    ];
+    for (name, want) in streams {
+        let row = StreamPolicy::read(name.as_bytes()).map(|policy| policy.preference());
+        assert_eq!(rt; row, Some(want), "at {name}");
+    }
+    for name in ["", "bsd ", "bsdright", "hpux1", "first,last"] {
+        assert!(rt; FragPolicy::read(name.as_bytes()).is_none(), "at {name}");
+        assert!(rt; StreamPolicy::read(name.as_bytes()).is_none(), "at {name}");
+    }
+    assert!(rt; FragPolicy::read(b"vista").is_none());
+    assert!(rt; StreamPolicy::read(b"bsd-right").is_none());
 }
 
 #[test]
@@ -57,7 +119,7 @@ fn memory_host_gives_its_files_and_fails_by_number(rt: HostRuntime) -> Result<()
         assert_eq!(rt; out.as_slice(), after.as_bytes(), "{name}, {limit}");
     }
 
-    // Calls 5 to 10: an open capture keeps its bytes when its file is replaced.
+    // Calls 5 to 9: an open capture keeps its bytes when its file is replaced.
     let mut buf = [0; 3];
     assert_eq!(rt; host.open("rules"), Ok(()));
     host.put("rules", b"new")?;
@@ -67,7 +129,16 @@ fn memory_host_gives_its_files_and_fails_by_number(rt: HostRuntime) -> Result<()
     assert_eq!(rt; host.read(&mut buf), Ok(2));
     assert_eq!(rt; buf[..2], *b"lo".as_slice());
     assert_eq!(rt; host.read(&mut buf), Ok(0));
+
+    // Calls 10 to 15: a failing open closes what was open, by its number or for want of the file.
+    host.fail_calls(&[12])?;
     assert_eq!(rt; host.open("none"), Err(Failed));
+    assert_eq!(rt; host.open("rules"), Ok(()));
+    assert_eq!(rt; host.open("rules"), Err(Failed));
+    assert_eq!(rt; host.read(&mut buf), Ok(0));
+    assert_eq!(rt; host.open("rules"), Ok(()));
+    assert_eq!(rt; host.read(&mut buf), Ok(3));
+    assert_eq!(rt; buf, *b"new");
     Ok(())
 }
 
@@ -129,44 +200,49 @@ fn literal_patterns_give_the_leftmost_match(rt: HostRuntime) -> Result<(), Fail>
 #[test]
 fn real_files_are_loaded_and_read(rt: HostRuntime) -> Result<(), Fail> {
     let alloc = rt.alloc();
-    let large = vec![in alloc; 5; 100000]?;
+    let mut large = Vec::new(alloc);
+    for place in 0..100000u32 {
+        large.push((place % 251) as u8)?;
+    }
     fs::create_dir_all(&rt, "edge_files/folder")?;
     fs::write(&rt, "edge_files/present", "hello")?;
     fs::write(&rt, "edge_files/empty", "")?;
     fs::write(&rt, "edge_files/large", large.as_slice())?;
 
     let mut host = FileHost::new(alloc, rt)?;
-    for (name, limit, answer, len) in [
-        ("edge_files/present", 5, Ok(()), 5),
-        ("edge_files/present", 4, Err(LoadFault::TooLarge), 0),
-        ("edge_files/empty", 0, Ok(()), 0),
-        ("edge_files/large", 100000, Ok(()), 100000),
-        ("edge_files/large", 99999, Err(LoadFault::TooLarge), 0),
-        ("edge_files/large", usize::MAX, Ok(()), 100000),
-        ("edge_files/missing", 9, Err(LoadFault::Failed), 0),
-        ("edge_files/folder", 9, Err(LoadFault::Failed), 0),
+    for (name, limit, answer, bytes) in [
+        ("edge_files/present", 5, Ok(()), b"hello".as_slice()),
+        ("edge_files/present", 4, Err(LoadFault::TooLarge), b""),
+        ("edge_files/empty", 0, Ok(()), b""),
+        ("edge_files/large", 100000, Ok(()), &large),
+        ("edge_files/large", 99999, Err(LoadFault::TooLarge), b""),
+        ("edge_files/large", usize::MAX, Ok(()), &large),
+        ("edge_files/missing", 9, Err(LoadFault::Failed), b""),
+        ("edge_files/folder", 9, Err(LoadFault::Failed), b""),
     ] {
         let mut out = Vec::from_slice(alloc, b"<")?;
+        let mut want = Vec::from_slice(alloc, b"<")?;
+        want.extend_from_slice(bytes)?;
         assert_eq!(rt; host.load(name, limit, &mut out), answer, "{name}, {limit}");
-        assert_eq!(rt; out.len(), 1 + len, "{name}, {limit}");
+        assert_eq!(rt; out.as_slice(), want.as_slice(), "{name}, {limit}");
     }
 
     let mut buf = [0; 16];
     assert_eq!(rt; host.read(&mut buf), Ok(0));
-    for (name, answer, want) in [
-        ("edge_files/large", Ok(()), 100000u64),
-        ("edge_files/present", Ok(()), 5),
-        ("edge_files/empty", Ok(()), 0),
-        ("edge_files/missing", Err(Failed), 0),
-        ("edge_files/folder", Err(Failed), 0),
+    for (name, answer, bytes) in [
+        ("edge_files/large", Ok(()), large.as_slice()),
+        ("edge_files/present", Ok(()), b"hello"),
+        ("edge_files/empty", Ok(()), b""),
+        ("edge_files/missing", Err(Failed), b""),
+        ("edge_files/folder", Err(Failed), b""),
     ] {
         assert_eq!(rt; host.open(name), answer, "{name}");
-        let mut total = 0u64;
+        let mut read = Vec::new(alloc);
         for _ in 0..20000 {
             let count = host.read(&mut buf)?;
-            total = total.saturating_add(count as u64);
+            read.extend_from_slice(&buf[..count])?;
         }
-        assert_eq!(rt; total, want, "{name}");
+        assert_eq!(rt; read.as_slice(), bytes, "{name}");
     }
     fs::remove_dir_all(&rt, "edge_files")?;
     Ok(())

@@ -1,7 +1,7 @@
 //! The overlap table worked out by hand, and each call once.
 
 use crate::{Bounds, Queue, Run, types_cross_threads, wins};
-use edge_io::{FragPolicy, NoMemory, Preference, StreamPolicy, Text};
+use edge_io::{NoMemory, Preference, Text};
 use std::alloc::Global;
 use std::process::Abort;
 use std::test::Fail;
@@ -152,47 +152,4 @@ fn queue_gives_bytes_and_runs(rt: HostRuntime) -> Result<(), Fail> {
     assert_run(&rt, runs.get(2), 3, "d");
     assert_run(&rt, runs.get(3), 5, "e");
     Ok(())
-}
-
-/// The policies by their names, in either case, and the rows that they stand for.
-#[test]
-fn policies_have_their_rows(rt: HostRuntime) {
-    let fragments = [
-        ("first", Preference::First),
-        ("LAST", Preference::Last),
-        ("bsd", Preference::Bsd),
-        ("BSD-Right", Preference::BsdRight),
-        ("linux", Preference::Linux),
-        ("Windows", Preference::Windows),
-        ("solaris", Preference::Solaris),
-    ];
-    for (name, want) in fragments {
-        let row = FragPolicy::read(name.as_bytes()).map(|policy| policy.preference());
-        assert_eq!(rt; row, Some(want), "at {name}");
-    }
-    let streams = [
-        ("first", Preference::First),
-        ("vista", Preference::First),
-        ("last", Preference::Last),
-        ("bsd", Preference::Bsd),
-        ("old-linux", Preference::Bsd),
-        ("HPUX", Preference::Bsd),
-        ("irix", Preference::Bsd),
-        ("macos", Preference::Bsd),
-        ("linux", Preference::Linux),
-        ("windows", Preference::Windows),
-        ("Win2003", Preference::Windows),
-        ("solaris", Preference::Solaris),
-        ("hpux10", Preference::BsdRight),
-    ];
-    for (name, want) in streams {
-        let row = StreamPolicy::read(name.as_bytes()).map(|policy| policy.preference());
-        assert_eq!(rt; row, Some(want), "at {name}");
-    }
-    for name in ["", "bsd ", "bsdright", "hpux1", "first,last"] {
-        assert!(rt; FragPolicy::read(name.as_bytes()).is_none(), "at {name}");
-        assert!(rt; StreamPolicy::read(name.as_bytes()).is_none(), "at {name}");
-    }
-    assert!(rt; FragPolicy::read(b"vista").is_none());
-    assert!(rt; StreamPolicy::read(b"bsd-right").is_none());
 }

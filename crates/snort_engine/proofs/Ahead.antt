@@ -22,8 +22,8 @@ use Rattle.snort_engine.specs.declared.watch.WatchStop.TheVariants.{Capture as s
 use Rattle.snort_engine.specs.declared.show.ShowStop.TheVariants as show
 use Rattle.snort_engine.specs.Alerting.{alert_lines}
 use Rattle.snort_engine.specs.Answer.{fault_status}
-use Rattle.snort_engine.specs.ReadAhead.{batch, all_but, due_of, lines_due, IsReadAhead, ReadsNothing, ReadsClosed, ReadsAhead}
-use Rattle.snort_engine.specs.Watching.{cut_left, IsCloseBehind, stop_status}
+use Rattle.snort_engine.specs.ReadAhead.{all_but, due_of, lines_due, IsReadAhead, ReadsNothing, ReadsClosed, ReadsAhead}
+use Rattle.snort_engine.specs.Watching.{batch, cut_left, IsCloseBehind, stop_status}
 use Rattle.snort_engine.proofs.Captures.{whole_capture, held_opened, held_of, opened_by, head_of_front, refusing_open, opening}
 use Rattle.snort_engine.proofs.Watched.{alert_lines-nil, alert_lines-append}
 
@@ -49,19 +49,19 @@ none_due : (rules : List ContentRule) (bytes : List ℕ) → length bytes ≤ 24
 none_due rules bytes few = none_due_by rules bytes (head_of bytes) refl (drop_of_length-le bytes few)
 
 -- all but the last records, where one at most stands behind the others, are the first of these
-all_but-front : (given last : List Record) → length last ≤ 1 → all_but batch (given ++ last) ≡ take (length (given ++ last) - batch) given
-all_but-front given last one =
+all_but-front : (given last : List Record) → length last ≤ batch → all_but batch (given ++ last) ≡ take (length (given ++ last) - batch) given
+all_but-front given last few =
     let below : length (given ++ last) - batch ≤ length given = omega (arith, length-append given last) in
     take-append-le (length (given ++ last) - batch) given last below
 
 -- their lines come first
-front_first : (rules : List ContentRule) (head : CaptureHead) (given last : List Record) → length last ≤ 1
+front_first : (rules : List ContentRule) (head : CaptureHead) (given last : List Record) → length last ≤ batch
     → alert_lines rules head.link given ≡ alert_lines rules head.link (all_but batch (given ++ last)) ++ alert_lines rules head.link (drop (length (given ++ last) - batch) given)
-front_first rules head given last one =
+front_first rules head given last few =
     let count = length (given ++ last) - batch in
     sym (ap (alert_lines rules head.link) (take-append-drop count given))
     ∙ alert_lines-append rules head.link (take count given) (drop count given)
-    ∙ ap (λ (x : List Record). alert_lines rules head.link x ++ alert_lines rules head.link (drop count given)) (sym (all_but-front given last one))
+    ∙ ap (λ (x : List Record). alert_lines rules head.link x ++ alert_lines rules head.link (drop count given)) (sym (all_but-front given last few))
 
 -- the lines due of the head and the bytes behind it
 due_behind_head : (rules : List ContentRule) (bytes taken : List ℕ) (head : CaptureHead) → head_of bytes ≡ Ok head
@@ -82,7 +82,7 @@ ahead_behind_head rules held bytes head left_first left old new holds is told cl
     let due : alert_lines rules head.link (all_but batch (close.given ++ close.last)) ≡ lines_due rules (take 24 bytes ++ close.taken) =
     ap (λ (x : List Record). alert_lines rules head.link (all_but batch x)) (sym close.are) ∙ sym (due_behind_head rules bytes close.taken head is) in
     let lines : alert_lines rules head.link close.given ≡ lines_due rules (take 24 bytes ++ close.taken) ++ others =
-    front_first rules head close.given close.last close.one ∙ ap (λ (x : List ℕ). x ++ others) due in
+    front_first rules head close.given close.last close.few ∙ ap (λ (x : List ℕ). x ++ others) due in
     record {
       taken = take 24 bytes ++ close.taken;
       rest = split.rest;

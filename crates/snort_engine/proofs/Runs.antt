@@ -16,7 +16,7 @@ use Rattle.snort_engine.specs.SetupEnding.{setup_status, setup_text}
 use Rattle.snort_engine.specs.Prefix.{WritesPart}
 use Rattle.snort_engine.specs.Messages.{command_line_text, cannot_read_text, cannot_write_text, no_memory_text}
 use Rattle.snort_engine.specs.Answer.{Answer, only, answer, command_answer, setup_answer, capture_answer}
-use Rattle.snort_engine.specs.Ending.{IsAnswered, IsPartly, IsCutShort, LeavesWhole, Ends, WritesMessage, IsStated, EndsAsStated, LeavesPart, LeavesRead}
+use Rattle.snort_engine.specs.Ending.{IsAnswered, IsCutShort, LeavesWhole, Ends, WritesMessage, IsStated, EndsAsStated, LeavesPart, LeavesRead}
 use Rattle.snort_engine.specs.ReadAhead.{IsReadAhead, ReadsNothing, ReadsClosed, ReadsCapture, ReadsAhead}
 use Rattle.snort_engine.proofs.Showing.{WritesPart-none}
 
@@ -136,27 +136,23 @@ read_prefix meant rose whole ended message old new ends is =
     let at_fault = subst E is ends in
     at_fault.2
 
--- what is left of an ending that is cut short
-partly : (meant : Answer) (errors_rose : Type 0) (message_then message : List ℕ) (old new errors_old errors_new : Option (List ℕ)) → IsPartly meant message_then message old new → WritesMessage message errors_old errors_new errors_rose
-    → LeavesPart meant message_then old new errors_old errors_new errors_rose
-partly meant errors_rose message_then message old new errors_old errors_new part wrote =
-    record { alerts = part.alerts; errors = subst (λ (text : List ℕ). WritesMessage text errors_old errors_new errors_rose) part.errors wrote }
-
 -- a write fault
 pub write_part : (meant : Answer) (rose whole errors_rose : Type 0) (ended : Status) (message : List ℕ) (old new errors_old errors_new : Option (List ℕ))
     → Ends meant rose whole ended message old new → WritesMessage message errors_old errors_new errors_rose → ended ≡ status.WriteFault
-    → LeavesPart meant cannot_write_text old new errors_old errors_new errors_rose
+    → LeavesPart meant (λ (text : List ℕ). text ≡ cannot_write_text) old new errors_old errors_new errors_rose
 write_part meant rose whole errors_rose ended message old new errors_old errors_new ends wrote is =
     let E : Status → Type 0 = λ s. Ends meant rose whole s message old new in
-    partly meant errors_rose cannot_write_text message old new errors_old errors_new (subst E is ends) wrote
+    let part = subst E is ends in
+    record { alerts = part.alerts; message = message; meant = part.errors; errors = wrote }
 
 -- want of memory
 pub memory_part : (meant : Answer) (rose whole errors_rose : Type 0) (ended : Status) (message : List ℕ) (old new errors_old errors_new : Option (List ℕ))
     → Ends meant rose whole ended message old new → WritesMessage message errors_old errors_new errors_rose → ended ≡ status.NoMemory
-    → LeavesPart meant no_memory_text old new errors_old errors_new errors_rose
+    → LeavesPart meant (λ (text : List ℕ). text ≡ no_memory_text) old new errors_old errors_new errors_rose
 memory_part meant rose whole errors_rose ended message old new errors_old errors_new ends wrote is =
     let E : Status → Type 0 = λ s. Ends meant rose whole s message old new in
-    partly meant errors_rose no_memory_text message old new errors_old errors_new (subst E is ends) wrote
+    let part = subst E is ends in
+    record { alerts = part.alerts; message = message; meant = part.errors; errors = wrote }
 
 -- what maps to nothing is nothing
 pub none_by : {W O : Type 0} (f : W → O) (found : Option W) (meant : Option O) → ((w : W) → found ≡ Some w → ⊥) → option_map f found ≡ meant → meant ≡ None

@@ -221,7 +221,7 @@ close_by rules first reader left_first left left_next written_first written take
       last = [];
       are = ap (λ (cut : Cut). cut.records) (so_far.cut taken)
           ∙ ap (λ (cut : Cut). so_far.given ++ cut.records) (records_left-ends reader.head reader.number reader.at taken ending ends);
-      one = omega arith;
+      few = omega arith;
       more = [];
       wrote = so_far.wrote ∙ ap (behind written_first) (sym (append-nil (alert_lines rules first.head.link so_far.given)));
     }
@@ -259,7 +259,7 @@ close_at_a_record rules first reader given left_first left left_next written_fir
       given = so_far.given;
       last = given ∷ [];
       are = ap (λ (cut : Cut). cut.records) (so_far.cut takes.taken) ∙ ap (λ (x : List Record). so_far.given ++ x) behind_it;
-      one = omega arith;
+      few = omega arith;
       more = part;
       wrote = wrote ∙ ap (λ (x : Option (List ℕ)). behind x part) so_far.wrote ∙ behind-behind written_first (alert_lines rules first.head.link so_far.given) part;
     }

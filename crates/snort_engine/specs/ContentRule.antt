@@ -16,9 +16,13 @@ use Rattle.snort_engine.specs.declared.content_rule.RuleParts.{RuleParts}
 
 -- ---- what a rule is, and how it is written
 
--- a letter, a digit, a space or a tab
+-- a blank: a space or a tab
+abbrev pub is_blank : ℕ → Bool
+is_blank byte = byte == 32 || byte == 9
+
+-- a letter, a digit or a blank
 abbrev pub is_msg_byte : ℕ → Bool
-is_msg_byte byte = is_ascii_alphanumeric byte || (byte == 32 || byte == 9)
+is_msg_byte byte = is_ascii_alphanumeric byte || is_blank byte
 
 -- the bounds of each part, and the bytes that may stand in it
 pub record IsRule (rule : ContentRule) : Type 0 where

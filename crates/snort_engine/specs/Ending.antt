@@ -98,9 +98,19 @@ pub record EndsAsStated (answer : Answer) (ended : Status) (old new errors_old e
   pub alerts : new ≡ behind old answer.alerts
   pub errors : WritesMessage answer.errors errors_old errors_new errors_rose
 
--- a part of the alert bytes was written, and this message
-pub record LeavesPart (answer : Answer) (message : List ℕ) (old new errors_old errors_new : Option (List ℕ)) (errors_rose : Type 0) : Type 0 where
+-- the message of a write fault
+abbrev pub IsWriteFaultMessage : List (List ℕ) → Files → List ℕ → Type 0
+IsWriteFaultMessage words files message = message ≡ cannot_write_text
+
+-- the message of want of memory
+abbrev pub IsNoMemoryMessage : List (List ℕ) → Files → List ℕ → Type 0
+IsNoMemoryMessage words files message = message ≡ no_memory_text
+
+-- a part of the alert bytes was written, and such a message
+pub record LeavesPart (answer : Answer) (IsMeant : List ℕ → Type 0) (old new errors_old errors_new : Option (List ℕ)) (errors_rose : Type 0) : Type 0 where
   pub alerts : WritesPart old answer.alerts new
+  pub message : List ℕ
+  pub meant : IsMeant message
   pub errors : WritesMessage message errors_old errors_new errors_rose
 
 -- the lines of the whole records were written, and the message of a name that can't be read

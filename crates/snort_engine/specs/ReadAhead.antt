@@ -16,10 +16,7 @@ use Rattle.snort_engine.specs.declared.status.Status.TheVariants as status
 use Rattle.snort_engine.specs.CommandLine.{Options, command_line}
 use Rattle.snort_engine.specs.Setup.{Rules, setup}
 use Rattle.snort_engine.specs.Alerting.{alert_lines}
-
--- how many records are read at a time
-abbrev pub batch : ℕ
-batch = 1
+use Rattle.snort_engine.specs.Watching.{batch}
 
 -- all records but the last ones
 abbrev pub all_but : ℕ → List Record → List Record

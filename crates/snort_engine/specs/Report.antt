@@ -1,4 +1,6 @@
 -- The text of a report.
+--
+-- To try it on: a report without a message has no text.
 use Rattle.std.specs.Prelude.{ℕ, List, [], Option, Some, None}
 use Rattle.snort_engine.specs.declared.messages.Message.{Message}
 use Rattle.snort_engine.specs.declared.report.Report.{Report}

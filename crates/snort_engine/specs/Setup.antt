@@ -16,11 +16,7 @@ use Rattle.edge_io.specs.declared.host.LoadFault.{LoadFault}
 use Rattle.edge_io.specs.declared.host.LoadFault.TheVariants as faults
 use Rattle.snort_engine.specs.declared.setup.SetupStop.{SetupStop}
 use Rattle.snort_engine.specs.declared.setup.SetupStop.TheVariants as stops
-use Rattle.snort_engine.specs.ContentRule.{rule_line}
-
--- a space or a tab
-abbrev pub is_blank : ℕ → Bool
-is_blank byte = byte == 32 || byte == 9
+use Rattle.snort_engine.specs.ContentRule.{is_blank, rule_line}
 
 -- the text without the blanks at its front
 abbrev pub without_front_blanks : List ℕ → List ℕ

@@ -1,4 +1,6 @@
 -- How a run ends that has no setup.
+--
+-- To try it on: a refusal at line 2 of `r` ends as Refused, with `ERROR: r(2) outside this profile`.
 use Rattle.std.specs.Prelude.{ℕ, List}
 use Rattle.snort_engine.specs.declared.setup.SetupStop.{SetupStop}
 use Rattle.snort_engine.specs.declared.setup.SetupStop.TheVariants as stops

@@ -1,4 +1,6 @@
 -- The exit statuses of a process.
+--
+-- To try it on: a capture that is refused ends with 2.
 use Rattle.std.specs.Prelude.{ℕ}
 use Rattle.snort_engine.specs.declared.status.Status.{Status}
 use Rattle.snort_engine.specs.declared.status.Status.TheVariants.{Done, Refused, BadCapture, HostFault, WriteFault, NoMemory}

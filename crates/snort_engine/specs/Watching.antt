@@ -21,6 +21,10 @@ use Rattle.snort_engine.specs.Messages.{cannot_write_text, no_memory_text}
 use Rattle.snort_engine.specs.Answer.{fault_status, fault_text}
 use Rattle.snort_engine.specs.Alerting.{alert_lines}
 
+-- how many records are read at a time
+abbrev pub batch : ℕ
+batch = 1
+
 -- the records and the ending that these bytes hold for a reader
 abbrev pub cut_left : Reading → List ℕ → Cut
 cut_left reader rest = records_left reader.head reader.number reader.at rest
@@ -55,15 +59,15 @@ pub record IsCutOff (rules : List ContentRule) (reader : Reading) (left_first le
   pub took : left_first ≡ before taken left
   pub wrote : written ≡ behind written_first (lines_left rules reader taken)
 
--- of the records that are whole within the bytes taken, the lines of all but the last were written,
--- and maybe more
+-- of the records that are whole within the bytes taken, the lines of all but the last batch were
+-- written, and maybe more
 pub record IsCloseBehind (rules : List ContentRule) (reader : Reading) (left_first left written_first written : Option (List ℕ)) : Type 0 where
   pub taken : List ℕ
   pub took : left_first ≡ before taken left
   pub given : List Record
   pub last : List Record
   pub are : (cut_left reader taken).records ≡ given ++ last
-  pub one : length last ≤ 1
+  pub few : length last ≤ batch
   pub more : List ℕ
   pub wrote : written ≡ behind written_first (alert_lines rules reader.head.link given ++ more)
 

@@ -1,10 +1,10 @@
-ghost use Rattle.std.specs.Prelude.{◌≡◌, ◌↔◌, ◌≤◌, ◌<◌, ◌^◌, ℕ, Option, Some, None, length, take, drop, IfOk, IfSome};
+ghost use Rattle.std.specs.Prelude.{◌≡◌, ◌↔◌, ◌≤◌, ◌<◌, ◌^◌, Option, Some, None, length, IfOk};
 ghost use Rattle.std.specs.Char.{is_ascii_alphanumeric, is_ascii_digit};
 ghost use Rattle.std.specs.List.{prefix_len, AllPass};
 ghost use Rattle.std.specs.Option.{option_map, option_copied, SomeIff};
 ghost use Rattle.std.specs.Str.Parse.{digits_value};
 ghost use Rattle.snort_engine.specs.declared.content_rule.ContentRule.{ContentRule};
-ghost use Rattle.snort_engine.specs.ContentRule.{is_msg_byte, after, msg_at, content_at, sid_at, last_sid, rule_of, rule_line, IsRule, rule_text};
+ghost use Rattle.snort_engine.specs.ContentRule.{is_blank, is_msg_byte, after, msg_at, content_at, sid_at, last_sid, rule_of, rule_line, IsRule, rule_text};
 
 use edge_io::{NoMemory, Text};
 use std::alloc::Global;
@@ -19,7 +19,7 @@ struct RuleParts<'a> {
 
 /// A rule: it matches where its content stands in a UDP payload.
 #[derive(Debug, Drop)]
-pub struct ContentRule {
+pub(crate) struct ContentRule {
     /// The message of its alerts: 0 to 1024 letters, digits, spaces and tabs.
     pub msg: Text,
     /// The bytes that it looks for: 1 to 2048 letters and digits.
@@ -28,10 +28,17 @@ pub struct ContentRule {
     pub sid: u32,
 }
 
+/// A space or a tab.
+pub(crate) fn is_blank(byte: u8) -> bool
+    ensures { result ≡ is_blank byte }
+{
+    byte == b' ' || byte == b'\t'
+}
+
 fn is_msg_byte(byte: u8) -> bool
     ensures { result ≡ is_msg_byte byte }
 {
-    byte.is_ascii_alphanumeric() || byte == b' ' || byte == b'\t'
+    byte.is_ascii_alphanumeric() || is_blank(byte)
 }
 
 #[tactic(auto, unfolding(crate::specs::ContentRule::after))]
@@ -151,7 +158,7 @@ fn copied(alloc: Global, parts: RuleParts<'_>) -> Result<ContentRule, NoMemory>
 /// Reads a line, without blanks at its ends, as a rule:
 /// `alert udp any any -> any any (msg:"M"; content:"P"; sid:N;)`.
 #[tactic(auto, using(crate::proofs::RuleLaw::rule_text_law))]
-pub fn read_rule(alloc: Global, line: &[u8]) -> Result<Option<ContentRule>, NoMemory>
+pub(crate) fn read_rule(alloc: Global, line: &[u8]) -> Result<Option<ContentRule>, NoMemory>
     ensures read { IfOk result (λ rule. rule ≡ rule_line line.now) }
 
     // A line has a rule exactly where it is the text of one.

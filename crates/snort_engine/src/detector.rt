@@ -2,9 +2,9 @@ ghost use Rattle.std.specs.Prelude.{◌≡◌, ◌≤◌, ◌⊎◌, Some, None,
 ghost use Rattle.edge_io.specs.Files.{Files, Lacks};
 ghost use Rattle.edge_io.specs.Told.{behind, Rose};
 ghost use Rattle.snort_engine.specs.Answer.{answer};
-ghost use Rattle.snort_engine.specs.Ending.{Ends, EndsAsStated, IsStated, LacksOne, LeavesPart, LeavesRead, LeavesWhole};
+ghost use Rattle.snort_engine.specs.Ending.{Ends, EndsAsStated, IsNoMemoryMessage, IsStated, IsWriteFaultMessage, LacksOne, LeavesPart, LeavesRead, LeavesWhole};
+ghost use Rattle.snort_engine.specs.CommandLine.{command_line};
 ghost use Rattle.snort_engine.specs.ReadAhead.{ReadsAhead, ReadsCapture, ReadsClosed, ReadsNothing};
-ghost use Rattle.snort_engine.specs.Messages.{cannot_write_text, no_memory_text};
 ghost use Rattle.snort_engine.specs.SetupEnding.{setup_status, setup_text};
 ghost use Rattle.snort_engine.specs.Prefix.{WritesPart};
 ghost use Rattle.snort_engine.specs.Report.{report_text};
@@ -58,6 +58,7 @@ fn detect<'a, H: Host, A: Sink>(
         → ReadsAhead (ReadsNothing (H.left host.old) (H.left host.new) (A.written alerts.old) (A.written alerts.new))
         (ReadsClosed (H.left host.new) (A.written alerts.old) (A.written alerts.new))
         (ReadsCapture (map string_bytes words.now) files (H.left host.new) (A.written alerts.old) (A.written alerts.new)) result.status }
+    ensures faulty_words { command_line (map string_bytes words.now) ≡ None → result.status ≡ Status.Refused }
     ensures write_fault { result.status ≡ Status.WriteFault → Rose (A.faults alerts.old) (A.faults alerts.new) }
     ensures read_fault { result.status ≡ Status.HostFault
         → Rose (H.faults host.old) (H.faults host.new) ⊎ LacksOne (H.contents host.old) (map string_bytes words.now) }
@@ -79,8 +80,8 @@ fn detect<'a, H: Host, A: Sink>(
 /// otherwise than well to `errors`.
 ///
 /// The order is words, configuration, capture header, records; the lines of a record are written
-/// before the next is read. `maker` and `gate` are not asked yet. A fault of the error sink changes
-/// nothing else, and nothing more is written to it.
+/// before the next is read. `maker` and `gate` are not asked yet. After a fault of the error sink
+/// nothing more is written to it, and the run ends as it would have.
 pub fn run<H: Host, M: PatternMaker, A: Sink, E: Sink, G: Gate, R: Threads + Sync>(
     _rt: &R,
     alloc: Global,
@@ -98,6 +99,8 @@ pub fn run<H: Host, M: PatternMaker, A: Sink, E: Sink, G: Gate, R: Threads + Syn
         (A.written alerts.old) (A.written alerts.new)
         (E.written errors.old) (E.written errors.new) (Rose (E.faults errors.old) (E.faults errors.new)) }
 
+    // Refused patterns: none is asked of the maker yet.
+
     // A read fault leaves the lines of the records that are whole within the bytes taken.
     ensures read_fault_leaves_whole_records { (files : Files) → H.contents host.old ≡ Some files
         → result ≡ Status.HostFault
@@ -112,14 +115,14 @@ pub fn run<H: Host, M: PatternMaker, A: Sink, E: Sink, G: Gate, R: Threads + Syn
     // A write fault leaves a prefix.
     ensures write_fault_leaves_a_prefix { (files : Files) → H.contents host.old ≡ Some files
         → result ≡ Status.WriteFault
-        → LeavesPart (answer (map string_bytes words.now) files) cannot_write_text
+        → LeavesPart (answer (map string_bytes words.now) files) (IsWriteFaultMessage (map string_bytes words.now) files)
         (A.written alerts.old) (A.written alerts.new)
         (E.written errors.old) (E.written errors.new) (Rose (E.faults errors.old) (E.faults errors.new)) }
 
     // No memory leaves a prefix.
     ensures no_memory_leaves_a_prefix { (files : Files) → H.contents host.old ≡ Some files
         → result ≡ Status.NoMemory
-        → LeavesPart (answer (map string_bytes words.now) files) no_memory_text
+        → LeavesPart (answer (map string_bytes words.now) files) (IsNoMemoryMessage (map string_bytes words.now) files)
         (A.written alerts.old) (A.written alerts.new)
         (E.written errors.old) (E.written errors.new) (Rose (E.faults errors.old) (E.faults errors.new)) }
 
@@ -135,11 +138,15 @@ pub fn run<H: Host, M: PatternMaker, A: Sink, E: Sink, G: Gate, R: Threads + Syn
         → Rose (H.faults host.old) (H.faults host.new) ⊎ LacksOne (H.contents host.old) (map string_bytes words.now) }
     ensures same_contents { H.contents host.new ≡ H.contents host.old }
 
-    // No count falls, and the maker is not asked.
+    // Faulty words are refused, whatever the host tells.
+    ensures faulty_words { command_line (map string_bytes words.now) ≡ None
+        → (result ≡ Status.Refused) ⊎ (result ≡ Status.NoMemory) }
+
+    // No count falls, and the maker is as before.
     ensures later { H.faults host.old ≤ H.faults host.new }
     ensures later_alerts { A.faults alerts.old ≤ A.faults alerts.new }
     ensures later_errors { E.faults errors.old ≤ E.faults errors.new }
-    ensures maker_not_asked { M.refusals _maker.new ≡ M.refusals _maker.old }
+    ensures same_maker { _maker.new ≡ _maker.old }
 {
     let report = detect(alloc, words, host, alerts);
     write_report(errors, &report);

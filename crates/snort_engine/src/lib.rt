@@ -3,10 +3,11 @@
 //!
 //! Its contract is the detector's theorem, from bytes to bytes: where the host tells its files, the
 //! alert bytes, the error bytes and the status are those of `answer` (`specs/Answer`), which tries
-//! every rule on each packet of the whole capture; after a fault or want of memory they are a stated
-//! beginning (`specs/Ending`). The layers below are used by their public contracts alone: the host and
-//! the sinks of `edge_io`, the reader of `pcap_input`, the decoder of `packet_decode`. The program
-//! stands on this crate.
+//! every rule on each packet of the whole capture; after a fault or want of memory the alert bytes
+//! are a stated beginning, and the message is a stated one (`specs/Ending`); one record at most is
+//! read ahead of the lines (`specs/ReadAhead`). The layers below are used by their public contracts
+//! and the laws about these alone: the host and the sinks of `edge_io`, the reader of `pcap_input`,
+//! the decoder of `packet_decode`. The program stands on this crate.
 #![tactic(auto)]
 
 mod content_rule;

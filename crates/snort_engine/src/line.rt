@@ -9,7 +9,7 @@ use edge_io::{Moment, NoMemory};
 
 /// What an alert line tells.
 #[derive(Clone, Copy, Debug)]
-pub struct Alert<'a> {
+pub(crate) struct Alert<'a> {
     pub moment: Moment,
     pub gid: u32,
     pub sid: u32,
@@ -26,7 +26,7 @@ pub struct Alert<'a> {
 }
 
 /// Appends the line of an alert, in the form of Snort's fast alerts, with a line feed.
-pub fn push_line(alert: &Alert<'_>, out: &mut Vec<u8>) -> Result<(), NoMemory>
+pub(crate) fn push_line(alert: &Alert<'_>, out: &mut Vec<u8>) -> Result<(), NoMemory>
     ensures appended { OnOk result (out.new.items ≡ out.old.items ++ line_text (facts_of alert.now)) }
     ensures unchanged { OnErr result (out.new.items ≡ out.old.items) }
 {

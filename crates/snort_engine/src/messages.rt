@@ -10,7 +10,7 @@ use edge_io::{Failed, Sink};
 
 /// Why a run ends without its work done. Names are those of files, as bytes.
 #[derive(Clone, Copy, Debug)]
-pub enum Message<'a> {
+pub(crate) enum Message<'a> {
     CommandLine,
     OutsideProfile { file: &'a [u8], line: u32 },
     CannotRead { name: &'a [u8] },
@@ -24,7 +24,7 @@ pub enum Message<'a> {
 }
 
 /// Writes the text of a message, with a line feed at its end. Takes no memory.
-pub fn write_message<S: Sink>(errors: &mut S, message: &Message<'_>) -> Result<(), Failed>
+pub(crate) fn write_message<S: Sink>(errors: &mut S, message: &Message<'_>) -> Result<(), Failed>
     ensures written { OnOk result (S.written errors.new ≡ behind (S.written errors.old) (message_text message.now)) }
     ensures stopped { OnErr result (WritesPart (S.written errors.old) (message_text message.now) (S.written errors.new)) }
     ensures failed { OnErr result (Rose (S.faults errors.old) (S.faults errors.new)) }

@@ -4,16 +4,17 @@ ghost use Rattle.std.specs.Str.Lines.{lines, strip_carriage_return};
 ghost use Rattle.edge_io.specs.Files.{Files, Holds, Lacks};
 ghost use Rattle.edge_io.specs.Told.{Rose};
 ghost use Rattle.snort_engine.specs.ContentRule.{IsRule};
-ghost use Rattle.snort_engine.specs.Setup.{is_blank, trimmed, line_rule, rules_of, file_limit, setup, GivesRead, StopsLoading, GivesSetup};
+ghost use Rattle.snort_engine.specs.ContentRule.{is_blank};
+ghost use Rattle.snort_engine.specs.Setup.{trimmed, line_rule, rules_of, file_limit, setup, GivesRead, StopsLoading, GivesSetup};
 
-use crate::content_rule::{ContentRule, read_rule};
+use crate::content_rule::{ContentRule, is_blank, read_rule};
 use edge_io::{Host, LoadFault, NoMemory};
 use memchr::memchr;
 use std::alloc::{AllocFailed, Global};
 
 /// Why there is no setup.
 #[derive(Clone, Copy, Debug, PartialEq, Eq)]
-pub enum SetupStop {
+pub(crate) enum SetupStop {
     /// The file is refused at this line, counted from 1; at 0 where it is too long.
     Refused { line: u32 },
     /// The host failed, or lacks the file.
@@ -58,12 +59,6 @@ impl<T: Drop> From<AllocFailed<T>> for SetupStop {
 
 /// The most bytes that a configuration may have.
 const FILE_LIMIT: usize = 16_777_216;
-
-fn is_blank(byte: u8) -> bool
-    ensures { result ≡ is_blank byte }
-{
-    byte == b' ' || byte == b'\t'
-}
 
 #[tactic(auto, using(crate::proofs::Spans::spans))]
 fn front_blanks(text: &[u8]) -> usize
@@ -164,7 +159,7 @@ fn load_file<H: Host>(alloc: Global, host: &mut H, name: &str) -> Result<Vec<u8>
 }
 
 /// Reads the named configuration: its rules in the order of their lines, or why there are none.
-pub fn read_setup<H: Host>(
+pub(crate) fn read_setup<H: Host>(
     alloc: Global,
     host: &mut H,
     name: &str,

@@ -4,7 +4,7 @@ ghost use Rattle.snort_engine.specs.CommandLine.{command_line, options_of};
 
 /// The files that a command names.
 #[derive(Clone, Copy, Debug)]
-pub struct Options<'a> {
+pub(crate) struct Options<'a> {
     /// The configuration, behind `-c`.
     pub conf: &'a str,
     /// The capture, behind `-r`.
@@ -13,7 +13,7 @@ pub struct Options<'a> {
 
 /// Reads the words of a command, the program's name among them: `snort -c CONF -r CAPTURE`.
 #[tactic(auto, unfolding(crate::specs::CommandLine::command_line))]
-pub fn read_words(words: &[String]) -> Option<Options<'_>>
+pub(crate) fn read_words(words: &[String]) -> Option<Options<'_>>
     // Some exactly with the names that the words have, and None exactly for other words.
     ensures { option_map options_of result ≡ command_line (map string_bytes words.now) }
 {

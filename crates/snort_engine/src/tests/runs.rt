@@ -414,6 +414,30 @@ fn a_read_fault_leaves_the_lines_of_whole_records(rt: HostRuntime) -> Result<(),
         // The call that fails is the last one.
         let calls = failing.min(5) + 1;
         assert!(rt; next_call_is(&mut outcome.host, calls)?, "at {failing}");
+
+        // A fault of the error sink, at each of its writes, cuts the message off and no more.
+        for write in 0..3 {
+            let faults = Faults {
+                errors: &[write],
+                ..faults
+            };
+            let outcome = run_case(&rt, rt.alloc(), &ONE, &faults)?;
+            let written = outcome.errors.bytes();
+            assert_eq!(rt; outcome.code, code, "at {failing}, {write}");
+            assert_eq!(rt;
+                outcome.alerts.bytes(),
+                alerts.as_bytes(),
+                "at {failing}, {write}"
+            );
+            assert!(rt;
+                errors.as_bytes().starts_with(written),
+                "at {failing}, {write}"
+            );
+            assert!(rt;
+                written.len() <= 10 * write as usize,
+                "at {failing}, {write}"
+            );
+        }
     }
     Ok(())
 }
