@@ -1,8 +1,10 @@
 -- Lines that were written one behind another.
-use Rattle.std.proofs.Common.{◌≡◌, ℕ, ◌+◌, ◌<◌, Bool, true, false, cond, List, [], ◌∷◌, ◌++◌, Option, length, get_or, take, drop, refl, sym, ap, subst, append_assoc, ◌∙◌}
+use Rattle.std.proofs.Common.{◌≡◌, ℕ, ◌+◌, ◌<◌, true, false, cond, List, [], ◌∷◌, ◌++◌, Option, length, get_or, take, drop, sym, ap, subst, ◌∙◌}
 use Rattle.std.specs.Prelude.{filter}
 use Rattle.std.specs.List.{flat_map}
 use Rattle.std.proofs.lemmas.List.{append-nil, take-append-drop, take_more}
+use Rattle.std.proofs.lemmas.List.Concat.{flat_map-append}
+use Rattle.std.proofs.lemmas.List.Elements.{filter-append}
 use Rattle.edge_io.specs.Told.{behind}
 use Rattle.edge_io.proofs.Told.{behind-nil, behind-behind}
 use Rattle.snort_engine.specs.declared.content_rule.ContentRule.{ContentRule}
@@ -25,18 +27,6 @@ pub WritesPart-whole : (old new : Option (List ℕ)) (text rest : List ℕ) → 
 WritesPart-whole old new text rest e = WritesPart-behind old new new text rest e (WritesPart-none new rest)
 
 -- the lines of rules, and then those of more rules
-filter-append : (test : ContentRule → Bool) (front back : List ContentRule) → filter test (front ++ back) ≡ filter test front ++ filter test back
-filter-append test [] back = refl
-filter-append test (rule ∷ rules) back =
-    elim (test rule) as (λ b. cond b (rule ∷ filter test (rules ++ back)) (filter test (rules ++ back)) ≡ cond b (rule ∷ filter test rules) (filter test rules) ++ filter test back) [
-      | true ↦ ap (λ xs. rule ∷ xs) (filter-append test rules back)
-      | false ↦ filter-append test rules back
-    ]
-
-flat_map-append : (line : ContentRule → List ℕ) (front back : List ContentRule) → flat_map line (front ++ back) ≡ flat_map line front ++ flat_map line back
-flat_map-append line [] back = refl
-flat_map-append line (rule ∷ rules) back = ap (λ (xs : List ℕ). line rule ++ xs) (flat_map-append line rules back) ∙ sym (append_assoc (line rule) (flat_map line rules) (flat_map line back))
-
 flight_lines-append : (front back : List ContentRule) (flight : Flight) (payload : List ℕ) → flight_lines (front ++ back) flight payload ≡ flight_lines front flight payload ++ flight_lines back flight payload
 unfolding flight_lines
 flight_lines-append front back flight payload =

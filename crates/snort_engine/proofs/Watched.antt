@@ -18,9 +18,24 @@ use Rattle.pcap_input.proofs.Told.{split_told}
 use Rattle.snort_engine.specs.declared.content_rule.ContentRule.{ContentRule}
 use Rattle.snort_engine.specs.Prefix.{WritesPart}
 use Rattle.snort_engine.specs.Alerting.{record_lines, alert_lines}
-use Rattle.snort_engine.specs.Watching.{cut_left, lines_left, with_front, IsUnderWay, IsWatched, IsCutOff, IsCloseBehind, EndsCapture}
+use Rattle.snort_engine.specs.Watching.{cut_left, lines_left, IsWatched, IsCutOff, IsCloseBehind, EndsCapture}
 use Rattle.snort_engine.proofs.Prefixes.{WritesPart-behind, WritesPart-longer}
 use Rattle.snort_engine.proofs.Showing.{WritesPart-whole}
+
+-- some records, and then what is cut up behind them
+abbrev pub with_front : List Record → Cut → Cut
+with_front given cut = record { records = given ++ cut.records; ending = cut.ending }
+
+-- the first reader has become the second: the bytes of some records were taken, and the lines of
+-- these were written; whatever follows, the rest of the records and the ending are the second one's
+pub record IsUnderWay (rules : List ContentRule) (first reader : Reading) (left_first left written_first written : Option (List ℕ)) : Type 0 where
+  pub fresh : reader.refused ≡ None
+  pub head : reader.head ≡ first.head
+  pub taken : List ℕ
+  pub given : List Record
+  pub took : left_first ≡ before taken left
+  pub wrote : written ≡ behind written_first (alert_lines rules first.head.link given)
+  pub cut : (more : List ℕ) → cut_left first (taken ++ more) ≡ with_front given (cut_left reader more)
 
 -- no records have no lines
 pub alert_lines-nil : (rules : List ContentRule) (link : Link) → alert_lines rules link [] ≡ []

@@ -1,9 +1,9 @@
--- How far the watching of a capture has come, and how it ends.
+-- How the watching of a capture ends.
 --
--- A reader has given some records, and the lines of these were written. What is left for it are the
--- records that it has yet to give. To try it on: behind the first of two records the lines of the
--- first were written, and those of the second are the lines left.
-use Rattle.std.specs.Prelude.{◌≡◌, ℕ, ◌≤◌, List, ◌++◌, length, Option, Some, None, Result, Ok, Err, ⊤}
+-- What is left for a reader are the records that it has yet to give, and their lines. To try it on:
+-- where a write fails in the line of the second of three records, the lines of the first were
+-- written, a part of that line may be, and the bytes of two records were taken.
+use Rattle.std.specs.Prelude.{◌≡◌, ℕ, ◌≤◌, List, ◌++◌, length, Option, Some, Result, Ok, Err, ⊤}
 use Rattle.edge_io.specs.Told.{before, behind}
 use Rattle.pcap_input.specs.declared.capture.Record.{Record}
 use Rattle.pcap_input.specs.declared.capture.CaptureFault.{CaptureFault}
@@ -32,21 +32,6 @@ cut_left reader rest = records_left reader.head reader.number reader.at rest
 -- their lines
 abbrev pub lines_left : List ContentRule → Reading → List ℕ → List ℕ
 lines_left rules reader rest = alert_lines rules reader.head.link (cut_left reader rest).records
-
--- some records, and then what is cut up behind them
-abbrev pub with_front : List Record → Cut → Cut
-with_front given cut = record { records = given ++ cut.records; ending = cut.ending }
-
--- the first reader has become the second: the bytes of some records were taken, and the lines of
--- these were written; whatever follows, the rest of the records and the ending are the second one's
-pub record IsUnderWay (rules : List ContentRule) (first reader : Reading) (left_first left written_first written : Option (List ℕ)) : Type 0 where
-  pub fresh : reader.refused ≡ None
-  pub head : reader.head ≡ first.head
-  pub taken : List ℕ
-  pub given : List Record
-  pub took : left_first ≡ before taken left
-  pub wrote : written ≡ behind written_first (alert_lines rules first.head.link given)
-  pub cut : (more : List ℕ) → cut_left first (taken ++ more) ≡ with_front given (cut_left reader more)
 
 -- all lines of the bytes that were left were written, and they end so
 pub record IsWatched (rules : List ContentRule) (reader : Reading) (rest : List ℕ) (ending : Ending) (written_first written : Option (List ℕ)) : Type 0 where

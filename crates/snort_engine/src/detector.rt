@@ -1,6 +1,6 @@
 ghost use Rattle.std.specs.Prelude.{◌≡◌, ◌≤◌, ◌⊎◌, Some, None, map, string_bytes};
-ghost use Rattle.edge_io.specs.Files.{Files, Lacks};
-ghost use Rattle.edge_io.specs.Told.{behind, Rose};
+ghost use Rattle.edge_io.specs.Files.{Files};
+ghost use Rattle.edge_io.specs.Told.{Rose};
 ghost use Rattle.snort_engine.specs.Answer.{answer};
 ghost use Rattle.snort_engine.specs.Ending.{Ends, EndsAsStated, IsNoMemoryMessage, IsStated, IsWriteFaultMessage, LacksOne, LeavesPart, LeavesRead, LeavesWhole};
 ghost use Rattle.snort_engine.specs.CommandLine.{command_line};

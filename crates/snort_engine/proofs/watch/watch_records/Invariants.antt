@@ -1,6 +1,6 @@
 -- The work is under way, and no count fell.
 use Rattle.std.proofs.Common.{◌≡◌, ◌≤◌, ◌-◌}
-use Rattle.snort_engine.specs.Watching.{IsUnderWay}
+use Rattle.snort_engine.proofs.Watched.{IsUnderWay}
 use Rattle.snort_engine.proofs.watch.watch_records.Given as goal
 
 abbrev pub invariant-records : goal.invariant-records
