@@ -1,3 +1,6 @@
+pub mod Along
+pub mod AlongClasses
+pub mod Bytes
 pub mod Told
 pub mod Putting
 pub mod Places

@@ -21,7 +21,7 @@ abbrev pub Lacks : Option Files → List ℕ → Type 0
 Lacks None name = ⊥
 Lacks (Some files) name = get files name ≡ None
 
--- contents are told, and those of the name are longer than the limit
+-- what the name holds is longer than the limit, as far as contents are told
 abbrev pub IsLonger : Option Files → List ℕ → ℕ → Type 0
 IsLonger None name limit = ⊤
 IsLonger (Some files) name limit = (bytes : List ℕ) × (get files name ≡ Some bytes) × (limit < length bytes)
@@ -30,6 +30,11 @@ IsLonger (Some files) name limit = (bytes : List ℕ) × (get files name ≡ Som
 abbrev pub IsOpened : Option Files → List ℕ → Option (List ℕ) → Type 0
 IsOpened None name left = ⊤
 IsOpened (Some files) name left = (left ≡ get files name) × IsSome left
+
+-- what is left of a capture is told only where contents are
+abbrev pub LeftIsTold : Option Files → Option (List ℕ) → Type 0
+LeftIsTold None left = left ≡ None
+LeftIsTold (Some files) left = ⊤
 
 -- contents are told, and nothing is open
 abbrev pub IsUnopened : Option Files → Option (List ℕ) → Type 0

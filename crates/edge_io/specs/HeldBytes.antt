@@ -3,7 +3,8 @@
 -- To try it on: with a step of 2 and a room of 3, a write of "abcd" takes "ab", the next of "cd" takes
 -- "c", and the one after that fails.
 use Rattle.std.specs.Prelude.{ℕ, ◌-◌, ◌||◌, Bool, List, [], ◌++◌, length, take, min, nat_le, if◌then◌else◌}
-use Rattle.edge_io.specs.Calls.{Calls, fails, counted, one_more}
+use Rattle.edge_io.specs.Told.{one_more}
+use Rattle.edge_io.specs.Calls.{Calls, fails, calls_after}
 
 -- the bytes written, at most how many a write takes, how many there is room for in all, the count of
 -- faults, the writes
@@ -32,5 +33,5 @@ abbrev pub after_write : HeldBytes → List ℕ → HeldBytes
 after_write sink piece = record sink {
   written = (if refuses sink then sink.written else sink.written ++ take (taken_count sink (length piece)) piece);
   faults = (if refuses sink then one_more sink.faults else sink.faults);
-  calls = counted sink.calls;
+  calls = calls_after sink.calls;
 }

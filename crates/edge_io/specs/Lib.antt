@@ -1,6 +1,9 @@
+pub mod Along
+pub mod Bytes
+pub mod OnOption
+pub mod OnResult
 pub mod Told
 pub mod Files
-pub mod Refusals
 pub mod Policies
 pub mod Calls
 pub mod HeldFiles

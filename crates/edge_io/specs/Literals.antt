@@ -2,16 +2,11 @@
 --
 -- To try it on: where call 0 is named, the first `make` is refused and its text stands in the list;
 -- the second makes a pattern and leaves the list.
-use Rattle.std.specs.Prelude.{List, map}
-use Rattle.edge_io.specs.declared.literal.Refused.{Refused}
-use Rattle.edge_io.specs.Refusals.{Refusal}
+use Rattle.std.specs.Prelude.{List}
+use Rattle.edge_io.specs.declared.pattern.Refusal.{Refusal}
 use Rattle.edge_io.specs.Calls.{Calls}
 
 -- what it refused so far, in order, and the calls of `make`
 pub record LiteralCalls : Type 0 where
   pub refusals : List Refusal
   pub calls : Calls
-
--- the refusals, from the list in which it keeps them
-abbrev pub refusals_of : List Refused → List Refusal
-refusals_of refused = map (λ one. record { text = one.text; flags = one.flags }) refused

@@ -1,6 +1,6 @@
-ghost use Rattle.std.specs.Prelude.{◌≡◌, ◌<◌, ◌≤◌, ◌+◌, ◌++◌, [], None, length, vec_len, take, drop, min, IfOk, IfSome, OnOk, OnErr, IsSome, IsErrOf};
+ghost use Rattle.std.specs.Prelude.{◌≡◌, ◌<◌, ◌≤◌, ◌+◌, ◌++◌, [], None, length, vec_len, take, drop, min, IfOk, IfSome, OnOk, OnErr, IsSome, IsErrOf, refl};
 ghost use Rattle.std.specs.Io.KnownBytes.{Consumes, Keeps, IsAtEnd, ReadConsumes};
-ghost use Rattle.edge_io.specs.Calls.{one_more};
+ghost use Rattle.edge_io.specs.Told.{one_more};
 ghost use Rattle.edge_io.specs.RealFiles.{nothing_open, coming, SomeHasLeft, SomeHasMoreLeft};
 
 use crate::fault::FaultCount;
@@ -22,8 +22,8 @@ const LOAD_BLOCK: usize = 16384;
 ///
 /// It tells nothing of what they contain, since the system keeps that. Contracts see the open
 /// capture, with what the standard library says of its file, the bytes read ahead of it, and the
-/// count of faults. Each failure of the system is counted, want of memory among them. The capture is
-/// read through a buffer. A name is a path of the system, from the folder in which the process runs.
+/// counts of faults and of calls of `open`. Each failure of the system is counted, want of memory among them. The capture is
+/// read through a buffer, but into a large one of the caller's at once. A name is a path of the system, from the folder in which the process runs.
 #[derive(Drop)]
 pub struct FileHost<R: Files> {
     rt: R,
@@ -33,6 +33,7 @@ pub struct FileHost<R: Files> {
     start: usize,
     end: usize,
     faults: FaultCount,
+    opens: u64,
 }
 
 impl<R: Files> Model for FileHost<R> {
@@ -47,6 +48,7 @@ impl<R: Files> Model for FileHost<R> {
       capture = host.capture;
       pending = take (host.end - host.start) (drop host.start host.block.items);
       faults = host.faults;
+      opens = host.opens;
     } };
 
     ghost invariant = { λ host. record {
@@ -71,6 +73,7 @@ impl<R: Files> FileHost<R> {
             start: 0,
             end: 0,
             faults: FaultCount::new(),
+            opens: 0,
         })
     }
 
@@ -91,6 +94,7 @@ impl<R: Files> FileHost<R> {
         ensures none_waiting { OnErr result (self.old.pending ≡ []) }
         ensures failed { OnErr result (self.new.faults ≡ one_more self.old.faults) }
         ensures unfailed { OnOk result (self.new.faults ≡ self.old.faults) }
+        ensures same_opens { self.new.opens ≡ self.old.opens }
         ensures later { self.old.faults ≤ self.new.faults }
     {
         if self.start < self.end {
@@ -104,11 +108,31 @@ impl<R: Files> FileHost<R> {
         Ok(())
     }
 
+    /// Reads from the open capture straight into the buffer, where nothing waits to be given out.
+    fn read_straight(&mut self, buf: &mut [u8]) -> Result<usize, Failed>
+        requires roomy { 0 < length buf.old }
+        requires nothing_waits { self.old.pending ≡ [] }
+        ensures within { IfOk result (λ count. count ≤ length buf.old) }
+        ensures taken { IfOk result (λ count. Consumes (coming R.File.remaining self.old) (coming R.File.remaining self.new) (take count buf.new)) }
+        ensures ended { IfOk result (λ count. count ≡ 0 → IsAtEnd (coming R.File.remaining self.old)) }
+        ensures nothing_taken { OnErr result (Keeps (coming R.File.remaining self.old) (coming R.File.remaining self.new)) }
+        ensures failed { OnErr result (self.new.faults ≡ one_more self.old.faults) }
+        ensures unfailed { OnOk result (self.new.faults ≡ self.old.faults) }
+        ensures same_opens { self.new.opens ≡ self.old.opens }
+        ensures later { self.old.faults ≤ self.new.faults }
+    {
+        match &mut self.capture {
+            Some(capture) => read_once(capture, buf, &mut self.faults),
+            None => Ok(0),
+        }
+    }
+
     /// Gives out bytes that wait.
     fn give(&mut self, buf: &mut [u8]) -> usize
         ensures count { result ≡ min (length self.old.pending) (length buf.old) }
         ensures taken { Consumes (coming R.File.remaining self.old) (coming R.File.remaining self.new) (take result buf.new) }
         ensures same_faults { self.new.faults ≡ self.old.faults }
+        ensures same_opens { self.new.opens ≡ self.old.opens }
     {
         let ready = &self.block[self.start..self.end];
         let count = ready.len().min(buf.len());
@@ -125,6 +149,10 @@ impl<R: Files> Host for FileHost<R> {
 
     ghost faults = { λ host. host.faults };
 
+    ghost opens = { λ host. host.opens };
+
+    ghost left_is_told = { λ host. refl };
+
     fn load(&mut self, name: &str, limit: usize, out: &mut Vec<u8>) -> Result<(), LoadFault>
         ensures appends { OnOk result (out.new.items ≡ out.old.items ++ drop (vec_len out.old) out.new.items) }
         ensures whole { OnOk result (SomeHasLeft R.File.remaining (drop (vec_len out.old) out.new.items)) }
@@ -135,6 +163,7 @@ impl<R: Files> Host for FileHost<R> {
         ensures refused { OnErr result (out.new.items ≡ out.old.items) }
         ensures same_capture { self.new.capture ≡ self.old.capture }
         ensures same_pending { self.new.pending ≡ self.old.pending }
+        ensures same_opens { self.new.opens ≡ self.old.opens }
         ensures later { self.old.faults ≤ self.new.faults }
     {
         let start = out.len();
@@ -150,10 +179,12 @@ impl<R: Files> Host for FileHost<R> {
         ensures opened { OnOk result (IsSome self.new.capture) }
         ensures closed { OnErr result (self.new.capture ≡ None) }
         ensures fresh { self.new.pending ≡ [] }
+        ensures counted { self.new.opens ≡ one_more self.old.opens }
         ensures failed { OnErr result (self.new.faults ≡ one_more self.old.faults) }
         ensures unfailed { OnOk result (self.new.faults ≡ self.old.faults) }
         ensures later { self.old.faults ≤ self.new.faults }
     {
+        self.opens = self.opens.saturating_add(1);
         self.set_capture(None);
         let file = open_file(&self.rt, name, &mut self.faults)?;
         self.set_capture(Some(file));
@@ -170,9 +201,12 @@ impl<R: Files> Host for FileHost<R> {
         ensures unfailed { OnOk result (self.new.faults ≡ self.old.faults) }
         ensures none_waiting { OnErr result (self.old.pending ≡ []) }
         ensures nothing_taken { OnErr result (Keeps (coming R.File.remaining self.old) (coming R.File.remaining self.new)) }
-        ensures untouched { OnErr result (buf.new ≡ buf.old) }
+        ensures same_opens { self.new.opens ≡ self.old.opens }
         ensures later { self.old.faults ≤ self.new.faults }
     {
+        if self.start == self.end && CAPTURE_BLOCK <= buf.len() {
+            return self.read_straight(buf);
+        }
         self.refill()?;
         Ok(self.give(buf))
     }

@@ -1,6 +1,6 @@
 ghost use Rattle.std.specs.Prelude.{◌≡◌, ℕ, ◌+◌, ◌<◌, ◌≤◌, ◌++◌, ◌⊎◌, Option, None, List, length, take, drop, vec_len, IfOk, OnOk, OnErr, IsErrOf};
-ghost use Rattle.edge_io.specs.Told.{before, NothingLeft, Rose};
-ghost use Rattle.edge_io.specs.Files.{Files, Holds, Lacks, IsLonger, IsOpened, IsUnopened};
+ghost use Rattle.edge_io.specs.Told.{before, NothingLeft, one_more, Rose};
+ghost use Rattle.edge_io.specs.Files.{Files, Holds, Lacks, IsLonger, IsOpened, IsUnopened, LeftIsTold};
 
 use crate::Failed;
 use std::alloc::AllocError;
@@ -19,13 +19,16 @@ pub enum LoadFault {
 /// Files by name, and one open capture that is read piece by piece.
 ///
 /// The meanings: `contents`, the files where they are told; `left`, the bytes left of the open
-/// capture where one is open and they are told; `faults`, a count that never falls.
+/// capture where one is open and they are told; `faults`, a count that never falls; `opens`, a count
+/// that `open` alone raises, by one. A host that tells `left` tells `contents`.
 pub trait Host {
     ghost contents: { Self → Option Files };
 
     ghost left: { Self → Option (List ℕ) };
 
     ghost faults: { Self → ℕ };
+
+    ghost opens: { Self → ℕ };
 
     /// Appends the whole contents of a file of at most `limit` bytes to `out`.
     fn load(&mut self, name: &str, limit: usize, out: &mut Vec<u8>) -> Result<(), LoadFault>
@@ -38,19 +41,22 @@ pub trait Host {
         ensures refused { OnErr result (out.new.items ≡ out.old.items) }
         ensures same_contents { contents self.new ≡ contents self.old }
         ensures same_left { left self.new ≡ left self.old }
+        ensures same_opens { opens self.new ≡ opens self.old }
         ensures later { faults self.old ≤ faults self.new };
 
-    /// Opens a file as the capture, in place of one that was open. After a refusal nothing is open.
+    /// Opens a file as the capture, in place of one that was open. After a refusal nothing is open. The
+    /// call is counted, whatever it answers.
     fn open(&mut self, name: &str) -> Result<(), Failed>
         ensures opened { OnOk result (IsOpened (contents self.old) name.now (left self.new)) }
         ensures failed { OnErr result (Rose (faults self.old) (faults self.new) ⊎ Lacks (contents self.old) name.now) }
         ensures closed { OnErr result (left self.new ≡ None) }
+        ensures counted { opens self.new ≡ one_more (opens self.old) }
         ensures same_contents { contents self.new ≡ contents self.old }
         ensures later { faults self.old ≤ faults self.new };
 
     /// Takes bytes off the front of the open capture into the front of `buf`, as many as the answer
-    /// says: 0 exactly where nothing is left or nothing is open. The rest of `buf` is left open. A
-    /// refusal leaves `buf` as it was.
+    /// says: 0 exactly where nothing is left or nothing is open. What stands in the rest of `buf`
+    /// afterwards, and in all of it after a refusal, is left open.
     fn read(&mut self, buf: &mut [u8]) -> Result<usize, Failed>
         requires { 0 < length buf.old }
         ensures within { IfOk result (λ count. count ≤ length buf.old) }
@@ -59,9 +65,11 @@ pub trait Host {
         ensures unopened { IsUnopened (contents self.old) (left self.old) → IfOk result (λ count. count ≡ 0) }
         ensures failed { OnErr result (Rose (faults self.old) (faults self.new)) }
         ensures nothing_taken { OnErr result (left self.new ≡ left self.old) }
-        ensures untouched { OnErr result (buf.new ≡ buf.old) }
         ensures same_contents { contents self.new ≡ contents self.old }
+        ensures same_opens { opens self.new ≡ opens self.old }
         ensures later { faults self.old ≤ faults self.new };
+
+    ghost left_is_told: { (host : Self) → LeftIsTold (contents host) (left host) };
 }
 
 impl From<Failed> for LoadFault {

@@ -3,16 +3,18 @@
 //! Everything above this crate is proved over these traits. A meaning says what an object stands
 //! for: the files of a host and what is left of its open capture, the bytes that a sink was given,
 //! what a pattern finds. A real file or terminal leaves its meanings untold, and then the clauses
-//! about contents hold of nothing; the clauses about faults hold all the same. The memory
+//! about contents claim nothing; the clauses about faults hold all the same. The memory
 //! implementations tell their meanings and are proved against them. Those over real files and
 //! streams have clauses of their own as well, over what the standard library says of the bytes of a
 //! file or a stream. Beside the traits stand the base types that all crates share: text, lists,
-//! addresses, moments.
+//! addresses, moments; and the words that the definitions of all crates share: answers along a list
+//! (`Along`), steps one after another (`OnOption`, `OnResult`), places of bytes (`Bytes`).
 #![tactic(auto)]
 
 mod address;
 mod calls;
-mod crossing;
+#[doc(hidden)]
+pub mod crossing;
 mod fault;
 mod file_host;
 mod gate;
@@ -30,7 +32,6 @@ mod std_sink;
 mod text;
 
 pub use address::Addr;
-pub use crossing::{crosses_threads, items_cross_threads, types_cross_threads};
 pub use fault::{Failed, NoMemory};
 pub use file_host::FileHost;
 pub use gate::{Gate, OpenGate};
@@ -41,7 +42,7 @@ pub use literal::{Literal, LiteralMaker};
 pub use mem_host::MemHost;
 pub use mem_sink::MemSink;
 pub use moment::Moment;
-pub use pattern::{MakeFault, Pattern, PatternFlags, PatternMaker, Span};
+pub use pattern::{MakeFault, Pattern, PatternFlags, PatternMaker, Refusal, Span};
 pub use policy::{FragPolicy, Preference, StreamPolicy};
 pub use sink::{Sink, WriteStop, write_all};
 pub use std_sink::StdSink;

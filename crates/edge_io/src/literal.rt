@@ -2,11 +2,11 @@
 
 ghost use Rattle.std.specs.Prelude.{◌≡◌, ℕ, ◌+◌, ◌≤◌, List, [], ◌∷◌, ◌++◌, length, IfOk, IfSome, IsErr, IsErrOf, IsTrue, OnOk, OnErr};
 ghost use Rattle.edge_io.specs.declared.pattern.PatternFlags.{PatternFlags};
-ghost use Rattle.edge_io.specs.Calls.{fails, counted};
+ghost use Rattle.edge_io.specs.Calls.{fails, calls_after};
 ghost use Rattle.edge_io.specs.Matching.{begins, first_place, literal_span};
 
 use crate::calls::CallPlan;
-use crate::{MakeFault, NoMemory, Pattern, PatternFlags, PatternMaker, Span, Text};
+use crate::{MakeFault, NoMemory, Pattern, PatternFlags, PatternMaker, Refusal, Span, Text};
 use std::alloc::Global;
 use std::marker::Model;
 
@@ -66,28 +66,21 @@ fn begins_with(bytes: &[u8], text: &[u8], nocase: bool) -> bool
     }
 }
 
-/// A text that was refused, with its flags.
-#[derive(Debug, Drop)]
-struct Refused {
-    text: Text,
-    flags: PatternFlags,
-}
-
 /// A maker of literal patterns, which refuses by the number of the call.
 ///
 /// Contracts see what it refused so far, and the calls. Of the flags it reads `nocase` alone.
 #[derive(Debug, Drop)]
 pub struct LiteralMaker {
-    refused: Vec<Refused>,
+    refused: Vec<Refusal>,
     calls: CallPlan,
 }
 
 impl Model for LiteralMaker {
-    ghost use Rattle.edge_io.specs.Literals.{LiteralCalls, refusals_of};
+    ghost use Rattle.edge_io.specs.Literals.{LiteralCalls};
 
     ghost Value = { LiteralCalls };
 
-    ghost view = { λ maker. record { refusals = refusals_of maker.refused.items; calls = maker.calls } };
+    ghost view = { λ maker. record { refusals = maker.refused.items; calls = maker.calls } };
 }
 
 impl LiteralMaker {
@@ -115,7 +108,7 @@ impl LiteralMaker {
         ensures unchanged { OnErr result (self.new ≡ self.old) }
     {
         let text = Text::copy(alloc, text.as_bytes())?;
-        self.refused.push(Refused { text, flags })?;
+        self.refused.push(Refusal { text, flags })?;
         Ok(())
     }
 }
@@ -135,7 +128,7 @@ impl PatternMaker for LiteralMaker {
         ensures no_memory { IsErrOf result MakeFault.NoMemory → self.new.refusals ≡ self.old.refusals }
         ensures refused_by_number { IsErrOf result MakeFault.Refused → IsTrue (fails self.old.calls) }
         ensures refuses { IsTrue (fails self.old.calls) → IsErr result }
-        ensures counted { self.new.calls ≡ counted self.old.calls }
+        ensures counted { self.new.calls ≡ calls_after self.old.calls }
     {
         if self.calls.next_fails() {
             self.refuse(alloc, text, flags)?;

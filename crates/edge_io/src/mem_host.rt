@@ -2,7 +2,7 @@ ghost use Rattle.std.specs.Prelude.{◌≡◌, ◌<◌, ◌≤◌, ◌++◌, [],
 ghost use Rattle.std.specs.FinMap.{get, insert};
 ghost use Rattle.std.specs.Option.{option_copied};
 ghost use Rattle.edge_io.specs.Calls.{fails};
-ghost use Rattle.edge_io.specs.HeldFiles.{no_files, after_call, advanced, rest as rest_of};
+ghost use Rattle.edge_io.specs.HeldFiles.{no_files, after_call, after_taking, rest as rest_of};
 ghost use Rattle.edge_io.specs.PutFiles.{files_of, bytes_at};
 ghost use Rattle.edge_io.specs.Told.{before};
 
@@ -28,14 +28,15 @@ struct Reading {
 
 /// A host whose files are in memory, with failures by the number of the call.
 ///
-/// Contracts see its files, what is left of the open capture, the count of faults and the calls. An
-/// open capture keeps its bytes when its file is replaced.
+/// Contracts see its files, what is left of the open capture, the counts of faults and of calls of
+/// `open`, and the calls. An open capture keeps its bytes when its file is replaced.
 #[derive(Debug, Drop)]
 pub struct MemHost {
     // In the order in which they were put: of those with one name the last counts.
     held: Vec<HeldFile>,
     reading: Option<Reading>,
     faults: FaultCount,
+    opens: u64,
     calls: CallPlan,
 }
 
@@ -52,6 +53,7 @@ impl Model for MemHost {
       files = files_of host.held.items;
       left = left_of host.held.items host.reading;
       faults = host.faults;
+      opens = host.opens;
       calls = host.calls;
     } };
 
@@ -67,6 +69,7 @@ impl MemHost {
             held: Vec::new(alloc),
             reading: None,
             faults: FaultCount::new(),
+            opens: 0,
             calls: CallPlan::new(alloc),
         }
     }
@@ -129,7 +132,7 @@ impl MemHost {
     /// Takes bytes off the front of what is left of the open capture.
     fn advance(&mut self, count: usize)
         requires { count ≤ length (rest_of self.old) }
-        ensures { self.new ≡ advanced count self.old }
+        ensures { self.new ≡ after_taking count self.old }
     {
         if let Some(reading) = &mut self.reading {
             reading.left -= count;
@@ -157,7 +160,7 @@ impl MemHost {
 }
 
 impl Host for MemHost {
-    ghost use Rattle.edge_io.specs.HeldFiles.{loaded, held, after_open, after_read, read_count};
+    ghost use Rattle.edge_io.specs.HeldFiles.{load_result, found_by_call, after_open, after_read, read_count};
 
     ghost contents = { λ host. Some host.files };
 
@@ -165,12 +168,16 @@ impl Host for MemHost {
 
     ghost faults = { λ host. host.faults };
 
+    ghost opens = { λ host. host.opens };
+
+    ghost left_is_told = { λ host. tt };
+
     fn load(&mut self, name: &str, limit: usize, out: &mut Vec<u8>) -> Result<(), LoadFault>
         ensures state { self.new ≡ after_call self.old }
-        ensures loaded { OnOk result (loaded self.old name.now limit ≡ Ok (drop (vec_len out.old) out.new.items)) }
+        ensures loaded { OnOk result (load_result self.old name.now limit ≡ Ok (drop (vec_len out.old) out.new.items)) }
         ensures appends { OnOk result (out.new.items ≡ out.old.items ++ drop (vec_len out.old) out.new.items) }
-        ensures failed { IsErrOf result LoadFault.Failed → loaded self.old name.now limit ≡ Err LoadFault.Failed }
-        ensures too_large { IsErrOf result LoadFault.TooLarge → loaded self.old name.now limit ≡ Err LoadFault.TooLarge }
+        ensures failed { IsErrOf result LoadFault.Failed → load_result self.old name.now limit ≡ Err LoadFault.Failed }
+        ensures too_large { IsErrOf result LoadFault.TooLarge → load_result self.old name.now limit ≡ Err LoadFault.TooLarge }
         ensures refused { OnErr result (out.new.items ≡ out.old.items) }
         ensures later { self.old.faults ≤ self.new.faults }
     {
@@ -186,10 +193,11 @@ impl Host for MemHost {
 
     fn open(&mut self, name: &str) -> Result<(), Failed>
         ensures state { self.new ≡ after_open self.old name.now }
-        ensures opened { OnOk result (IsSome (held self.old name.now)) }
-        ensures failed { OnErr result (held self.old name.now ≡ None) }
+        ensures opened { OnOk result (IsSome (found_by_call self.old name.now)) }
+        ensures failed { OnErr result (found_by_call self.old name.now ≡ None) }
         ensures later { self.old.faults ≤ self.new.faults }
     {
+        self.opens = self.opens.saturating_add(1);
         if self.next_fails() {
             self.reading = None;
             return Err(Failed);
@@ -205,7 +213,6 @@ impl Host for MemHost {
         ensures filled { IfOk result (λ count. buf.new ≡ take count (rest_of self.old) ++ drop count buf.old) }
         ensures taken { IfOk result (λ count. self.old.left ≡ before (take count buf.new) self.new.left) }
         ensures failed { OnErr result (IsTrue (fails self.old.calls)) }
-        ensures untouched { OnErr result (buf.new ≡ buf.old) }
         ensures failing { IsTrue (fails self.old.calls) → IsErr result }
         ensures later { self.old.faults ≤ self.new.faults }
     {

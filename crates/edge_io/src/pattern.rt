@@ -1,7 +1,6 @@
 ghost use Rattle.std.specs.Prelude.{◌≡◌, ℕ, ◌≤◌, [], ◌∷◌, ◌++◌, List, Option, length, IfOk, IfSome, OnOk, IsErrOf};
-ghost use Rattle.edge_io.specs.Refusals.{Refusal};
 
-use crate::NoMemory;
+use crate::{NoMemory, Text};
 use std::alloc::Global;
 
 /// How a pattern reads its text: the flags `i`, `s`, `m` and `x` of a `pcre` option.
@@ -18,6 +17,13 @@ pub struct PatternFlags {
 pub struct Span {
     pub start: usize,
     pub end: usize,
+}
+
+/// A text that a maker refused, with its flags.
+#[derive(Debug, Drop)]
+pub struct Refusal {
+    pub text: Text,
+    pub flags: PatternFlags,
 }
 
 /// Why no pattern was made.
@@ -51,6 +57,7 @@ pub trait PatternMaker {
 
     ghost use Rattle.edge_io.specs.declared.pattern.Span.{Span};
     ghost use Rattle.edge_io.specs.declared.pattern.PatternFlags.{PatternFlags};
+    ghost use Rattle.edge_io.specs.declared.pattern.Refusal.{Refusal};
 
     ghost means: { Self → List ℕ → PatternFlags → List ℕ → Option Span };
 

@@ -1,14 +1,15 @@
 //! What no clause says: that calls succeed where memory is ample, and what real files and streams
 //! do.
 
-ghost use Rattle.std.specs.Prelude.{◌≡◌, ◌≤◌, [], ◌∷◌, IfOk};
+ghost use Rattle.std.specs.Prelude.{◌≡◌, ◌<◌, ◌≤◌, [], ◌∷◌, length, IfOk};
 
+use crate::crossing::{sendable, shareable};
 use crate::fault::FaultCount;
 use crate::file_host::read_once;
 use crate::{
-    Failed, FileHost, FragPolicy, Gate, Host, Items, LiteralMaker, LoadFault, MakeFault, MemHost,
-    MemSink, NoMemory, OpenGate, Pattern, PatternFlags, PatternMaker, Preference, Sink, Span,
-    StdSink, StreamPolicy, Text, WriteStop, items_cross_threads, types_cross_threads, write_all,
+    Addr, Failed, FileHost, FragPolicy, Gate, Host, Items, Link, Literal, LiteralMaker, LoadFault,
+    MakeFault, MemHost, MemSink, Moment, NoMemory, OpenGate, Pattern, PatternFlags, PatternMaker,
+    Preference, Refusal, Sink, Span, StdSink, StreamPolicy, Text, WriteStop, write_all,
 };
 use std::alloc::Global;
 use std::io::{ErrorKind, Read, Write};
@@ -50,8 +51,36 @@ fn texts_of(alloc: Global, first: &[u8], second: &[u8]) -> Result<Items<Text>, N
 #[test]
 fn gates_are_passed_and_types_cross_threads(_rt: HostRuntime) {
     OpenGate.pass(3);
-    types_cross_threads();
-    items_cross_threads::<u8>();
+    sendable::<Addr>();
+    shareable::<Addr>();
+    sendable::<FragPolicy>();
+    shareable::<FragPolicy>();
+    sendable::<Items<u8>>();
+    shareable::<Items<u8>>();
+    sendable::<Link>();
+    shareable::<Link>();
+    sendable::<Literal>();
+    shareable::<Literal>();
+    sendable::<LiteralMaker>();
+    shareable::<LiteralMaker>();
+    sendable::<MemHost>();
+    shareable::<MemHost>();
+    sendable::<MemSink>();
+    shareable::<MemSink>();
+    sendable::<Moment>();
+    shareable::<Moment>();
+    sendable::<OpenGate>();
+    shareable::<OpenGate>();
+    sendable::<PatternFlags>();
+    shareable::<PatternFlags>();
+    sendable::<Refusal>();
+    shareable::<Refusal>();
+    sendable::<Span>();
+    shareable::<Span>();
+    sendable::<StreamPolicy>();
+    shareable::<StreamPolicy>();
+    sendable::<Text>();
+    shareable::<Text>();
 }
 
 /// The policies by their names, in either case, and the rows that they stand for.
@@ -197,6 +226,18 @@ fn literal_patterns_give_the_leftmost_match(rt: HostRuntime) -> Result<(), Fail>
     Ok(())
 }
 
+/// What is left of the open capture, read through this buffer.
+fn read_out<H: Host>(alloc: Global, host: &mut H, buf: &mut [u8]) -> Result<Vec<u8>, Fail>
+    requires { 0 < length buf.old }
+{
+    let mut read = Vec::new(alloc);
+    for _ in 0..8000 {
+        let count = host.read(buf)?;
+        read.extend_from_slice(&buf[..count])?;
+    }
+    Ok(read)
+}
+
 #[test]
 fn real_files_are_loaded_and_read(rt: HostRuntime) -> Result<(), Fail> {
     let alloc = rt.alloc();
@@ -227,8 +268,7 @@ fn real_files_are_loaded_and_read(rt: HostRuntime) -> Result<(), Fail> {
         assert_eq!(rt; out.as_slice(), want.as_slice(), "{name}, {limit}");
     }
 
-    let mut buf = [0; 16];
-    assert_eq!(rt; host.read(&mut buf), Ok(0));
+    let mut wide = [0; 65536];
     for (name, answer, bytes) in [
         ("edge_files/large", Ok(()), large.as_slice()),
         ("edge_files/present", Ok(()), b"hello"),
@@ -237,12 +277,11 @@ fn real_files_are_loaded_and_read(rt: HostRuntime) -> Result<(), Fail> {
         ("edge_files/folder", Err(Failed), b""),
     ] {
         assert_eq!(rt; host.open(name), answer, "{name}");
-        let mut read = Vec::new(alloc);
-        for _ in 0..20000 {
-            let count = host.read(&mut buf)?;
-            read.extend_from_slice(&buf[..count])?;
-        }
-        assert_eq!(rt; read.as_slice(), bytes, "{name}");
+        let read = read_out(alloc, &mut host, &mut [0; 16])?;
+        assert_eq!(rt; read.as_slice(), bytes, "{name}, by the host's buffer");
+        assert_eq!(rt; host.open(name), answer, "{name}");
+        let read = read_out(alloc, &mut host, &mut wide)?;
+        assert_eq!(rt; read.as_slice(), bytes, "{name}, straight");
     }
     fs::remove_dir_all(&rt, "edge_files")?;
     Ok(())
