@@ -1,7 +1,7 @@
 -- A number that stands at a cap past its bound is refused as the number itself is.
 use Rattle.std.proofs.Common.{◌≡◌, ℕ, ◌+◌, ◌<◌, ◌≤◌, Bool, true, false, ◌&&◌, cond, leb, min, List, Option, Some, None, sym, ap, ◌∙◌, arith}
 use Rattle.std.proofs.lemmas.Bool.Decides.{nat_tests}
-use Rattle.net_lists.specs.Parts.{decimal_value, are_digits, digits_upto}
+use Rattle.net_lists.specs.Numbers.{decimal_value, are_digits, digits_upto}
 
 decided : ℕ → ℕ → Bool → Option ℕ
 decided most value digits = cond (digits && leb value most) (Some value) None

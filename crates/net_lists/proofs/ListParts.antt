@@ -4,14 +4,13 @@ use Rattle.std.specs.Option.{option_map}
 use Rattle.std.proofs.lemmas.Bool.{eqb-true, eq-eqb, ne_eqb, le-leb}
 use Rattle.std.proofs.lemmas.List.{take_more, take_all, take_at, get_or_at}
 use Rattle.std.proofs.lemmas.Slice.Eq.{bytes_eq-Decides}
-use Rattle.net_lists.specs.declared.bounds.Bounds.{Bounds}
 use Rattle.net_lists.specs.declared.part.Part.{Part}
 use Rattle.net_lists.specs.Tokens.{symbols}
 use Rattle.net_lists.specs.Lists.{IsList, any, single, single_negated, brackets, brackets_negated, IsTooLong, signed}
 use Rattle.net_lists.specs.Machine.{group_parts, bracketed, operand_parts, signed_parts, list_parts}
 use Rattle.net_lists.proofs.Accepted.{accepts_group}
 use Rattle.net_lists.proofs.Derived.{derives_group}
-use Rattle.net_lists.proofs.Starts.{AreStarted, none_some, mapped, taken, first_so, second_so}
+use Rattle.net_lists.proofs.Starts.{AreParts, none_some, mapped, taken, first_so, second_so}
 
 some_same : {A : Type 0} (x y : A) → Some x ≡ Some y → x ≡ y
 some_same x y e = cc
@@ -54,31 +53,31 @@ bracketed_is (first ∷ second ∷ rest) inner e =
     let is : take (length text - 2) back ≡ inner = cc in
     ap (λ b. b ∷ back) opens ∙ ap (λ xs. 91 ∷ xs) (ended back (omega arith) ∙ ap (λ b. take (length back - 1) back ++ (b ∷ [])) last ∙ ap (λ n. take n back ++ (93 ∷ [])) size ∙ ap (λ xs. xs ++ (93 ∷ [])) is)
 
-module _ (reads : List ℕ → Option Bounds) where
+module _ {B : Type 0} (reads : List ℕ → Option B) where
   -- an operand that was read: a part, or a group in brackets
-  list_of_operand : (text : List ℕ) (parts : List Part) → operand_parts reads false text ≡ Some parts → IsList reads text parts
+  list_of_operand : (text : List ℕ) (parts : List (Part B)) → operand_parts reads false text ≡ Some parts → IsList reads text parts
   unfolding operand_parts group_parts
   list_of_operand text parts e = go (bracketed text) refl e
     where
-      go : (o : Option (List ℕ)) → bracketed text ≡ o → elim o as (λ _. Option (List Part)) [ None ↦ option_map (λ bounds. signed false bounds ∷ []) (reads text) | Some inner ↦ group_parts reads false inner ] ≡ Some parts → IsList reads text parts
+      go : (o : Option (List ℕ)) → bracketed text ≡ o → elim o as (λ _. Option (List (Part B))) [ None ↦ option_map (λ bounds. signed false bounds ∷ []) (reads text) | Some inner ↦ group_parts reads false inner ] ≡ Some parts → IsList reads text parts
       go None b h =
           let found = mapped (λ bounds. signed false bounds ∷ []) (reads text) parts h in
           let is : signed false found.0 ∷ [] ≡ parts = some_same _ _ (ap (option_map (λ bounds. signed false bounds ∷ [])) (sym found.1) ∙ h) in
           subst (λ ps. IsList reads text ps) is (single found.1)
       go (Some inner) b h = subst (λ xs. IsList reads xs parts) (sym (bracketed_is text inner b)) (brackets inner (derives_group reads false 0 (symbols inner) parts refl h))
 
-  list_of_negated : (text : List ℕ) (parts : List Part) → operand_parts reads true text ≡ Some parts → IsList reads (33 ∷ text) parts
+  list_of_negated : (text : List ℕ) (parts : List (Part B)) → operand_parts reads true text ≡ Some parts → IsList reads (33 ∷ text) parts
   unfolding operand_parts group_parts
   list_of_negated text parts e = go (bracketed text) refl e
     where
-      go : (o : Option (List ℕ)) → bracketed text ≡ o → elim o as (λ _. Option (List Part)) [ None ↦ option_map (λ bounds. signed true bounds ∷ []) (reads text) | Some inner ↦ group_parts reads true inner ] ≡ Some parts → IsList reads (33 ∷ text) parts
+      go : (o : Option (List ℕ)) → bracketed text ≡ o → elim o as (λ _. Option (List (Part B))) [ None ↦ option_map (λ bounds. signed true bounds ∷ []) (reads text) | Some inner ↦ group_parts reads true inner ] ≡ Some parts → IsList reads (33 ∷ text) parts
       go None b h =
           let found = mapped (λ bounds. signed true bounds ∷ []) (reads text) parts h in
           let is : signed true found.0 ∷ [] ≡ parts = some_same _ _ (ap (option_map (λ bounds. signed true bounds ∷ [])) (sym found.1) ∙ h) in
           subst (λ ps. IsList reads (33 ∷ text) ps) is (single_negated text found.1)
       go (Some inner) b h = subst (λ xs. IsList reads (33 ∷ xs) parts) (sym (bracketed_is text inner b)) (brackets_negated inner (derives_group reads true 1 (symbols inner) parts refl h))
 
-  list_of_signed : (text : List ℕ) (parts : List Part) → signed_parts reads text ≡ Some parts → IsList reads text parts
+  list_of_signed : (text : List ℕ) (parts : List (Part B)) → signed_parts reads text ≡ Some parts → IsList reads text parts
   unfolding signed_parts
   list_of_signed [] parts e = list_of_operand [] parts e
   list_of_signed (first ∷ rest) parts e = go (first == 33) refl e
@@ -88,7 +87,7 @@ module _ (reads : List ℕ → Option Bounds) where
       go false b h = list_of_operand (first ∷ rest) parts h
 
   -- what is read of a text is what the grammar spells
-  pub spelled : (text : List ℕ) (parts : List Part) → list_parts reads text ≡ Some parts → IsList reads text parts
+  pub spelled : (text : List ℕ) (parts : List (Part B)) → list_parts reads text ≡ Some parts → IsList reads text parts
   unfolding list_parts
   spelled text parts e = go (bytes_eq text (codes "any")) refl e
     where
@@ -99,41 +98,45 @@ module _ (reads : List ℕ → Option Bounds) where
           subst (λ xs. IsList reads xs parts) (sym is) (subst (λ ps. IsList reads (codes "any") ps) none any)
       go false b h = list_of_signed text parts h
 
-  module _ (started : AreStarted reads) where
-    not_bracketed : (text : List ℕ) (bounds : Bounds) → reads text ≡ Some bounds → bracketed text ≡ None
+  module _ (are_parts : AreParts reads) where
+    not_bracketed : (text : List ℕ) (bounds : B) → reads text ≡ Some bounds → bracketed text ≡ None
     unfolding bracketed
     not_bracketed [] bounds e = refl
     not_bracketed (first ∷ rest) bounds e =
-        let start = started first rest bounds e in
-        ap (λ b. cond ((leb 2 (length (first ∷ rest)) && b) && (get_or (first ∷ rest) (length (first ∷ rest) - 1) 0 == 93)) (Some (take (length (first ∷ rest) - 2) rest)) None) (ne_eqb first 91 (λ same. omega (arith, start.low, start.high)))
+        let start = are_parts.starts first rest bounds e in
+        ap (λ b. cond ((leb 2 (length (first ∷ rest)) && b) && (get_or (first ∷ rest) (length (first ∷ rest) - 1) 0 == 93)) (Some (take (length (first ∷ rest) - 2) rest)) None) (ne_eqb first 91 start.no_bracket)
         ∙ never (leb 2 (length (first ∷ rest))) (get_or (first ∷ rest) (length (first ∷ rest) - 1) 0 == 93) (take (length (first ∷ rest) - 2) rest)
       where
         never : (a b : Bool) (xs : List ℕ) → cond ((a && false) && b) (Some xs) None ≡ None
         never true b xs = refl
         never false b xs = refl
 
-    operand_parts-part : (negated : Bool) (text : List ℕ) (bounds : Bounds) → reads text ≡ Some bounds → operand_parts reads negated text ≡ Some (signed negated bounds ∷ [])
+    operand_parts-part : (negated : Bool) (text : List ℕ) (bounds : B) → reads text ≡ Some bounds → operand_parts reads negated text ≡ Some (signed negated bounds ∷ [])
     unfolding operand_parts
     operand_parts-part negated text bounds e =
-        ap (λ o. elim o as (λ _. Option (List Part)) [ None ↦ option_map (λ bounds. signed negated bounds ∷ []) (reads text) | Some inner ↦ group_parts reads negated inner ]) (not_bracketed text bounds e)
+        ap (λ o. elim o as (λ _. Option (List (Part B))) [ None ↦ option_map (λ bounds. signed negated bounds ∷ []) (reads text) | Some inner ↦ group_parts reads negated inner ]) (not_bracketed text bounds e)
         ∙ ap (option_map (λ bounds. signed negated bounds ∷ [])) e
 
-    operand_parts-brackets : (negated : Bool) (inner : List ℕ) (parts : List Part) → group_parts reads negated inner ≡ Some parts → operand_parts reads negated (91 ∷ (inner ++ (93 ∷ []))) ≡ Some parts
+    operand_parts-brackets : (negated : Bool) (inner : List ℕ) (parts : List (Part B)) → group_parts reads negated inner ≡ Some parts → operand_parts reads negated (91 ∷ (inner ++ (93 ∷ []))) ≡ Some parts
     unfolding operand_parts
     operand_parts-brackets negated inner parts e =
-        ap (λ o. elim o as (λ _. Option (List Part)) [ None ↦ option_map (λ bounds. signed negated bounds ∷ []) (reads (91 ∷ (inner ++ (93 ∷ [])))) | Some inner ↦ group_parts reads negated inner ]) (bracketed-brackets inner) ∙ e
+        ap (λ o. elim o as (λ _. Option (List (Part B))) [ None ↦ option_map (λ bounds. signed negated bounds ∷ []) (reads (91 ∷ (inner ++ (93 ∷ [])))) | Some inner ↦ group_parts reads negated inner ]) (bracketed-brackets inner) ∙ e
 
-    list_parts-part : (text : List ℕ) (bounds : Bounds) → reads text ≡ Some bounds → list_parts reads text ≡ Some (signed false bounds ∷ [])
+    list_parts-part : (text : List ℕ) (bounds : B) → reads text ≡ Some bounds → list_parts reads text ≡ Some (signed false bounds ∷ [])
     unfolding list_parts signed_parts
     list_parts-part [] bounds e = operand_parts-part false [] bounds e
     list_parts-part (first ∷ rest) bounds e =
-        let start = started first rest bounds e in
-        ap (λ b. cond (b && bytes_eq rest (codes "ny")) (Some []) (signed_parts reads (first ∷ rest))) (ne_eqb first 97 (λ same. omega (arith, start.low, start.high)))
-        ∙ ap (λ b. cond b (operand_parts reads true rest) (operand_parts reads false (first ∷ rest))) (ne_eqb first 33 (λ same. omega (arith, start.low, start.high)))
+        let start = are_parts.starts first rest bounds e in
+        other (bytes_eq (first ∷ rest) (codes "any")) refl
+        ∙ ap (λ b. cond b (operand_parts reads true rest) (operand_parts reads false (first ∷ rest))) (ne_eqb first 33 start.no_not)
         ∙ operand_parts-part false (first ∷ rest) bounds e
+      where
+        other : (b : Bool) → bytes_eq (first ∷ rest) (codes "any") ≡ b → cond b (Some []) (signed_parts reads (first ∷ rest)) ≡ signed_parts reads (first ∷ rest)
+        other true b = absurd (none_some (sym are_parts.no_any ∙ ap reads (sym ((bytes_eq-Decides (first ∷ rest) (codes "any")).0 b)) ∙ e))
+        other false b = refl
 
     -- what the grammar spells is what is read of it
-    pub read : {text : List ℕ} {parts : List Part} → IsList reads text parts → list_parts reads text ≡ Some parts
+    pub read : {text : List ℕ} {parts : List (Part B)} → IsList reads text parts → list_parts reads text ≡ Some parts
     unfolding list_parts signed_parts group_parts
     read any = refl
     read (single {text} {bounds} e) = list_parts-part text bounds e
@@ -142,16 +145,16 @@ module _ (reads : List ℕ → Option Bounds) where
     read (brackets_negated inner {parts} d) = operand_parts-brackets true inner parts (accepts_group reads true (symbols inner) parts d 1 refl)
 
     -- the answers of a reader
-    pub answer_ok : (text : List ℕ) (list : List Part) → list_parts reads text ≡ Some list → length list ≤ 1024 → (parts : List Part) → IsList reads text parts → (list ≡ parts) × (length parts ≤ 1024)
+    pub answer_ok : (text : List ℕ) (list : List (Part B)) → list_parts reads text ≡ Some list → length list ≤ 1024 → (parts : List (Part B)) → IsList reads text parts → (list ≡ parts) × (length parts ≤ 1024)
     answer_ok text list e short parts d =
         let same : list ≡ parts = some_same _ _ (sym e ∙ read d) in
         (same, subst (λ ps. length ps ≤ 1024) same short)
 
-    pub answer_bad : (text : List ℕ) → list_parts reads text ≡ None → (parts : List Part) → IsList reads text parts → ⊥
+    pub answer_bad : (text : List ℕ) → list_parts reads text ≡ None → (parts : List (Part B)) → IsList reads text parts → ⊥
     answer_bad text e parts d = none_some (sym e ∙ read d)
 
-    pub answer_long : (text : List ℕ) (long : List Part) → list_parts reads text ≡ Some long → 1024 < length long → (parts : List Part) → IsList reads text parts → 1024 < length parts
+    pub answer_long : (text : List ℕ) (long : List (Part B)) → list_parts reads text ≡ Some long → 1024 < length long → (parts : List (Part B)) → IsList reads text parts → 1024 < length parts
     answer_long text long e h parts d = subst (λ ps. 1024 < length ps) (some_same _ _ (sym e ∙ read d)) h
 
-  pub is_too_long : (text : List ℕ) (long : List Part) → list_parts reads text ≡ Some long → 1024 < length long → IsTooLong reads text
+  pub is_too_long : (text : List ℕ) (long : List (Part B)) → list_parts reads text ≡ Some long → 1024 < length long → IsTooLong reads text
   is_too_long text long e h = (long, spelled text long e, h)

@@ -2,9 +2,7 @@
 use Rattle.std.proofs.Common.{◌≡◌, ℕ, zero, suc, ◌+◌, ◌-◌, ◌<◌, ◌==◌, true, false, List, [], ◌∷◌, length, take, drop, get_or, Option, Some, None, refl, sym, ap, ◌∙◌, arith, add-one, drop-cons}
 use Rattle.std.proofs.lemmas.List.{drop-drop}
 use Rattle.std.proofs.lemmas.Bool.{eq-eqb, ne_eqb}
-use Rattle.net_lists.specs.declared.form.Otherwise.{Otherwise}
-use Rattle.net_lists.specs.declared.form.Form.{Form}
-use Rattle.net_lists.specs.Forms.{form_at}
+use Rattle.net_lists.specs.Forms.{Form, Otherwise, form_at}
 use Rattle.net_lists.specs.Variables.{Variable, Variables, value_of}
 use Rattle.net_lists.specs.Expansion.{Bytes, pieces, piece_of, otherwise_of, variable_of}
 

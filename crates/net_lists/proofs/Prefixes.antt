@@ -2,7 +2,8 @@
 use Rattle.std.proofs.Common.{◌≡◌, ℕ, ◌+◌, ◌-◌, ◌*◌, ◌/◌, ◌%◌, ◌^◌, ◌<◌, ◌≤◌, sym, ap, ◌∙◌, arith, ⊎_elim}
 use Rattle.std.proofs.Math.Nat.{mul-le-mul_left, mul_comm}
 use Rattle.std.proofs.lemmas.Bool.{cases_lt}
-use Rattle.std.proofs.lemmas.Nat.{pow_pos, pow-add, shr_split, one_shl}
+use Rattle.std.proofs.lemmas.Nat.{pow_pos, pow-add, shr_split}
+use Rattle.net_lists.specs.Addresses.{cleared}
 
 row_below : (a size rows : ℕ) → a < size * rows → a / size * size + a % size ≡ a → a / size < rows
 row_below a size rows below split = ⊎_elim (λ h. h) (λ h. absurd (omega (arith, mul-le-mul_left size h, mul_comm size (a / size)))) (cases_lt (a / size) rows)
@@ -10,17 +11,13 @@ row_below a size rows below split = ⊎_elim (λ h. h) (λ h. absurd (omega (ari
 end_below : (row size rows : ℕ) → row < rows → 0 < size → row * size + (size - 1) < size * rows
 end_below row size rows below some = let h : row + 1 ≤ rows = omega arith in omega (arith, mul-le-mul_left size h, mul_comm size row)
 
--- the prefix of `length` bits, with 32 - length bits behind it
-pub last_fits : (address k : ℕ) → address < 2 ^ 32 → k ≤ 32 → address - address % 2 ^ k + (2 ^ k - 1) < 2 ^ 32
-last_fits address k fits h =
+-- the prefix with k of `bits` bits behind it
+pub last_fits : (bits address k : ℕ) → address < 2 ^ bits → k ≤ bits → cleared address k + (2 ^ k - 1) < 2 ^ bits
+last_fits bits address k fits h =
     let size = 2 ^ k in
-    let rows = 2 ^ (32 - k) in
-    let bits : k + (32 - k) ≡ 32 = omega arith in
-    let whole : size * rows ≡ 2 ^ 32 = sym (pow-add 2 k (32 - k)) ∙ ap (λ n. 2 ^ n) bits in
+    let rows = 2 ^ (bits - k) in
+    let all : k + (bits - k) ≡ bits = omega arith in
+    let whole : size * rows ≡ 2 ^ bits = sym (pow-add 2 k (bits - k)) ∙ ap (λ n. 2 ^ n) all in
     let split : address / size * size + address % size ≡ address = shr_split address k in
     let some : 0 < size = pow_pos k in
     omega (arith, end_below (address / size) size rows (row_below address size rows (omega (arith, whole)) split) some, whole, split)
-
--- a shifted 1, as the code has it
-pub size_is : (k : ℕ) → k ≤ 32 → 1 * 2 ^ k % 18446744073709551616 ≡ 2 ^ k
-size_is k h = one_shl k 64 (omega arith)

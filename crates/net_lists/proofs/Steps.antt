@@ -4,7 +4,6 @@ use Rattle.std.specs.Option.{option_map, option_and_then, option_to_list}
 use Rattle.std.proofs.Math.Dec.{eqb-suc-zero}
 use Rattle.std.proofs.lemmas.Bool.{ltb-false, lt-ltb}
 use Rattle.std.proofs.lemmas.List.{append-nil}
-use Rattle.net_lists.specs.declared.bounds.Bounds.{Bounds}
 use Rattle.net_lists.specs.declared.part.Part.{Part}
 use Rattle.net_lists.specs.declared.place.Place.{Place}
 use Rattle.net_lists.specs.declared.place.Step.{Step}
@@ -14,16 +13,16 @@ use Rattle.net_lists.specs.Lists.{signed}
 use Rattle.net_lists.specs.Tokens.{Symbol, Open, Close, Comma, Not, Word}
 use Rattle.net_lists.specs.Machine.{run, at, before, behind_word, behind_open, behind_close, behind_comma, behind_not, no_part, step_of, is_end}
 
-pub before-nil : (rest : Option (List Part)) → before [] rest ≡ rest
+pub before-nil : {B : Type 0} (rest : Option (List (Part B))) → before [] rest ≡ rest
 before-nil None = refl
 before-nil (Some rest) = refl
 
-pub before-before : (front back : List Part) (rest : Option (List Part)) → before front (before back rest) ≡ before (front ++ back) rest
+pub before-before : {B : Type 0} (front back : List (Part B)) (rest : Option (List (Part B))) → before front (before back rest) ≡ before (front ++ back) rest
 before-before front back None = refl
 before-before front back (Some rest) = ap Some (sym (append_assoc front back rest))
 
 -- what stands behind parts that were read
-pub before_some : (parts : List Part) (rest : Option (List Part)) (whole : List Part) → before parts rest ≡ Some whole → (others : List Part) × (rest ≡ Some others) × (whole ≡ parts ++ others)
+pub before_some : {B : Type 0} (parts : List (Part B)) (rest : Option (List (Part B))) (whole : List (Part B)) → before parts rest ≡ Some whole → (others : List (Part B)) × (rest ≡ Some others) × (whole ≡ parts ++ others)
 before_some parts None whole e = cc
 before_some parts (Some rest) whole e = (rest, refl, cc)
 
@@ -51,17 +50,17 @@ opened-closed wanted.Operand true negated s = omega arith
 opened-closed wanted.Operand false negated s = cc
 opened-closed wanted.Separator sign negated s = absurd s
 
-module _ (reads : List ℕ → Option Bounds) where
+module _ {B : Type 0} (reads : List ℕ → Option B) where
   -- where an operand is wanted
   pub run-word : (w : Wanted) (depth negated : ℕ) (sign : Bool) (word : List ℕ) (rest : List Symbol) → Stands w negated sign → run reads (at w depth negated) (Word word ∷ rest) ≡ option_and_then (λ bounds. before (signed sign bounds ∷ []) (run reads (at wanted.Separator depth negated) rest)) (reads word)
   unfolding run behind_word
   run-word wanted.Item depth negated sign word rest s =
-      elim (reads word) as (λ o. elim (option_map {U = Step} (λ bounds. record { place = at wanted.Separator depth negated; part = Some (signed (ltb 0 negated) bounds) }) o) as (λ _. Option (List Part)) [ None ↦ None | Some step ↦ before (option_to_list step.part) (run reads step.place rest) ] ≡ option_and_then (λ bounds. before (signed sign bounds ∷ []) (run reads (at wanted.Separator depth negated) rest)) o) [
+      elim (reads word) as (λ o. elim (option_map {U = Step B} (λ bounds. record { place = at wanted.Separator depth negated; part = Some (signed (ltb 0 negated) bounds) }) o) as (λ _. Option (List (Part B))) [ None ↦ None | Some step ↦ before (option_to_list step.part) (run reads step.place rest) ] ≡ option_and_then (λ bounds. before (signed sign bounds ∷ []) (run reads (at wanted.Separator depth negated) rest)) o) [
         | None ↦ refl
         | Some bounds ↦ ap (λ b. before (signed b bounds ∷ []) (run reads (at wanted.Separator depth negated) rest)) s
       ]
   run-word wanted.Operand depth negated sign word rest s =
-      elim (reads word) as (λ o. elim (option_map {U = Step} (λ bounds. record { place = at wanted.Separator depth negated; part = Some (signed true bounds) }) o) as (λ _. Option (List Part)) [ None ↦ None | Some step ↦ before (option_to_list step.part) (run reads step.place rest) ] ≡ option_and_then (λ bounds. before (signed sign bounds ∷ []) (run reads (at wanted.Separator depth negated) rest)) o) [
+      elim (reads word) as (λ o. elim (option_map {U = Step B} (λ bounds. record { place = at wanted.Separator depth negated; part = Some (signed true bounds) }) o) as (λ _. Option (List (Part B))) [ None ↦ None | Some step ↦ before (option_to_list step.part) (run reads step.place rest) ] ≡ option_and_then (λ bounds. before (signed sign bounds ∷ []) (run reads (at wanted.Separator depth negated) rest)) o) [
         | None ↦ refl
         | Some bounds ↦ ap (λ b. before (signed b bounds ∷ []) (run reads (at wanted.Separator depth negated) rest)) (sym s.1)
       ]
@@ -75,7 +74,7 @@ module _ (reads : List ℕ → Option Bounds) where
 
   pub run-not : (depth negated : ℕ) (rest : List Symbol) → run reads (at wanted.Item depth negated) (Not ∷ rest) ≡ cond (negated == 0) (run reads (at wanted.Operand depth negated) rest) None
   unfolding run behind_not
-  run-not depth negated rest = elim (negated == 0) as (λ b. elim (cond b (Some (no_part (at wanted.Operand depth negated))) None) as (λ _. Option (List Part)) [ None ↦ None | Some step ↦ before (option_to_list step.part) (run reads step.place rest) ] ≡ cond b (run reads (at wanted.Operand depth negated) rest) None) [ true ↦ before-nil _ | false ↦ refl ]
+  run-not depth negated rest = elim (negated == 0) as (λ b. elim (cond b (Some (no_part {B = B} (at wanted.Operand depth negated))) None) as (λ _. Option (List (Part B))) [ None ↦ None | Some step ↦ before (option_to_list step.part) (run reads step.place rest) ] ≡ cond b (run reads (at wanted.Operand depth negated) rest) None) [ true ↦ before-nil _ | false ↦ refl ]
 
   -- what may not stand there
   pub run-end_wanted : (w : Wanted) (depth negated : ℕ) (sign : Bool) → Stands w negated sign → run reads (at w depth negated) [] ≡ None
@@ -109,7 +108,7 @@ module _ (reads : List ℕ → Option Bounds) where
   unfolding run behind_close
   run-close depth negated rest =
       let e : suc depth - 1 ≡ depth = omega arith in
-      ap (λ b. elim (cond b None (Some (no_part (at wanted.Separator (suc depth - 1) (negated - 1))))) as (λ _. Option (List Part)) [ None ↦ None | Some step ↦ before (option_to_list step.part) (run reads step.place rest) ]) (eqb-suc-zero depth)
+      ap (λ b. elim (cond b None (Some (no_part {B = B} (at wanted.Separator (suc depth - 1) (negated - 1))))) as (λ _. Option (List (Part B))) [ None ↦ None | Some step ↦ before (option_to_list step.part) (run reads step.place rest) ]) (eqb-suc-zero depth)
       ∙ before-nil (run reads (at wanted.Separator (suc depth - 1) (negated - 1)) rest) ∙ ap (λ d. run reads (at wanted.Separator d (negated - 1)) rest) e
 
   pub run-close_outer : (negated : ℕ) (rest : List Symbol) → run reads (at wanted.Separator 0 negated) (Close ∷ rest) ≡ None
@@ -139,11 +138,11 @@ module _ (reads : List ℕ → Option Bounds) where
   -- a symbol of any kind, from where it was read
   pub run-refused : (place : Place) (symbol : Symbol) (rest : List Symbol) → None ≡ step_of reads place symbol → run reads place (symbol ∷ rest) ≡ None
   unfolding run
-  run-refused place symbol rest e = ap (λ o. elim o as (λ _. Option (List Part)) [ None ↦ None | Some step ↦ before (option_to_list step.part) (run reads step.place rest) ]) (sym e)
+  run-refused place symbol rest e = ap (λ o. elim o as (λ _. Option (List (Part B))) [ None ↦ None | Some step ↦ before (option_to_list step.part) (run reads step.place rest) ]) (sym e)
 
-  pub run-step : (place : Place) (symbol : Symbol) (rest : List Symbol) (step : Step) → Some step ≡ step_of reads place symbol → run reads place (symbol ∷ rest) ≡ before (option_to_list step.part) (run reads step.place rest)
+  pub run-step : (place : Place) (symbol : Symbol) (rest : List Symbol) (step : Step B) → Some step ≡ step_of reads place symbol → run reads place (symbol ∷ rest) ≡ before (option_to_list step.part) (run reads step.place rest)
   unfolding run
-  run-step place symbol rest step e = ap (λ o. elim o as (λ _. Option (List Part)) [ None ↦ None | Some step ↦ before (option_to_list step.part) (run reads step.place rest) ]) (sym e)
+  run-step place symbol rest step e = ap (λ o. elim o as (λ _. Option (List (Part B))) [ None ↦ None | Some step ↦ before (option_to_list step.part) (run reads step.place rest) ]) (sym e)
 
   pub run-ended : (place : Place) → is_end place ≡ true → run reads place [] ≡ Some []
   unfolding run
@@ -153,9 +152,9 @@ module _ (reads : List ℕ → Option Bounds) where
   unfolding run
   run-unended place e = rw e refl
 
-  module _ (whole : Option (List Part)) (front : List Part) (place : Place) (symbols : List Symbol) (so_far : whole ≡ before front (run reads place symbols)) where
+  module _ (whole : Option (List (Part B))) (front : List (Part B)) (place : Place) (symbols : List Symbol) (so_far : whole ≡ before front (run reads place symbols)) where
     -- the reader in the code, a symbol on
-    pub goes_on : (symbol : Symbol) (rest : List Symbol) (step : Step) (now : List Part) → symbols ≡ symbol ∷ rest → Some step ≡ step_of reads place symbol → now ≡ front ++ option_to_list step.part → whole ≡ before now (run reads step.place rest)
+    pub goes_on : (symbol : Symbol) (rest : List Symbol) (step : Step B) (now : List (Part B)) → symbols ≡ symbol ∷ rest → Some step ≡ step_of reads place symbol → now ≡ front ++ option_to_list step.part → whole ≡ before now (run reads step.place rest)
     goes_on symbol rest step now next e more =
         so_far ∙ ap (λ ss. before front (run reads place ss)) next ∙ ap (before front) (run-step place symbol rest step e)
         ∙ before-before front (option_to_list step.part) (run reads step.place rest) ∙ ap (λ ps. before ps (run reads step.place rest)) (sym more)

@@ -3,7 +3,8 @@ use Rattle.std.proofs.Common.{◌≡◌, ℕ, ◌+◌, ◌<◌, Bool, true, fals
 use Rattle.std.specs.List.{prefix_len}
 use Rattle.std.proofs.lemmas.Bool.{false≢true}
 use Rattle.std.proofs.lemmas.List.Sums.{prefix_len-le-length}
-use Rattle.net_lists.specs.Tokens.{Symbol, Word, symbols, is_blank, mark, is_word_byte, begins_word, begins_blank, put, joined}
+use Rattle.edge_io.specs.Bytes.{is_blank}
+use Rattle.net_lists.specs.Tokens.{Symbol, Word, symbols, mark, is_word_byte, begins_word, begins_blank, put, joined}
 
 one_more : (n : ℕ) → 1 + n ≡ suc n
 one_more n = omega arith

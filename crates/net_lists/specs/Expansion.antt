@@ -10,10 +10,7 @@ use Rattle.std.specs.FinMap as map
 use Rattle.edge_io.specs.declared.pattern.Span.{Span}
 use Rattle.net_lists.specs.declared.fault.ExpandFault.{ExpandFault}
 use Rattle.net_lists.specs.declared.fault.ExpandFault.TheVariants.{Unknown, TooLong, NoMemory}
-use Rattle.net_lists.specs.declared.form.Form.{Form}
-use Rattle.net_lists.specs.declared.form.Otherwise.{Otherwise}
-use Rattle.net_lists.specs.declared.form.Otherwise.TheVariants.{Default, Refused}
-use Rattle.net_lists.specs.Forms.{form_at}
+use Rattle.net_lists.specs.Forms.{Form, Otherwise, Default, Refused, form_at}
 use Rattle.net_lists.specs.Variables.{Variable, Variables}
 
 -- bytes, or the place of what an undefined variable shows

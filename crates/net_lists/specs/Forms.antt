@@ -7,10 +7,20 @@ use Rattle.std.specs.Prelude.{ℕ, ◌+◌, ◌≤◌, ◌==◌, Option, Some, N
 use Rattle.std.specs.List.{starts_with, prefix_len}
 use Rattle.std.specs.Option.{option_map}
 use Rattle.edge_io.specs.declared.pattern.Span.{Span}
-use Rattle.net_lists.specs.declared.form.Form.{Form}
-use Rattle.net_lists.specs.declared.form.Otherwise.{Otherwise}
-use Rattle.net_lists.specs.declared.form.Otherwise.TheVariants.{Default, Refused}
 use Rattle.net_lists.specs.Variables.{begins_name, continues_name}
+
+-- what stands for an undefined variable
+pub data Otherwise : Type 0 where
+  -- these bytes of the text, copied;
+  Default : Span → Otherwise
+  -- or nothing: these bytes are shown
+  Refused : Span → Otherwise
+
+-- a form that names a variable, by places in the text: its name, and the place behind it
+pub record Form : Type 0 where
+  pub name : Span
+  pub end : ℕ
+  pub otherwise : Otherwise
 
 -- from this place up to that
 abbrev pub span : ℕ → ℕ → Span
@@ -53,11 +63,6 @@ bare text place =
 -- the form whose `$` stands right before this place
 unfoldable pub form_at : List ℕ → ℕ → Option Form
 form_at text place = if starts_with nat_eq (drop place text) (codes "(") then parenthesized text (place + 1) else bare text place
-
--- the places that an undefined variable shows, or copies
-abbrev pub otherwise_span : Otherwise → Span
-otherwise_span (Default span) = span
-otherwise_span (Refused span) = span
 
 -- a span within a text
 abbrev pub IsSpan : List ℕ → Span → Type 0

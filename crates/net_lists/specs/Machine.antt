@@ -3,9 +3,9 @@
 -- That this accepts exactly the grammar of lists is proved of it.
 --
 -- To try it on: behind `80,![` an item is wanted, one bracket is open, and it is negated.
-use Rattle.std.specs.Prelude.{◌≡◌, ℕ, ◌+◌, ◌-◌, ◌<◌, ◌≤◌, ◌==◌, ◌&&◌, ◌||◌, ◌++◌, ⊤, Bool, true, false, not, Option, Some, None, Result, Ok, Err, List, [], ◌∷◌, length, take, drop, get_or, codes, bytes_eq, nat_lt, nat_le, if◌then◌else◌}
+use Rattle.std.specs.Prelude.{◌≡◌, ℕ, ◌+◌, ◌-◌, ◌<◌, ◌≤◌, ◌==◌, ◌&&◌, ◌||◌, ◌++◌, ⊤, Bool, true, false, not, Option, Some, None, Result, Ok, Err, Vec, List, [], ◌∷◌, length, take, drop, get_or, codes, bytes_eq, nat_lt, nat_le, if◌then◌else◌}
 use Rattle.std.specs.Option.{option_map, option_to_list}
-use Rattle.net_lists.specs.declared.bounds.Bounds.{Bounds}
+use Rattle.std.specs.declared.alloc.Global.{Global}
 use Rattle.net_lists.specs.declared.part.Part.{Part}
 use Rattle.net_lists.specs.declared.place.Place.{Place}
 use Rattle.net_lists.specs.declared.place.Step.{Step}
@@ -37,37 +37,37 @@ abbrev pub start : Bool → Place
 start negated = at wanted.Item 0 (if negated then 1 else 0)
 
 -- behind a word: the part that it is, with the place's sign
-unfoldable pub behind_word : (List ℕ → Option Bounds) → Place → List ℕ → Option Step
+unfoldable pub behind_word : {B : Type 0} → (List ℕ → Option B) → Place → List ℕ → Option (Step B)
 behind_word reads place word =
     if wants_operand place
     then option_map (λ bounds. record { place = at wanted.Separator place.depth place.negated; part = Some (signed (is_negated place) bounds) }) (reads word)
     else None
 
 -- behind a mark, which is no part
-abbrev pub no_part : Place → Step
+abbrev pub no_part : {B : Type 0} → Place → Step B
 no_part place = record { place = place; part = None }
 
 -- behind a `[`
-unfoldable pub behind_open : Place → Option Step
+unfoldable pub behind_open : {B : Type 0} → Place → Option (Step B)
 behind_open place =
     if wants_operand place then Some (no_part (at wanted.Item (place.depth + 1) (if is_negated place then place.negated + 1 else 0))) else None
 
 -- behind a `]`
-unfoldable pub behind_close : Place → Option Step
+unfoldable pub behind_close : {B : Type 0} → Place → Option (Step B)
 behind_close place =
     if wants_operand place || place.depth == 0 then None else Some (no_part (at wanted.Separator (place.depth - 1) (place.negated - 1)))
 
 -- behind a `,`
-unfoldable pub behind_comma : Place → Option Step
+unfoldable pub behind_comma : {B : Type 0} → Place → Option (Step B)
 behind_comma place = if wants_operand place then None else Some (no_part (at wanted.Item place.depth place.negated))
 
 -- behind a `!`
-unfoldable pub behind_not : Place → Option Step
+unfoldable pub behind_not : {B : Type 0} → Place → Option (Step B)
 behind_not place =
     if wants_item place && place.negated == 0 then Some (no_part (at wanted.Operand place.depth place.negated)) else None
 
 -- the next place behind a symbol, with the part that it is, if it may stand there
-abbrev pub step_of : (List ℕ → Option Bounds) → Place → Symbol → Option Step
+abbrev pub step_of : {B : Type 0} → (List ℕ → Option B) → Place → Symbol → Option (Step B)
 step_of reads place Open = behind_open place
 step_of reads place Close = behind_close place
 step_of reads place Comma = behind_comma place
@@ -83,11 +83,11 @@ abbrev pub IsNext : Place → Place → Type 0
 IsNext old new = (new.depth ≤ old.depth + 1) × (old.negated ≤ old.depth + 1 → new.negated ≤ new.depth + 1)
 
 -- these parts before the rest, if there is a rest
-abbrev pub before : List Part → Option (List Part) → Option (List Part)
+abbrev pub before : {B : Type 0} → List (Part B) → Option (List (Part B)) → Option (List (Part B))
 before parts rest = option_map (λ more. parts ++ more) rest
 
 -- the parts from a place on, if the symbols may stand there and then end
-unfoldable pub run : (List ℕ → Option Bounds) → Place → List Symbol → Option (List Part)
+unfoldable pub run : {B : Type 0} → (List ℕ → Option B) → Place → List Symbol → Option (List (Part B))
 run reads place [] = if is_end place then Some [] else None
 run reads place (symbol ∷ rest) = elim (step_of reads place symbol) [
   | None ↦ None
@@ -95,7 +95,7 @@ run reads place (symbol ∷ rest) = elim (step_of reads place symbol) [
 ]
 
 -- the parts of the symbols of this text, which stands in brackets that may be negated
-unfoldable pub group_parts : (List ℕ → Option Bounds) → Bool → List ℕ → Option (List Part)
+unfoldable pub group_parts : {B : Type 0} → (List ℕ → Option B) → Bool → List ℕ → Option (List (Part B))
 group_parts reads negated inner = run reads (start negated) (symbols inner)
 
 -- what stands between a `[` (91) in front and a `]` (93) at the end
@@ -104,31 +104,38 @@ bracketed text =
     if (nat_le 2 (length text) && get_or text 0 0 == 91) && get_or text (length text - 1) 0 == 93 then Some (take (length text - 2) (drop 1 text)) else None
 
 -- the parts of a part or of a group in brackets, with this sign
-unfoldable pub operand_parts : (List ℕ → Option Bounds) → Bool → List ℕ → Option (List Part)
+unfoldable pub operand_parts : {B : Type 0} → (List ℕ → Option B) → Bool → List ℕ → Option (List (Part B))
 operand_parts reads negated text = elim (bracketed text) [
   | None ↦ option_map (λ bounds. signed negated bounds ∷ []) (reads text)
   | Some inner ↦ group_parts reads negated inner
 ]
 
 -- the parts of a list behind a `!` (33), if one stands in front
-unfoldable pub signed_parts : (List ℕ → Option Bounds) → List ℕ → Option (List Part)
+unfoldable pub signed_parts : {B : Type 0} → (List ℕ → Option B) → List ℕ → Option (List (Part B))
 signed_parts reads [] = operand_parts reads false []
 signed_parts reads (first ∷ rest) = if first == 33 then operand_parts reads true rest else operand_parts reads false (first ∷ rest)
 
 -- the parts of a list
-unfoldable pub list_parts : (List ℕ → Option Bounds) → List ℕ → Option (List Part)
+unfoldable pub list_parts : {B : Type 0} → (List ℕ → Option B) → List ℕ → Option (List (Part B))
 list_parts reads text = if bytes_eq text (codes "any") then Some [] else signed_parts reads text
 
 -- an answer of a reader stands for these parts, or for none; want of memory for anything
-abbrev pub Reads : {X : Type 0} → (X → List Part) → Result X ReadFault → Option (List Part) → Type 0
+abbrev pub Reads : {X B : Type 0} → (X → List (Part B)) → Result X ReadFault → Option (List (Part B)) → Type 0
 Reads items (Ok list) parts = parts ≡ Some (items list)
 Reads items (Err fault.Bad) parts = parts ≡ None
 Reads items (Err fault.TooLong) parts = ⊥
 Reads items (Err fault.NoMemory) parts = ⊤
 
 -- the same of a reader that takes 1024 parts at most
-abbrev pub ReadsList : {X : Type 0} → (X → List Part) → Result X ReadFault → Option (List Part) → Type 0
+abbrev pub ReadsList : {X B : Type 0} → (X → List (Part B)) → Result X ReadFault → Option (List (Part B)) → Type 0
 ReadsList items (Ok list) parts = (parts ≡ Some (items list)) × (length (items list) ≤ 1024)
 ReadsList items (Err fault.Bad) parts = parts ≡ None
-ReadsList items (Err fault.TooLong) parts = (long : List Part) × (parts ≡ Some long) × (1024 < length long)
+ReadsList {B = B} items (Err fault.TooLong) parts = (long : List (Part B)) × (parts ≡ Some long) × (1024 < length long)
 ReadsList items (Err fault.NoMemory) parts = ⊤
+
+-- the list of this part alone, or want of memory
+abbrev pub IsOne : {B : Type 0} → Part B → Result (Vec (Part B) Global) ReadFault → Type 0
+IsOne part (Ok list) = list.items ≡ part ∷ []
+IsOne part (Err fault.Bad) = ⊥
+IsOne part (Err fault.TooLong) = ⊥
+IsOne part (Err fault.NoMemory) = ⊤

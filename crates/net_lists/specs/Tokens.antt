@@ -4,28 +4,16 @@
 --
 -- To try it on: `80, ![81 82]` is Word 80, Comma, Not, Open, Word 81, Word 82, Close, and two words side
 -- by side are in no list.
-use Rattle.std.specs.Prelude.{ℕ, ◌==◌, ◌||◌, Bool, true, false, not, Option, Some, None, is_none, List, [], ◌∷◌, ◌&&◌, if◌then◌else◌}
-use Rattle.net_lists.specs.declared.token.Token.{Token}
-use Rattle.net_lists.specs.declared.token.Token.TheVariants as tokens
+use Rattle.std.specs.Prelude.{ℕ, ◌==◌, Bool, true, false, not, Option, Some, None, is_none, List, [], ◌∷◌, ◌&&◌, if◌then◌else◌}
+use Rattle.edge_io.specs.Bytes.{is_blank}
 
+-- a mark or a word
 pub data Symbol : Type 0 where
   Open : Symbol
   Close : Symbol
   Comma : Symbol
   Not : Symbol
   Word : List ℕ → Symbol
-
--- the symbol that a token of the code stands for
-abbrev pub symbol_of : Token → Symbol
-symbol_of tokens.Open = Open
-symbol_of tokens.Close = Close
-symbol_of tokens.Comma = Comma
-symbol_of tokens.Not = Not
-symbol_of (tokens.Word word) = Word word.now
-
--- space or tab
-abbrev pub is_blank : ℕ → Bool
-is_blank byte = byte == 32 || byte == 9
 
 -- the symbol that the byte is by itself: `[`, `]`, `,` or `!`
 abbrev pub mark : ℕ → Option Symbol

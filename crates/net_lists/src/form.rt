@@ -1,10 +1,11 @@
-ghost use Rattle.std.specs.Prelude.{◌≡◌, ◌≤◌, ◌<◌, length, IfSome};
-ghost use Rattle.net_lists.specs.Forms.{form_at, bare, parenthesized, named_form, closed, name_len, IsSpan, otherwise_span};
+ghost use Rattle.std.specs.Prelude.{◌≡◌, ◌≤◌, ◌<◌, length, option_map, IfSome};
+ghost use Rattle.net_lists.specs.Forms.{form_at, bare, parenthesized, named_form, closed, name_len, IsSpan};
+ghost use Rattle.net_lists.specs.Found.{form_of, otherwise_span};
 ghost use Rattle.net_lists.specs.Variables.{continues_name};
 ghost use Rattle.std.specs.List.{prefix_len};
 
-use crate::decimal::place_of;
 use crate::name::{begins_name, continues_name};
+use crate::split::place_of;
 use edge_io::Span;
 
 /// What stands for an undefined variable.
@@ -29,7 +30,7 @@ pub struct Form {
 #[tactic(auto, unfolding(crate::specs::Forms::form_at))]
 pub fn form_at(text: &[u8], place: usize) -> Option<Form>
     requires { place ≤ length text.now }
-    ensures form { result ≡ form_at text.now place }
+    ensures form { option_map form_of result ≡ form_at text.now place }
     ensures behind { IfSome result (λ form. place < form.end) }
     ensures within { IfSome result (λ form. form.end ≤ length text.now) }
     ensures name { IfSome result (λ form. IsSpan text.now form.name) }
@@ -45,7 +46,7 @@ pub fn form_at(text: &[u8], place: usize) -> Option<Form>
 #[tactic(auto, unfolding(crate::specs::Forms::bare))]
 fn bare(text: &[u8], place: usize) -> Option<Form>
     requires { place ≤ length text.now }
-    ensures form { result ≡ bare text.now place }
+    ensures form { option_map form_of result ≡ bare text.now place }
     ensures behind { IfSome result (λ form. place < form.end) }
     ensures within { IfSome result (λ form. form.end ≤ length text.now) }
     ensures name { IfSome result (λ form. IsSpan text.now form.name) }
@@ -70,7 +71,7 @@ fn bare(text: &[u8], place: usize) -> Option<Form>
 #[tactic(auto, unfolding(crate::specs::Forms::parenthesized))]
 fn parenthesized(text: &[u8], place: usize) -> Option<Form>
     requires { place ≤ length text.now }
-    ensures form { result ≡ parenthesized text.now place }
+    ensures form { option_map form_of result ≡ parenthesized text.now place }
     ensures behind { IfSome result (λ form. place < form.end) }
     ensures within { IfSome result (λ form. form.end ≤ length text.now) }
     ensures name { IfSome result (λ form. IsSpan text.now form.name) }
@@ -93,7 +94,7 @@ fn parenthesized(text: &[u8], place: usize) -> Option<Form>
 #[tactic(auto, unfolding(crate::specs::Forms::named_form))]
 fn named_form(text: &[u8], name: Span) -> Option<Form>
     requires { IsSpan text.now name }
-    ensures form { result ≡ named_form text.now name }
+    ensures form { option_map form_of result ≡ named_form text.now name }
     ensures behind { IfSome result (λ form. name.end < form.end) }
     ensures within { IfSome result (λ form. form.end ≤ length text.now) }
     ensures name { IfSome result (λ form. form.name ≡ name) }

@@ -7,31 +7,44 @@
 //! on this crate, and every rule that is tried asks `contains`.
 #![tactic(auto)]
 
+mod address4;
+mod address6;
 mod address_list;
-mod address_part;
-mod bounds;
-mod crossing;
+mod address_parts;
+mod blank;
+mod compact;
 mod decimal;
 mod expand;
 mod fault;
+mod fold;
 mod form;
-mod kind;
 mod member;
 mod name;
+mod network;
+mod number;
 mod part;
+mod parts;
 mod place;
 mod port_list;
 mod port_part;
 mod read;
+mod split;
+mod stop;
 mod token;
 mod vars;
 
 pub use address_list::AddrList;
-pub use crossing::types_cross_threads;
+pub use address_parts::AddrParts;
+pub use blank::trimmed;
 pub use fault::{ExpandFault, ListFault};
+pub use fold::{PartStep, TryPartStep};
 pub use name::is_name;
-pub use part::Part;
+pub use network::Network;
+pub use number::{number_in, signed_in};
+pub use part::{AddrBounds, AddrPart, Bounds, Part, PortPart};
+pub use parts::{Parts, first_word};
 pub use port_list::PortList;
+pub use stop::Stop;
 pub use vars::Vars;
 
 #[cfg(test)]

@@ -1,29 +1,73 @@
-ghost use Rattle.std.specs.Prelude.{◌≡◌, ◌↔◌, IsTrue, All};
-ghost use Rattle.net_lists.specs.Membership.{IsListed, Has, IsNegated};
+//! Whether a list has a value: one pass over its parts.
+ghost use Rattle.std.specs.Prelude.{◌≡◌, ℕ, Bool, false, nat_le, ◌&&◌};
+ghost use Rattle.net_lists.specs.Verdicts.{is_within, has_address, is_listed};
 
-use crate::part::Part;
+use crate::part::{AddrBounds, Bounds, Part};
+use edge_io::Addr;
 
-impl Part {
-    fn has(&self, value: u32) -> bool
-        ensures { IsTrue result ↔ Has value self.now }
-    {
+/// Bounds that may have a value.
+pub trait Ranged<X> {
+    ghost has: { X → Self → Bool };
+
+    fn has(&self, value: X) -> bool
+        ensures { result ≡ has value self.now };
+}
+
+impl Ranged<u16> for Bounds<u16> {
+    ghost has = { is_within };
+
+    fn has(&self, value: u16) -> bool {
         self.low <= value && value <= self.high
     }
 }
 
-/// Whether no part is positive.
-pub fn are_negated(parts: &[Part]) -> bool
-    ensures { IsTrue result ↔ All IsNegated parts.now }
-{
-    parts.iter().all(|part| part.negated)
+impl Ranged<u32> for Bounds<u32> {
+    ghost has = { is_within };
+
+    fn has(&self, value: u32) -> bool {
+        self.low <= value && value <= self.high
+    }
+}
+
+/// Bounds of version 4 have no address of version 6.
+impl Ranged<u128> for Bounds<u32> {
+    ghost has = { λ _ _. false };
+
+    fn has(&self, _value: u128) -> bool {
+        false
+    }
+}
+
+impl Ranged<Addr> for AddrBounds {
+    ghost has = { has_address };
+
+    fn has(&self, value: Addr) -> bool {
+        match (self, value) {
+            (AddrBounds::V4(bounds), Addr::V4(value)) => {
+                bounds.low <= value && value <= bounds.high
+            }
+            (AddrBounds::V6(bounds), Addr::V6(value)) => {
+                bounds.low <= value && value <= bounds.high
+            }
+            _ => false,
+        }
+    }
 }
 
 /// Whether some positive part has the value, or there is none; and no negated part has it.
-pub fn is_listed(parts: &[Part], value: u32) -> bool
-    ensures { IsTrue result ↔ IsListed (Has value) parts.now }
+#[tactic(auto, using(crate::proofs::Listed::verdict_steps))]
+pub fn is_listed<X: Copy, B: Ranged<X>>(parts: &[Part<B>], value: X) -> bool
+    ensures { result ≡ is_listed (B.has value) parts.now }
 {
-    if parts.iter().any(|part| part.negated && part.has(value)) {
-        return false;
+    let mut found = false;
+    let mut positive = false;
+    for part in parts {
+        let has = part.bounds.has(value);
+        if has & part.negated {
+            return false;
+        }
+        found = found | has;
+        positive = positive | !part.negated;
     }
-    parts.iter().any(|part| !part.negated && part.has(value)) || are_negated(parts)
+    found | !positive
 }

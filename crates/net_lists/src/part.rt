@@ -1,10 +1,39 @@
-/// A part of a list: the values from `low` to `high`, both included.
-///
-/// Values are ports, or addresses of version 4 as numbers in network order.
+//! The parts of lists.
+ghost use Rattle.std.specs.Prelude.{◌≡◌, List, ℕ, Option};
+
+/// The values from `low` to `high`, both included.
 #[derive(Clone, Copy, Debug, PartialEq, Eq)]
-pub struct Part {
-    /// Whether it stands behind a `!`.
+pub struct Bounds<V> {
+    pub low: V,
+    pub high: V,
+}
+
+/// The addresses of a part, which are of one version, as numbers in network order.
+#[derive(Clone, Copy, Debug, PartialEq, Eq)]
+pub enum AddrBounds {
+    V4(Bounds<u32>),
+    V6(Bounds<u128>),
+}
+
+/// A part of a list: what it has, and whether it stands behind a `!`, its own or that of a bracket around
+/// it.
+#[derive(Clone, Copy, Debug, PartialEq, Eq)]
+pub struct Part<B> {
     pub negated: bool,
-    pub low: u32,
-    pub high: u32,
+    pub bounds: B,
+}
+
+/// A part of a list of addresses.
+pub type AddrPart = Part<AddrBounds>;
+
+/// A part of a list of ports.
+pub type PortPart = Part<Bounds<u16>>;
+
+/// What a word of a list spells, if it is a part of its kind.
+pub trait Spelled: Copy {
+    ghost bounds_of: { List ℕ → Option Self };
+
+    /// The bounds that the text spells, or None where it is no part of this kind.
+    fn read(text: &[u8]) -> Option<Self>
+        ensures { result ≡ bounds_of text.now };
 }

@@ -1,10 +1,8 @@
 ghost use Rattle.std.specs.Prelude.{◌≡◌, ◌+◌, ◌<◌, ◌^◌, IfSome};
-ghost use Rattle.net_lists.specs.Parts.{bounds_of};
-ghost use Rattle.net_lists.specs.Tokens.{symbol_of};
+ghost use Rattle.net_lists.specs.Tokenized.{symbol_of};
 ghost use Rattle.net_lists.specs.Machine.{IsNext, step_of, start, is_end, is_negated, no_part, at, behind_word, behind_open, behind_close, behind_comma, behind_not};
 
-use crate::kind::Kind;
-use crate::part::Part;
+use crate::part::{Part, Spelled};
 use crate::token::Token;
 
 /// What may stand next inside the brackets of a list.
@@ -30,9 +28,9 @@ pub struct Place {
 
 /// A step behind a token: the next place, and the part that the token is.
 #[derive(Clone, Copy, Debug, PartialEq, Eq)]
-pub struct Step {
+pub struct Step<B> {
     pub place: Place,
-    pub part: Option<Part>,
+    pub part: Option<Part<B>>,
 }
 
 impl Place {
@@ -55,10 +53,10 @@ impl Place {
     }
 
     /// The step behind this token, if it may stand here.
-    pub fn step(self, kind: Kind, token: Token<'_>) -> Option<Step>
+    pub fn step<B: Spelled>(self, token: Token<'_>) -> Option<Step<B>>
         requires depth { self.depth + 1 < 2 ^ 64 }
         requires negated { self.negated + 1 < 2 ^ 64 }
-        ensures step { result ≡ step_of (bounds_of kind) self (symbol_of token.entry) }
+        ensures step { result ≡ step_of B.bounds_of self (symbol_of token.entry) }
         ensures next { IfSome result (λ step. IsNext self step.place) }
     {
         match token {
@@ -66,7 +64,7 @@ impl Place {
             Token::Close => self.behind_close(),
             Token::Comma => self.behind_comma(),
             Token::Not => self.behind_not(),
-            Token::Word(word) => self.behind_word(kind, word),
+            Token::Word(word) => self.behind_word(word),
         }
     }
 
@@ -77,26 +75,29 @@ impl Place {
     }
 
     #[tactic(auto, unfolding(crate::specs::Machine::behind_word))]
-    fn behind_word(self, kind: Kind, word: &[u8]) -> Option<Step>
-        ensures step { result ≡ behind_word (bounds_of kind) self word.now }
+    fn behind_word<B: Spelled>(self, word: &[u8]) -> Option<Step<B>>
+        ensures step { result ≡ behind_word B.bounds_of self word.now }
         ensures next { IfSome result (λ step. IsNext self step.place) }
     {
         if self.wanted == Wanted::Separator {
             return None;
         }
-        let bounds = kind.bounds(word)?;
+        let bounds = B::read(word)?;
         Some(Step {
             place: Place {
                 wanted: Wanted::Separator,
                 depth: self.depth,
                 negated: self.negated,
             },
-            part: Some(bounds.signed(self.is_negated())),
+            part: Some(Part {
+                negated: self.is_negated(),
+                bounds,
+            }),
         })
     }
 
     #[tactic(auto, unfolding(crate::specs::Machine::behind_open))]
-    fn behind_open(self) -> Option<Step>
+    fn behind_open<B>(self) -> Option<Step<B>>
         requires depth { self.depth + 1 < 2 ^ 64 }
         requires negated { self.negated + 1 < 2 ^ 64 }
         ensures step { result ≡ behind_open self }
@@ -114,7 +115,7 @@ impl Place {
     }
 
     #[tactic(auto, unfolding(crate::specs::Machine::behind_close))]
-    fn behind_close(self) -> Option<Step>
+    fn behind_close<B>(self) -> Option<Step<B>>
         ensures step { result ≡ behind_close self }
         ensures next { IfSome result (λ step. IsNext self step.place) }
     {
@@ -129,7 +130,7 @@ impl Place {
     }
 
     #[tactic(auto, unfolding(crate::specs::Machine::behind_comma))]
-    fn behind_comma(self) -> Option<Step>
+    fn behind_comma<B>(self) -> Option<Step<B>>
         ensures step { result ≡ behind_comma self }
         ensures next { IfSome result (λ step. IsNext self step.place) }
     {
@@ -140,7 +141,7 @@ impl Place {
     }
 
     #[tactic(auto, unfolding(crate::specs::Machine::behind_not))]
-    fn behind_not(self) -> Option<Step>
+    fn behind_not<B>(self) -> Option<Step<B>>
         ensures step { result ≡ behind_not self }
         ensures next { IfSome result (λ step. IsNext self step.place) }
     {
@@ -151,9 +152,9 @@ impl Place {
     }
 }
 
-impl Step {
+impl<B> Step<B> {
     /// A step behind a mark, which is no part.
-    fn to(wanted: Wanted, depth: usize, negated: usize) -> Step
+    fn to(wanted: Wanted, depth: usize, negated: usize) -> Step<B>
         ensures { result ≡ no_part (at wanted depth negated) }
     {
         Step {

@@ -1,30 +1,45 @@
-ghost use Rattle.std.specs.Prelude.{◌↔◌, IsTrue, IfOk, IsErrOf, List};
+ghost use Rattle.std.specs.Prelude.{◌≡◌, ◌↔◌, IsTrue, IfOk, IsErrOf, List, [], ℕ, map};
+ghost use Rattle.net_lists.specs.declared.part.Bounds.{Bounds};
 ghost use Rattle.net_lists.specs.declared.part.Part.{Part};
 ghost use Rattle.net_lists.specs.Membership.{IsListed, Has};
-ghost use Rattle.net_lists.specs.Parts.{port_bounds};
+ghost use Rattle.net_lists.specs.Parts.{port_bounds, one_port};
 ghost use Rattle.net_lists.specs.Lists.{IsList, IsAnswer, IsTooLong};
 
 use crate::fault::ListFault;
-use crate::kind::Kind;
 use crate::member;
-use crate::part::Part;
+use crate::part::{Bounds, Part, PortPart};
 use crate::read::{ReadFault, read_list};
+use edge_io::NoMemory;
 use std::alloc::Global;
 use std::marker::Model;
 
 /// A list of ports. Contracts see its parts in order; `any` has none.
 #[derive(Debug, Drop)]
 pub struct PortList {
-    parts: Vec<Part>,
+    parts: Vec<PortPart>,
 }
 
 impl Model for PortList {
-    ghost use Rattle.std.specs.Prelude.{List};
+    ghost use Rattle.std.specs.Prelude.{List, ℕ};
+    ghost use Rattle.net_lists.specs.declared.part.Bounds.{Bounds};
     ghost use Rattle.net_lists.specs.declared.part.Part.{Part};
 
-    ghost Value = { List Part };
+    ghost Value = { List (Part (Bounds ℕ)) };
 
     ghost view = { λ list. list.parts.items };
+}
+
+/// The part that one port is by itself.
+fn one_port(port: u16) -> PortPart
+    ensures { result ≡ one_port port }
+{
+    Part {
+        negated: false,
+        bounds: Bounds {
+            low: port,
+            high: port,
+        },
+    }
 }
 
 impl PortList {
@@ -32,11 +47,11 @@ impl PortList {
     pub fn read(alloc: Global, text: &[u8]) -> Result<PortList, ListFault>
         ensures spelled { IfOk result (λ list. IsList port_bounds text.now list) }
         // BadPort comes only for a text that spells no list, BadAddress never.
-        ensures answer { (parts : List Part) → IsList port_bounds text.now parts → IsAnswer parts result }
+        ensures answer { (parts : List (Part (Bounds ℕ))) → IsList port_bounds text.now parts → IsAnswer parts result }
         ensures too_long { IsErrOf result ListFault.ListTooLong → IsTooLong port_bounds text.now }
         ensures no_address { ¬ IsErrOf result ListFault.BadAddress }
     {
-        match read_list(alloc, Kind::Port, text) {
+        match read_list(alloc, text) {
             Ok(parts) => Ok(PortList { parts }),
             Err(ReadFault::Bad) => Err(ListFault::BadPort),
             Err(ReadFault::TooLong) => Err(ListFault::ListTooLong),
@@ -44,10 +59,39 @@ impl PortList {
         }
     }
 
+    /// The list with these parts; without any it is `any`.
+    pub fn from_vec(parts: Vec<PortPart>) -> PortList
+        ensures { result ≡ parts.items }
+    {
+        PortList { parts }
+    }
+
+    /// The list of these ports, each a part by itself. Without any it is `any`.
+    pub fn from_ports(alloc: Global, ports: &[u16]) -> Result<PortList, NoMemory>
+        ensures { IfOk result (λ list. list ≡ map one_port ports.now) }
+    {
+        let parts: Vec<PortPart> = ports.iter().map(|port| one_port(*port)).collect(alloc)?;
+        Ok(PortList { parts })
+    }
+
+    /// The parts in order, lent.
+    pub fn parts(&self) -> &[PortPart]
+        ensures { result.now ≡ self.now }
+    {
+        &self.parts
+    }
+
+    /// Whether this is `any`: a list without parts, which has every port.
+    pub fn is_any(&self) -> bool
+        ensures { IsTrue result ↔ (self.now ≡ []) }
+    {
+        self.parts.is_empty()
+    }
+
     /// Whether the port is listed. Takes no memory.
     pub fn contains(&self, port: u16) -> bool
         ensures { IsTrue result ↔ IsListed (Has port) self.now }
     {
-        self.parts.is_empty() || member::is_listed(&self.parts, u32::from(port))
+        member::is_listed(self.parts(), port)
     }
 }

@@ -1,23 +1,33 @@
 ghost use Rattle.std.specs.Prelude.{◌≡◌, ◌<◌};
+ghost use Rattle.net_lists.specs.Numbers.{number_in};
 ghost use Rattle.net_lists.specs.Parts.{port_end, between_ends, port_bounds};
 
-use crate::bounds::Bounds;
-use crate::decimal::{cut, number_upto};
+use crate::number::number_in;
+use crate::part::{Bounds, Spelled};
+use crate::split::cut;
+
+/// One port.
+pub fn port(text: &[u8]) -> Option<u16>
+    ensures { result ≡ number_in 0 65535 text.now }
+{
+    let number = number_in(0, 65535, text)?;
+    Some(number as u16)
+}
 
 /// The port before or behind a colon, which may lack.
 #[tactic(auto, unfolding(crate::specs::Parts::port_end))]
-fn port_end(text: &[u8], lacking: u16) -> Option<u32>
+fn port_end(text: &[u8], lacking: u16) -> Option<u16>
     ensures { result ≡ port_end lacking text.now }
 {
     if text.is_empty() {
-        return Some(u32::from(lacking));
+        return Some(lacking);
     }
-    number_upto(text, 65535)
+    port(text)
 }
 
 /// Two ends, with a colon between them.
 #[tactic(auto, unfolding(crate::specs::Parts::between_ends))]
-fn between_ends(front: &[u8], back: &[u8]) -> Option<Bounds>
+fn between_ends(front: &[u8], back: &[u8]) -> Option<Bounds<u16>>
     ensures { result ≡ between_ends (front.now, back.now) }
 {
     let low = port_end(front, 0)?;
@@ -28,17 +38,25 @@ fn between_ends(front: &[u8], back: &[u8]) -> Option<Bounds>
 
 /// What a port part spells.
 #[tactic(auto, unfolding(crate::specs::Parts::port_bounds))]
-pub fn port_bounds(text: &[u8]) -> Option<Bounds>
+fn port_bounds(text: &[u8]) -> Option<Bounds<u16>>
     ensures { result ≡ port_bounds text.now }
 {
     match cut(text, b':') {
         Some((front, back)) => between_ends(front, back),
         None => {
-            let port = number_upto(text, 65535)?;
+            let port = port(text)?;
             Some(Bounds {
                 low: port,
                 high: port,
             })
         }
+    }
+}
+
+impl Spelled for Bounds<u16> {
+    ghost bounds_of = { port_bounds };
+
+    fn read(text: &[u8]) -> Option<Bounds<u16>> {
+        port_bounds(text)
     }
 }

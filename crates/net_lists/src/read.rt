@@ -1,9 +1,7 @@
 ghost use Rattle.std.specs.Prelude.{◌≡◌, ◌++◌, OnOk, option_copied, option_to_list};
-ghost use Rattle.net_lists.specs.Parts.{bounds_of};
-ghost use Rattle.net_lists.specs.Machine.{Reads, ReadsList, group_parts, operand_parts, signed_parts, list_parts, bracketed};
+ghost use Rattle.net_lists.specs.Machine.{Reads, ReadsList, group_parts, operand_parts, signed_parts, list_parts, bracketed, IsOne};
 
-use crate::kind::Kind;
-use crate::part::Part;
+use crate::part::{Part, Spelled};
 use crate::place::Place;
 use crate::token::next_token;
 use std::alloc::{AllocError, AllocFailed, Global};
@@ -45,10 +43,10 @@ impl<T: Drop> From<AllocFailed<T>> for ReadFault {
 }
 
 /// The parts of a list of this kind.
-pub fn read_list(alloc: Global, kind: Kind, text: &[u8]) -> Result<Vec<Part>, ReadFault>
-    ensures { ReadsList (λ parts. parts.items) result (list_parts (bounds_of kind) text.now) }
+pub fn read_list<B: Spelled>(alloc: Global, text: &[u8]) -> Result<Vec<Part<B>>, ReadFault>
+    ensures { ReadsList (λ parts. parts.items) result (list_parts B.bounds_of text.now) }
 {
-    match all_parts(alloc, kind, text) {
+    match all_parts(alloc, text) {
         Ok(parts) => {
             if parts.len() > MOST_PARTS {
                 return Err(ReadFault::TooLong);
@@ -61,43 +59,51 @@ pub fn read_list(alloc: Global, kind: Kind, text: &[u8]) -> Result<Vec<Part>, Re
 
 /// The parts of a list, however many.
 #[tactic(auto, unfolding(crate::specs::Machine::list_parts))]
-fn all_parts(alloc: Global, kind: Kind, text: &[u8]) -> Result<Vec<Part>, ReadFault>
-    ensures { Reads (λ parts. parts.items) result (list_parts (bounds_of kind) text.now) }
+fn all_parts<B: Spelled>(alloc: Global, text: &[u8]) -> Result<Vec<Part<B>>, ReadFault>
+    ensures { Reads (λ parts. parts.items) result (list_parts B.bounds_of text.now) }
 {
     if text == b"any".as_slice() {
         return Ok(Vec::new(alloc));
     }
-    signed_parts(alloc, kind, text)
+    signed_parts(alloc, text)
 }
 
 /// The parts of a list other than `any`.
 #[tactic(auto, unfolding(crate::specs::Machine::signed_parts))]
-fn signed_parts(alloc: Global, kind: Kind, text: &[u8]) -> Result<Vec<Part>, ReadFault>
-    ensures { Reads (λ parts. parts.items) result (signed_parts (bounds_of kind) text.now) }
+fn signed_parts<B: Spelled>(alloc: Global, text: &[u8]) -> Result<Vec<Part<B>>, ReadFault>
+    ensures { Reads (λ parts. parts.items) result (signed_parts B.bounds_of text.now) }
 {
     match text.split_first() {
-        Some((b'!', operand)) => operand_parts(alloc, kind, true, operand),
-        _ => operand_parts(alloc, kind, false, text),
+        Some((b'!', operand)) => operand_parts(alloc, true, operand),
+        _ => operand_parts(alloc, false, text),
     }
 }
 
 /// The parts of a part or of a group in brackets.
 #[tactic(auto, unfolding(crate::specs::Machine::operand_parts))]
-fn operand_parts(
+fn operand_parts<B: Spelled>(
     alloc: Global,
-    kind: Kind,
     negated: bool,
     text: &[u8],
-) -> Result<Vec<Part>, ReadFault>
-    ensures { Reads (λ parts. parts.items) result (operand_parts (bounds_of kind) negated text.now) }
+) -> Result<Vec<Part<B>>, ReadFault>
+    ensures { Reads (λ parts. parts.items) result (operand_parts B.bounds_of negated text.now) }
 {
     match bracketed(text) {
-        Some(inner) => group_parts(alloc, kind, negated, inner),
-        None => match kind.bounds(text) {
-            Some(bounds) => Ok(vec![in alloc; bounds.signed(negated)]?),
+        Some(inner) => group_parts(alloc, negated, inner),
+        None => match B::read(text) {
+            Some(bounds) => one_part(alloc, Part { negated, bounds }),
             None => Err(ReadFault::Bad),
         },
     }
+}
+
+/// A list of one part.
+fn one_part<B: Copy>(alloc: Global, part: Part<B>) -> Result<Vec<Part<B>>, ReadFault>
+    ensures { IsOne part result }
+{
+    let mut parts = Vec::new(alloc);
+    parts.push(part)?;
+    Ok(parts)
 }
 
 /// What stands between a `[` in front and a `]` at the end.
@@ -113,19 +119,18 @@ fn bracketed(text: &[u8]) -> Option<&[u8]>
 }
 
 /// The parts of a group that stands in brackets.
-fn group_parts(
+fn group_parts<B: Spelled>(
     alloc: Global,
-    kind: Kind,
     negated: bool,
     inner: &[u8],
-) -> Result<Vec<Part>, ReadFault>
-    ensures { Reads (λ parts. parts.items) result (group_parts (bounds_of kind) negated inner.now) }
+) -> Result<Vec<Part<B>>, ReadFault>
+    ensures { Reads (λ parts. parts.items) result (group_parts B.bounds_of negated inner.now) }
 {
     let mut parts = Vec::new(alloc);
     let mut place = Place::start(negated);
     let mut rest = inner;
     while let Some((token, behind)) = next_token(rest) {
-        let Some(step) = place.step(kind, token) else {
+        let Some(step) = place.step(token) else {
             return Err(ReadFault::Bad);
         };
         push_part(&mut parts, step.part)?;
@@ -139,7 +144,7 @@ fn group_parts(
 }
 
 /// Adds a part behind the last, if there is one.
-fn push_part(parts: &mut Vec<Part>, part: Option<Part>) -> Result<(), AllocError>
+fn push_part<B: Copy>(parts: &mut Vec<Part<B>>, part: Option<Part<B>>) -> Result<(), AllocError>
     ensures { OnOk result (parts.new.items ≡ parts.old.items ++ option_to_list part) }
 {
     match part {

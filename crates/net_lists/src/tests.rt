@@ -1,7 +1,11 @@
 //! Texts worked out by hand from the grammar of lists and from the forms of variables.
 
-use crate::{AddrList, ExpandFault, ListFault, PortList, Vars, is_name};
+use crate::{
+    AddrBounds, AddrList, Bounds, ExpandFault, ListFault, Network, Part, Parts, PortList, Vars,
+    first_word, is_name, signed_in,
+};
 use edge_io::Addr;
+use edge_io::crossing::{sendable, shareable};
 use std::alloc::{AllocError, Global};
 use std::test::Fail;
 
@@ -126,7 +130,7 @@ fn other_texts_are_no_port_lists(rt: HostRuntime) {
 }
 
 /// A list, an address, and whether it is listed; 0x0a00_0001 is 10.0.0.1.
-const ADDRESSES: [(&str, Addr, bool); 23] = [
+const ADDRESSES: [(&str, Addr, bool); 30] = [
     ("any", Addr::V4(0x0000_0000), true),
     ("any", Addr::V6(1), true),
     ("10.0.0.1", Addr::V4(0x0a00_0001), true),
@@ -150,6 +154,21 @@ const ADDRESSES: [(&str, Addr, bool); 23] = [
     ("!10.0.0.0/8", Addr::V4(0x0b00_0001), true),
     ("!10.0.0.0/8", Addr::V4(0x0a00_0001), false),
     ("!10.0.0.0/8", Addr::V6(1), true),
+    (
+        "[2001:db8::/32,!2001:db8::2]",
+        Addr::V6(0x2001_0db8_0000_0000_0000_0000_0000_0001),
+        true,
+    ),
+    (
+        "[2001:db8::/32,!2001:db8::2]",
+        Addr::V6(0x2001_0db8_0000_0000_0000_0000_0000_0002),
+        false,
+    ),
+    ("[2001:db8::/32,!2001:db8::2]", Addr::V4(0x0a00_0001), false),
+    ("[10.0.0.0/8,::1]", Addr::V6(1), true),
+    ("[10.0.0.0/8,::1]", Addr::V6(0x0a00_0001), false),
+    ("!::/0", Addr::V4(1), true),
+    ("!::/0", Addr::V6(1), false),
 ];
 
 #[test]
@@ -161,8 +180,31 @@ fn address_lists_have_their_addresses(rt: HostRuntime) -> Result<(), Fail> {
     Ok(())
 }
 
+#[test]
+fn address_lists_have_their_parts(rt: HostRuntime) -> Result<(), Fail> {
+    let of_4 = AddrBounds::V4(Bounds {
+        low: 0x0a00_0000,
+        high: 0x0aff_ffff,
+    });
+    let of_6 = AddrBounds::V6(Bounds { low: 1, high: 1 });
+    let rows = [
+        ("[1.2.3.4,!10.0.0.0/8]", of_4),
+        ("[::1,!10.0.0.0/8]", of_4),
+        ("[1.2.3.4,!::1]", of_6),
+    ];
+    for (text, bounds) in rows {
+        let list = AddrList::read(rt.alloc(), text.as_bytes())?;
+        let last = Part {
+            negated: true,
+            bounds,
+        };
+        assert_eq!(rt; list.parts().last(), Some(last), "{text}");
+    }
+    Ok(())
+}
+
 /// Texts that are no address lists.
-const NO_ADDRESS_LISTS: [&str; 23] = [
+const NO_ADDRESS_LISTS: [&str; 32] = [
     "",
     "80",
     "10.0.0",
@@ -184,8 +226,17 @@ const NO_ADDRESS_LISTS: [&str; 23] = [
     "[10.0.0.1 /8]",
     "[any]",
     "!any",
-    "::1",
     "10.0.0.1:80",
+    "1:2:3:4:5:6:7",
+    "1:2:3:4:5:6:7:8:9",
+    "1:2:3:4::5:6:7:8",
+    "1::2::3",
+    ":::",
+    "12345::",
+    "g::",
+    "::ffff:10.0.0.1",
+    "::/129",
+    "1:",
 ];
 
 #[test]
@@ -313,5 +364,103 @@ fn undefined_variables_and_long_texts_are_refused(rt: HostRuntime) -> Result<(),
             }
         }
     }
+    Ok(())
+}
+
+/// Texts of RFC 4291, sections 2.2 and 2.3, with the first address of each and its prefix length.
+const NETWORKS: [(&str, u128, u32); 12] = [
+    (
+        "ABCD:EF01:2345:6789:ABCD:EF01:2345:6789",
+        0xabcd_ef01_2345_6789_abcd_ef01_2345_6789,
+        128,
+    ),
+    (
+        "2001:DB8:0:0:8:800:200C:417A",
+        0x2001_0db8_0000_0000_0008_0800_200c_417a,
+        128,
+    ),
+    (
+        "2001:DB8::8:800:200C:417A",
+        0x2001_0db8_0000_0000_0008_0800_200c_417a,
+        128,
+    ),
+    (
+        "FF01:0:0:0:0:0:0:101",
+        0xff01_0000_0000_0000_0000_0000_0000_0101,
+        128,
+    ),
+    ("FF01::101", 0xff01_0000_0000_0000_0000_0000_0000_0101, 128),
+    ("::1", 1, 128),
+    ("::", 0, 128),
+    (
+        "2001:0DB8:0000:CD30:0000:0000:0000:0000/60",
+        0x2001_0db8_0000_cd30_0000_0000_0000_0000,
+        60,
+    ),
+    (
+        "2001:0DB8::CD30:0:0:0:0/60",
+        0x2001_0db8_0000_cd30_0000_0000_0000_0000,
+        60,
+    ),
+    (
+        "2001:0DB8:0:CD30::/60",
+        0x2001_0db8_0000_cd30_0000_0000_0000_0000,
+        60,
+    ),
+    (
+        "2001:0DB8:0:CD30:123:4567:89AB:CDEF/60",
+        0x2001_0db8_0000_cd30_0000_0000_0000_0000,
+        60,
+    ),
+    ("::1/0", 0, 0),
+];
+
+#[test]
+fn networks_have_their_first_address(rt: HostRuntime) {
+    for (text, first, length) in NETWORKS {
+        let network = Network {
+            first: Addr::V6(first),
+            length,
+        };
+        assert_eq!(rt; Network::read(text.as_bytes()), Some(network), "{text}");
+    }
+    let of_4 = Network {
+        first: Addr::V4(0x0a00_0000),
+        length: 8,
+    };
+    assert_eq!(rt; Network::read(b"10.1.2.3/8"), Some(of_4));
+    assert_eq!(rt;
+        Network::read(b"2001:0DB8:0:CD3/60").is_none(),
+        true,
+        "a missing zero"
+    );
+}
+
+#[test]
+fn texts_are_cut_outside_brackets(rt: HostRuntime) -> Result<(), Fail> {
+    let text = b" a [b, c]\td".as_slice();
+    assert_eq!(rt; first_word(text).1, b"[b, c]\td".as_slice());
+    let rows = [
+        (Parts::words(text).last(), "d", "words"),
+        (Parts::settings(b"a b,, [c,d]").last(), "[c,d]", "settings"),
+        (Parts::commas(b"a, [b,c] ").last(), "[b,c]", "comma parts"),
+        (Parts::commas(b"a,").last(), "", "an empty part"),
+        (Parts::commas(b"").last(), "", "an empty text"),
+    ];
+    for (found, part, label) in rows {
+        assert_eq!(rt; found.unwrap_or(b"none"), part.as_bytes(), "{label}");
+    }
+    assert_eq!(rt; signed_in(-5, 5, b"-0"), Some(0));
+    assert_eq!(rt; signed_in(-5, 5, b"-05"), None);
+    assert_eq!(rt;
+        PortList::from_ports(rt.alloc(), &[21, 80])?.contains(80),
+        true
+    );
+    sendable::<AddrList>();
+    shareable::<AddrList>();
+    sendable::<PortList>();
+    shareable::<PortList>();
+    sendable::<Vars>();
+    shareable::<Vars>();
     Ok(())
 }

@@ -1,6 +1,9 @@
 ghost use Rattle.std.specs.Prelude.{◌≡◌, ◌<◌, ◌≤◌, [], ◌∷◌, length, true, false, MatchOption, IfSome};
 ghost use Rattle.std.specs.List.{prefix_len};
-ghost use Rattle.net_lists.specs.Tokens.{symbols, symbol_of, is_blank, is_word_byte, begins_word, begins_blank};
+ghost use Rattle.net_lists.specs.Tokens.{symbols, is_word_byte, begins_word, begins_blank};
+ghost use Rattle.net_lists.specs.Tokenized.{symbol_of};
+
+use crate::blank::{is_blank, without_front_blanks};
 
 /// What stands next inside the brackets of a list.
 #[derive(Clone, Copy, Debug)]
@@ -35,7 +38,7 @@ fn skip_blanks(text: &[u8]) -> &[u8]
     ensures short { length result.now ≤ length text.now }
     ensures blankless { begins_blank result.now ≡ false }
 {
-    &text[blanks_len(text)..]
+    without_front_blanks(text)
 }
 
 /// The word in front and the bytes behind it.
@@ -49,17 +52,6 @@ fn first_word(text: &[u8]) -> (Token<'_>, &[u8])
     (Token::Word(word), behind)
 }
 
-/// How many blanks stand in front.
-#[tactic(auto, using(crate::proofs::Fronts::fronts))]
-fn blanks_len(text: &[u8]) -> usize
-    ensures len { result ≡ prefix_len is_blank text.now }
-    ensures within { result ≤ length text.now }
-{
-    text.iter()
-        .position(|byte| !is_blank(*byte))
-        .unwrap_or(text.len())
-}
-
 /// How many bytes of a word stand in front.
 #[tactic(auto, using(crate::proofs::Fronts::fronts))]
 fn word_len(text: &[u8]) -> usize
@@ -69,13 +61,6 @@ fn word_len(text: &[u8]) -> usize
     text.iter()
         .position(|byte| !is_word_byte(*byte))
         .unwrap_or(text.len())
-}
-
-/// Space or tab.
-fn is_blank(byte: u8) -> bool
-    ensures { result ≡ is_blank byte }
-{
-    byte == b' ' || byte == b'\t'
 }
 
 /// Neither a blank nor a mark.

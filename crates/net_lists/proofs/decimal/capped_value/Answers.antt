@@ -1,6 +1,6 @@
 use Rattle.std.proofs.Common.{ℕ, ◌+◌, ◌*◌, ◌-◌, arith}
 use Rattle.std.proofs.lemmas.List.Sums.{fold_more}
-use Rattle.net_lists.specs.Parts.{decimal_value}
+use Rattle.net_lists.specs.Numbers.{decimal_value}
 use Rattle.net_lists.proofs.decimal.capped_value.Goals as goal
 
 pub loop-digit-init : goal.loop-digit-init

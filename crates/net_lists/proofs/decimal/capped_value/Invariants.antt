@@ -1,5 +1,5 @@
 use Rattle.std.proofs.Common.{◌≡◌, min, take}
-use Rattle.net_lists.specs.Parts.{decimal_value}
+use Rattle.net_lists.specs.Numbers.{decimal_value}
 use Rattle.net_lists.proofs.decimal.capped_value.Given as goal
 
 abbrev pub invariant-loop-digit : goal.invariant-loop-digit

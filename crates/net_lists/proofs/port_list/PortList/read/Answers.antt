@@ -1,5 +1,5 @@
 use Rattle.net_lists.specs.Parts.{port_bounds}
-use Rattle.net_lists.proofs.Starts.{port_bounds-started}
+use Rattle.net_lists.proofs.Starts.{port_parts}
 use Rattle.net_lists.proofs.ListParts.{spelled, answer_ok, answer_bad, answer_long, is_too_long}
 use Rattle.net_lists.proofs.port_list.PortList.read.Goals as goal
 
@@ -7,13 +7,13 @@ pub returns-in-Ok-clause-spelled : goal.returns-in-Ok-clause-spelled
 returns-in-Ok-clause-spelled c = let read = c.in-Ok.ensures in spelled port_bounds c.args.text.now c.in-Ok.parts.items read.0
 
 pub returns-in-Ok-clause-answer : goal.returns-in-Ok-clause-answer
-returns-in-Ok-clause-answer c = let read = c.in-Ok.ensures in answer_ok port_bounds port_bounds-started c.args.text.now c.in-Ok.parts.items read.0 read.1
+returns-in-Ok-clause-answer c = let read = c.in-Ok.ensures in answer_ok port_bounds port_parts c.args.text.now c.in-Ok.parts.items read.0 read.1
 
 pub returns-in-Err-Bad-clause-answer : goal.returns-in-Err-Bad-clause-answer
-returns-in-Err-Bad-clause-answer c = answer_bad port_bounds port_bounds-started c.args.text.now (rw c.in-Err-Bad.field-0-is at c.in-Err-Bad.ensures)
+returns-in-Err-Bad-clause-answer c = answer_bad port_bounds port_parts c.args.text.now (rw c.in-Err-Bad.field-0-is at c.in-Err-Bad.ensures)
 
 pub returns-in-Err-TooLong-clause-answer : goal.returns-in-Err-TooLong-clause-answer
-returns-in-Err-TooLong-clause-answer c = let long = rw c.in-Err-TooLong.field-0-is at c.in-Err-TooLong.ensures in answer_long port_bounds port_bounds-started c.args.text.now long.0 long.1 long.2
+returns-in-Err-TooLong-clause-answer c = let long = rw c.in-Err-TooLong.field-0-is at c.in-Err-TooLong.ensures in answer_long port_bounds port_parts c.args.text.now long.0 long.1 long.2
 
 pub returns-in-Err-TooLong-clause-too_long : goal.returns-in-Err-TooLong-clause-too_long
 returns-in-Err-TooLong-clause-too_long c = λ _. let long = rw c.in-Err-TooLong.field-0-is at c.in-Err-TooLong.ensures in is_too_long port_bounds c.args.text.now long.0 long.1 long.2

@@ -1,4 +1,5 @@
-use Rattle.std.proofs.Common.{arith}
+use Rattle.std.proofs.Common.{arith, ap}
+use Rattle.net_lists.specs.Found.{form_of, otherwise_of_kept}
 use Rattle.net_lists.proofs.Pieces.{pieces-value, pieces-otherwise, pieces-plain, pieces-lone}
 use Rattle.net_lists.proofs.vars.Vars.piece_at.Goals as goal
 use Rattle.net_lists.proofs.vars.Vars.piece_at.Goals.{then-text-place-eq36+in_default, else-text-place-eq36}
@@ -8,7 +9,7 @@ returns-in-Some-default c = record {
   piece = (
     omega (arith, c.in-Some.ensures.behind),
     c.in-Some.ensures.within,
-    pieces-value c.args.self.now c.args.text.now c.args.place c.in-Some.form c.requires c.if-text-place-eq36.true c.in-Some.ensures.form c.in-Some.ensures.behind c.in-Some-default.value.now c.in-Some-default.ensures,
+    pieces-value c.args.self.now c.args.text.now c.args.place (form_of c.in-Some.form) c.requires c.if-text-place-eq36.true c.in-Some.ensures.form c.in-Some.ensures.behind c.in-Some-default.value.now c.in-Some-default.ensures,
   );
 }
 
@@ -17,7 +18,7 @@ returns-in-None-Default c = record {
   piece = (
     omega (arith, c.in-Some.ensures.behind),
     c.in-Some.ensures.within,
-    pieces-otherwise c.args.self.now c.args.text.now c.args.place c.in-Some.form c.requires c.if-text-place-eq36.true c.in-Some.ensures.form c.in-Some.ensures.behind c.in-None-Default.ensures _ c.in-None-Default.is-1,
+    pieces-otherwise c.args.self.now c.args.text.now c.args.place (form_of c.in-Some.form) c.requires c.if-text-place-eq36.true c.in-Some.ensures.form c.in-Some.ensures.behind c.in-None-Default.ensures _ (ap otherwise_of_kept c.in-None-Default.is-1),
   );
 }
 
@@ -25,7 +26,7 @@ pub returns-in-None-Refused : goal.returns-in-None-Refused
 returns-in-None-Refused c = record {
   piece = (
     _,
-    pieces-otherwise c.args.self.now c.args.text.now c.args.place c.in-Some.form c.requires c.if-text-place-eq36.true c.in-Some.ensures.form c.in-Some.ensures.behind c.in-None-Refused.ensures _ c.in-None-Refused.is-1,
+    pieces-otherwise c.args.self.now c.args.text.now c.args.place (form_of c.in-Some.form) c.requires c.if-text-place-eq36.true c.in-Some.ensures.form c.in-Some.ensures.behind c.in-None-Refused.ensures _ (ap otherwise_of_kept c.in-None-Refused.is-1),
   );
 }
 
