@@ -1,4 +1,3 @@
-pub mod Numbers
 pub mod Filling
 pub mod Told
 pub mod Laws
@@ -6,3 +5,4 @@ pub mod Heads
 pub mod Records
 pub mod Endings
 pub mod Steps
+pub mod Reading

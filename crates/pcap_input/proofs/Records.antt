@@ -6,7 +6,7 @@ use Rattle.pcap_input.specs.declared.capture.CaptureHead.{CaptureHead}
 use Rattle.pcap_input.specs.declared.capture.Record.{Record}
 use Rattle.pcap_input.specs.declared.capture.CaptureFault.{CaptureFault}
 use Rattle.pcap_input.specs.declared.capture.CaptureFault.TheVariants.{NotPcap, LinkType, Truncated, TooLong, TooMany, Failed, NoMemory}
-use Rattle.pcap_input.specs.Savefile.{captured_length, record_of, Ending, Refused, Next, Ends, Stands, next_of, Cut, no_more, with_first, place_behind, cut_up, records_left, left_by}
+use Rattle.pcap_input.specs.Savefile.{captured_length, record_of, Ending, Refused, Next, Ends, Stands, next_of, Cut, no_more, with_first, place_behind, cut_up, records_left}
 use Rattle.pcap_input.specs.Reader.{Shows}
 use Rattle.pcap_input.proofs.Laws.{behind_means, bytes_stand, next_means, next_of_header}
 
@@ -52,13 +52,6 @@ stands_parts head number place bytes given rest is =
       few = next.few;
       short = omega (arith, ap length holds, behind.short);
     }
-
--- a record that stands, stands there before further bytes too
-pub next_of-append : (head : CaptureHead) (number place : ℕ) (front back : List ℕ) (given : Record) (rest : List ℕ)
-    → next_of head number place front ≡ Stands given rest → next_of head number place (front ++ back) ≡ Stands given (rest ++ back)
-next_of-append head number place front back given rest is =
-    let parts = stands_parts head number place front given rest is in
-    ap (next_of head number place) (ap (λ xs. xs ++ back) parts.joined ∙ append_assoc parts.own rest back) ∙ parts.goes (rest ++ back)
 
 -- one more step of a cut
 cut_on : ℕ → CaptureHead → ℕ → ℕ → Next → Cut
@@ -112,16 +105,6 @@ records_left-stands head number place rest first more is =
     ap (λ (n : ℕ). cut_up n head number place rest) step ∙ cut_up-suc (length rest) head number place rest (Stands first more) is
     ∙ ap (with_first first) (enough (length rest) (length more + 1) head (number + 1) (place_behind place first) more (omega arith) (omega arith))
 
-left_by_next : (head : CaptureHead) (number place : ℕ) (rest : List ℕ) (next : Next) → next_of head number place rest ≡ next
-    → records_left head number place rest ≡ left_by head number place next
-left_by_next head number place rest (Ends ending) is = records_left-ends head number place rest ending is
-left_by_next head number place rest (Stands first more) is = records_left-stands head number place rest first more is
-
--- what is left, by what stands next
-pub records_left-next : (head : CaptureHead) (number place : ℕ) (rest : List ℕ)
-    → records_left head number place rest ≡ left_by head number place (next_of head number place rest)
-records_left-next head number place rest = left_by_next head number place rest (next_of head number place rest) refl
-
 -- bytes that hold a refusal, or that memory lacked for or a host failed at, hold no record
 pub shows_ending : (why : CaptureFault) (next : Next) → Shows why next → (ending : Ending) × (next ≡ Ends ending)
 shows_ending NotPcap next shows = (Refused NotPcap, shows)
@@ -131,33 +114,3 @@ shows_ending (TooLong at len) next shows = (Refused (TooLong at len), shows)
 shows_ending TooMany next shows = (Refused TooMany, shows)
 shows_ending Failed next shows = shows
 shows_ending NoMemory next shows = shows
-
--- the records of a front are the first records of the whole
-pub record IsFront (front whole : List Record) : Type 0 where
-  pub others : List Record
-  pub joined : whole ≡ front ++ others
-
-front_by : (head : CaptureHead) (number place : ℕ) (front back : List ℕ)
-    → ((n p : ℕ) (more : List ℕ) → length more < length front → IsFront (records_left head n p more).records (records_left head n p (more ++ back)).records)
-    → (next : Next) → next_of head number place front ≡ next
-    → IsFront (records_left head number place front).records (records_left head number place (front ++ back)).records
-front_by head number place front back shorter (Ends ending) is =
-    let none = ap (λ (cut : Cut). cut.records) (records_left-ends head number place front ending is) in
-    record { others = (records_left head number place (front ++ back)).records; joined = rw none refl }
-front_by head number place front back shorter (Stands first more) is =
-    let parts = stands_parts head number place front first more is in
-    let less : length more < length front = omega (arith, ap length parts.joined, length-append parts.own more, parts.size) in
-    let short = ap (λ (cut : Cut). cut.records) (records_left-stands head number place front first more is) in
-    let long = ap (λ (cut : Cut). cut.records) (records_left-stands head number place (front ++ back) first (more ++ back) (next_of-append head number place front back first more is)) in
-    let rest = shorter (number + 1) (place_behind place first) more less in
-    record { others = rest.others; joined = long ∙ ap (λ rs. first ∷ rs) rest.joined ∙ ap (λ rs. rs ++ rest.others) (sym short) }
-
-front_within : (most : ℕ) (head : CaptureHead) (number place : ℕ) (front back : List ℕ) → length front < most
-    → IsFront (records_left head number place front).records (records_left head number place (front ++ back)).records
-front_within zero head number place front back fits = absurd (omega arith)
-front_within (suc most) head number place front back fits =
-    front_by head number place front back (λ n p more less. front_within most head n p more back (omega arith)) (next_of head number place front) refl
-
-pub records_left-front : (head : CaptureHead) (number place : ℕ) (front back : List ℕ)
-    → IsFront (records_left head number place front).records (records_left head number place (front ++ back)).records
-records_left-front head number place front back = front_within (length front + 1) head number place front back (omega arith)

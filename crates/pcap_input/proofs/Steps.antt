@@ -9,7 +9,7 @@ use Rattle.pcap_input.specs.declared.capture.CaptureFault.{CaptureFault}
 use Rattle.pcap_input.specs.declared.capture.CaptureFault.TheVariants.{NotPcap, LinkType, Truncated, TooLong, TooMany, Failed, NoMemory}
 use Rattle.edge_io.specs.declared.moment.Moment.{Moment}
 use Rattle.pcap_input.specs.Savefile.{number_at, moment_of, captured_length, record_of, Clean, Refused, Next, Ends, Stands, next_behind, next_of}
-use Rattle.pcap_input.specs.Reader.{standing, Gives, Shows, TakesRecord, TakesNone}
+use Rattle.pcap_input.specs.Reader.{reader_at, Gives, Shows, TakesRecord, TakesNone}
 use Rattle.pcap_input.specs.Pieces.{GivesOne, TakesBytes, TakesFewer, TakesLess}
 use Rattle.pcap_input.proofs.Told.{split_told, all_taken, none_taken}
 use Rattle.pcap_input.proofs.Laws.{bytes_stand, behind_too_long, behind_truncated, next_of_header, next_of_nothing, next_of_too_many, next_of_truncated}
@@ -84,7 +84,7 @@ header_next head number place header old mid whole few took rest told =
 -- the record with its header
 pub with_header : (head : CaptureHead) (number place : ℕ) (header : List ℕ) (given : Record) (old mid new : Option (List ℕ))
     → length header ≡ 16 → number < 4294967295 → old ≡ before header mid → TakesBytes head number place header given mid new
-    → TakesRecord (standing head number place) given old new
+    → TakesRecord (reader_at head number place) given old new
 with_header head number place header given old mid new whole few took takes = record {
   taken = header ++ takes.taken;
   took = took ∙ ap (before header) takes.took ∙ before-before header takes.taken new;
@@ -96,7 +96,7 @@ with_header head number place header given old mid new whole few took takes = re
 -- a part of a record with its header
 pub fewer_with_header : (head : CaptureHead) (number place : ℕ) (header : List ℕ) (why : CaptureFault) (old mid new : Option (List ℕ))
     → length header ≡ 16 → number < 4294967295 → old ≡ before header mid → TakesFewer head number place header why mid new
-    → TakesNone (standing head number place) why old new
+    → TakesNone (reader_at head number place) why old new
 fewer_with_header head number place header why old mid new whole few took takes = record {
   taken = header ++ takes.taken;
   took = took ∙ ap (before header) takes.took ∙ before-before header takes.taken new;

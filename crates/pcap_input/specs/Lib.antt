@@ -1,3 +1,4 @@
 pub mod Savefile
 pub mod Reader
 pub mod Pieces
+pub mod Reading

@@ -8,7 +8,7 @@ use Rattle.pcap_input.specs.declared.capture.CaptureHead.{CaptureHead}
 use Rattle.pcap_input.specs.declared.capture.Record.{Record}
 use Rattle.pcap_input.specs.declared.capture.CaptureFault.{CaptureFault}
 use Rattle.pcap_input.specs.declared.capture.CaptureFault.TheVariants as fault
-use Rattle.pcap_input.specs.Savefile.{head_of, Refused, Next, Ends, Stands, next_behind}
+use Rattle.pcap_input.specs.Savefile.{file_header, head_of, Refused, Next, Ends, Stands, next_behind}
 use Rattle.pcap_input.specs.Reader.{Shows}
 
 -- the answer is the head or its refusal, unless the host failed
@@ -17,11 +17,11 @@ Reads (Ok head) said = said ≡ Ok head
 Reads (Err fault.Failed) said = ⊤
 Reads (Err why) said = said ≡ Err why
 
--- at most 24 bytes were taken, and the answer is theirs
+-- at most the bytes of a file header were taken, and the answer is theirs
 pub record TakesFileHeader (answer : Result CaptureHead CaptureFault) (old new : Option (List ℕ)) : Type 0 where
   pub taken : List ℕ
   pub took : old ≡ before taken new
-  pub few : length taken ≤ 24
+  pub few : length taken ≤ file_header
   pub answers : Reads answer (head_of taken)
 
 -- the answer is what stands next, unless memory lacked or the host failed

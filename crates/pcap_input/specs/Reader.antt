@@ -13,7 +13,7 @@ use Rattle.pcap_input.specs.declared.capture.CaptureHead.{CaptureHead}
 use Rattle.pcap_input.specs.declared.capture.Record.{Record}
 use Rattle.pcap_input.specs.declared.capture.CaptureFault.{CaptureFault}
 use Rattle.pcap_input.specs.declared.capture.CaptureFault.TheVariants as fault
-use Rattle.pcap_input.specs.Savefile.{head_of, Ending, Clean, Refused, Next, Ends, Stands, next_of, place_behind}
+use Rattle.pcap_input.specs.Savefile.{file_header, record_header, head_of, Ending, Clean, Refused, Next, Ends, Stands, next_of, place_behind}
 
 -- a reader: its head, how many records it has given, where it stands, and what it has refused
 pub record Reading : Type 0 where
@@ -23,26 +23,26 @@ pub record Reading : Type 0 where
   pub refused : Option CaptureFault
 
 -- a reader that has given so many records and stands at this place
-abbrev pub standing : CaptureHead → ℕ → ℕ → Reading
-standing head number place = record { head = head; number = number; at = place; refused = None }
+abbrev pub reader_at : CaptureHead → ℕ → ℕ → Reading
+reader_at head number place = record { head = head; number = number; at = place; refused = None }
 
 -- a reader that has given no record
-abbrev pub begun : CaptureHead → Reading
-begun head = standing head 0 24
+abbrev pub new_reader : CaptureHead → Reading
+new_reader head = reader_at head 0 file_header
 
 -- the reader behind a record, or where it was
-abbrev pub moved : Reading → Option Record → Reading
-moved reader None = reader
-moved reader (Some given) =
+abbrev pub after_next : Reading → Option Record → Reading
+after_next reader None = reader
+after_next reader (Some given) =
     record { head = reader.head; number = reader.number + 1; at = place_behind reader.at given; refused = reader.refused }
 
 -- the reader with a refusal, which it keeps
-abbrev pub refusing : Reading → CaptureFault → Reading
-refusing reader why = record { head = reader.head; number = reader.number; at = reader.at; refused = Some why }
+abbrev pub after_refusal : Reading → CaptureFault → Reading
+after_refusal reader why = record { head = reader.head; number = reader.number; at = reader.at; refused = Some why }
 
 -- the reader that a head gives
 abbrev pub reader_of : Result CaptureHead CaptureFault → Result Reading CaptureFault
-reader_of (Ok head) = Ok (begun head)
+reader_of (Ok head) = Ok (new_reader head)
 reader_of (Err why) = Err why
 
 -- the answer is what the head says, unless the host failed
@@ -62,7 +62,7 @@ pub record TakesHead (contents : Option Files) (name : List ℕ) (answer : Resul
   pub opened : IsOpened contents name whole
   pub taken : List ℕ
   pub took : whole ≡ before taken left
-  pub few : length taken ≤ 24
+  pub few : length taken ≤ file_header
   pub answers : Opens answer (head_of taken)
 
 -- the faults of a file header, and that the host failed
@@ -87,7 +87,7 @@ Gives (Err why) next = next ≡ Ends (Refused why)
 pub record TakesRecord (reader : Reading) (given : Record) (old new : Option (List ℕ)) : Type 0 where
   pub taken : List ℕ
   pub took : old ≡ before taken new
-  pub size : length taken ≡ 16 + length given.bytes
+  pub size : length taken ≡ record_header + length given.bytes
   pub goes : (more : List ℕ) → next_of reader.head reader.number reader.at (taken ++ more) ≡ Stands given more
 
 -- these bytes alone show the refusal; where memory lacked or the host failed, they hold no record

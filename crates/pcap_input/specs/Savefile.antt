@@ -9,13 +9,33 @@
 -- head Ethernet, least significant byte first, microseconds, no record and a clean ending; with one
 -- byte behind them the ending is Truncated at 24; without the last of them the head is refused as
 -- Truncated at 0.
-use Rattle.std.specs.Prelude.{◌≡◌, ◌<◌, ⊤, ℕ, zero, suc, ◌+◌, ◌*◌, ◌%◌, ◌==◌, nat_lt, nat_le, Bool, true, false, if◌then◌else◌, List, [], ◌∷◌, length, take, drop, Option, Some, None, Result, Ok, Err}
+use Rattle.std.specs.Prelude.{◌≤◌, ℕ, zero, suc, ◌+◌, ◌*◌, ◌%◌, ◌==◌, nat_lt, nat_le, Bool, true, false, if◌then◌else◌, List, [], ◌∷◌, length, take, drop, Option, Some, None, Result, Ok, Err}
 use Rattle.byteorder.specs.Endian.{big_from, little_from}
 use Rattle.edge_io.specs.declared.link.Link.TheVariants.{Ethernet, RawIp, Cooked}
 use Rattle.pcap_input.specs.declared.capture.CaptureHead.{CaptureHead}
 use Rattle.pcap_input.specs.declared.capture.Record.{Record}
 use Rattle.pcap_input.specs.declared.capture.CaptureFault.{CaptureFault}
 use Rattle.pcap_input.specs.declared.capture.CaptureFault.TheVariants.{NotPcap, LinkType, Truncated, TooLong, TooMany, Failed, NoMemory}
+
+-- the bytes of the file header
+abbrev pub file_header : ℕ
+file_header = 24
+
+-- the bytes of a record header
+abbrev pub record_header : ℕ
+record_header = 16
+
+-- the most captured bytes of a record
+abbrev pub longest : ℕ
+longest = 262144
+
+-- the most records of a capture
+abbrev pub most_records : ℕ
+most_records = 4294967295
+
+-- a place that so many records can reach behind the file header
+abbrev pub IsReachable : ℕ → ℕ → Type 0
+IsReachable number place = place ≤ file_header + number * (record_header + longest)
 
 -- the number in the `count` bytes from a place on: most significant byte first where the file is
 -- swapped, least significant byte first where not
@@ -43,7 +63,7 @@ head_behind swapped nanos bytes =
 -- microseconds and a1b23c4d where they are nanoseconds, and tells the byte order
 unfoldable pub head_of : List ℕ → Result CaptureHead CaptureFault
 head_of bytes =
-    if nat_lt (length bytes) 24 then Err (Truncated 0) else
+    if nat_lt (length bytes) file_header then Err (Truncated 0) else
     if number_at false 0 4 bytes == 0xa1b2_c3d4 then head_behind false false bytes else
     if number_at false 0 4 bytes == 0xa1b2_3c4d then head_behind false true bytes else
     if number_at true 0 4 bytes == 0xa1b2_c3d4 then head_behind true false bytes else
@@ -79,10 +99,10 @@ pub data Next : Type 0 where
   Ends : Ending → Next
   Stands : Record → List ℕ → Next
 
--- what stands where these 16 bytes of a header stand at `place`, before these bytes
+-- what stands where these bytes of a record header stand at `place`, before these bytes
 unfoldable pub next_behind : CaptureHead → ℕ → ℕ → List ℕ → List ℕ → Next
 next_behind head number place header bytes =
-    if nat_lt 262144 (captured_length head header) then Ends (Refused (TooLong place (captured_length head header))) else
+    if nat_lt longest (captured_length head header) then Ends (Refused (TooLong place (captured_length head header))) else
     if nat_lt (length bytes) (captured_length head header) then Ends (Refused (Truncated place)) else
     Stands (record_of head number header (take (captured_length head header) bytes)) (drop (captured_length head header) bytes)
 
@@ -90,9 +110,9 @@ next_behind head number place header bytes =
 unfoldable pub next_of : CaptureHead → ℕ → ℕ → List ℕ → Next
 next_of head number place rest =
     if length rest == 0 then Ends Clean else
-    if nat_le 4294967295 number then Ends (Refused TooMany) else
-    if nat_lt (length rest) 16 then Ends (Refused (Truncated place)) else
-    next_behind head number place (take 16 rest) (drop 16 rest)
+    if nat_le most_records number then Ends (Refused TooMany) else
+    if nat_lt (length rest) record_header then Ends (Refused (Truncated place)) else
+    next_behind head number place (take record_header rest) (drop record_header rest)
 
 -- records in order, and the ending behind them
 pub record Cut : Type 0 where
@@ -109,7 +129,7 @@ with_first first cut = record { records = first ∷ cut.records; ending = cut.en
 
 -- the place behind a record that begins at this place
 abbrev pub place_behind : ℕ → Record → ℕ
-place_behind place record_here = place + 16 + length record_here.bytes
+place_behind place record_here = place + record_header + length record_here.bytes
 
 -- at most `most` records, one behind the other, and then the ending
 unfoldable pub cut_up : ℕ → CaptureHead → ℕ → ℕ → List ℕ → Cut
@@ -125,31 +145,10 @@ cut_up (suc most) head number place rest =
 unfoldable pub records_left : CaptureHead → ℕ → ℕ → List ℕ → Cut
 records_left head number place rest = cut_up (length rest + 1) head number place rest
 
--- the records and the ending by what stands next: that ending, or the record and what is left behind it
-abbrev pub left_by : CaptureHead → ℕ → ℕ → Next → Cut
-left_by head number place (Ends ending) = no_more ending
-left_by head number place (Stands first more) = with_first first (records_left head (number + 1) (place_behind place first) more)
-
--- the place behind these records, of which the first begins at this place
-abbrev pub place_after : ℕ → List Record → ℕ
-place_after place [] = place
-place_after place (first ∷ others) = place_after (place_behind place first) others
-
--- a refusal that names a place names this one
-abbrev pub IsAt : ℕ → Ending → Type 0
-IsAt place Clean = ⊤
-IsAt place (Refused NotPcap) = ⊥
-IsAt place (Refused (LinkType link_type)) = ⊥
-IsAt place (Refused (Truncated at)) = at ≡ place
-IsAt place (Refused (TooLong at len)) = (at ≡ place) × (262144 < len)
-IsAt place (Refused TooMany) = ⊤
-IsAt place (Refused Failed) = ⊥
-IsAt place (Refused NoMemory) = ⊥
-
 -- the first records where there is a limit, which is then a clean ending; all where it isn't reached
-unfoldable pub limited : Option ℕ → Cut → Cut
-limited None cut = cut
-limited (Some limit) cut =
+unfoldable pub first_records : Option ℕ → Cut → Cut
+first_records None cut = cut
+first_records (Some limit) cut =
     if nat_le limit (length cut.records) then record { records = take limit cut.records; ending = Clean } else cut
 
 -- a whole capture
@@ -161,6 +160,6 @@ pub record Capture : Type 0 where
 unfoldable pub savefile : List ℕ → Option ℕ → Result Capture CaptureFault
 savefile bytes limit =
     elim (head_of bytes) [
-      | Ok head ↦ Ok (record { head = head; cut = limited limit (records_left head 0 24 (drop 24 bytes)) })
+      | Ok head ↦ Ok (record { head = head; cut = first_records limit (records_left head 0 file_header (drop file_header bytes)) })
       | Err fault ↦ Err fault
     ]

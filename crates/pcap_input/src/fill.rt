@@ -22,6 +22,7 @@ pub fn fill<H: Host>(host: &mut H, buf: &mut [u8]) -> Result<usize, FillStop>
     ensures short { IfErr result (λ stop. stop.done < length buf.old) }
     ensures failed { OnErr result (Rose (H.faults host.old) (H.faults host.new)) }
     ensures same_contents { H.contents host.new ≡ H.contents host.old }
+    ensures same_opens { H.opens host.new ≡ H.opens host.old }
     ensures later { H.faults host.old ≤ H.faults host.new }
 {
     let mut done = 0;

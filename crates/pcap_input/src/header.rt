@@ -1,5 +1,5 @@
 ghost use Rattle.std.specs.Prelude.{◌≡◌, ◌+◌, ◌<◌, ◌≤◌, ◌^◌, length};
-ghost use Rattle.pcap_input.specs.Savefile.{number_at, head_with, head_behind, head_of, captured_length, moment_of};
+ghost use Rattle.pcap_input.specs.Savefile.{file_header, record_header, number_at, head_with, head_behind, head_of, captured_length, moment_of};
 
 use crate::{CaptureFault, CaptureHead};
 use byteorder::{BigEndian, ByteOrder, LittleEndian};
@@ -21,7 +21,7 @@ const NANOSECONDS: u32 = 0xa1b2_3c4d;
 const MAJOR: u16 = 2;
 
 /// The number of 32 bits at a place, in the file's byte order.
-#[tactic(auto, using(crate::proofs::Numbers::numbers), unfolding(crate::specs::Savefile::number_at))]
+#[tactic(auto, using(edge_io::proofs::Bytes::numbers), unfolding(crate::specs::Savefile::number_at))]
 fn u32_at(swapped: bool, bytes: &[u8], place: usize) -> u32
     requires { place + 4 ≤ length bytes.now }
     ensures { result ≡ number_at swapped place 4 bytes.now }
@@ -35,7 +35,7 @@ fn u32_at(swapped: bool, bytes: &[u8], place: usize) -> u32
 }
 
 /// The number of 16 bits at a place, in the file's byte order.
-#[tactic(auto, using(crate::proofs::Numbers::numbers), unfolding(crate::specs::Savefile::number_at))]
+#[tactic(auto, using(edge_io::proofs::Bytes::numbers), unfolding(crate::specs::Savefile::number_at))]
 fn u16_at(swapped: bool, bytes: &[u8], place: usize) -> u16
     requires { place + 2 ≤ length bytes.now }
     ensures { result ≡ number_at swapped place 2 bytes.now }
@@ -69,7 +69,7 @@ fn with_link(swapped: bool, nanos: bool, link_type: u32) -> Result<CaptureHead, 
 /// The head of a file header, by what its magic number told.
 #[tactic(auto, unfolding(crate::specs::Savefile::head_behind))]
 fn behind_magic(swapped: bool, nanos: bool, bytes: &[u8]) -> Result<CaptureHead, CaptureFault>
-    requires { length bytes.now ≡ 24 }
+    requires { length bytes.now ≡ file_header }
     ensures { result ≡ head_behind swapped nanos bytes.now }
 {
     if u16_at(swapped, bytes, 4) != MAJOR {
@@ -81,7 +81,7 @@ fn behind_magic(swapped: bool, nanos: bool, bytes: &[u8]) -> Result<CaptureHead,
 /// The head of a file header.
 #[tactic(auto, unfolding(crate::specs::Savefile::head_of))]
 pub fn read_head(bytes: &[u8]) -> Result<CaptureHead, CaptureFault>
-    requires { length bytes.now ≡ 24 }
+    requires { length bytes.now ≡ file_header }
     ensures { result ≡ head_of bytes.now }
 {
     let least_first = u32_at(false, bytes, 0);
@@ -102,16 +102,16 @@ pub fn read_head(bytes: &[u8]) -> Result<CaptureHead, CaptureFault>
 impl CaptureHead {
     /// How many bytes a record header says were captured.
     #[tactic(auto, unfolding(crate::specs::Savefile::captured_length))]
-    pub fn captured(self, header: &[u8]) -> u32
-        requires { length header.now ≡ 16 }
+    pub(crate) fn captured(self, header: &[u8]) -> u32
+        requires { length header.now ≡ record_header }
         ensures { result ≡ captured_length self header.now }
     {
         u32_at(self.swapped, header, 8)
     }
 
     /// How many bytes a record header says that the packet had.
-    pub fn original(self, header: &[u8]) -> u32
-        requires { length header.now ≡ 16 }
+    pub(crate) fn original(self, header: &[u8]) -> u32
+        requires { length header.now ≡ record_header }
         ensures { result ≡ number_at self.swapped 12 4 header.now }
     {
         u32_at(self.swapped, header, 12)
@@ -119,8 +119,8 @@ impl CaptureHead {
 
     /// A record header's moment. It never wraps: both parts are below 2 ^ 32.
     #[tactic(auto, unfolding(crate::specs::Savefile::moment_of))]
-    pub fn moment(self, header: &[u8]) -> Moment
-        requires { length header.now ≡ 16 }
+    pub(crate) fn moment(self, header: &[u8]) -> Moment
+        requires { length header.now ≡ record_header }
         ensures { result.nanos ≡ moment_of self header.now }
     {
         let seconds = u64::from(u32_at(self.swapped, header, 0));

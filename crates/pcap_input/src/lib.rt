@@ -8,7 +8,6 @@
 #![tactic(auto)]
 
 mod capture;
-mod crossing;
 mod fill;
 mod header;
 mod reader;
@@ -16,5 +15,4 @@ mod reader;
 mod tests;
 
 pub use capture::{CaptureFault, CaptureHead, Record};
-pub use crossing::types_cross_threads;
 pub use reader::CaptureReader;

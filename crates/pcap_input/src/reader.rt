@@ -1,8 +1,8 @@
 ghost use Rattle.std.specs.Prelude.{◌≡◌, ◌+◌, ◌*◌, ◌<◌, ◌≤◌, ◌⊎◌, List, ℕ, Option, None, Some, length, drop, Result, IfOk, IfErr, IfSome, IfNone, OnOk, Err, IsErrOf};
-ghost use Rattle.edge_io.specs.Told.{before, Rose};
+ghost use Rattle.edge_io.specs.Told.{before, one_more, Rose};
 ghost use Rattle.edge_io.specs.Files.{Lacks, IsUnopened};
-ghost use Rattle.pcap_input.specs.Savefile.{Clean, Ends, head_of, next_of, next_behind};
-ghost use Rattle.pcap_input.specs.Reader.{standing, moved, refusing, Opens, Tells, TakesHead, IsOfHead, Gives, TakesRecord, TakesNone};
+ghost use Rattle.pcap_input.specs.Savefile.{file_header, record_header, longest, most_records, IsReachable, Clean, Ends, head_of, next_of, next_behind};
+ghost use Rattle.pcap_input.specs.Reader.{reader_at, after_next, after_refusal, Opens, Tells, TakesHead, IsOfHead, Gives, TakesRecord, TakesNone};
 ghost use Rattle.pcap_input.specs.Pieces.{Reads, TakesFileHeader, GivesOne, TakesBytes, TakesFewer, TakesLess};
 
 use crate::fill::fill;
@@ -26,14 +26,14 @@ pub struct CaptureReader {
 }
 
 impl Model for CaptureReader {
-    ghost use Rattle.std.specs.Prelude.{◌+◌, ◌*◌, ◌≤◌};
     ghost use Rattle.pcap_input.specs.Reader.{Reading};
+    ghost use Rattle.pcap_input.specs.Savefile.{IsReachable};
 
     ghost Value = { Reading };
 
     ghost view = { λ r. record { head = r.head; number = r.number; at = r.at; refused = r.refused } };
 
-    ghost invariant = { λ r. r.at ≤ 24 + r.number * 262160 };
+    ghost invariant = { λ r. IsReachable r.number r.at };
 }
 
 impl CaptureReader {
@@ -42,7 +42,7 @@ impl CaptureReader {
         // Where contents are told, the head is that of the file's bytes, or its refusal.
         ensures gives { (bytes : List ℕ) → Tells (H.contents host.old) name.now bytes → Opens result (head_of bytes) }
         ensures rest { (bytes : List ℕ) → Tells (H.contents host.old) name.now bytes
-            → OnOk result (H.left host.new ≡ Some (drop 24 bytes)) }
+            → OnOk result (H.left host.new ≡ Some (drop file_header bytes)) }
 
         // At most 24 bytes are taken; where the opening itself failed, nothing is open.
         ensures takes { TakesHead (H.contents host.old) name.now result (H.left host.new)
@@ -52,6 +52,7 @@ impl CaptureReader {
         ensures failed { IsErrOf result CaptureFault.Failed
             → Rose (H.faults host.old) (H.faults host.new) ⊎ Lacks (H.contents host.old) name.now }
         ensures same_contents { H.contents host.new ≡ H.contents host.old }
+        ensures counted { H.opens host.new ≡ one_more (H.opens host.old) }
         ensures later { H.faults host.old ≤ H.faults host.new }
     {
         host.open(name)?;
@@ -69,9 +70,9 @@ impl CaptureReader {
     /// A reader that has given `number` records and stands at the byte `at` of the capture. Takes
     /// no memory.
     pub fn resume(head: CaptureHead, number: u32, at: u64) -> CaptureReader
-        requires behind_header { 24 ≤ at }
-        requires within_records { at ≤ 24 + number * 262160 }
-        ensures { result ≡ standing head number at }
+        requires behind_header { file_header ≤ at }
+        requires within_records { IsReachable number at }
+        ensures { result ≡ reader_at head number at }
     {
         CaptureReader {
             head,
@@ -103,8 +104,8 @@ impl CaptureReader {
             → IfErr result (λ why. TakesNone self.old why (H.left host.old) (H.left host.new)) }
 
         // Where the reader stands afterwards.
-        ensures moved { IfOk result (λ given. self.new ≡ moved self.old given) }
-        ensures refused { IfErr result (λ why. self.new ≡ refusing self.old why) }
+        ensures stands { IfOk result (λ given. self.new ≡ after_next self.old given) }
+        ensures refused { IfErr result (λ why. self.new ≡ after_refusal self.old why) }
 
         // A refusal is repeated, and nothing is read.
         ensures again { (why : CaptureFault) → self.old.refused ≡ Some why → result ≡ Err why }
@@ -113,6 +114,7 @@ impl CaptureReader {
         ensures failed { IsErrOf result CaptureFault.Failed
             → Rose (H.faults host.old) (H.faults host.new) ⊎ (self.old.refused ≡ Some CaptureFault.Failed) }
         ensures same_contents { H.contents host.new ≡ H.contents host.old }
+        ensures same_opens { H.opens host.new ≡ H.opens host.old }
         ensures later { H.faults host.old ≤ H.faults host.new }
     {
         if let Some(why) = self.refused {
@@ -136,11 +138,12 @@ impl CaptureReader {
 /// Reads the file header of the capture that was opened.
 fn opened_head<H: Host>(host: &mut H) -> Result<CaptureHead, CaptureFault>
     ensures gives { (bytes : List ℕ) → H.left host.old ≡ Some bytes → Reads result (head_of bytes) }
-    ensures rest { (bytes : List ℕ) → H.left host.old ≡ Some bytes → OnOk result (H.left host.new ≡ Some (drop 24 bytes)) }
+    ensures rest { (bytes : List ℕ) → H.left host.old ≡ Some bytes → OnOk result (H.left host.new ≡ Some (drop file_header bytes)) }
     ensures takes { TakesFileHeader result (H.left host.old) (H.left host.new) }
     ensures kinds { IfErr result IsOfHead }
     ensures failed { IsErrOf result CaptureFault.Failed → Rose (H.faults host.old) (H.faults host.new) }
     ensures same_contents { H.contents host.new ≡ H.contents host.old }
+    ensures same_opens { H.opens host.new ≡ H.opens host.old }
     ensures later { H.faults host.old ≤ H.faults host.new }
 {
     let mut header = [0; FILE_HEADER];
@@ -163,12 +166,13 @@ fn read_record<H: Host>(
 ) -> Result<Option<Record>, CaptureFault>
     ensures gives { (rest : List ℕ) → H.left host.old ≡ Some rest → Gives result (next_of head number at rest) }
     ensures unopened { IsUnopened (H.contents host.old) (H.left host.old) → Gives result (Ends Clean) }
-    ensures takes { IfOk result (λ given. IfSome given (λ r. TakesRecord (standing head number at) r (H.left host.old) (H.left host.new))) }
+    ensures takes { IfOk result (λ given. IfSome given (λ r. TakesRecord (reader_at head number at) r (H.left host.old) (H.left host.new))) }
     ensures ended { IfOk result (λ given. IfNone given (H.left host.new ≡ H.left host.old)) }
-    ensures partial { IfErr result (λ why. TakesNone (standing head number at) why (H.left host.old) (H.left host.new)) }
-    ensures fits { IfOk result (λ given. IfSome given (λ r. (length r.bytes ≤ 262144) × (number < 4294967295))) }
+    ensures partial { IfErr result (λ why. TakesNone (reader_at head number at) why (H.left host.old) (H.left host.new)) }
+    ensures fits { IfOk result (λ given. IfSome given (λ r. (length r.bytes ≤ longest) × (number < most_records))) }
     ensures failed { IsErrOf result CaptureFault.Failed → Rose (H.faults host.old) (H.faults host.new) }
     ensures same_contents { H.contents host.new ≡ H.contents host.old }
+    ensures same_opens { H.opens host.new ≡ H.opens host.old }
     ensures later { H.faults host.old ≤ H.faults host.new }
 {
     let mut header = [0; RECORD_HEADER];
@@ -197,13 +201,14 @@ fn read_behind<H: Host>(
     at: u64,
     header: &[u8],
 ) -> Result<Record, CaptureFault>
-    requires { length header.now ≡ 16 }
+    requires { length header.now ≡ record_header }
     ensures gives { (rest : List ℕ) → H.left host.old ≡ Some rest → GivesOne result (next_behind head number at header.now rest) }
     ensures takes { IfOk result (λ given. TakesBytes head number at header.now given (H.left host.old) (H.left host.new)) }
     ensures partial { IfErr result (λ why. TakesFewer head number at header.now why (H.left host.old) (H.left host.new)) }
-    ensures fits { IfOk result (λ given. length given.bytes ≤ 262144) }
+    ensures fits { IfOk result (λ given. length given.bytes ≤ longest) }
     ensures failed { IsErrOf result CaptureFault.Failed → Rose (H.faults host.old) (H.faults host.new) }
     ensures same_contents { H.contents host.new ≡ H.contents host.old }
+    ensures same_opens { H.opens host.new ≡ H.opens host.old }
     ensures later { H.faults host.old ≤ H.faults host.new }
 {
     let len = head.captured(header);
@@ -231,6 +236,7 @@ fn read_bytes<H: Host>(
     ensures partial { IfErr result (λ why. TakesLess at len why (H.left host.old) (H.left host.new)) }
     ensures failed { IsErrOf result CaptureFault.Failed → Rose (H.faults host.old) (H.faults host.new) }
     ensures same_contents { H.contents host.new ≡ H.contents host.old }
+    ensures same_opens { H.opens host.new ≡ H.opens host.old }
     ensures later { H.faults host.old ≤ H.faults host.new }
 {
     let mut bytes = Vec::with_capacity(alloc, len)?;

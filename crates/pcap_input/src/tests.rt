@@ -1,6 +1,7 @@
 //! Whole captures in memory: every head, records and endings worked out by hand from the format.
 
 use crate::{CaptureFault, CaptureHead, CaptureReader, Record};
+use edge_io::crossing::{sendable, shareable};
 use edge_io::{Host, Link, MemHost, Moment};
 use std::alloc::Global;
 use std::test::Fail;
@@ -47,6 +48,18 @@ fn head(link: Link, swapped: bool, nanos: bool) -> Result<CaptureHead, CaptureFa
         swapped,
         nanos,
     })
+}
+
+#[test]
+fn types_cross_threads() {
+    sendable::<CaptureFault>();
+    shareable::<CaptureFault>();
+    sendable::<CaptureHead>();
+    shareable::<CaptureHead>();
+    sendable::<CaptureReader>();
+    shareable::<CaptureReader>();
+    sendable::<Record>();
+    shareable::<Record>();
 }
 
 #[test]
@@ -274,40 +287,68 @@ fn records_of_any_length_follow_each_other(rt: HostRuntime) -> Result<(), Fail> 
     Ok(())
 }
 
+/// The number of the record that is given, or none at the end, or what is refused.
+type Answer = Result<Option<u32>, CaptureFault>;
+
 /// What a reader that has given `number` records answers where these bytes are left at 24, and
 /// what it answers then.
-fn resumed(alloc: Global, number: u32, rest: &[u8]) -> Result<[Option<CaptureFault>; 2], Fail> {
+fn resumed(alloc: Global, number: u32, rest: &[u8]) -> Result<[Answer; 2], Fail> {
     let mut host = host_of(alloc, rest)?;
-    let _ = host.open("p");
+    host.open("p")?;
     let head = CaptureHead {
         link: Link::Ethernet,
         swapped: false,
         nanos: false,
     };
     let mut reader = CaptureReader::resume(head, number, 24);
-    let first = reader.next(alloc, &mut host).err();
-    Ok([first, reader.next(alloc, &mut host).err()])
+    let first = reader.next(alloc, &mut host);
+    let second = reader.next(alloc, &mut host);
+    Ok([
+        first.map(|given| given.map(|record| record.number)),
+        second.map(|given| given.map(|record| record.number)),
+    ])
 }
 
 #[test]
-fn resumed_readers_refuse_at_the_limits(rt: HostRuntime) -> Result<(), Fail> {
-    let alloc = rt.alloc();
-    let too_many = Some(CaptureFault::TooMany);
-    let too_long = Some(CaptureFault::TooLong {
+fn resumed_readers_give_and_refuse_at_the_limits(rt: HostRuntime) -> Result<(), Fail> {
+    let too_many = Err(CaptureFault::TooMany);
+    let too_long = Err(CaptureFault::TooLong {
         at: 24,
         len: 262_145,
     });
-    let header = b"\0\0\0\0\0\0\0\0\x01\0\x04\0\0\0\0\0";
-    assert_eq!(rt; resumed(alloc, u32::MAX, b"x")?, [too_many, too_many]);
-    assert_eq!(rt; resumed(alloc, u32::MAX, b"")?, [None, None]);
-    assert_eq!(rt; resumed(alloc, 0, header)?, [too_long, too_long]);
-    // the last number that a record may have
-    let empty = b"\0\0\0\0\0\0\0\0\0\0\0\0\0\0\0\0";
-    assert_eq!(rt; resumed(alloc, u32::MAX - 1, empty)?, [None, None]);
-    assert_eq!(rt;
-        resumed(alloc, u32::MAX - 1, b"\0\0\0\0\0\0\0\0\0\0\0\0\0\0\0\0x")?,
-        [None, too_many]
-    );
+    let last = u32::MAX - 1;
+    // how many records were given, the bytes that are left, and the two answers
+    let rows: [(&str, u32, &[u8], [Answer; 2]); 6] = [
+        ("a byte more", u32::MAX, b"x", [too_many, too_many]),
+        ("the end", u32::MAX, b"", [Ok(None), Ok(None)]),
+        (
+            "a long record",
+            0,
+            b"\0\0\0\0\0\0\0\0\x01\0\x04\0\0\0\0\0",
+            [too_long, too_long],
+        ),
+        (
+            "a record with a number",
+            7,
+            b"\0\0\0\0\0\0\0\0\0\0\0\0\0\0\0\0",
+            [Ok(Some(7)), Ok(None)],
+        ),
+        (
+            "the last record",
+            last,
+            b"\0\0\0\0\0\0\0\0\0\0\0\0\0\0\0\0",
+            [Ok(Some(last)), Ok(None)],
+        ),
+        (
+            "the last record and a byte more",
+            last,
+            b"\0\0\0\0\0\0\0\0\0\0\0\0\0\0\0\0x",
+            [Ok(Some(last)), too_many],
+        ),
+    ];
+    for (label, number, rest, want) in rows {
+        assert_eq!(rt; resumed(rt.alloc(), number, rest)?, want, "{label}");
+    }
     Ok(())
 }
 

@@ -10,6 +10,7 @@ invariant-loop-done g l = record {
   unopened : IsUnopened (g.H.Host.contents l.fn.host) (g.H.Host.left l.fn.host) → l.done ≡ 0;
   took : g.H.Host.left l.fn.host ≡ before (take l.done l.buf) (g.H.Host.left l.host);
   contents : g.H.Host.contents l.host ≡ g.H.Host.contents l.fn.host;
+  opens : g.H.Host.opens l.host ≡ g.H.Host.opens l.fn.host;
   later : g.H.Host.faults l.fn.host ≤ g.H.Host.faults l.host;
 }
 
