@@ -7,7 +7,8 @@ use Rattle.std.proofs.lemmas.Bool.{cases_lt, lt-ltb, le-ltb, or_right, cond-fals
 use Rattle.std.proofs.lemmas.Bool.Decides.{nat_tests}
 use Rattle.packet_decode.specs.declared.checks.Checks.{Checks}
 use Rattle.packet_decode.specs.declared.packet.IpHead.{IpHead}
-use Rattle.packet_decode.specs.Numbers.{byte_at, be16, be32, slice}
+use Rattle.edge_io.proofs.Bytes.{be16-bytes, be32-halves}
+use Rattle.edge_io.specs.Bytes.{byte_at, be16, be32, slice}
 use Rattle.packet_decode.specs.declared.ipv4.Bounds.{Bounds}
 use Rattle.packet_decode.specs.Checksum.{word_sum, is_all_ones}
 use Rattle.packet_decode.specs.Decoding.{ip_head_at, is_fragment, tcp_head_at, tcp_at, udp_at, icmp_at, transport_at, datagram_at, datagram_decoded}
@@ -30,17 +31,19 @@ part_byte {bytes = bytes} {part = part} {start = start} {stop = stop} p i place 
     ∙ ap (λ (n : ℕ). get_or bytes n 0) (sym at)
 
 pub part_be16 : {bytes part : List ℕ} {start stop : ℕ} → IsPart bytes part start stop → (i place : ℕ) → place ≡ start + i → place + 2 ≤ stop → be16 part i ≡ be16 bytes place
-unfolding be16
-part_be16 p i place at within =
+part_be16 {bytes = bytes} {part = part} p i place at within =
     let high = part_byte p i place at (omega arith) in
     let low = part_byte p (i + 1) (place + 1) (omega arith) (omega arith) in
+    let here = be16-bytes part i in
+    let there = be16-bytes bytes place in
     cc
 
 pub part_be32 : {bytes part : List ℕ} {start stop : ℕ} → IsPart bytes part start stop → (i place : ℕ) → place ≡ start + i → place + 4 ≤ stop → be32 part i ≡ be32 bytes place
-unfolding be32
-part_be32 p i place at within =
+part_be32 {bytes = bytes} {part = part} p i place at within =
     let high = part_be16 p i place at (omega arith) in
     let low = part_be16 p (i + 2) (place + 2) (omega arith) (omega arith) in
+    let here = be32-halves part i in
+    let there = be32-halves bytes place in
     cc
 
 pub part_slice : {bytes part : List ℕ} {start stop : ℕ} → IsPart bytes part start stop → (i j from to : ℕ) → from ≡ start + i → to ≡ start + j → to ≤ stop → slice part i j ≡ slice bytes from to

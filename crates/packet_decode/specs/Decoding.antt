@@ -2,7 +2,8 @@
 --
 -- Every number is at a stated place of the whole record, and every payload is a slice of it. The
 -- steps go in this order, and the first one that fails decides: link header, tags and type, lengths
--- of the IPv4 header, its checksum, fragment, transport header, its checksum.
+-- of the IPv4 header, its checksum, fragment, transport header, its checksum. No byte is named before
+-- a test that it is captured.
 -- The standards: RFC 894 and IEEE 802.1Q for the type field and tags, RFC 791 section 3.1 for IPv4,
 -- RFC 793 section 3.1 for TCP, RFC 768 for UDP, RFC 792 for ICMP, RFC 1071 for the checksums.
 -- To try it on: 02 00 00 00 00 02 02 00 00 00 00 01 08 00, 45 00 00 1f 00 01 00 00 40 11 66 cb 0a 00
@@ -13,6 +14,8 @@ use Rattle.edge_io.specs.declared.address.Addr.TheVariants.{V4}
 use Rattle.edge_io.specs.declared.link.Link.{Link}
 use Rattle.edge_io.specs.declared.link.Link.TheVariants.{Ethernet, RawIp, Cooked}
 use Rattle.packet_decode.specs.declared.checks.Checks.{Checks}
+use Rattle.packet_decode.specs.declared.version.IpVersion.{IpVersion}
+use Rattle.packet_decode.specs.declared.version.IpVersion.TheVariants.{Four, Six}
 use Rattle.packet_decode.specs.declared.skip.Skip.{Skip}
 use Rattle.packet_decode.specs.declared.skip.Skip.TheVariants.{Short, OtherProtocol, Checksum, Malformed}
 use Rattle.packet_decode.specs.declared.ipv4.Bounds.{Bounds}
@@ -21,8 +24,10 @@ use Rattle.packet_decode.specs.declared.packet.TcpHead.{TcpHead}
 use Rattle.packet_decode.specs.declared.packet.Body.{Body}
 use Rattle.packet_decode.specs.declared.packet.Body.TheVariants.{Tcp, Udp, Icmp, Other, Fragment}
 use Rattle.packet_decode.specs.declared.packet.Packet.{Packet}
-use Rattle.packet_decode.specs.Numbers.{byte_at, be16, be32, slice}
+use Rattle.edge_io.specs.OnResult.{◌>>=◌}
+use Rattle.edge_io.specs.Bytes.{byte_at, be16, be32, slice}
 use Rattle.packet_decode.specs.Checksum.{word_sum, is_all_ones, pseudo_sum}
+use Rattle.packet_decode.specs.Versions.{ether_type, first_digit, version_of, icmp_protocol}
 
 -- a packet apart from where its payload lies in memory
 pub record Fields : Type 0 where
@@ -39,12 +44,6 @@ abbrev pub seen : Result Packet Skip → Result Fields Skip
 seen (Ok packet) = Ok (fields_of packet)
 seen (Err skip) = Err skip
 
--- a step, and then the next one where the first doesn't fail
-infixl 10 ◌>>=◌
-abbrev pub ◌>>=◌ : {A B : Type 0} → Result A Skip → (A → Result B Skip) → Result B Skip
-(Ok value) >>= next = next value
-(Err skip) >>= next = Err skip
-
 -- The place of the type field behind a tag whose own type, 8100, stands at `place`: a tag has 4
 -- bytes, and the type of what it holds follows it (IEEE 802.1Q). Without a tag it is the place itself.
 unfoldable pub behind_tag : List ℕ → ℕ → Result ℕ Skip
@@ -53,33 +52,33 @@ behind_tag bytes place =
     then (if nat_lt (length bytes) (place + 6) then Err Short else Ok (place + 4))
     else Ok place
 
--- Where the IPv4 header starts, if a type field stands at `place`: behind at most two tags, and
--- behind a type that is 0800 (RFC 894).
-unfoldable pub typed_start : List ℕ → ℕ → Result ℕ Skip
-typed_start bytes place = do
+-- Where the packet of a version starts, if a type field stands at `place`: behind at most two tags,
+-- and behind a type that names the version.
+unfoldable pub typed_start : IpVersion → List ℕ → ℕ → Result ℕ Skip
+typed_start version bytes place = do
   inner ← behind_tag bytes place
   innermost ← behind_tag bytes inner
-  if be16 bytes innermost == 0x0800 then Ok (innermost + 2) else Err OtherProtocol
+  if be16 bytes innermost == ether_type version then Ok (innermost + 2) else Err OtherProtocol
 
--- Where the IPv4 header starts: Ethernet has 14 bytes with the type at 12, Linux cooked capture 16
--- with the type at 14, and raw IP none, but the version in the first four bits.
-unfoldable pub link_start : Link → List ℕ → Result ℕ Skip
-link_start Ethernet bytes = if nat_lt (length bytes) 14 then Err Short else typed_start bytes 12
-link_start Cooked bytes = if nat_lt (length bytes) 16 then Err Short else typed_start bytes 14
-link_start RawIp bytes =
+-- Where the packet of a version starts: Ethernet has 14 bytes with the type at 12, Linux cooked
+-- capture 16 with the type at 14, and raw IP none, but the version in the first four bits.
+unfoldable pub link_start : IpVersion → Link → List ℕ → Result ℕ Skip
+link_start version Ethernet bytes = if nat_lt (length bytes) 14 then Err Short else typed_start version bytes 12
+link_start version Cooked bytes = if nat_lt (length bytes) 16 then Err Short else typed_start version bytes 14
+link_start version RawIp bytes =
     if length bytes == 0 then Err Short
-    else (if byte_at bytes 0 / 16 == 4 then Ok 0 else Err OtherProtocol)
+    else (if byte_at bytes 0 / 16 == first_digit version then Ok 0 else Err OtherProtocol)
 
 -- Where the data of the IPv4 datagram at `start` starts and stops, by the header length, which
 -- counts units of 4 bytes, and by the total length (RFC 791, section 3.1). The header isn't longer
 -- than the total, so it is captured where the total is.
 unfoldable pub data_bounds : List ℕ → ℕ → Result Bounds Skip
 data_bounds bytes start =
-    let version = byte_at bytes start / 16 in
+    if nat_lt (length bytes) (start + 20) then Err Short
+    else (let version = byte_at bytes start / 16 in
     let header_len = byte_at bytes start % 16 * 4 in
     let total_len = be16 bytes (start + 2) in
-    if nat_lt (length bytes) (start + 20) then Err Short
-    else (if not (version == 4) || nat_lt header_len 20 || nat_lt total_len header_len then Err Malformed
+    if not (version == 4) || nat_lt header_len 20 || nat_lt total_len header_len then Err Malformed
     else (if nat_lt (length bytes) (start + total_len) then Err Short
     else Ok (record { start = start + header_len; stop = start + total_len })))
 
@@ -125,39 +124,48 @@ tcp_head_at bytes start =
 -- follows the options.
 unfoldable pub tcp_at : IpHead → List ℕ → ℕ → ℕ → Bool → Result Fields Skip
 tcp_at ip bytes start stop check =
-    let header_len = byte_at bytes (start + 12) / 16 * 4 in
-    if nat_lt stop (start + 20) || nat_lt header_len 20 || nat_lt stop (start + header_len) then Err Malformed
+    if nat_lt stop (start + 20) then Err Malformed
+    else (let header_len = byte_at bytes (start + 12) / 16 * 4 in
+    if nat_lt header_len 20 || nat_lt stop (start + header_len) then Err Malformed
     else (if check && not (is_segment_right ip (slice bytes start stop)) then Err Checksum
-    else Ok (record { ip = ip; body = Tcp (tcp_head_at bytes start); payload = slice bytes (start + header_len) stop }))
+    else Ok (record { ip = ip; body = Tcp (tcp_head_at bytes start); payload = slice bytes (start + header_len) stop })))
 
 -- The UDP datagram that starts at `start` and ends by its own length field, at or before `stop`
 -- (RFC 768). The checksum covers that length; a checksum field of 0 says that there is none.
 unfoldable pub udp_at : IpHead → List ℕ → ℕ → ℕ → Bool → Result Fields Skip
 udp_at ip bytes start stop check =
-    let len = be16 bytes (start + 4) in
+    if nat_lt stop (start + 8) then Err Malformed
+    else (let len = be16 bytes (start + 4) in
     let has_checksum = not (be16 bytes (start + 6) == 0) in
-    if nat_lt stop (start + 8) || nat_lt len 8 || nat_lt stop (start + len) then Err Malformed
+    if nat_lt len 8 || nat_lt stop (start + len) then Err Malformed
     else (if check && has_checksum && not (is_segment_right ip (slice bytes start (start + len))) then Err Checksum
-    else Ok (record { ip = ip; body = Udp (be16 bytes start) (be16 bytes (start + 2)); payload = slice bytes (start + 8) (start + len) }))
+    else Ok (record { ip = ip; body = Udp (be16 bytes start) (be16 bytes (start + 2)); payload = slice bytes (start + 8) (start + len) })))
 
--- The ICMP message from `start` to `stop` (RFC 792): type, code, and the identifier and sequence
--- number of an echo, which other types use otherwise. The checksum has no pseudo header.
+-- The checksum over a control message is right: it has a pseudo header over version 6 (RFC 4443,
+-- section 2.3), and none over version 4 (RFC 792).
+unfoldable pub is_message_right : IpVersion → IpHead → List ℕ → Bool
+is_message_right Four ip message = is_all_ones (word_sum message)
+is_message_right Six ip message = is_segment_right ip message
+
+-- The control message from `start` to `stop` (RFC 792, RFC 4443): type, code, and the identifier and
+-- sequence number of an echo, which other types use otherwise.
 unfoldable pub icmp_at : IpHead → List ℕ → ℕ → ℕ → Bool → Result Fields Skip
 icmp_at ip bytes start stop check =
     if nat_lt stop (start + 8) then Err Malformed
-    else (if check && not (is_all_ones (word_sum (slice bytes start stop))) then Err Checksum
+    else (if check && not (is_message_right (version_of ip.src) ip (slice bytes start stop)) then Err Checksum
     else Ok (record {
       ip = ip;
       body = Icmp (byte_at bytes start) (byte_at bytes (start + 1)) (be16 bytes (start + 4)) (be16 bytes (start + 6));
       payload = slice bytes (start + 8) stop;
     }))
 
--- The data of a datagram from `start` to `stop`, by the protocol number (RFC 790).
+-- The data of a datagram from `start` to `stop`, by the protocol number (RFC 790). The source
+-- address says which version's control messages are read.
 unfoldable pub transport_at : IpHead → List ℕ → ℕ → ℕ → Checks → Result Fields Skip
 transport_at ip bytes start stop checks =
     if ip.protocol == 6 then tcp_at ip bytes start stop checks.tcp
     else (if ip.protocol == 17 then udp_at ip bytes start stop checks.udp
-    else (if ip.protocol == 1 then icmp_at ip bytes start stop checks.icmp
+    else (if ip.protocol == icmp_protocol (version_of ip.src) then icmp_at ip bytes start stop checks.icmp
     else Ok (record { ip = ip; body = Other; payload = slice bytes start stop })))
 
 -- What the IPv4 datagram at `start` says, whose data have these bounds: the header's checksum is
@@ -172,7 +180,7 @@ datagram_at bytes start bounds checks =
 -- what a captured record says
 unfoldable pub decoded : Link → List ℕ → Checks → Result Fields Skip
 decoded link bytes checks = do
-  start ← link_start link bytes
+  start ← link_start Four link bytes
   bounds ← data_bounds bytes start
   datagram_at bytes start bounds checks
 

@@ -1,3 +1,3 @@
-pub mod Numbers
 pub mod Checksum
+pub mod Versions
 pub mod Decoding

@@ -1,8 +1,8 @@
 ghost use Rattle.std.specs.Prelude.{◌≡◌, ℕ, ◌+◌, ◌^◌, ◌<◌, length};
 ghost use Rattle.packet_decode.specs.Checksum.{word_sum, is_all_ones, address_sum, pseudo_sum};
-ghost use Rattle.packet_decode.specs.Decoding.{is_segment_right};
+ghost use Rattle.packet_decode.specs.Decoding.{is_segment_right, is_message_right};
 
-use crate::IpHead;
+use crate::{IpHead, IpVersion};
 use byteorder::{BigEndian, ByteOrder};
 use edge_io::Addr;
 
@@ -23,7 +23,8 @@ fn is_all_ones(sum: u128) -> bool
 /// slice is long enough to overflow the sum.
 fn add_wide(start: u128, bytes: &[u8]) -> (u128, &[u8])
     requires { start < 2 ^ 68 }
-    ensures same { is_all_ones (result.0 + word_sum result.1.now) ≡ is_all_ones (start + word_sum bytes.now) }
+    ensures same { is_all_ones (result.0 + word_sum result.1.now)
+        ≡ is_all_ones (start + word_sum bytes.now) }
     ensures bound { result.0 < 2 ^ 127 }
     ensures few { length result.1.now < 8 }
 {
@@ -101,4 +102,15 @@ pub fn is_segment_right(ip: &IpHead, segment: &[u8]) -> bool
     ensures { result ≡ is_segment_right ip.now segment.now }
 {
     sums_to_all_ones(pseudo_total(ip, segment.len()), segment)
+}
+
+/// The checksum over a control message is right: over version 6 it has a pseudo header.
+#[tactic(auto, unfolding(crate::specs::Decoding::is_message_right))]
+pub fn is_message_right(version: IpVersion, ip: &IpHead, message: &[u8]) -> bool
+    ensures { result ≡ is_message_right version ip.now message.now }
+{
+    match version {
+        IpVersion::Four => is_part_right(message),
+        IpVersion::Six => is_segment_right(ip, message),
+    }
 }

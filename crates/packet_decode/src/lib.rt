@@ -2,17 +2,18 @@
 //!
 //! `decode` walks the link header, the IPv4 header and the transport header of a record, and
 //! `decode_datagram` the transport header alone, of a datagram that was put together from
-//! fragments. Each gives a packet whose payload is lent from the bytes, or the reason why the
-//! record is skipped. Both meet the definitions of `specs/Decoding`, which name every field by its
-//! place in the whole record, for every link and all bytes; the checksums are those of
-//! `specs/Checksum`. Neither takes memory. Reassembly, sessions, rule headers and alert lines stand
-//! on the types of this crate.
+//! fragments; `link_start` is the first step by itself, for either version of the protocol. Each
+//! gives a packet whose payload is lent from the bytes, or the reason why the record is skipped.
+//! They meet the definitions of `specs/Decoding`, which name every field by its place in the whole
+//! record, for every link and all bytes; the checksums are those of `specs/Checksum`. None takes
+//! memory. Reassembly, sessions, rule headers and alert lines stand on the types of this crate:
+//! packets, and the heads of the items that rules are tried on.
 #![tactic(auto)]
 
 mod checks;
 mod checksum;
-mod crossing;
 mod ipv4;
+mod item;
 mod numbers;
 mod packet;
 mod records;
@@ -21,10 +22,13 @@ mod start;
 #[cfg(test)]
 mod tests;
 mod transport;
+mod version;
 
 pub use checks::Checks;
-pub use crossing::types_cross_threads;
+pub use item::{ItemHead, ItemKind, SessionFacts};
 pub use packet::{Body, IpHead, Packet, TcpHead};
 pub use records::decode;
 pub use skip::Skip;
+pub use start::link_start;
 pub use transport::decode_datagram;
+pub use version::IpVersion;

@@ -1,10 +1,10 @@
 ghost use Rattle.std.specs.Prelude.{◌≡◌, ◌+◌, ◌≤◌, length};
-ghost use Rattle.packet_decode.specs.Numbers.{be16, be32};
+ghost use Rattle.edge_io.specs.Bytes.{be16, be32};
 
 use byteorder::{BigEndian, ByteOrder};
 
 /// The number in the two bytes from `place`.
-#[tactic(auto, unfolding(crate::specs::Numbers::be16))]
+#[tactic(auto, using(edge_io::proofs::Bytes::numbers), unfolding(edge_io::specs::Bytes::be16))]
 pub fn be16(bytes: &[u8], place: usize) -> u16
     requires { place + 2 ≤ length bytes.now }
     ensures { result ≡ be16 bytes.now place }
@@ -13,7 +13,7 @@ pub fn be16(bytes: &[u8], place: usize) -> u16
 }
 
 /// The number in the four bytes from `place`.
-#[tactic(auto, unfolding(crate::specs::Numbers::be32, crate::specs::Numbers::be16))]
+#[tactic(auto, using(edge_io::proofs::Bytes::numbers), unfolding(edge_io::specs::Bytes::be32))]
 pub fn be32(bytes: &[u8], place: usize) -> u32
     requires { place + 4 ≤ length bytes.now }
     ensures { result ≡ be32 bytes.now place }

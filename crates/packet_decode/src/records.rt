@@ -4,8 +4,8 @@ ghost use Rattle.packet_decode.specs.Decoding.{seen, datagram_at, decoded};
 use crate::checksum::is_part_right;
 use crate::ipv4::{Bounds, data_bounds, ip_head, is_fragment};
 use crate::start::link_start;
-use crate::transport::decode_datagram;
-use crate::{Body, Checks, Packet, Skip};
+use crate::transport::transport;
+use crate::{Body, Checks, IpVersion, Packet, Skip};
 use edge_io::Link;
 
 /// The IPv4 datagram at `start`, whose data have these bounds.
@@ -35,7 +35,7 @@ fn datagram<'a>(
             payload: data,
         });
     }
-    decode_datagram(ip, data, checks)
+    transport(&ip, data, checks)
 }
 
 /// Reads the headers of a captured record: link header and tags, IPv4 (RFC 791), and the transport
@@ -51,7 +51,7 @@ pub fn decode<'a>(link: Link, bytes: &'a [u8], checks: Checks) -> Result<Packet<
     ensures exact { seen result ≡ decoded link bytes.now checks }
     ensures small { IfOk result (λ packet. length packet.payload.now ≤ 65535) }
 {
-    let start = link_start(link, bytes)?;
+    let start = link_start(IpVersion::Four, link, bytes)?;
     let bounds = data_bounds(bytes, start)?;
     datagram(bytes, start, bounds, checks)
 }

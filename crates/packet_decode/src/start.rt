@@ -1,8 +1,9 @@
 ghost use Rattle.std.specs.Prelude.{◌≡◌, ◌+◌, ◌≤◌, length, IfOk};
 ghost use Rattle.packet_decode.specs.Decoding.{behind_tag, typed_start, link_start};
 
-use crate::Skip;
 use crate::numbers::be16;
+use crate::version::{ether_type, first_digit};
+use crate::{IpVersion, Skip};
 use edge_io::Link;
 
 const ETHERNET_LEN: usize = 14;
@@ -14,8 +15,6 @@ const TYPE_LEN: usize = 2;
 const TAG_LEN: usize = 4;
 
 const TAGGED: u16 = 0x8100;
-
-const IPV4: u16 = 0x0800;
 
 /// The place of the next type field where the one at `place` is a tag's, and else `place`.
 #[tactic(auto, unfolding(crate::specs::Decoding::behind_tag))]
@@ -33,26 +32,30 @@ fn behind_tag(bytes: &[u8], place: usize) -> Result<usize, Skip>
     Ok(place + TAG_LEN)
 }
 
-/// Where the IPv4 header starts behind the type field at `place`, and behind at most two tags.
+/// Where the packet starts behind the type field at `place`, and behind at most two tags.
 #[tactic(auto, unfolding(crate::specs::Decoding::typed_start))]
-fn typed_start(bytes: &[u8], place: usize) -> Result<usize, Skip>
+fn typed_start(version: IpVersion, bytes: &[u8], place: usize) -> Result<usize, Skip>
     requires { place + 2 ≤ length bytes.now }
-    ensures exact { result ≡ typed_start bytes.now place }
+    ensures exact { result ≡ typed_start version bytes.now place }
     ensures within { IfOk result (λ start. start ≤ length bytes.now) }
 {
     let inner = behind_tag(bytes, place)?;
     let innermost = behind_tag(bytes, inner)?;
-    if be16(bytes, innermost) == IPV4 {
+    if be16(bytes, innermost) == ether_type(version) {
         Ok(innermost + TYPE_LEN)
     } else {
         Err(Skip::OtherProtocol)
     }
 }
 
-/// Where the IPv4 header of a record starts.
+/// Where the packet of a version starts in a captured record: the number of bytes before it, which
+/// are the link header with at most two tags (IEEE 802.1Q).
+///
+/// `Skip::Short` says that bytes of these are missing, or that a raw record has none;
+/// `Skip::OtherProtocol` that the link names something other than this version.
 #[tactic(auto, unfolding(crate::specs::Decoding::link_start))]
-pub fn link_start(link: Link, bytes: &[u8]) -> Result<usize, Skip>
-    ensures exact { result ≡ link_start link bytes.now }
+pub fn link_start(version: IpVersion, link: Link, bytes: &[u8]) -> Result<usize, Skip>
+    ensures exact { result ≡ link_start version link bytes.now }
     ensures within { IfOk result (λ start. start ≤ length bytes.now) }
 {
     match link {
@@ -60,19 +63,19 @@ pub fn link_start(link: Link, bytes: &[u8]) -> Result<usize, Skip>
             if bytes.len() < ETHERNET_LEN {
                 return Err(Skip::Short);
             }
-            typed_start(bytes, ETHERNET_LEN - TYPE_LEN)
+            typed_start(version, bytes, ETHERNET_LEN - TYPE_LEN)
         }
         Link::Cooked => {
             if bytes.len() < COOKED_LEN {
                 return Err(Skip::Short);
             }
-            typed_start(bytes, COOKED_LEN - TYPE_LEN)
+            typed_start(version, bytes, COOKED_LEN - TYPE_LEN)
         }
         Link::RawIp => {
             if bytes.is_empty() {
                 return Err(Skip::Short);
             }
-            if bytes[0] / 16 == 4 {
+            if bytes[0] / 16 == first_digit(version) {
                 Ok(0)
             } else {
                 Err(Skip::OtherProtocol)

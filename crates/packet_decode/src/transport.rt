@@ -1,15 +1,15 @@
 ghost use Rattle.std.specs.Prelude.{◌≡◌, ◌≤◌, length, IfOk};
 ghost use Rattle.packet_decode.specs.Decoding.{seen, tcp_head_at, tcp_at, udp_at, icmp_at, datagram_decoded};
 
-use crate::checksum::{is_part_right, is_segment_right};
+use crate::checksum::{is_message_right, is_segment_right};
 use crate::numbers::{be16, be32};
+use crate::version::{icmp_protocol, version_of};
 use crate::{Body, Checks, IpHead, Packet, Skip, TcpHead};
-
-const ICMP: u8 = 1;
 
 const TCP: u8 = 6;
 
 const UDP: u8 = 17;
+
 /// The length of a TCP header without options.
 const TCP_LEN: usize = 20;
 
@@ -35,8 +35,8 @@ fn tcp_head(segment: &[u8]) -> TcpHead
 
 /// A TCP segment, with its checksum if `check` holds.
 #[tactic(auto, unfolding(crate::specs::Decoding::tcp_at))]
-fn tcp<'a>(ip: IpHead, segment: &'a [u8], check: bool) -> Result<Packet<'a>, Skip>
-    ensures exact { seen result ≡ tcp_at ip segment.now 0 (length segment.now) check }
+fn tcp<'a>(ip: &IpHead, segment: &'a [u8], check: bool) -> Result<Packet<'a>, Skip>
+    ensures exact { seen result ≡ tcp_at ip.now segment.now 0 (length segment.now) check }
     ensures within { IfOk result (λ packet. length packet.payload.now ≤ length segment.now) }
 {
     if segment.len() < TCP_LEN {
@@ -46,11 +46,11 @@ fn tcp<'a>(ip: IpHead, segment: &'a [u8], check: bool) -> Result<Packet<'a>, Ski
     if header_len < TCP_LEN || segment.len() < header_len {
         return Err(Skip::Malformed);
     }
-    if check && !is_segment_right(&ip, segment) {
+    if check && !is_segment_right(ip, segment) {
         return Err(Skip::Checksum);
     }
     Ok(Packet {
-        ip,
+        ip: *ip,
         body: Body::Tcp(tcp_head(segment)),
         payload: &segment[header_len..],
     })
@@ -58,8 +58,8 @@ fn tcp<'a>(ip: IpHead, segment: &'a [u8], check: bool) -> Result<Packet<'a>, Ski
 
 /// A UDP datagram, which ends by its own length, with its checksum if `check` holds and it has one.
 #[tactic(auto, unfolding(crate::specs::Decoding::udp_at))]
-fn udp<'a>(ip: IpHead, bytes: &'a [u8], check: bool) -> Result<Packet<'a>, Skip>
-    ensures exact { seen result ≡ udp_at ip bytes.now 0 (length bytes.now) check }
+fn udp<'a>(ip: &IpHead, bytes: &'a [u8], check: bool) -> Result<Packet<'a>, Skip>
+    ensures exact { seen result ≡ udp_at ip.now bytes.now 0 (length bytes.now) check }
     ensures within { IfOk result (λ packet. length packet.payload.now ≤ length bytes.now) }
 {
     if bytes.len() < UDP_LEN {
@@ -71,11 +71,11 @@ fn udp<'a>(ip: IpHead, bytes: &'a [u8], check: bool) -> Result<Packet<'a>, Skip>
     }
     let has_checksum = be16(bytes, 6) != 0;
     let segment = &bytes[..len];
-    if check && has_checksum && !is_segment_right(&ip, segment) {
+    if check && has_checksum && !is_segment_right(ip, segment) {
         return Err(Skip::Checksum);
     }
     Ok(Packet {
-        ip,
+        ip: *ip,
         body: Body::Udp {
             sport: be16(bytes, 0),
             dport: be16(bytes, 2),
@@ -86,18 +86,18 @@ fn udp<'a>(ip: IpHead, bytes: &'a [u8], check: bool) -> Result<Packet<'a>, Skip>
 
 /// An ICMP message, with its checksum if `check` holds.
 #[tactic(auto, unfolding(crate::specs::Decoding::icmp_at))]
-fn icmp<'a>(ip: IpHead, message: &'a [u8], check: bool) -> Result<Packet<'a>, Skip>
-    ensures exact { seen result ≡ icmp_at ip message.now 0 (length message.now) check }
+fn icmp<'a>(ip: &IpHead, message: &'a [u8], check: bool) -> Result<Packet<'a>, Skip>
+    ensures exact { seen result ≡ icmp_at ip.now message.now 0 (length message.now) check }
     ensures within { IfOk result (λ packet. length packet.payload.now ≤ length message.now) }
 {
     if message.len() < ICMP_LEN {
         return Err(Skip::Malformed);
     }
-    if check && !is_part_right(message) {
+    if check && !is_message_right(version_of(ip.src), ip, message) {
         return Err(Skip::Checksum);
     }
     Ok(Packet {
-        ip,
+        ip: *ip,
         body: Body::Icmp {
             kind: message[0],
             code: message[1],
@@ -108,6 +108,31 @@ fn icmp<'a>(ip: IpHead, message: &'a [u8], check: bool) -> Result<Packet<'a>, Sk
     })
 }
 
+/// The data of a datagram, by the protocol of its head.
+#[tactic(auto, unfolding(crate::specs::Decoding::datagram_decoded, crate::specs::Decoding::transport_at))]
+pub(crate) fn transport<'a>(
+    ip: &IpHead,
+    bytes: &'a [u8],
+    checks: Checks,
+) -> Result<Packet<'a>, Skip>
+    ensures exact { seen result ≡ datagram_decoded ip.now bytes.now checks }
+    ensures within { IfOk result (λ packet. length packet.payload.now ≤ length bytes.now) }
+{
+    if ip.protocol == TCP {
+        tcp(ip, bytes, checks.tcp)
+    } else if ip.protocol == UDP {
+        udp(ip, bytes, checks.udp)
+    } else if ip.protocol == icmp_protocol(version_of(ip.src)) {
+        icmp(ip, bytes, checks.icmp)
+    } else {
+        Ok(Packet {
+            ip: *ip,
+            body: Body::Other,
+            payload: bytes,
+        })
+    }
+}
+
 /// Reads the transport header of a datagram that was put together from fragments, by the protocol
 /// of its head: TCP (RFC 793), UDP (RFC 768), ICMP (RFC 792), or all bytes as the payload.
 ///
@@ -115,19 +140,9 @@ fn icmp<'a>(ip: IpHead, message: &'a [u8], check: bool) -> Result<Packet<'a>, Sk
 /// back unchanged; its fragment fields aren't looked at. `Skip::Malformed` says that a header or its
 /// length doesn't fit the bytes, and `Skip::Checksum` that a checksum which `checks` asks for is
 /// wrong. A UDP checksum of 0 is none. Takes no memory.
-#[tactic(auto, unfolding(crate::specs::Decoding::datagram_decoded, crate::specs::Decoding::transport_at))]
 pub fn decode_datagram<'a>(ip: IpHead, bytes: &'a [u8], checks: Checks) -> Result<Packet<'a>, Skip>
     ensures exact { seen result ≡ datagram_decoded ip bytes.now checks }
     ensures within { IfOk result (λ packet. length packet.payload.now ≤ length bytes.now) }
 {
-    match ip.protocol {
-        TCP => tcp(ip, bytes, checks.tcp),
-        UDP => udp(ip, bytes, checks.udp),
-        ICMP => icmp(ip, bytes, checks.icmp),
-        _ => Ok(Packet {
-            ip,
-            body: Body::Other,
-            payload: bytes,
-        }),
-    }
+    transport(&ip, bytes, checks)
 }
