@@ -1,13 +1,21 @@
 -- How the chosen segment and its byte change as one more segment comes, for every preference.
-use Rattle.std.proofs.Common.{◌≡◌, ℕ, Bool, true, false, cond, ◌||◌, List, [], ◌∷◌, ◌++◌, Option, Some, None, filter, fold, refl, ap, ◌∙◌}
+use Rattle.std.proofs.Common.{◌≡◌, ℕ, Bool, true, false, cond, ◌||◌, List, [], ◌∷◌, ◌++◌, Option, Some, None, filter, fold, refl, ap, ◌∙◌, if◌then◌else◌}
 use Rattle.std.specs.List.{list_any}
 use Rattle.std.specs.Option.{option_map, is_some}
 use Rattle.std.proofs.lemmas.List.Elements.{filter-append}
 use Rattle.edge_io.specs.declared.policy.Preference.{Preference}
-use Rattle.overlap_core.specs.declared.segment.Segment.{Segment}
-use Rattle.overlap_core.specs.declared.choice.Kept.{Kept}
-use Rattle.overlap_core.specs.Kept.{kept_after, kept_at, stronger_kept}
+use Rattle.overlap_core.specs.Segments.{Segment}
+use Rattle.overlap_core.specs.Pieces.{Kept, kept_at}
 use Rattle.overlap_core.specs.Overlap.{bounds_of, byte_at, chosen_byte, chosen_segment, covers, is_covered, standing, stronger, wins}
+
+-- what is kept of the one of two that stands, where there may be no older one
+abbrev pub stronger_kept : Preference → Option Kept → Kept → Kept
+stronger_kept preference None new = new
+stronger_kept preference (Some old) new = if wins preference old.whole new.whole then new else old
+
+-- what is kept at the place once one more segment has come
+abbrev pub kept_after : Preference → ℕ → Option Kept → Segment → Option Kept
+kept_after preference place kept segment = if covers segment place then Some (stronger_kept preference kept (kept_at place segment)) else kept
 
 -- the one of two segments that stands, where there may be no older one
 abbrev pub standing_after : Preference → Option Segment → Segment → Segment

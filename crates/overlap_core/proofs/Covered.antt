@@ -5,7 +5,7 @@ use Rattle.std.proofs.lemmas.Bool.{cases_lt}
 use Rattle.std.proofs.lemmas.Bool.Decides.{nat_tests}
 use Rattle.std.proofs.lemmas.List.Folds.{list_any-append}
 use Rattle.edge_io.specs.declared.policy.Preference.{Preference}
-use Rattle.overlap_core.specs.declared.segment.Segment.{Segment}
+use Rattle.overlap_core.specs.Segments.{Segment}
 use Rattle.overlap_core.specs.Overlap.{chosen_byte, covers, end_of, is_covered}
 use Rattle.overlap_core.proofs.Arrivals.{chosen_byte-is_some}
 

@@ -1,8 +1,8 @@
 -- The greatest end of a list of segments.
-use Rattle.std.proofs.Common.{◌≡◌, ℕ, ◌≤◌, ◌⊎◌, inl, inr, List, [], ◌∷◌, ◌++◌, Any, max, fold, suc, subst, refl, sym, arith}
+use Rattle.std.proofs.Common.{◌≡◌, ℕ, ◌≤◌, ◌⊎◌, inl, inr, List, [], ◌∷◌, ◌++◌, Any, max, fold, suc, subst, refl, sym, ap, ◌∙◌, arith}
 use Rattle.std.proofs.lemmas.List.Elements.{All-nil, All-cons}
 use Rattle.std.proofs.lemmas.List.Sums.{fold-append}
-use Rattle.overlap_core.specs.declared.segment.Segment.{Segment}
+use Rattle.overlap_core.specs.Segments.{Segment}
 use Rattle.overlap_core.specs.Overlap.{covered_end, end_of, IsCoveredEnd}
 
 -- one more segment may raise the greatest end
@@ -47,3 +47,15 @@ covered_end-is_greatest floor segments = greatest floor segments
 -- the same of a number that is this end
 pub covered_end-is : (floor : ℕ) (segments : List Segment) (place : ℕ) → place ≡ covered_end floor segments → IsCoveredEnd floor segments place
 covered_end-is floor segments place is = subst (λ (n : ℕ). IsCoveredEnd floor segments n) (sym is) (covered_end-is_greatest floor segments)
+
+fold-raised : (floor below : ℕ) (segments : List Segment) → fold (λ most segment. max most (end_of segment)) (max floor below) segments ≡ max (fold (λ most segment. max most (end_of segment)) floor segments) below
+fold-raised floor below [] = refl
+fold-raised floor below (first ∷ later) =
+    let order : max (max floor below) (end_of first) ≡ max (max floor (end_of first)) below = omega arith in
+    ap (λ n. fold (λ most segment. max most (end_of segment)) n later) order ∙ fold-raised (max floor (end_of first)) below later
+
+-- a later floor may raise it
+pub covered_end-raised : (floor below : ℕ) (segments : List Segment) → floor ≤ below → covered_end below segments ≡ max (covered_end floor segments) below
+unfolding covered_end
+covered_end-raised floor below segments order =
+    let same : below ≡ max floor below = omega arith in ap (λ n. fold (λ most segment. max most (end_of segment)) n segments) same ∙ fold-raised floor below segments

@@ -5,7 +5,7 @@ use Rattle.std.proofs.lemmas.Bool.Decides.{nat_tests}
 use Rattle.std.proofs.lemmas.List.Folds.{Any-from_list_any}
 use Rattle.edge_io.specs.declared.policy.Preference.{Preference}
 use Rattle.edge_io.specs.declared.policy.Preference.TheVariants.{First, Last}
-use Rattle.overlap_core.specs.declared.segment.Segment.{Segment}
+use Rattle.overlap_core.specs.Segments.{Segment}
 use Rattle.overlap_core.specs.Overlap.{byte_at, chosen_byte, chosen_segment, covered_end, covers, end_of, is_covered, standing, stronger}
 use Rattle.overlap_core.proofs.Arrivals.{chosen_byte-is_some, chosen_segment-covered, chosen_segment-uncovered, standing_after}
 use Rattle.overlap_core.proofs.Covered.{is_covered-snoc}

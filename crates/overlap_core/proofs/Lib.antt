@@ -1,5 +1,14 @@
 pub mod Arrivals
-pub mod Covered
 pub mod Ends
 pub mod Laws
 pub mod OneList
+pub mod Chosen
+pub mod Covered
+pub mod Filling
+pub mod Joining
+pub mod Laying
+pub mod Overlaying
+pub mod Recut
+pub mod Standing
+pub mod Telling
+mod Walks

@@ -1,5 +1,8 @@
+pub mod Segments
 pub mod Overlap
+pub mod Pieces
 pub mod Runs
 pub mod QueueState
-pub mod Kept
+pub mod Rows
+pub mod Joined
 pub mod Inside

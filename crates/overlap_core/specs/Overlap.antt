@@ -12,7 +12,7 @@ use Rattle.std.specs.Option.{option_map}
 use Rattle.edge_io.specs.declared.policy.Preference.{Preference}
 use Rattle.edge_io.specs.declared.policy.Preference.TheVariants.{First, Last, Bsd, BsdRight, Linux, Windows, Solaris}
 use Rattle.overlap_core.specs.declared.segment.Bounds.{Bounds}
-use Rattle.overlap_core.specs.declared.segment.Segment.{Segment}
+use Rattle.overlap_core.specs.Segments.{Segment}
 
 -- the overlap table: the new segment is taken, by the whole bounds of both
 abbrev pub wins : Preference → Bounds → Bounds → Bool

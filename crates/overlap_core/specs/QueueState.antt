@@ -2,7 +2,7 @@
 use Rattle.std.specs.Prelude.{ℕ, List, [], ◌∷◌, ◌++◌, Option, None, nat_le, if◌then◌else◌}
 use Rattle.edge_io.specs.declared.policy.Preference.{Preference}
 use Rattle.overlap_core.specs.declared.segment.Bounds.{Bounds}
-use Rattle.overlap_core.specs.declared.segment.Segment.{Segment}
+use Rattle.overlap_core.specs.Segments.{Segment}
 use Rattle.overlap_core.specs.Overlap.{chosen_byte}
 
 -- a floor, a preference, the segments in order of arrival, and the bounds of the one segment for which room stands

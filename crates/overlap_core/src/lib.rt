@@ -1,21 +1,23 @@
 //! Which byte the receiving host keeps where segments overlap.
 //!
 //! A host that gets two different bytes for one place keeps one of them, and hosts differ in which.
-//! `wins` is the table of seven preferences, and a `Queue` answers by it: it keeps every segment
-//! whole, in order of arrival, and asks place by place which of them stands (`chosen_byte` of
-//! specs/Overlap). Datagrams of fragments and the streams of a session are put together over it.
+//! `wins` is the table of seven preferences, and a `Queue` answers by it for any list of segments
+//! (`chosen_byte` of specs/Overlap). It keeps pieces in order of place, each byte once, with the whole
+//! bounds of the segment that it came in (specs/Pieces); the list of segments is seen by proofs alone.
+//! Datagrams of fragments and the streams of a session are put together over it.
 #![tactic(auto)]
 
-mod choice;
-mod crossing;
+mod arriving;
+mod piece;
 mod queue;
+mod row;
 mod runs;
 mod segment;
 mod table;
 #[cfg(test)]
 mod tests;
 
-pub use crossing::types_cross_threads;
+pub use piece::Piece;
 pub use queue::Queue;
-pub use segment::{Bounds, Run, Segment};
+pub use segment::{Bounds, Run};
 pub use table::wins;

@@ -1,33 +1,40 @@
 ghost use Rattle.std.specs.Prelude.{◌≡◌, ℕ, ◌+◌, ◌^◌, ◌<◌, ◌≤◌, ◌↔◌, [], None, Some, length, IsTrue, IsSome, OnOk, OnErr};
 ghost use Rattle.std.specs.Bool.{OnTrue};
 ghost use Rattle.overlap_core.specs.Overlap.{chosen_byte, covered_end, is_covered, IsCoveredEnd};
+ghost use Rattle.overlap_core.specs.Pieces.{HoldChosen, IsRow};
 ghost use Rattle.overlap_core.specs.QueueState.{byte_of, with_room, with_segment, from_floor};
 ghost use Rattle.overlap_core.specs.Runs.{AppendsRuns, AreBytes};
 
-use crate::choice::chosen;
-use crate::runs::{append_runs, filled, greatest_end};
-use crate::{Bounds, Run, Segment};
+use crate::arriving::{Arrivals, Arriving};
+use crate::row::{buffers_for_room, lay_over, raise};
+use crate::runs::{append_runs, byte_of, filled};
+use crate::{Bounds, Piece, Run};
 use edge_io::{NoMemory, Preference, Text};
+use piece_list::PieceList;
 use std::alloc::Global;
+use std::collections::VecDeque;
 use std::marker::Model;
 
-/// Memory for the bytes of one segment of these bounds.
+/// Memory for the bytes of one segment of these bounds: a buffer for each gap that it fills.
 #[derive(Drop)]
 struct Room {
     bounds: Bounds,
-    spare: Vec<u8>,
+    buffers: VecDeque<Text>,
 }
 
 /// The segments of one datagram or of one direction of a stream, in order of arrival.
 ///
 /// Contracts see the floor, below which no byte is given any more, the preference, the segments
-/// whole, and the bounds of the one segment for which room stands.
+/// whole, and the bounds of the one segment for which room stands. What is kept is pieces: the bytes
+/// from the floor on that stand, each once.
 #[derive(Drop)]
 pub struct Queue {
     alloc: Global,
     floor: u64,
     preference: Preference,
-    segments: Vec<Segment>,
+    top: u64,
+    pieces: PieceList<Piece>,
+    arrivals: Arrivals,
     room: Option<Room>,
 }
 
@@ -52,7 +59,9 @@ impl Queue {
             alloc,
             floor,
             preference,
-            segments: Vec::new(alloc),
+            top: floor,
+            pieces: PieceList::new(alloc),
+            arrivals: Arrivals::new(),
             room: None,
         }
     }
@@ -66,13 +75,10 @@ impl Queue {
         ensures err { OnErr result (self.new ≡ with_room self.old None) }
     {
         self.room = None;
-        self.segments.reserve(1)?;
-        let spare = Vec::with_capacity(self.alloc, len)?;
         let end = start + len as u64;
-        self.room = Some(Room {
-            bounds: Bounds { start, end },
-            spare,
-        });
+        let bounds = Bounds { start, end };
+        let buffers = buffers_for_room(self.alloc, &mut self.pieces, self.floor, bounds)?;
+        self.room = Some(Room { bounds, buffers });
         Ok(())
     }
 
@@ -82,15 +88,11 @@ impl Queue {
         ensures { self.new ≡ with_segment self.old (record { start = start; bytes = bytes.now }) }
     {
         if let Some(room) = self.room.take() {
-            let Room {
-                bounds: _,
-                mut spare,
-            } = room;
-            let _ = spare.extend_from_slice(bytes);
-            let _ = self.segments.push(Segment {
-                start,
-                bytes: Text::from_vec(spare),
-            });
+            let Room { bounds, buffers } = room;
+            let new = Arriving::new(start, bytes);
+            lay_over(&mut self.pieces, buffers, self.preference, self.floor, &new);
+            self.top = self.top.max(bounds.end);
+            self.arrivals = self.arrivals.with(&new);
         }
     }
 
@@ -116,7 +118,17 @@ impl Queue {
         if place < self.floor {
             return None;
         }
-        chosen(self.preference, &self.segments, place)
+        byte_of(&self.pieces, place)
+    }
+
+    /// What the queue keeps, in order of place: the bytes that stand from the floor on, each piece with
+    /// the whole bounds of the segment that it came in. The place in the list and its spare nodes are
+    /// open. Takes no memory.
+    pub fn pieces(&self) -> &PieceList<Piece>
+        ensures order { IsRow self.now.floor result.now.list (covered_end self.now.floor self.now.segments) }
+        ensures holds { HoldChosen self.now.preference self.now.segments self.now.floor result.now.list }
+    {
+        &self.pieces
     }
 
     /// The larger of the floor and the greatest end of a segment. Takes no memory.
@@ -124,7 +136,7 @@ impl Queue {
         ensures value { result ≡ covered_end self.now.floor self.now.segments }
         ensures greatest { IsCoveredEnd self.now.floor self.now.segments result }
     {
-        greatest_end(self.floor, &self.segments)
+        self.top
     }
 
     /// The place below which no byte is given. Takes no memory.
@@ -141,7 +153,7 @@ impl Queue {
         ensures whole { IsTrue result ↔ ((k : ℕ) → k < length out.old → IsSome (chosen_byte self.now.preference self.now.segments (self.now.floor + k))) }
         ensures bytes { OnTrue result (AreBytes (chosen_byte self.now.preference self.now.segments) self.now.floor out.new) }
     {
-        filled(self.preference, &self.segments, self.floor, out)
+        filled(&self.pieces, self.floor, out)
     }
 
     /// Appends the maximal runs of covered places from the floor on and below `below`, in order,
@@ -158,15 +170,10 @@ impl Queue {
         ensures err { OnErr result (self.new ≡ self.old) }
         ensures unchanged { OnErr result (out.new.items ≡ out.old.items) }
     {
-        append_runs(
-            alloc,
-            self.preference,
-            &self.segments,
-            self.floor,
-            below,
-            out,
-        )?;
+        append_runs(alloc, &self.pieces, below, out)?;
+        raise(&mut self.pieces, below);
         self.floor = below;
+        self.top = self.top.max(below);
         self.room = None;
         Ok(())
     }

@@ -1,147 +1,130 @@
-//! Bytes of many places: whole ranges, and the maximal runs of covered places.
-ghost use Rattle.std.specs.Prelude.{◌≡◌, ℕ, ◌+◌, ◌^◌, ◌<◌, ◌≤◌, ◌↔◌, ◌⊎◌, All, None, true, false, length, MatchOption, IfOk, IsTrue, IsSome, OnOk, OnErr};
+//! Bytes of many places: one byte, whole ranges, and the maximal runs of covered places.
+ghost use Rattle.std.specs.Prelude.{◌≡◌, ℕ, ◌+◌, ◌-◌, ◌^◌, ◌<◌, ◌≤◌, ◌↔◌, ◌++◌, ◌∷◌, [], length, take, IfOk, IsTrue, IsSome, OnOk, OnErr};
 ghost use Rattle.std.specs.Bool.{OnTrue};
-ghost use Rattle.overlap_core.specs.Kept.{IsWithin};
-ghost use Rattle.overlap_core.specs.Overlap.{chosen_byte, covered_end, is_covered};
-ghost use Rattle.overlap_core.specs.Runs.{AppendsRuns, AreBytes, AreRuns, IsFirstRun, NoByte};
+ghost use Rattle.overlap_core.specs.Pieces.{IsRow};
+ghost use Rattle.overlap_core.specs.Joined.{byte_in, end_of_run, with_run};
+ghost use Rattle.overlap_core.specs.Runs.{AppendsRuns, AreBytes, AreRuns};
 
-use crate::choice::chosen;
-use crate::{Run, Segment};
-use edge_io::{NoMemory, Preference, Text};
+use crate::{Piece, Run};
+use edge_io::{NoMemory, Text};
+use piece_list::PieceList;
 use std::alloc::Global;
 
-/// The larger of the floor and the greatest end of a segment.
-pub fn greatest_end(floor: u64, segments: &[Segment]) -> u64
-    requires { All IsWithin segments.now }
-    ensures { result ≡ covered_end floor segments.now }
+/// The byte that a piece has at the place, if one does.
+pub fn byte_of(pieces: &PieceList<Piece>, place: u64) -> Option<u8>
+    ensures { result ≡ byte_in pieces.now.list place }
 {
-    let mut most = floor;
-    for segment in segments {
-        most = most.max(segment.bounds().end);
+    let mut rest = pieces.iter();
+    while let Some(piece) = rest.next() {
+        if piece.start() <= place && place < piece.end() {
+            return Some(piece.bytes()[(place - piece.start()) as usize]);
+        }
     }
-    most
+    None
 }
 
-/// Whether every place from `start` on has a byte, as many places as `out` is long; then `out`
+/// Whether every place from the floor on has a byte, as many places as `out` is long; then `out`
 /// holds these bytes.
-pub fn filled(preference: Preference, segments: &[Segment], start: u64, out: &mut [u8]) -> bool
-    requires within { All IsWithin segments.now }
-    requires fits { start + length out.old < 2 ^ 64 }
-    ensures whole { IsTrue result ↔ ((k : ℕ) → k < length out.old → IsSome (chosen_byte preference segments.now (start + k))) }
-    ensures bytes { OnTrue result (AreBytes (chosen_byte preference segments.now) start out.new) }
+pub fn filled(pieces: &PieceList<Piece>, floor: u64, out: &mut [u8]) -> bool
+    requires fits { floor + length out.old < 2 ^ 64 }
+    ensures whole { (top : ℕ) → IsRow floor pieces.now.list top → IsTrue result ↔ ((k : ℕ) → k < length out.old → IsSome (byte_in pieces.now.list (floor + k))) }
+    ensures bytes { (top : ℕ) → IsRow floor pieces.now.list top → OnTrue result (AreBytes (byte_in pieces.now.list) floor out.new) }
 {
-    for i in 0..out.len() {
-        match chosen(preference, segments, start + i as u64) {
-            Some(byte) => out[i] = byte,
-            None => return false,
+    let mut rest = pieces.iter();
+    let mut done = 0;
+    while done < out.len() {
+        let Some(piece) = rest.next() else {
+            return false;
+        };
+        if piece.start() != floor + done as u64 {
+            return false;
         }
+        let bytes = piece.bytes();
+        let count = bytes.len().min(out.len() - done);
+        out[done..done + count].copy_from_slice(&bytes[..count]);
+        done += count;
     }
     true
 }
 
-/// Appends the maximal runs of covered places from `low` on and below `high`, in order.
+/// Appends the maximal runs of places that the pieces have below a place, in order.
 pub fn append_runs(
     alloc: Global,
-    preference: Preference,
-    segments: &[Segment],
-    low: u64,
-    high: u64,
+    pieces: &PieceList<Piece>,
+    below: u64,
     out: &mut Vec<Run>,
 ) -> Result<(), NoMemory>
-    requires within { All IsWithin segments.now }
-    requires order { low ≤ high }
-    ensures ok { OnOk result (AppendsRuns (chosen_byte preference segments.now) low high out.old.items out.new.items) }
+    ensures ok { OnOk result ((floor top : ℕ) → IsRow floor pieces.now.list top → floor ≤ below → AppendsRuns (byte_in pieces.now.list) floor below out.old.items out.new.items) }
     ensures err { OnErr result (out.new.items ≡ out.old.items) }
 {
-    let mut runs = runs_between(alloc, preference, segments, low, high)?;
+    let mut runs = joined(alloc, pieces, below)?;
     out.append(&mut runs)?;
     Ok(())
 }
 
-/// The maximal runs of covered places from `low` on and below `high`, in order.
-fn runs_between(
-    alloc: Global,
-    preference: Preference,
-    segments: &[Segment],
-    low: u64,
-    high: u64,
-) -> Result<Vec<Run>, NoMemory>
-    requires within { All IsWithin segments.now }
-    requires order { low ≤ high }
-    ensures { IfOk result (λ runs. AreRuns (chosen_byte preference segments.now) low high runs.items) }
+/// The maximal runs of places that the pieces have below a place, in order.
+fn joined(alloc: Global, pieces: &PieceList<Piece>, below: u64) -> Result<Vec<Run>, NoMemory>
+    ensures { IfOk result (λ runs. (floor top : ℕ) → IsRow floor pieces.now.list top → floor ≤ below → AreRuns (byte_in pieces.now.list) floor below runs.items) }
 {
     let mut runs = Vec::new(alloc);
-    let mut from = low;
-    while let Some(run) = first_run(alloc, preference, segments, from, high)? {
-        from = run.start + run.bytes.bytes().len() as u64;
-        runs.push(run)?;
+    let mut rest = pieces.iter();
+    while let Some(piece) = rest.next() {
+        if below <= piece.start() {
+            return Ok(runs);
+        }
+        add_run(alloc, &mut runs, piece.start(), bytes_below(piece, below))?;
     }
     Ok(runs)
 }
 
-/// The first run of the covered places from `low` on and below `high`: none where no place is
-/// covered.
-fn first_run(
-    alloc: Global,
-    preference: Preference,
-    segments: &[Segment],
-    low: u64,
-    high: u64,
-) -> Result<Option<Run>, NoMemory>
-    requires within { All IsWithin segments.now }
-    requires order { low ≤ high }
-    ensures { IfOk result (λ first. MatchOption first
-        (NoByte (chosen_byte preference segments.now) low high)
-        (IsFirstRun (chosen_byte preference segments.now) low high)) }
+/// The piece's bytes below a place behind its start.
+fn bytes_below(piece: &Piece, below: u64) -> &[u8]
+    requires { piece.now.start ≤ below }
+    ensures { result.now ≡ take (below - piece.now.start) piece.now.bytes }
 {
-    let start = first_covered(segments, low, high);
-    if start == high {
-        return Ok(None);
-    }
-    let bytes = bytes_from(alloc, preference, segments, start, high)?;
-    Ok(Some(Run { start, bytes }))
+    let count = (below - piece.start()) as usize;
+    let bytes = piece.bytes();
+    &bytes[..count.min(bytes.len())]
 }
 
-/// The first covered place from `low` on and below `high`, or `high` where there is none.
-fn first_covered(segments: &[Segment], low: u64, high: u64) -> u64
-    requires within { All IsWithin segments.now }
-    requires order { low ≤ high }
-    ensures from { low ≤ result }
-    ensures to { result ≤ high }
-    ensures before { (place : ℕ) → low ≤ place → place < result → is_covered segments.now place ≡ false }
-    ensures here { result < high → is_covered segments.now result ≡ true }
+/// Adds bytes behind runs: to the last, where that ends at their start, or as a run of their own.
+fn add_run(alloc: Global, runs: &mut Vec<Run>, start: u64, bytes: &[u8]) -> Result<(), NoMemory>
+    ensures { OnOk result (runs.new.items ≡ with_run runs.old.items start bytes.now) }
 {
-    let mut first = high;
-    for segment in segments {
-        let bounds = segment.bounds();
-        if low < bounds.end {
-            first = first.min(low.max(bounds.start));
-        }
+    let Some(last) = runs.pop() else {
+        return push_run(alloc, runs, start, bytes);
+    };
+    if ends_at(&last, start) {
+        let Run {
+            start,
+            bytes: front,
+        } = last;
+        let mut whole = front.into_vec();
+        whole.extend_from_slice(bytes)?;
+        runs.push(Run {
+            start,
+            bytes: Text::from_vec(whole),
+        })?;
+        return Ok(());
     }
-    first
+    runs.push(last)?;
+    push_run(alloc, runs, start, bytes)
 }
 
-/// The bytes of the covered places from `low` on and below `high`, up to the first that is not
-/// covered.
-fn bytes_from(
-    alloc: Global,
-    preference: Preference,
-    segments: &[Segment],
-    low: u64,
-    high: u64,
-) -> Result<Text, NoMemory>
-    requires within { All IsWithin segments.now }
-    requires order { low ≤ high }
-    ensures bytes { IfOk result (λ bytes. AreBytes (chosen_byte preference segments.now) low bytes) }
-    ensures within { IfOk result (λ bytes. low + length bytes ≤ high) }
-    ensures ends { IfOk result (λ bytes. (low + length bytes ≡ high) ⊎ (chosen_byte preference segments.now (low + length bytes) ≡ None)) }
+/// Adds bytes behind runs as a run of their own.
+fn push_run(alloc: Global, runs: &mut Vec<Run>, start: u64, bytes: &[u8]) -> Result<(), NoMemory>
+    ensures { OnOk result (runs.new.items ≡ runs.old.items ++ record { start = start; bytes = bytes.now } ∷ []) }
 {
-    let mut bytes = Vec::new(alloc);
-    for place in low..high {
-        let Some(byte) = chosen(preference, segments, place) else {
-            break;
-        };
-        bytes.push(byte)?;
-    }
-    Ok(Text::from_vec(bytes))
+    runs.push(Run {
+        start,
+        bytes: Text::copy(alloc, bytes)?,
+    })?;
+    Ok(())
+}
+
+/// Whether the run ends at the place.
+fn ends_at(run: &Run, place: u64) -> bool
+    ensures { IsTrue result ↔ (end_of_run run.now ≡ place) }
+{
+    run.start <= place && place - run.start == run.bytes.bytes().len() as u64
 }

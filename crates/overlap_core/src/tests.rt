@@ -1,8 +1,9 @@
 //! The overlap table worked out by hand, and each call once.
 
-use crate::{Bounds, Queue, Run, types_cross_threads, wins};
+use crate::{Bounds, Piece, Queue, Run, wins};
 use edge_io::{NoMemory, Preference, Text};
 use std::alloc::Global;
+use std::marker::{Send, Sync};
 use std::process::Abort;
 use std::test::Fail;
 
@@ -120,7 +121,6 @@ fn queue_gives_bytes_and_runs(rt: HostRuntime) -> Result<(), Fail> {
     let alloc = rt.alloc();
     let (old, new) = (Bounds { start: 4, end: 8 }, Bounds { start: 2, end: 8 });
     assert!(rt; wins(Preference::Solaris, old, new) && !wins(Preference::Windows, old, new));
-    types_cross_threads();
 
     let mut queue = Queue::new(alloc, Preference::Last, 1);
     queue.reserve(0, 2)?;
@@ -152,4 +152,76 @@ fn queue_gives_bytes_and_runs(rt: HostRuntime) -> Result<(), Fail> {
     assert_run(&rt, runs.get(2), 3, "d");
     assert_run(&rt, runs.get(3), 5, "e");
     Ok(())
+}
+
+/// Compares the pieces' total length, and the whole bounds at each place from 0 on, with those wanted.
+fn compare_whole(rt: &impl Abort, queue: &Queue, wanted: &[(u64, u64)]) {
+    let mut total = 0usize;
+    for piece in queue.pieces().iter() {
+        for (place, (start, end)) in wanted.iter().enumerate() {
+            let place = place as u64;
+            if piece.start() <= place && place - piece.start() < piece.bytes().len() as u64 {
+                let (start, end) = (*start, *end);
+                assert_eq!(rt; piece.whole(), Bounds { start, end }, "place {place}");
+                total = total.saturating_add(1);
+            }
+        }
+    }
+    assert_eq!(rt; total, wanted.len());
+}
+
+/// Pieces keep the whole bounds of the segment that stands, under either preference.
+#[test]
+fn pieces_keep_whole_bounds(rt: HostRuntime) -> Result<(), Fail> {
+    for (preference, kept) in [(Preference::Linux, "ccccbb"), (Preference::Bsd, "aaaabb")] {
+        let mut queue = Queue::new(rt.alloc(), preference, 0);
+        queue.insert(0, b"aaaa")?;
+        queue.insert(2, b"bbbb")?;
+        queue.insert(0, b"cccc")?;
+        let mut bytes = [0; 6];
+        assert!(rt; queue.fill(&mut bytes));
+        assert_eq!(rt; bytes.as_slice(), kept.as_bytes());
+        let (first, second) = ((0, 4), (2, 6));
+        compare_whole(&rt, &queue, &[first, first, first, first, second, second]);
+    }
+    Ok(())
+}
+
+/// In order inserted and taken, in time linear in their number.
+#[test]
+fn many_segments_in_order(rt: HostRuntime) -> Result<(), Fail> {
+    let mut queue = Queue::new(rt.alloc(), Preference::First, 0);
+    for number in 0..100_000u64 {
+        queue.insert(number * 4, b"abcd")?;
+    }
+    let mut runs = Vec::new(rt.alloc());
+    for number in 0..10u64 {
+        let below = (number + 1) * 40_000;
+        if queue.floor() <= below {
+            queue.take_runs(rt.alloc(), below, &mut runs)?;
+        }
+    }
+    let mut total = 0usize;
+    for run in &runs {
+        total = total.saturating_add(run.bytes.bytes().len());
+    }
+    assert_eq!(rt;
+        (runs.len(), total, queue.covered_end()),
+        (10, 400_000, 400_000)
+    );
+    assert!(rt; queue.pieces().iter().next().is_none());
+    Ok(())
+}
+
+fn moves_between_threads<T: Send>() {}
+
+fn shared_by_threads<T: Sync>() {}
+
+/// A queue and its runs may move to another thread, and runs may be read by several.
+#[test]
+fn types_cross_threads() {
+    moves_between_threads::<Queue>();
+    moves_between_threads::<Piece>();
+    moves_between_threads::<Run>();
+    shared_by_threads::<Run>();
 }

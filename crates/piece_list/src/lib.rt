@@ -8,7 +8,6 @@
 #![tactic(auto)]
 
 mod chain;
-mod crossing;
 mod iter;
 mod list;
 mod node;
@@ -17,6 +16,5 @@ mod spare;
 #[cfg(test)]
 mod tests;
 
-pub use crossing::list_moves_between_threads;
 pub use iter::Iter;
 pub use list::PieceList;

@@ -1,5 +1,6 @@
 use crate::PieceList;
 use std::cell::Cell;
+use std::marker::Send;
 use std::test::Fail;
 
 /// What a list holds is what its iterator gives, from first to last.
@@ -76,4 +77,16 @@ fn each_element_is_dropped_once(rt: HostRuntime) -> Result<(), Fail> {
     }
     assert_eq!(rt; drops.get(), 3);
     Ok(())
+}
+
+fn moves_between_threads<T: Send>() {}
+
+/// A list may move to another thread where its elements may.
+fn list_moves<T: Send + Drop>() {
+    moves_between_threads::<PieceList<T>>();
+}
+
+#[test]
+fn lists_move_between_threads() {
+    list_moves::<Vec<u8>>();
 }

@@ -2,6 +2,4 @@ use Rattle.overlap_core.proofs.Ends.{covered_end-is}
 use Rattle.overlap_core.proofs.queue.Queue.covered_end.Goals as goal
 
 pub returns-clause-greatest : goal.returns-clause-greatest
-returns-clause-greatest c =
-    rw (← c.self.view_is, ← c.deref.ensures.value)
-    (covered_end-is c.self.inside.floor c.deref.result.now c.greatest_end.result c.greatest_end.ensures)
+returns-clause-greatest c = rw (← c.self.view_is) (covered_end-is c.self.inside.floor c.self.inside.arrivals.segments c.self.inside.top c.self.invariant.top)
