@@ -1,0 +1,6 @@
+pub mod Bytes
+pub mod Entries
+pub mod Keys
+pub mod Laws
+pub mod Steps
+pub mod KeyTests

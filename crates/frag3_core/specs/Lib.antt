@@ -1,0 +1,5 @@
+pub mod Trackers
+pub mod Sound
+pub mod Parts
+pub mod Inside
+pub mod Outside
