@@ -1,0 +1,11 @@
+pub mod KeyLaws
+pub mod StepLaws
+pub mod EndOrder
+pub mod Recent
+pub mod Protocols
+pub mod Apart
+pub mod Eviction
+pub mod Standing
+pub mod Rising
+pub mod Numbers
+pub mod CacheSteps

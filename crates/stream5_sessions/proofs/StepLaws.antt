@@ -1,0 +1,30 @@
+-- A session stays of its protocol.
+use Rattle.std.proofs.Common.{◌≡◌, Bool, true, false, cond, refl, ◌∙◌}
+use Rattle.stream5_sessions.specs.declared.segment.Segment.{Segment}
+use Rattle.stream5_sessions.specs.declared.state.State.{State}
+use Rattle.stream5_sessions.specs.declared.state.Change.{Change}
+use Rattle.stream5_sessions.specs.declared.state.Reading.{Reading}
+use Rattle.stream5_sessions.specs.declared.state.Reading.TheVariants.{Then, EndsBefore}
+use Rattle.stream5_sessions.specs.declared.step.SessionRules.{SessionRules}
+use Rattle.stream5_sessions.specs.Phases.{no_session, state_after, taken, at_hand, is_timed_out, by_row, row_of, in_none, session_step}
+
+either_tcp : (b : Bool) (one other : State) (tcp : Bool) → one.tcp ≡ tcp → other.tcp ≡ tcp → (cond b one other).tcp ≡ tcp
+either_tcp true one other tcp h g = h
+either_tcp false one other tcp h g = g
+
+taken_tcp : (ended : Bool) (s : State) (change : Change) (p : Segment) → (taken ended s change p).state.tcp ≡ s.tcp
+unfolding taken
+taken_tcp ended s change p = either_tcp change.ends (no_session s.tcp p.moment) (state_after s change p) s.tcp refl refl
+
+by_row_tcp : (timed_out : Bool) (s : State) (reading : Reading) (p : Segment) (needed : Bool) → (by_row timed_out s reading p needed).state.tcp ≡ s.tcp
+by_row_tcp timed_out s (Then change) p needed = taken_tcp timed_out s change p
+by_row_tcp timed_out s EndsBefore p needed = taken_tcp true (no_session s.tcp s.last) (in_none p needed) p
+
+at_hand_tcp : (s : State) (p : Segment) (rules : SessionRules) → (at_hand s p rules).tcp ≡ s.tcp
+unfolding at_hand
+at_hand_tcp s p rules = either_tcp (is_timed_out s p rules) (no_session s.tcp s.last) s s.tcp refl refl
+
+pub session_step_tcp : (s : State) (p : Segment) (rules : SessionRules) → (session_step s p rules).state.tcp ≡ s.tcp
+unfolding session_step
+session_step_tcp s p rules =
+    by_row_tcp (is_timed_out s p rules) (at_hand s p rules) (row_of (at_hand s p rules) p rules) p rules.needed_new ∙ at_hand_tcp s p rules

@@ -1,0 +1,178 @@
+ghost use Rattle.std.specs.Prelude.{◌≡◌, ◌≤◌, ◌<◌, ◌+◌, ◌-◌, ◌^◌, ◌∷◌, ◌++◌, [], List, Bool, IfOk, IsOk, IsSome, OnOk, OnErr, Some, None, slice_get, take, option_map};
+ghost use Rattle.std.specs.Map.{lookup, remove_entry, values_of};
+ghost use Rattle.lru.specs.LruCache.{lru_cache, promoted};
+ghost use Rattle.stream5_sessions.specs.Keys.{same_key};
+ghost use Rattle.stream5_sessions.specs.Caches.{found_by, kept_by, found_in, touched_state, HasSeen, IsFound, SeesTouch, KeepsBounds, AppendsLive, IsKnown, looked_up};
+ghost use Rattle.std.specs.List.Sorted.{IsPermutation, IsSorted};
+ghost use Rattle.std.specs.Ordering.{nat_cmp};
+
+use crate::Key;
+use edge_io::NoMemory;
+use lru::LruCache;
+use std::alloc::Global;
+use std::marker::Model;
+use std::num::NonZeroUsize;
+
+/// What a touch of a key found.
+#[derive(Clone, Copy, Debug, PartialEq, Eq)]
+pub struct Touch {
+    /// The flow's number.
+    pub flow: u64,
+    /// The flow begins with this touch.
+    pub fresh: bool,
+    /// The flow whose life this touch ends.
+    pub evicted: Option<u64>,
+}
+
+/// The keys of one protocol that live, and their flows' numbers, the latest touched first.
+type Lives = LruCache<Key, u64>;
+
+/// The flow of a key that lives, which becomes the latest touched.
+fn again(lives: &mut Lives, key: Key) -> Option<u64>
+    ensures value { result ≡ lookup (same_key key) lives.old.entries }
+    ensures after { lives.new ≡ lru_cache (promoted (same_key key) lives.old.entries) lives.old.cap }
+{
+    lives.get(&key).copied()
+}
+
+/// Begins the flow with the number `next` of a key that doesn't live.
+fn begin(lives: &mut Lives, key: Key, next: u64) -> Result<Touch, NoMemory>
+    requires { lookup (same_key key) lives.old.entries ≡ None }
+    ensures value { IfOk result (λ touch. touch ≡ found_by lives.old.entries lives.old.cap next None) }
+    ensures after { OnOk result (lives.new ≡ lru_cache (kept_by lives.old.entries lives.old.cap next key None) lives.old.cap) }
+    ensures err { OnErr result (lives.new ≡ lives.old) }
+{
+    let evicted = match lives.push(key, next)? {
+        Some((_, flow)) => Some(flow),
+        None => None,
+    };
+    Ok(Touch {
+        flow: next,
+        fresh: true,
+        evicted,
+    })
+}
+
+/// Touches a key, whose flow has the number `next` if it begins.
+fn touched(lives: &mut Lives, key: Key, next: u64) -> Result<Touch, NoMemory>
+    ensures value { IfOk result (λ touch. touch ≡ found_by lives.old.entries lives.old.cap next (lookup (same_key key) lives.old.entries)) }
+    ensures after { OnOk result (lives.new ≡ lru_cache (kept_by lives.old.entries lives.old.cap next key (lookup (same_key key) lives.old.entries)) lives.old.cap) }
+    ensures err { OnErr result (lives.new ≡ lives.old) }
+    ensures known { IsSome (lookup (same_key key) lives.old.entries) → IsOk result }
+{
+    match again(lives, key) {
+        Some(flow) => Ok(Touch {
+            flow,
+            fresh: false,
+            evicted: None,
+        }),
+        None => begin(lives, key, next),
+    }
+}
+
+/// The flows that live: which of a capture's connections are known at this point, each by a number.
+///
+/// A flow is a stretch of life of a key. Contracts see how many flows of each protocol may live, the
+/// number of the next flow, and which touches of keys the value stands for (`HasSeen`).
+#[derive(Drop)]
+pub struct Flows {
+    tcp: Lives,
+    udp: Lives,
+    next: u64,
+}
+
+impl Model for Flows {
+    ghost use Rattle.stream5_sessions.specs.Caches.{FlowsState};
+
+    ghost Value = { FlowsState };
+
+    ghost view = { λ flows. record { max = record { tcp = flows.tcp.cap; udp = flows.udp.cap }; next = flows.next; tcp = flows.tcp.entries; udp = flows.udp.entries } };
+}
+
+impl Flows {
+    /// No touch yet. At most `max_tcp` flows of TCP and `max_udp` of UDP will live at one time.
+    pub fn new(alloc: Global, max_tcp: u32, max_udp: u32) -> Result<Flows, NoMemory>
+        requires tcp { 1 ≤ max_tcp }
+        requires udp { 1 ≤ max_udp }
+        ensures seen { IfOk result (λ flows. HasSeen flows []) }
+        ensures most { IfOk result (λ flows. flows.max ≡ record { tcp = max_tcp; udp = max_udp }) }
+    {
+        Ok(Flows {
+            tcp: lives_of(alloc, max_tcp)?,
+            udp: lives_of(alloc, max_udp)?,
+            next: 0,
+        })
+    }
+
+    /// Touches a key: tells its flow, whether the flow begins with this touch, and the flow whose life
+    /// this touch ends. A key that lives is never refused. Without memory nothing changes.
+    pub fn touch(&mut self, key: Key) -> Result<Touch, NoMemory>
+        requires { self.old.next < 2 ^ 63 }
+        ensures found { IfOk result (λ touch. IsFound self.old key touch) }
+        ensures seen { OnOk result (SeesTouch self.old key self.new) }
+        ensures most { self.new.max ≡ self.old.max }
+        ensures next { self.new.next ≤ self.old.next + 1 }
+        ensures bound { KeepsBounds self.new }
+        ensures known { IsKnown self.old key → IsOk result }
+        ensures err { OnErr result (self.new ≡ self.old) }
+    {
+        self.touch_kept(key)
+    }
+
+    /// Appends the numbers of the flows that live, in ascending order. Without memory `out` stays.
+    pub fn live(&self, alloc: Global, out: &mut Vec<u64>) -> Result<(), NoMemory>
+        ensures ok { OnOk result (AppendsLive self.now out.old.items out.new.items) }
+        ensures err { OnErr result (out.new.items ≡ out.old.items) }
+    {
+        let flows = self.numbers(alloc)?;
+        out.extend_from_slice(&flows)?;
+        Ok(())
+    }
+
+    /// The numbers that are kept, in ascending order.
+    fn numbers(&self, alloc: Global) -> Result<Vec<u64>, NoMemory>
+        ensures permutation { IfOk result (λ flows. IsPermutation (values_of self.now.tcp ++ values_of self.now.udp) flows.items) }
+        ensures sorted { IfOk result (λ flows. IsSorted nat_cmp flows.items) }
+    {
+        let mut flows = flows_of(alloc, &self.tcp)?;
+        let others = flows_of(alloc, &self.udp)?;
+        flows.extend_from_slice(&others)?;
+        flows.sort_unstable();
+        Ok(flows)
+    }
+
+    /// Touches a key, by the keys that are kept.
+    fn touch_kept(&mut self, key: Key) -> Result<Touch, NoMemory>
+        requires { self.old.next < 2 ^ 63 }
+        ensures value { IfOk result (λ touch. touch ≡ found_in self.old key) }
+        ensures after { OnOk result (self.new ≡ touched_state self.old key) }
+        ensures err { OnErr result (self.new ≡ self.old) }
+        ensures known { IsSome (looked_up self.old key) → IsOk result }
+    {
+        let touch = if key.tcp {
+            touched(&mut self.tcp, key, self.next)?
+        } else {
+            touched(&mut self.udp, key, self.next)?
+        };
+        if touch.fresh {
+            self.next += 1;
+        }
+        Ok(touch)
+    }
+}
+
+/// No key, and room for so many. Memory is taken as keys come.
+fn lives_of(alloc: Global, most: u32) -> Result<Lives, NoMemory>
+    requires { 1 ≤ most }
+    ensures { IfOk result (λ lives. lives ≡ lru_cache [] most) }
+{
+    let most = NonZeroUsize::new(most as usize).unwrap();
+    Ok(LruCache::sparse(alloc, most)?)
+}
+
+/// Adds the numbers of the flows of one protocol.
+fn flows_of(alloc: Global, lives: &Lives) -> Result<Vec<u64>, NoMemory>
+    ensures { IfOk result (λ flows. flows.items ≡ values_of lives.now.entries) }
+{
+    Ok(lives.iter().map(|(_, flow)| *flow).collect(alloc)?)
+}

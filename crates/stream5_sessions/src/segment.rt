@@ -1,0 +1,90 @@
+ghost use Rattle.std.specs.Prelude.{◌≡◌};
+ghost use Rattle.stream5_sessions.specs.Phases.{IsBodyOf, segment_of, plus, fin_end};
+
+use crate::End;
+use edge_io::Moment;
+use packet_decode::{Body, IpHead};
+
+const FIN: u8 = 1;
+
+const SYN: u8 = 2;
+
+const RST: u8 = 4;
+
+const ACK: u8 = 16;
+
+/// What the table of phases reads of a packet.
+#[derive(Clone, Copy, Debug, PartialEq, Eq)]
+pub(crate) struct Segment {
+    pub sender: End,
+    pub receiver: End,
+    pub fin: bool,
+    pub syn: bool,
+    pub rst: bool,
+    pub has_ack: bool,
+    pub seq: u32,
+    pub ack: u32,
+    /// How many bytes of data it has.
+    pub len: usize,
+    pub moment: Moment,
+}
+
+/// The sequence number so many places behind another (RFC 793, section 3.3).
+pub(crate) fn plus(seq: u32, count: usize) -> u32
+    ensures { result ≡ plus seq count }
+{
+    ((u128::from(seq) + count as u128) % (1 << 32)) as u32
+}
+
+/// The end of a FIN: the place behind the data and the FIN itself.
+pub(crate) fn fin_end(segment: &Segment) -> u32
+    ensures { result ≡ fin_end segment.now }
+{
+    plus(plus(segment.seq, segment.len), 1)
+}
+
+/// A packet of a session, for the table.
+pub(crate) fn segment_of(ip: &IpHead, body: &Body, len: usize, moment: Moment, tcp: bool) -> Segment
+    requires { IsBodyOf tcp body.now }
+    ensures { result ≡ segment_of ip.now body.now len moment }
+{
+    match *body {
+        Body::Tcp(head) => Segment {
+            sender: End {
+                addr: ip.src,
+                port: head.sport,
+            },
+            receiver: End {
+                addr: ip.dst,
+                port: head.dport,
+            },
+            fin: head.flags & FIN != 0,
+            syn: head.flags & SYN != 0,
+            rst: head.flags & RST != 0,
+            has_ack: head.flags & ACK != 0,
+            seq: head.seq,
+            ack: head.ack,
+            len,
+            moment,
+        },
+        Body::Udp { sport, dport } => Segment {
+            sender: End {
+                addr: ip.src,
+                port: sport,
+            },
+            receiver: End {
+                addr: ip.dst,
+                port: dport,
+            },
+            fin: false,
+            syn: false,
+            rst: false,
+            has_ack: false,
+            seq: 0,
+            ack: 0,
+            len,
+            moment,
+        },
+        _ => unreachable!(),
+    }
+}

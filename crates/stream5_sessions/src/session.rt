@@ -1,0 +1,212 @@
+ghost use Rattle.std.specs.Prelude.{◌≡◌};
+ghost use Rattle.stream5_sessions.specs.Phases.{IsBodyOf, segment_of, no_session, base_after, step_of, state_after, taken, by_row, is_timed_out, at_hand, session_step};
+
+use crate::rows::{client_fin_after, in_none, is_from, row_of, server_fin_after};
+use crate::segment::{Segment, segment_of};
+use crate::state::{Change, Phase, Reading, State, Taken};
+use crate::step::{SessionRules, Step};
+use edge_io::Moment;
+use packet_decode::{Body, IpHead};
+use std::marker::Model;
+
+/// The session of a flow, of TCP or UDP: where it stands behind the flow's packets so far.
+#[derive(Clone, Copy, Debug, PartialEq, Eq)]
+pub struct Session {
+    state: State,
+}
+
+impl Model for Session {
+    ghost use Rattle.stream5_sessions.specs.declared.state.State.{State};
+
+    ghost Value = { State };
+
+    ghost view = { λ session. session.state };
+
+    ghost inverse = { λ state. record { state = state } };
+}
+
+impl Session {
+    /// No session stands, and no packet was seen.
+    pub fn new(tcp: bool) -> Session
+        ensures { result ≡ no_session tcp (record { nanos = 0 }) }
+    {
+        Session {
+            state: none(tcp, Moment { nanos: 0 }),
+        }
+    }
+
+    /// Takes one packet of the flow, with `len` bytes of data: what it tells of its session. Takes no
+    /// memory.
+    #[tactic(auto, using(crate::proofs::StepLaws::session_step_tcp))]
+    pub fn step(
+        &mut self,
+        ip: &IpHead,
+        body: &Body,
+        len: usize,
+        moment: Moment,
+        rules: SessionRules,
+    ) -> Step
+        requires { IsBodyOf self.old.tcp body.now }
+        ensures step { result ≡ (session_step self.old (segment_of ip.now body.now len moment) rules).step }
+        ensures session { self.new ≡ (session_step self.old (segment_of ip.now body.now len moment) rules).state }
+        ensures protocol { self.new.tcp ≡ self.old.tcp }
+    {
+        let segment = segment_of(ip, body, len, moment, self.state.tcp);
+        let Taken { step, state } = session_step(&self.state, &segment, &rules);
+        self.state = state;
+        step
+    }
+}
+
+/// No session stands.
+fn none(tcp: bool, last: Moment) -> State
+    ensures { result ≡ no_session tcp last }
+{
+    State {
+        tcp,
+        phase: Phase::NoSession,
+        client: None,
+        client_base: None,
+        server_base: None,
+        client_fin: None,
+        server_fin: None,
+        last,
+    }
+}
+
+/// The last packet lies further back than the timeout.
+#[tactic(auto, unfolding(crate::specs::Phases::is_timed_out))]
+fn is_timed_out(state: &State, segment: &Segment, rules: &SessionRules) -> bool
+    ensures { result ≡ is_timed_out state.now segment.now rules.now }
+{
+    let last = u128::from(state.last.nanos) + u128::from(rules.timeout) * 1_000_000_000;
+    state.phase.is_open() && last < u128::from(segment.moment.nanos)
+}
+
+/// The session that the packet meets.
+#[tactic(auto, unfolding(crate::specs::Phases::at_hand))]
+fn at_hand(state: &State, segment: &Segment, rules: &SessionRules) -> State
+    ensures { result ≡ at_hand state.now segment.now rules.now }
+{
+    if is_timed_out(state, segment, rules) {
+        none(state.tcp, state.last)
+    } else {
+        *state
+    }
+}
+
+/// A base that is set takes the place of the old one.
+fn base_after(new: Option<u32>, old: Option<u32>) -> Option<u32>
+    ensures { result ≡ base_after new old }
+{
+    new.or(old)
+}
+
+/// What the packet tells.
+fn step_of(ended_before: bool, state: &State, change: Change, segment: &Segment) -> Step
+    ensures { result ≡ step_of ended_before state.now change segment.now }
+{
+    let from_client = match change.client {
+        Some(client) => Some(client.is(segment.sender)),
+        None => None,
+    };
+    Step {
+        ended_before,
+        begun: !state.phase.is_open() && change.phase.is_open(),
+        tracked: change.phase.is_open(),
+        established: change.phase.is_established(),
+        from_client,
+        takes_data: change.counts,
+        counts_ack: change.counts && segment.has_ack,
+        ends: change.ends,
+        client_base: change.client_base,
+        server_base: change.server_base,
+    }
+}
+
+/// The ends of both sides' last FINs, with the packet counted where its data count.
+fn fins_after(state: &State, change: Change, segment: &Segment) -> (Option<u32>, Option<u32>)
+    ensures { result ≡ ((state_after state.now change segment.now).client_fin, (state_after state.now change segment.now).server_fin) }
+{
+    if change.counts {
+        let now = State {
+            client: change.client,
+            ..*state
+        };
+        (
+            client_fin_after(&now, segment),
+            server_fin_after(&now, segment),
+        )
+    } else {
+        (state.client_fin, state.server_fin)
+    }
+}
+
+/// The session behind a packet that doesn't end it.
+fn state_after(state: &State, change: Change, segment: &Segment) -> State
+    ensures { result ≡ state_after state.now change segment.now }
+{
+    let (client_fin, server_fin) = fins_after(state, change, segment);
+    State {
+        tcp: state.tcp,
+        phase: change.phase,
+        client: change.client,
+        client_base: base_after(change.client_base, state.client_base),
+        server_base: base_after(change.server_base, state.server_base),
+        client_fin,
+        server_fin,
+        last: segment.moment,
+    }
+}
+
+/// What the packet tells, and the session behind it.
+#[tactic(auto, unfolding(crate::specs::Phases::taken))]
+fn taken(ended_before: bool, state: &State, change: Change, segment: &Segment) -> Taken
+    ensures { result ≡ taken ended_before state.now change segment.now }
+{
+    let after = if change.ends {
+        none(state.tcp, segment.moment)
+    } else {
+        state_after(state, change, segment)
+    };
+    Taken {
+        step: step_of(ended_before, state, change, segment),
+        state: after,
+    }
+}
+
+/// By the row that the packet meets.
+fn by_row(
+    timed_out: bool,
+    state: &State,
+    reading: Reading,
+    segment: &Segment,
+    needed_new: bool,
+) -> Taken
+    ensures { result ≡ by_row timed_out state.now reading segment.now needed_new }
+{
+    match reading {
+        Reading::Then(change) => taken(timed_out, state, change, segment),
+        Reading::EndsBefore => taken(
+            true,
+            &none(state.tcp, state.last),
+            in_none(segment, needed_new),
+            segment,
+        ),
+    }
+}
+
+/// One packet of a session.
+#[tactic(auto, unfolding(crate::specs::Phases::session_step))]
+fn session_step(state: &State, segment: &Segment, rules: &SessionRules) -> Taken
+    ensures { result ≡ session_step state.now segment.now rules.now }
+{
+    let now = at_hand(state, segment, rules);
+    by_row(
+        is_timed_out(state, segment, rules),
+        &now,
+        row_of(&now, segment, rules),
+        segment,
+        rules.needed_new,
+    )
+}
