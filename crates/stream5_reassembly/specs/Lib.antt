@@ -1,0 +1,5 @@
+pub mod Sequence
+pub mod Segments
+pub mod Extents
+pub mod Counted
+pub mod Inside
