@@ -6,13 +6,11 @@
 //! nothing is lost, doubled or made up. What runs jobs in several lanes stands on this crate.
 #![tactic(auto)]
 
-mod crossing;
 mod greatest;
 mod merging;
 mod numbered;
 #[cfg(test)]
 mod tests;
 
-pub use crossing::numbered_crosses_threads;
 pub use merging::{merge, permuted_numbers_stand_apart};
 pub use numbered::Numbered;

@@ -3,6 +3,7 @@ ghost use Rattle.ordered_merge.specs.Dealing.{AreDealt};
 
 use crate::{Numbered, merge};
 use edge_io::NoMemory;
+use edge_io::crossing::{sendable, shareable};
 use std::alloc::{AllocError, Global};
 use std::process::Abort;
 use std::test::Fail;
@@ -76,6 +77,16 @@ fn check_merged(
 }
 
 /// The worked rows: parts of no, one and many entries, a part that ends first, a number left out.
+/// A numbered value may move to another thread where its value may.
+fn numbered_is_sendable<T: Send>() {
+    sendable::<Numbered<T>>();
+}
+
+/// Threads may share a numbered value where they may share its value.
+fn numbered_is_shareable<T: Sync>() {
+    shareable::<Numbered<T>>();
+}
+
 #[test]
 fn parts_become_one_ascending_list(rt: HostRuntime) -> Result<(), Fail> {
     let alloc = rt.alloc();
@@ -101,6 +112,12 @@ fn parts_become_one_ascending_list(rt: HostRuntime) -> Result<(), Fail> {
 }
 
 /// As many parts as there are lanes at most, and several entries in each.
+#[test]
+fn numbered_values_cross_threads(_rt: HostRuntime) {
+    numbered_is_sendable::<String>();
+    numbered_is_shareable::<String>();
+}
+
 #[test]
 fn sixty_four_parts(rt: HostRuntime) -> Result<(), Fail> {
     let alloc = rt.alloc();
