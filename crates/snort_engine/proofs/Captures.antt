@@ -1,161 +1,96 @@
 -- How the watching of a capture follows its answer.
-use Rattle.std.proofs.Common.{◌≡◌, ℕ, ◌<◌, ◌≤◌, List, [], ◌++◌, Option, Some, None, Result, Ok, Err, length, take, drop, refl, sym, ap, subst, append_assoc, ◌∙◌, arith, ◌⊎◌, ⊎_elim}
+use Rattle.std.proofs.Common.{◌≡◌, ℕ, ◌<◌, ◌≤◌, ◌-◌, List, [], ◌++◌, map, Option, Some, None, Result, Ok, Err, length, take, drop, refl, sym, ap, subst, append_assoc, ◌∙◌, arith, inl, inr, ◌⊎◌, ⊎_elim}
 use Rattle.std.specs.FinMap.{get}
+use Rattle.std.specs.List.{concat}
 use Rattle.std.proofs.Math.ListN.{drop_of_length-le}
-use Rattle.std.proofs.lemmas.List.{take-append-drop, length-take-le, drop_at}
-use Rattle.edge_io.specs.Told.{behind}
+use Rattle.std.proofs.lemmas.List.{append-nil, take-append-drop, take-append-le, length-append, length-take-le, length-map, map-append, drop_at}
+use mathlib.Core.List.{IsPrefix}
+use Rattle.edge_io.specs.Told.{behind, Rose}
 use Rattle.edge_io.specs.Files.{Files, IsOpened}
 use Rattle.edge_io.proofs.Told.{behind-nil}
+use Rattle.edge_io.specs.declared.link.Link.{Link}
 use Rattle.pcap_input.specs.declared.capture.CaptureHead.{CaptureHead}
 use Rattle.pcap_input.specs.declared.capture.CaptureFault.{CaptureFault}
 use Rattle.pcap_input.specs.declared.capture.CaptureFault.TheVariants as fault
+use Rattle.pcap_input.specs.declared.capture.Record.{Record}
 use Rattle.pcap_input.specs.Savefile.{Capture, Cut, Ending, Clean, Refused, head_of, records_left, savefile}
-use Rattle.pcap_input.specs.Reader.{Reading, begun, reader_of, Opens, TakesHead, IsOfHead}
+use Rattle.pcap_input.specs.Reader.{Reading, new_reader, reader_of, Opens, TakesHead, IsOfHead}
+use Rattle.pcap_input.specs.Reading.{cut_for}
 use Rattle.pcap_input.proofs.Records.{records_left-ends}
 use Rattle.pcap_input.proofs.Laws.{head_of-append, next_of_nothing}
-use Rattle.pcap_input.proofs.Endings.{savefile-ok, savefile-err, limited-none}
+use Rattle.pcap_input.proofs.Endings.{savefile-ok, savefile-err, first_records-none}
 use Rattle.pcap_input.proofs.Heads.{head_of_truncated}
 use Rattle.pcap_input.proofs.Told.{split_told}
-use Rattle.snort_engine.specs.declared.content_rule.ContentRule.{ContentRule}
+use Rattle.snort_engine.specs.declared.status.Status.{Status}
 use Rattle.snort_engine.specs.declared.status.Status.TheVariants as status
-use Rattle.snort_engine.specs.declared.show.ShowStop.TheVariants as show
-use Rattle.snort_engine.specs.declared.watch.WatchStop.{WatchStop}
-use Rattle.snort_engine.specs.declared.watch.WatchStop.TheVariants.{Capture as stopped_reading, Show as stopped_showing}
-use Rattle.snort_engine.specs.Prefix.{WritesPart}
-use Rattle.snort_engine.specs.Alerting.{alert_lines}
-use Rattle.snort_engine.specs.Messages.{cannot_read_text}
-use Rattle.snort_engine.specs.Answer.{Answer, answer_of, capture_answer, fault_text, fault_status, ending_text, ending_status}
-use Rattle.snort_engine.specs.Ending.{IsAnswered, lines_of, lines_within, IsTakenOf, IsCutShort, Ends}
-use Rattle.snort_engine.specs.Watching.{lines_left, IsWatched, IsCutOff, Watches, IsReadFault, stop_status, stop_text}
-use Rattle.snort_engine.proofs.Showing.{WritesPart-none}
-use Rattle.snort_engine.proofs.Watched.{alert_lines-nil}
+use Rattle.snort_engine.specs.declared.stop.Stop.{Stop}
+use Rattle.snort_engine.specs.declared.stop.Stop.TheVariants as stop
+use Rattle.snort_engine.specs.CommandLine.{Options}
+use Rattle.snort_engine.specs.Course.{Plan, Goes, Course}
+use Rattle.snort_engine.specs.Records.{LinkedRecord, Recording, linked, recording_of, recording_in, records_of}
+use Rattle.snort_engine.specs.Trace.{CaptureState, Open, Closed}
+use Rattle.snort_engine.specs.Lines.{lines}
+use Rattle.snort_engine.specs.Answer.{Answer, answer_of, way_answer, capture_answer, recording_answer, fault_text, fault_status, ending_text, ending_status}
+use Rattle.snort_engine.specs.Messages.{cannot_read_text, cannot_write_text, no_memory_text}
+use Rattle.snort_engine.specs.Outside.{Work, WritesPart}
+use Rattle.snort_engine.specs.ReadAhead.{batch, all_but, lines_due, IsShut, IsReadAhead, ReadsAhead}
+use Rattle.snort_engine.specs.Ending.{IsAnswered, IsTakenOf, lines_within, IsCutShort, Ends}
+use Rattle.snort_engine.specs.Stop.{capture_stop, stop_status, stop_text, outcome_status, outcome_text}
+use Rattle.snort_engine.specs.Watching.{Streams, lines_of, lines_left, IsWatched, IsCutOff, IsCloseBehind, WatchesTo, WritesSome, Watches}
+use Rattle.snort_engine.proofs.Prefixes.{IsPrefix-nil, WritesPart-none}
+use Rattle.snort_engine.proofs.LinesLaws.{lines_join, lines-nil}
+use Rattle.snort_engine.proofs.Finishing.{IsPlain, ends_met, ends_unread, ends_unwritten, ends_lacking, ahead_goes, ahead_cut}
 
--- the answer for bytes whose head is refused
-refused_answer : (rules : List ContentRule) (name bytes : List ℕ) (why : CaptureFault) → head_of bytes ≡ Err why → capture_answer rules name (Some bytes) ≡ answer_of rules name (Err why)
-unfolding capture_answer
-refused_answer rules name bytes why is = ap (answer_of rules name) (savefile-err bytes None why is)
+-- ---- what a plan reads of bytes
 
--- the capture that bytes with this head are
-abbrev pub capture_with : CaptureHead → List ℕ → Capture
-capture_with head bytes = record { head = head; cut = records_left head 0 24 (drop 24 bytes) }
+-- bytes whose head is refused
+recording-err : (plan : Plan) (bytes : List ℕ) (why : CaptureFault) → head_of bytes ≡ Err why → records_of plan bytes ≡ record { records = []; ending = Refused why }
+unfolding records_of
+recording-err plan bytes why is = ap recording_in (savefile-err bytes plan.limit why is)
 
-pub whole_capture : (bytes : List ℕ) (head : CaptureHead) → head_of bytes ≡ Ok head → savefile bytes None ≡ Ok (capture_with head bytes)
-whole_capture bytes head is =
-    savefile-ok bytes None head is ∙ ap (λ (cut : Cut). Ok (record { head = head; cut = cut })) (limited-none (records_left head 0 24 (drop 24 bytes)))
-
-accepted_answer : (rules : List ContentRule) (name bytes : List ℕ) (head : CaptureHead) → head_of bytes ≡ Ok head → capture_answer rules name (Some bytes) ≡ answer_of rules name (Ok (capture_with head bytes))
-unfolding capture_answer
-accepted_answer rules name bytes head is = ap (answer_of rules name) (whole_capture bytes head is)
-
-lines_within-ok : (rules : List ContentRule) (bytes : List ℕ) (head : CaptureHead) → head_of bytes ≡ Ok head → lines_within rules bytes ≡ alert_lines rules head.link (records_left head 0 24 (drop 24 bytes)).records
-unfolding lines_within
-lines_within-ok rules bytes head is = ap (lines_of rules) (whole_capture bytes head is)
-
-lines_within-err : (rules : List ContentRule) (bytes : List ℕ) (why : CaptureFault) → head_of bytes ≡ Err why → lines_within rules bytes ≡ []
-unfolding lines_within
-lines_within-err rules bytes why is = ap (lines_of rules) (savefile-err bytes None why is)
+-- bytes whose head is accepted, without a limit
+recording-ok : (plan : Plan) (bytes : List ℕ) (head : CaptureHead) → plan.limit ≡ None → head_of bytes ≡ Ok head → records_of plan bytes ≡ recording_of head.link (records_left head 0 24 (drop 24 bytes))
+unfolding records_of
+recording-ok plan bytes head none is =
+    ap (λ (limit : Option ℕ). recording_in (savefile bytes limit)) none
+    ∙ ap recording_in (savefile-ok bytes None head is ∙ ap (λ (cut : Cut). Ok (record { head = head; cut = cut })) (first_records-none (records_left head 0 24 (drop 24 bytes))))
 
 -- at most 24 bytes hold no record
-no_lines_behind : (rules : List ContentRule) (bytes : List ℕ) (head : CaptureHead) → drop 24 bytes ≡ [] → alert_lines rules head.link (records_left head 0 24 (drop 24 bytes)).records ≡ []
-no_lines_behind rules bytes head none =
-    ap (λ (rest : List ℕ). alert_lines rules head.link (records_left head 0 24 rest).records) none
-    ∙ ap (λ (cut : Cut). alert_lines rules head.link cut.records) (records_left-ends head 0 24 [] Clean (next_of_nothing head 0 24))
-    ∙ alert_lines-nil rules head.link
+none_by : (plan : Plan) (bytes : List ℕ) (read : Result CaptureHead CaptureFault) → plan.limit ≡ None → head_of bytes ≡ read → drop 24 bytes ≡ [] → (records_of plan bytes).records ≡ []
+none_by plan bytes (Err why) none is few = ap (λ (r : Recording). r.records) (recording-err plan bytes why is)
+none_by plan bytes (Ok head) none is few =
+    ap (λ (r : Recording). r.records) (recording-ok plan bytes head none is)
+    ∙ ap (λ (rest : List ℕ). map (linked head.link) (records_left head 0 24 rest).records) few
+    ∙ ap (λ (cut : Cut). map (linked head.link) cut.records) (records_left-ends head 0 24 [] Clean (next_of_nothing head 0 24))
 
-few_by : (rules : List ContentRule) (bytes : List ℕ) (read : Result CaptureHead CaptureFault) → head_of bytes ≡ read → drop 24 bytes ≡ [] → lines_within rules bytes ≡ []
-few_by rules bytes (Ok head) is none = lines_within-ok rules bytes head is ∙ no_lines_behind rules bytes head none
-few_by rules bytes (Err why) is none = lines_within-err rules bytes why is
+no_records : (plan : Plan) (bytes : List ℕ) → plan.limit ≡ None → length bytes ≤ 24 → (records_of plan bytes).records ≡ []
+no_records plan bytes none few = none_by plan bytes (head_of bytes) none refl (drop_of_length-le bytes few)
 
-few_lines : (rules : List ContentRule) (bytes : List ℕ) → length bytes ≤ 24 → lines_within rules bytes ≡ []
-few_lines rules bytes few = few_by rules bytes (head_of bytes) refl (drop_of_length-le bytes few)
+none_within : (plan : Plan) (bytes : List ℕ) → plan.limit ≡ None → length bytes ≤ 24 → lines_within plan bytes ≡ []
+unfolding lines_within
+none_within plan bytes none few = ap (λ (x : List LinkedRecord). lines plan [] x Open) (no_records plan bytes none few) ∙ lines-nil plan [] Open
+
+none_due : (plan : Plan) (bytes : List ℕ) → plan.limit ≡ None → length bytes ≤ 24 → lines_due plan bytes ≡ []
+unfolding lines_due
+none_due plan bytes none few = ap (λ (x : List LinkedRecord). lines plan [] (all_but batch x) Open) (no_records plan bytes none few) ∙ lines-nil plan [] Open
+
+-- ---- the head
 
 -- what a name holds, where it was opened
-pub held_opened : (files : Files) (name : List ℕ) (whole : Option (List ℕ)) → IsOpened (Some files) name whole → (bytes : List ℕ) × (get files name ≡ Some bytes) × (whole ≡ Some bytes)
+held_opened : (files : Files) (name : List ℕ) (whole : Option (List ℕ)) → IsOpened (Some files) name whole → (bytes : List ℕ) × (get files name ≡ Some bytes) × (whole ≡ Some bytes)
 held_opened files name (Some bytes) opened = (bytes, sym opened.0, refl)
 held_opened files name None opened = let none = opened.1 in absurd cc
 
--- the head was not read: nothing was written
-pub open_cut : (rules : List ContentRule) (files : Files) (name : List ℕ) (answer : Result Reading CaptureFault) (left written : Option (List ℕ))
-    → (TakesHead (Some files) name answer left ⊎ ((answer ≡ Err fault.Failed) × (left ≡ None)))
-    → IsCutShort rules name (get files name) left (cannot_read_text name) written written
-open_cut rules files name answer left written takes =
-    ⊎_elim
-    (λ (head : TakesHead (Some files) name answer left).
-    let held = held_opened files name head.whole head.opened in
-    let split = split_told head.whole left head.taken held.0 head.took held.2 in
-    let of : IsTakenOf (get files name) head.taken left = subst (IsTakenOf (get files name) head.taken) (sym split.still) (held.1 ∙ ap Some split.joined) in
-    let alerts : written ≡ behind written (lines_within rules head.taken) = sym (behind-nil written) ∙ ap (behind written) (sym (few_lines rules head.taken head.few)) in
-    let cut : IsCutShort rules name (get files name) left (cannot_read_text name) written written = record { errors = refl; taken = head.taken; of = of; alerts = alerts } in cut)
-    (λ (nothing : (answer ≡ Err fault.Failed) × (left ≡ None)).
-    let few : length {A = ℕ} [] ≤ 24 = omega arith in
-    let of : IsTakenOf (get files name) [] left = subst (IsTakenOf (get files name) []) (sym nothing.1) refl in
-    let alerts : written ≡ behind written (lines_within rules []) = sym (behind-nil written) ∙ ap (behind written) (sym (few_lines rules [] few)) in
-    let cut : IsCutShort rules name (get files name) left (cannot_read_text name) written written = record { errors = refl; taken = []; of = of; alerts = alerts } in cut)
-    takes
+-- what was taken of a head, where one was read
+abbrev pub TakesOr : Files → List ℕ → Result Reading CaptureFault → Option (List ℕ) → Type 0
+TakesOr files name answer left = TakesHead (Some files) name answer left ⊎ ((answer ≡ Err fault.Failed) × (left ≡ None))
 
--- a name that was opened holds bytes
-pub held_of : (files : Files) (name : List ℕ) (answer : Result Reading CaptureFault) (left : Option (List ℕ)) → (answer ≡ Err fault.Failed → ⊥)
-    → (TakesHead (Some files) name answer left ⊎ ((answer ≡ Err fault.Failed) × (left ≡ None))) → (bytes : List ℕ) × (get files name ≡ Some bytes)
-held_of files name answer left other takes =
-    ⊎_elim
-    (λ (head : TakesHead (Some files) name answer left). let held = held_opened files name head.whole head.opened in let found : (bytes : List ℕ) × (get files name ≡ Some bytes) = (held.0, held.1) in found)
-    (λ (nothing : (answer ≡ Err fault.Failed) × (left ≡ None)). absurd (other nothing.0))
-    takes
-
--- the answer for a head that is refused, before anything was written
-answered_refusal : (rules : List ContentRule) (files : Files) (name bytes : List ℕ) (why : CaptureFault) (written : Option (List ℕ)) → get files name ≡ Some bytes → head_of bytes ≡ Err why
-    → IsAnswered (capture_answer rules name (get files name)) (fault_status why) (fault_text name why) written written
-answered_refusal rules files name bytes why written held is =
-    let same : answer_of rules name (Err why) ≡ capture_answer rules name (get files name) = sym (ap (capture_answer rules name) held ∙ refused_answer rules name bytes why is) in
-    record {
-      status = ap (λ (a : Answer). a.status) same;
-      errors = ap (λ (a : Answer). a.errors) same;
-      alerts = sym (behind-nil written) ∙ ap (λ (a : Answer). behind written a.alerts) same;
-    }
-
--- the answer for a name that the files lack
-answered_lacking : (rules : List ContentRule) (files : Files) (name : List ℕ) (written : Option (List ℕ)) → get files name ≡ None
-    → IsAnswered (capture_answer rules name (get files name)) status.HostFault (cannot_read_text name) written written
-unfolding capture_answer
-answered_lacking rules files name written lacks =
-    let same = sym (ap (capture_answer rules name) lacks) in
-    record {
-      status = ap (λ (a : Answer). a.status) same;
-      errors = ap (λ (a : Answer). a.errors) same;
-      alerts = sym (behind-nil written) ∙ ap (λ (a : Answer). behind written a.alerts) same;
-    }
-
--- a refusal of an opening
-abbrev pub refusing_open : CaptureFault → Result Reading CaptureFault
-refusing_open why = Err why
-
--- the opening of a reader
-abbrev pub opening : Reading → Result Reading CaptureFault
-opening reader = Ok reader
-
--- the head was refused or not read
-pub open_ends : (rules : List ContentRule) (files : Files) (name : List ℕ) (why : CaptureFault) (left written : Option (List ℕ)) (rose : Type 0)
-    → ((bytes : List ℕ) → get files name ≡ Some bytes → Opens (Err why) (head_of bytes))
-    → (TakesHead (Some files) name (refusing_open why) left ⊎ ((refusing_open why ≡ Err fault.Failed) × (left ≡ None)))
-    → IsOfHead why → (refusing_open why ≡ Err fault.Failed → rose ⊎ (get files name ≡ None))
-    → Ends (capture_answer rules name (get files name)) rose (IsCutShort rules name (get files name) left (fault_text name why) written written) (fault_status why) (fault_text name why) written written
-open_ends rules files name fault.NotPcap left written rose gives takes kind failed =
-    let held = held_of files name (Err fault.NotPcap) left (λ e. cc) takes in answered_refusal rules files name held.0 fault.NotPcap written held.1 (gives held.0 held.1)
-open_ends rules files name (fault.LinkType link_type) left written rose gives takes kind failed =
-    let held = held_of files name (Err (fault.LinkType link_type)) left (λ e. cc) takes in answered_refusal rules files name held.0 (fault.LinkType link_type) written held.1 (gives held.0 held.1)
-open_ends rules files name (fault.Truncated at) left written rose gives takes kind failed =
-    let held = held_of files name (Err (fault.Truncated at)) left (λ e. cc) takes in answered_refusal rules files name held.0 (fault.Truncated at) written held.1 (gives held.0 held.1)
-open_ends rules files name (fault.TooLong at len) left written rose gives takes kind failed = absurd kind
-open_ends rules files name fault.TooMany left written rose gives takes kind failed = absurd kind
-open_ends rules files name fault.NoMemory left written rose gives takes kind failed = absurd kind
-open_ends rules files name fault.Failed left written rose gives takes kind failed = (
-  λ still. ⊎_elim (λ risen. absurd (still risen)) (λ lacks. answered_lacking rules files name written lacks) (failed refl),
-  open_cut rules files name (Err fault.Failed) left written takes,
-  WritesPart-none written _,
-)
+-- an answer other than a fault of the host has read a head
+head_taken : (files : Files) (name : List ℕ) (answer : Result Reading CaptureFault) (left : Option (List ℕ)) → (answer ≡ Err fault.Failed → ⊥) → TakesOr files name answer left → TakesHead (Some files) name answer left
+head_taken files name answer left other takes = ⊎_elim (λ (head : TakesHead (Some files) name answer left). head) (λ (nothing : (answer ≡ Err fault.Failed) × (left ≡ None)). absurd (other nothing.0)) takes
 
 -- a reader that was opened has the head of the bytes
-pub opened_by : (bytes : List ℕ) (reader : Reading) (read : Result CaptureHead CaptureFault) → head_of bytes ≡ read → reader_of read ≡ Ok reader → (head : CaptureHead) × (head_of bytes ≡ Ok head) × (reader ≡ begun head)
+opened_by : (bytes : List ℕ) (reader : Reading) (read : Result CaptureHead CaptureFault) → head_of bytes ≡ read → reader_of read ≡ Ok reader → (head : CaptureHead) × (head_of bytes ≡ Ok head) × (reader ≡ new_reader head)
 opened_by bytes reader (Ok head) is opens = (head, is, cc)
 opened_by bytes reader (Err why) is opens = cc
 
@@ -169,7 +104,7 @@ long_enough bytes head is =
     at_least (length bytes) 24 (λ few. let truncated = head_of_truncated bytes few in cc)
 
 -- the front of a file that has a head is 24 bytes, and has that head with whatever follows
-pub head_of_front : (bytes taken : List ℕ) (head : CaptureHead) → head_of bytes ≡ Ok head → (length (take 24 bytes) ≡ 24) × (head_of (take 24 bytes ++ taken) ≡ Ok head)
+head_of_front : (bytes taken : List ℕ) (head : CaptureHead) → head_of bytes ≡ Ok head → (length (take 24 bytes) ≡ 24) × (head_of (take 24 bytes ++ taken) ≡ Ok head)
 head_of_front bytes taken head is =
     let enough = long_enough bytes head is in
     let whole : length (take 24 bytes) ≡ 24 = length-take-le 24 bytes enough in
@@ -179,87 +114,322 @@ head_of_front bytes taken head is =
     (whole, head_of-append (take 24 bytes) taken front ∙ of_front)
 
 -- the records within the head and some more bytes
-lines_behind_head : (rules : List ContentRule) (bytes taken : List ℕ) (head : CaptureHead) → head_of bytes ≡ Ok head → lines_within rules (take 24 bytes ++ taken) ≡ lines_left rules (begun head) taken
-lines_behind_head rules bytes taken head is =
+records_behind_head : (plan : Plan) (bytes taken : List ℕ) (head : CaptureHead) → plan.limit ≡ None → head_of bytes ≡ Ok head
+    → (records_of plan (take 24 bytes ++ taken)).records ≡ map (linked head.link) (cut_for (new_reader head) taken).records
+records_behind_head plan bytes taken head none is =
     let front = head_of_front bytes taken head is in
-    lines_within-ok rules (take 24 bytes ++ taken) head front.1
-    ∙ ap (λ (rest : List ℕ). alert_lines rules head.link (records_left head 0 24 rest).records) (drop_at (take 24 bytes) taken 24 front.0)
+    ap (λ (r : Recording). r.records) (recording-ok plan (take 24 bytes ++ taken) head none front.1)
+    ∙ ap (λ (rest : List ℕ). map (linked head.link) (records_left head 0 24 rest).records) (drop_at (take 24 bytes) taken 24 front.0)
 
--- the answer for a capture whose records were watched to this ending
-answered_watch : (rules : List ContentRule) (files : Files) (name bytes : List ℕ) (head : CaptureHead) (ending : Ending) (old new : Option (List ℕ)) → get files name ≡ Some bytes → head_of bytes ≡ Ok head
-    → IsWatched rules (begun head) (drop 24 bytes) ending old new
-    → IsAnswered (capture_answer rules name (get files name)) (ending_status ending) (ending_text name ending) old new
-answered_watch rules files name bytes head ending old new held is watched =
-    let same : answer_of rules name (Ok (capture_with head bytes)) ≡ capture_answer rules name (get files name) = sym (ap (capture_answer rules name) held ∙ accepted_answer rules name bytes head is) in
+-- the head and what was taken behind it, and the rest
+joined_behind_head : (bytes taken rest : List ℕ) → drop 24 bytes ≡ taken ++ rest → (take 24 bytes ++ taken) ++ rest ≡ bytes
+joined_behind_head bytes taken rest joined = append_assoc (take 24 bytes) taken rest ∙ ap (λ (x : List ℕ). take 24 bytes ++ x) (sym joined) ∙ take-append-drop 24 bytes
+
+-- ---- the answer
+
+-- a course that goes on with a plan, without a warning, answers as its capture
+pub answer_goes : (files : Files) (course : Course) (plan : Plan) → course.way ≡ Goes plan → course.warnings ≡ [] → answer_of files course ≡ capture_answer plan [] (get files plan.source)
+answer_goes files course plan goes none = cc
+
+-- the answer for a head that is refused, and for one that is accepted
+answer-err : (plan : Plan) (bytes : List ℕ) (why : CaptureFault) (held : Option (List ℕ)) → held ≡ Some bytes → head_of bytes ≡ Err why → capture_answer plan [] held ≡ recording_answer plan [] (record { records = []; ending = Refused why })
+unfolding capture_answer
+answer-err plan bytes why held holds is = ap (capture_answer plan []) holds ∙ ap (recording_answer plan []) (recording-err plan bytes why is)
+
+answer-ok : (plan : Plan) (bytes : List ℕ) (head : CaptureHead) (held : Option (List ℕ)) → plan.limit ≡ None → held ≡ Some bytes → head_of bytes ≡ Ok head
+    → capture_answer plan [] held ≡ recording_answer plan [] (recording_of head.link (cut_for (new_reader head) (drop 24 bytes)))
+unfolding capture_answer
+answer-ok plan bytes head held none holds is = ap (capture_answer plan []) holds ∙ ap (recording_answer plan []) (recording-ok plan bytes head none is)
+
+answer-lacking : (plan : Plan) (held : Option (List ℕ)) → held ≡ None → capture_answer plan [] held ≡ record { alerts = []; errors = cannot_read_text plan.source; status = status.HostFault }
+unfolding capture_answer
+answer-lacking plan held lacks = ap (capture_answer plan []) lacks
+
+-- the parts of an answer that is known
+answered : (answer meant : Answer) → answer ≡ meant → IsAnswered answer meant.status meant.alerts meant.errors
+answered answer meant is = record {
+  status = ap (λ (a : Answer). a.status) (sym is);
+  alerts_are = ap (λ (a : Answer). a.alerts) (sym is);
+  message_is = ap (λ (a : Answer). a.errors) (sym is);
+}
+
+-- the message and the status of a stop at a capture
+pub text_of_stop : (names : Options) (why : CaptureFault) → stop_text names (capture_stop why) ≡ fault_text names.capture why
+unfolding stop_text
+text_of_stop names fault.NotPcap = refl
+text_of_stop names (fault.LinkType link_type) = refl
+text_of_stop names (fault.Truncated at) = refl
+text_of_stop names (fault.TooLong at len) = refl
+text_of_stop names fault.TooMany = refl
+text_of_stop names fault.Failed = refl
+text_of_stop names fault.NoMemory = refl
+
+status_of_stop : (why : CaptureFault) → stop_status (capture_stop why) ≡ fault_status why
+status_of_stop fault.NotPcap = refl
+status_of_stop (fault.LinkType link_type) = refl
+status_of_stop (fault.Truncated at) = refl
+status_of_stop (fault.TooLong at len) = refl
+status_of_stop fault.TooMany = refl
+status_of_stop fault.Failed = refl
+status_of_stop fault.NoMemory = refl
+
+-- ---- a head that was refused or not read
+
+-- nothing was written, and the head of a capture that is open is known
+head_ahead : (plan : Plan) (files : Files) (answer : Result Reading CaptureFault) (before after : Work) → plan.limit ≡ None → after.alerts ≡ before.alerts → TakesHead (Some files) plan.source answer after.left
+    → IsReadAhead plan (get files plan.source) before after
+head_ahead plan files answer before after none same head =
+    let held = held_opened files plan.source head.whole head.opened in
+    let split = split_told head.whole after.left head.taken held.0 head.took held.2 in
     record {
-      status = ap ending_status (sym watched.ends) ∙ ap (λ (a : Answer). a.status) same;
-      errors = ap (ending_text name) (sym watched.ends) ∙ ap (λ (a : Answer). a.errors) same;
-      alerts = watched.wrote ∙ ap (λ (a : Answer). behind old a.alerts) same;
+      taken = head.taken;
+      rest = split.rest;
+      of = held.1 ∙ ap Some split.joined;
+      still = split.still;
+      more = [];
+      wrote = same ∙ sym (behind-nil before.alerts) ∙ ap (behind before.alerts) (sym (append-nil (lines_due plan head.taken) ∙ none_due plan head.taken none head.few));
     }
 
--- a part of its lines
-part_of_watch : (rules : List ContentRule) (files : Files) (name bytes : List ℕ) (head : CaptureHead) (old new : Option (List ℕ)) → get files name ≡ Some bytes → head_of bytes ≡ Ok head
-    → WritesPart old (lines_left rules (begun head) (drop 24 bytes)) new → WritesPart old (capture_answer rules name (get files name)).alerts new
-part_of_watch rules files name bytes head old new held is part =
-    let P : List ℕ → Type 0 = λ x. WritesPart old x new in
-    let same : answer_of rules name (Ok (capture_with head bytes)) ≡ capture_answer rules name (get files name) = sym (ap (capture_answer rules name) held ∙ accepted_answer rules name bytes head is) in
-    subst P (ap (λ (a : Answer). a.alerts) same) part
+-- the reading of the head was cut off
+open_cut : (plan : Plan) (files : Files) (course : Course) (answer : Result Reading CaptureFault) (before after : Work) → plan.limit ≡ None → course.way ≡ Goes plan → course.warnings ≡ [] → after.alerts ≡ before.alerts
+    → TakesOr files plan.source answer after.left → IsCutShort files course before after (cannot_read_text plan.source)
+open_cut plan files course answer before after none goes calm same takes =
+    ⊎_elim
+    (λ (head : TakesHead (Some files) plan.source answer after.left).
+    let held = held_opened files plan.source head.whole head.opened in
+    let split = split_told head.whole after.left head.taken held.0 head.took held.2 in
+    cut head.taken head.few (subst (IsTakenOf (get files plan.source) head.taken) (sym split.still) (held.1 ∙ ap Some split.joined)))
+    (λ (nothing : (answer ≡ Err fault.Failed) × (after.left ≡ None)).
+    cut [] (omega arith) (subst (IsTakenOf (get files plan.source) []) (sym nothing.1) refl))
+    takes
+  where
+    cut : (taken : List ℕ) → length taken ≤ 24 → IsTakenOf (get files plan.source) taken after.left → IsCutShort files course before after (cannot_read_text plan.source)
+    cut taken few of = record {
+      plan = plan;
+      goes = goes;
+      taken = taken;
+      of = of;
+      wrote = same ∙ sym (behind-nil before.alerts) ∙ ap (behind before.alerts) (sym (none_within plan taken none few));
+      says = says;
+    }
+      where
+        says : cannot_read_text plan.source ≡ concat course.warnings ++ cannot_read_text plan.source
+        says = ap (λ (x : List (List ℕ)). concat x ++ cannot_read_text plan.source) (sym calm)
+
+-- how far was read ahead of a head
+open_ahead : (plan : Plan) (files : Files) (course : Course) (before after : Work) → plan.limit ≡ None → course.way ≡ Goes plan → after.alerts ≡ before.alerts
+    → (answer : Result Reading CaptureFault) → TakesOr files plan.source answer after.left → ReadsAhead files course before after status.HostFault
+open_ahead plan files course before after none goes same answer takes =
+    ⊎_elim
+    (λ (head : TakesHead (Some files) plan.source answer after.left). ahead_goes files course plan before after status.HostFault goes (head_ahead plan files answer before after none same head))
+    (λ (nothing : (answer ≡ Err fault.Failed) × (after.left ≡ None)). ahead_cut files course plan before after status.HostFault goes (inl refl) (inr (record { left = nothing.1; alerts = same })))
+    takes
+
+-- a head that is refused
+refused_ends : (plan : Plan) (names : Options) (files : Files) (course : Course) (why : CaptureFault) (before after : Work) → names.capture ≡ plan.source → plan.limit ≡ None → course.way ≡ Goes plan → course.warnings ≡ [] → after.alerts ≡ before.alerts
+    → IsPlain (fault_status why) → TakesHead (Some files) plan.source (Err why) after.left → ((bytes : List ℕ) → get files plan.source ≡ Some bytes → head_of bytes ≡ Err why)
+    → Ends files course before after (fault_status why) (fault_text plan.source why)
+refused_ends plan names files course why before after named none goes calm same plain takes gives =
+    let held = held_opened files plan.source takes.whole takes.opened in
+    let is = answer_goes files course plan goes calm ∙ answer-err plan held.0 why (get files plan.source) held.1 (gives held.0 held.1) in
+    ends_met files course before after (fault_status why) (lines plan [] [] Closed) (fault_text plan.source why) plain
+    (same ∙ sym (behind-nil before.alerts) ∙ ap (behind before.alerts) (sym (lines-nil plan [] Closed)))
+    (answered (answer_of files course) _ is)
+    (ahead_goes files course plan before after (fault_status why) goes (head_ahead plan files (Err why) before after none same takes))
+
+-- a refusal of an opening
+abbrev pub refusing_open : CaptureFault → Result Reading CaptureFault
+refusing_open why = Err why
+
+-- the head was refused or not read
+pub open_ends : (plan : Plan) (names : Options) (files : Files) (course : Course) (why : CaptureFault) (before after : Work) → names.capture ≡ plan.source → plan.limit ≡ None → course.way ≡ Goes plan → course.warnings ≡ [] → after.alerts ≡ before.alerts
+    → ((bytes : List ℕ) → get files plan.source ≡ Some bytes → Opens (Err why) (head_of bytes))
+    → TakesOr files plan.source (refusing_open why) after.left
+    → IsOfHead why → (refusing_open why ≡ Err fault.Failed → Rose before.host_faults after.host_faults ⊎ (get files plan.source ≡ None))
+    → Ends files course before after (fault_status why) (fault_text plan.source why)
+open_ends plan names files course fault.NotPcap before after named none goes calm same gives takes kind failed =
+    refused_ends plan names files course fault.NotPcap before after named none goes calm same tt (head_taken files plan.source (Err fault.NotPcap) after.left (λ e. cc) takes) gives
+open_ends plan names files course (fault.LinkType link_type) before after named none goes calm same gives takes kind failed =
+    refused_ends plan names files course (fault.LinkType link_type) before after named none goes calm same tt (head_taken files plan.source (Err (fault.LinkType link_type)) after.left (λ e. cc) takes) gives
+open_ends plan names files course (fault.Truncated at) before after named none goes calm same gives takes kind failed =
+    refused_ends plan names files course (fault.Truncated at) before after named none goes calm same tt (head_taken files plan.source (Err (fault.Truncated at)) after.left (λ e. cc) takes) gives
+open_ends plan names files course (fault.TooLong at len) before after named none goes calm same gives takes kind failed = absurd kind
+open_ends plan names files course fault.TooMany before after named none goes calm same gives takes kind failed = absurd kind
+open_ends plan names files course fault.NoMemory before after named none goes calm same gives takes kind failed = absurd kind
+open_ends plan names files course fault.Failed before after named none goes calm same gives takes kind failed =
+    ends_unread files course before after [] (cannot_read_text plan.source)
+    (same ∙ sym (behind-nil before.alerts))
+    (IsPrefix-nil (answer_of files course).alerts)
+    (λ still. ⊎_elim (λ risen. absurd (still risen)) (λ lacks. answered (answer_of files course) _ (answer_goes files course plan goes calm ∙ answer-lacking plan (get files plan.source) lacks)) (failed refl))
+    (inr (open_cut plan files course (refusing_open fault.Failed) before after none goes calm same takes))
+    (open_ahead plan files course before after none goes same (refusing_open fault.Failed) takes)
+
+-- ---- a capture that was opened and watched
+
+-- all records but the last ones, where at most a batch stands behind the others, are the first of these
+all_but-front : (given last : List LinkedRecord) → length last ≤ batch → all_but batch (given ++ last) ≡ take (length (given ++ last) - batch) given
+all_but-front given last few =
+    let below : length (given ++ last) - batch ≤ length given = omega (arith, length-append given last) in
+    take-append-le (length (given ++ last) - batch) given last below
+
+-- their lines come first
+front_first : (plan : Plan) (given last : List LinkedRecord) → length last ≤ batch
+    → lines plan [] given Open
+    ≡ lines plan [] (all_but batch (given ++ last)) Open ++ lines plan (take (length (given ++ last) - batch) given) (drop (length (given ++ last) - batch) given) Open
+front_first plan given last few =
+    let count = length (given ++ last) - batch in
+    ap (λ (x : List LinkedRecord). lines plan [] x Open) (sym (take-append-drop count given))
+    ∙ lines_join plan [] (take count given) (drop count given) Open
+    ∙ ap (λ (x : List LinkedRecord). lines plan [] x Open ++ lines plan (take count given) (drop count given) Open) (sym (all_but-front given last few))
+
+-- the lines are close behind the records of a capture that was opened
+ahead_behind_head : (plan : Plan) (held : Option (List ℕ)) (bytes : List ℕ) (head : CaptureHead) (left_first : Option (List ℕ)) (before after : Work) → plan.limit ≡ None → held ≡ Some bytes → head_of bytes ≡ Ok head
+    → left_first ≡ Some (drop 24 bytes) → IsCloseBehind plan (new_reader head) (record { left = left_first; written = before.alerts }) (record { left = after.left; written = after.alerts })
+    → IsReadAhead plan held before after
+unfolding lines_of lines_due
+ahead_behind_head plan held bytes head left_first before after none holds is told close =
+    let split = split_told left_first after.left close.taken (drop 24 bytes) close.took told in
+    let given = map (linked head.link) close.given in
+    let last = map (linked head.link) close.last in
+    let few : length last ≤ batch = omega (arith, close.few, length-map close.last (linked head.link)) in
+    let others = lines plan (take (length (given ++ last) - batch) given) (drop (length (given ++ last) - batch) given) Open in
+    let records : (records_of plan (take 24 bytes ++ close.taken)).records ≡ given ++ last =
+    records_behind_head plan bytes close.taken head none is ∙ ap (map (linked head.link)) close.are ∙ map-append (linked head.link) close.given close.last in
+    let shown : lines plan [] given Open ≡ lines_due plan (take 24 bytes ++ close.taken) ++ others =
+    front_first plan given last few ∙ ap (λ (x : List LinkedRecord). lines plan [] (all_but batch x) Open ++ others) (sym records) in
+    record {
+      taken = take 24 bytes ++ close.taken;
+      rest = split.rest;
+      of = holds ∙ ap Some (sym (joined_behind_head bytes close.taken split.rest split.joined));
+      still = split.still;
+      more = others ++ close.more;
+      wrote = close.wrote ∙ ap (λ (x : List ℕ). behind before.alerts (x ++ close.more)) shown ∙ ap (behind before.alerts) (append_assoc (lines_due plan (take 24 bytes ++ close.taken)) others close.more);
+    }
 
 -- the reading was cut off behind the head
-cut_behind_head : (rules : List ContentRule) (files : Files) (name bytes : List ℕ) (head : CaptureHead) (left_first left old new : Option (List ℕ)) → get files name ≡ Some bytes → head_of bytes ≡ Ok head
-    → left_first ≡ Some (drop 24 bytes) → IsCutOff rules (begun head) left_first left old new
-    → IsCutShort rules name (get files name) left (cannot_read_text name) old new
-cut_behind_head rules files name bytes head left_first left old new held is told cut =
-    let split = split_told left_first left cut.taken (drop 24 bytes) cut.took told in
-    let whole : (take 24 bytes ++ cut.taken) ++ split.rest ≡ bytes =
-    append_assoc (take 24 bytes) cut.taken split.rest ∙ ap (λ (x : List ℕ). take 24 bytes ++ x) (sym split.joined) ∙ take-append-drop 24 bytes in
+cut_behind_head : (plan : Plan) (files : Files) (course : Course) (bytes : List ℕ) (head : CaptureHead) (left_first : Option (List ℕ)) (before after : Work) → plan.limit ≡ None → course.way ≡ Goes plan → course.warnings ≡ []
+    → get files plan.source ≡ Some bytes → head_of bytes ≡ Ok head
+    → left_first ≡ Some (drop 24 bytes) → IsCutOff plan (new_reader head) (record { left = left_first; written = before.alerts }) (record { left = after.left; written = after.alerts })
+    → IsCutShort files course before after (cannot_read_text plan.source)
+unfolding lines_of lines_within
+cut_behind_head plan files course bytes head left_first before after none goes calm held is told cut =
+    let split = split_told left_first after.left cut.taken (drop 24 bytes) cut.took told in
     record {
-      errors = refl;
+      plan = plan;
+      goes = goes;
       taken = take 24 bytes ++ cut.taken;
-      of = subst (IsTakenOf (get files name) (take 24 bytes ++ cut.taken)) (sym split.still) (held ∙ ap Some (sym whole));
-      alerts = cut.wrote ∙ ap (behind old) (sym (lines_behind_head rules bytes cut.taken head is));
+      of = subst (IsTakenOf (get files plan.source) (take 24 bytes ++ cut.taken)) (sym split.still) (held ∙ ap Some (sym (joined_behind_head bytes cut.taken split.rest split.joined)));
+      wrote = cut.wrote ∙ ap (λ (x : List LinkedRecord). behind before.alerts (lines plan [] x Open)) (sym (records_behind_head plan bytes cut.taken head none is));
+      says = ap (λ (x : List (List ℕ)). concat x ++ cannot_read_text plan.source) (sym calm);
     }
 
+-- what is known of a capture that was opened: its course, its bytes and their head
+pub record IsOpenCapture (plan : Plan) (files : Files) (course : Course) (left_first : Option (List ℕ)) (bytes : List ℕ) (head : CaptureHead) : Type 0 where
+  pub none : plan.limit ≡ None
+  pub goes : course.way ≡ Goes plan
+  pub calm : course.warnings ≡ []
+  pub held : get files plan.source ≡ Some bytes
+  pub is : head_of bytes ≡ Ok head
+  pub told : left_first ≡ Some (drop 24 bytes)
+
+-- its answer
+answer_open : (plan : Plan) (files : Files) (course : Course) (left_first : Option (List ℕ)) (bytes : List ℕ) (head : CaptureHead) → IsOpenCapture plan files course left_first bytes head
+    → answer_of files course ≡ recording_answer plan [] (recording_of head.link (cut_for (new_reader head) (drop 24 bytes)))
+answer_open plan files course left_first bytes head o = answer_goes files course plan o.goes o.calm ∙ answer-ok plan bytes head (get files plan.source) o.none o.held o.is
+
+-- watched to an ending
+watched_ends : (plan : Plan) (files : Files) (course : Course) (left_first : Option (List ℕ)) (bytes : List ℕ) (head : CaptureHead) (ending : Ending) (before after : Work) → IsOpenCapture plan files course left_first bytes head
+    → IsPlain (ending_status ending)
+    → WatchesTo plan (new_reader head) ending (record { left = left_first; written = before.alerts }) (record { left = after.left; written = after.alerts })
+    → ReadsAhead files course before after (ending_status ending)
+    → Ends files course before after (ending_status ending) (ending_text plan.source ending)
+unfolding lines_of
+watched_ends plan files course left_first bytes head ending before after o plain watches ahead =
+    let watched = watches (drop 24 bytes) o.told in
+    let link = head.link in
+    let meant : answer_of files course ≡ recording_answer plan [] (record { records = map (linked link) (cut_for (new_reader head) (drop 24 bytes)).records; ending = ending }) =
+    answer_open plan files course left_first bytes head o
+    ∙ ap (λ (e : Ending). recording_answer plan [] (record { records = map (linked link) (cut_for (new_reader head) (drop 24 bytes)).records; ending = e })) watched.ends in
+    ends_met files course before after (ending_status ending) _ (ending_text plan.source ending) plain watched.wrote (answered (answer_of files course) _ meant) ahead
+
+-- a part of its lines
+part_of_watch : (plan : Plan) (files : Files) (course : Course) (left_first : Option (List ℕ)) (bytes : List ℕ) (head : CaptureHead) (before after : Work) → IsOpenCapture plan files course left_first bytes head
+    → WritesSome plan (new_reader head) (record { left = left_first; written = before.alerts }) (record { left = after.left; written = after.alerts })
+    → WritesPart before.alerts (answer_of files course).alerts after.alerts
+unfolding lines_of
+part_of_watch plan files course left_first bytes head before after o some =
+    subst (λ (a : Answer). WritesPart before.alerts a.alerts after.alerts) (sym (answer_open plan files course left_first bytes head o)) (some (drop 24 bytes) o.told)
+
 -- the watching of a capture that was opened
-watched_by : (rules : List ContentRule) (files : Files) (name bytes : List ℕ) (head : CaptureHead) (left_first left old new : Option (List ℕ)) (rose : Type 0) (stop : WatchStop) → get files name ≡ Some bytes → head_of bytes ≡ Ok head
-    → left_first ≡ Some (drop 24 bytes) → Watches rules (begun head) left_first left old new (Err stop) → (IsReadFault stop → rose)
-    → Ends (capture_answer rules name (get files name)) rose (IsCutShort rules name (get files name) left (stop_text name stop) old new) (stop_status stop) (stop_text name stop) old new
-watched_by rules files name bytes head left_first left old new rose (stopped_showing show.WriteFault) held is told watches risen = record { errors = refl; alerts = part_of_watch rules files name bytes head old new held is (watches (drop 24 bytes) told) }
-watched_by rules files name bytes head left_first left old new rose (stopped_showing show.NoMemory) held is told watches risen = record { errors = refl; alerts = part_of_watch rules files name bytes head old new held is (watches (drop 24 bytes) told) }
-watched_by rules files name bytes head left_first left old new rose (stopped_reading fault.NoMemory) held is told watches risen = record { errors = refl; alerts = part_of_watch rules files name bytes head old new held is (watches (drop 24 bytes) told) }
-watched_by rules files name bytes head left_first left old new rose (stopped_reading fault.Failed) held is told watches risen = (
-  λ still. absurd (still (risen tt)),
-  cut_behind_head rules files name bytes head left_first left old new held is told watches.0,
-  part_of_watch rules files name bytes head old new held is (watches.1 (drop 24 bytes) told),
-)
-watched_by rules files name bytes head left_first left old new rose (stopped_reading fault.NotPcap) held is told watches risen = answered_watch rules files name bytes head (Refused fault.NotPcap) old new held is (watches (drop 24 bytes) told)
-watched_by rules files name bytes head left_first left old new rose (stopped_reading (fault.LinkType link_type)) held is told watches risen = answered_watch rules files name bytes head (Refused (fault.LinkType link_type)) old new held is (watches (drop 24 bytes) told)
-watched_by rules files name bytes head left_first left old new rose (stopped_reading (fault.Truncated at)) held is told watches risen = answered_watch rules files name bytes head (Refused (fault.Truncated at)) old new held is (watches (drop 24 bytes) told)
-watched_by rules files name bytes head left_first left old new rose (stopped_reading (fault.TooLong at len)) held is told watches risen = answered_watch rules files name bytes head (Refused (fault.TooLong at len)) old new held is (watches (drop 24 bytes) told)
-watched_by rules files name bytes head left_first left old new rose (stopped_reading fault.TooMany) held is told watches risen = answered_watch rules files name bytes head (Refused fault.TooMany) old new held is (watches (drop 24 bytes) told)
+watched_by : (plan : Plan) (names : Options) (files : Files) (course : Course) (left_first : Option (List ℕ)) (bytes : List ℕ) (head : CaptureHead) (before after : Work) (outcome : Result (Unit {0}) Stop) → names.capture ≡ plan.source
+    → IsOpenCapture plan files course left_first bytes head
+    → Watches plan (new_reader head) (record { left = left_first; written = before.alerts }) (record { left = after.left; written = after.alerts }) outcome
+    → (outcome_status outcome ≡ status.HostFault → Rose before.host_faults after.host_faults)
+    → IsReadAhead plan (get files plan.source) before after
+    → Ends files course before after (outcome_status outcome) (outcome_text names outcome)
+unfolding WritesPart stop_text
+watched_by plan names files course left_first bytes head before after (Ok done) named o watches risen read =
+    watched_ends plan files course left_first bytes head Clean before after o tt watches (ahead_goes files course plan before after status.Done o.goes read)
+watched_by plan names files course left_first bytes head before after (Err (stop.CannotRead file)) named o (is, cut, some) risen read =
+    let part = part_of_watch plan files course left_first bytes head before after o some in
+    let says : cannot_read_text plan.source ≡ stop_text names (stop.CannotRead file) = ap cannot_read_text (sym named) ∙ sym (ap (stop_text names) is) in
+    subst (λ (text : List ℕ). Ends files course before after status.HostFault text) says
+    (ends_unread files course before after part.0 (cannot_read_text plan.source) part.2 part.1
+    (λ still. absurd (still (risen refl)))
+    (inr (cut_behind_head plan files course bytes head left_first before after o.none o.goes o.calm o.held o.is o.told cut))
+    (ahead_goes files course plan before after status.HostFault o.goes read))
+watched_by plan names files course left_first bytes head before after (Err stop.CannotWrite) named o some risen read =
+    ends_unwritten files course before after o.calm (part_of_watch plan files course left_first bytes head before after o some) (ahead_goes files course plan before after status.WriteFault o.goes read)
+watched_by plan names files course left_first bytes head before after (Err stop.NoMemory) named o some risen read =
+    ends_lacking files course before after (part_of_watch plan files course left_first bytes head before after o some) (ahead_goes files course plan before after status.NoMemory o.goes read)
+watched_by plan names files course left_first bytes head before after (Err why) named o (fault_then, is, watches) risen read =
+    let state : fault_status fault_then ≡ stop_status why = sym (ap stop_status is ∙ status_of_stop fault_then) in
+    let says : fault_text plan.source fault_then ≡ stop_text names why = ap (λ (n : List ℕ). fault_text n fault_then) (sym named) ∙ sym (text_of_stop names fault_then) ∙ sym (ap (stop_text names) is) in
+    let plain : IsPlain (fault_status fault_then) = subst IsPlain (sym state) tt in
+    subst (λ (s : Status). Ends files course before after s (stop_text names why)) state
+    (subst (λ (text : List ℕ). Ends files course before after (fault_status fault_then) text) says
+    (watched_ends plan files course left_first bytes head (Refused fault_then) before after o plain watches (ahead_goes files course plan before after (fault_status fault_then) o.goes read)))
 
--- a capture that was opened, and its watching stopped
-pub stopped_ends : (rules : List ContentRule) (files : Files) (name : List ℕ) (reader : Reading) (left_opened left_first left old new : Option (List ℕ)) (rose : Type 0) (stop : WatchStop)
-    → (TakesHead (Some files) name (Ok reader) left_opened ⊎ ((opening reader ≡ Err fault.Failed) × (left_opened ≡ None)))
-    → ((bytes : List ℕ) → get files name ≡ Some bytes → Opens (Ok reader) (head_of bytes))
-    → ((bytes : List ℕ) → get files name ≡ Some bytes → left_first ≡ Some (drop 24 bytes))
-    → Watches rules reader left_first left old new (Err stop) → (IsReadFault stop → rose)
-    → Ends (capture_answer rules name (get files name)) rose (IsCutShort rules name (get files name) left (stop_text name stop) old new) (stop_status stop) (stop_text name stop) old new
-stopped_ends rules files name reader left_opened left_first left old new rose stop takes gives rest watches risen =
-    let held = held_of files name (Ok reader) left_opened (λ e. cc) takes in
+-- a capture that was opened and watched
+pub capture_ends : (plan : Plan) (names : Options) (files : Files) (course : Course) (reader : Reading) (left_first : Option (List ℕ)) (before after : Work) (outcome : Result (Unit {0}) Stop) → names.capture ≡ plan.source
+    → plan.limit ≡ None → course.way ≡ Goes plan → course.warnings ≡ []
+    → TakesOr files plan.source (Ok reader) left_first
+    → ((bytes : List ℕ) → get files plan.source ≡ Some bytes → Opens (Ok reader) (head_of bytes))
+    → ((bytes : List ℕ) → get files plan.source ≡ Some bytes → left_first ≡ Some (drop 24 bytes))
+    → Watches plan reader (record { left = left_first; written = before.alerts }) (record { left = after.left; written = after.alerts }) outcome
+    → IsCloseBehind plan reader (record { left = left_first; written = before.alerts }) (record { left = after.left; written = after.alerts })
+    → (outcome_status outcome ≡ status.HostFault → Rose before.host_faults after.host_faults)
+    → Ends files course before after (outcome_status outcome) (outcome_text names outcome)
+capture_ends plan names files course reader left_first before after outcome named none goes calm takes gives rest watches close risen =
+    let head_of_it = head_taken files plan.source (Ok reader) left_first (λ e. cc) takes in
+    let held = held_opened files plan.source head_of_it.whole head_of_it.opened in
     let opened = opened_by held.0 reader (head_of held.0) refl (gives held.0 held.1) in
-    watched_by rules files name held.0 opened.0 left_first left old new rose stop held.1 opened.1 (rest held.0 held.1)
-    (subst (λ (r : Reading). Watches rules r left_first left old new (Err stop)) opened.2 watches) risen
+    let told = rest held.0 held.1 in
+    let o : IsOpenCapture plan files course left_first held.0 opened.0 = record { none = none; goes = goes; calm = calm; held = held.1; is = opened.1; told = told } in
+    watched_by plan names files course left_first held.0 opened.0 before after outcome named o
+    (subst (λ (r : Reading). Watches plan r (record { left = left_first; written = before.alerts }) (record { left = after.left; written = after.alerts }) outcome) opened.2 watches)
+    risen
+    (ahead_behind_head plan (get files plan.source) held.0 opened.0 left_first before after none held.1 opened.1 told
+    (subst (λ (r : Reading). IsCloseBehind plan r (record { left = left_first; written = before.alerts }) (record { left = after.left; written = after.alerts })) opened.2 close))
 
--- a capture that was opened and watched to its clean end
-pub clean_ends : (rules : List ContentRule) (files : Files) (name : List ℕ) (reader : Reading) (left_opened left_first left old new : Option (List ℕ))
-    → (TakesHead (Some files) name (Ok reader) left_opened ⊎ ((opening reader ≡ Err fault.Failed) × (left_opened ≡ None)))
-    → ((bytes : List ℕ) → get files name ≡ Some bytes → Opens (Ok reader) (head_of bytes))
-    → ((bytes : List ℕ) → get files name ≡ Some bytes → left_first ≡ Some (drop 24 bytes))
-    → Watches rules reader left_first left old new (Ok tt)
-    → IsAnswered (capture_answer rules name (get files name)) status.Done [] old new
-clean_ends rules files name reader left_opened left_first left old new takes gives rest watches =
-    let held = held_of files name (Ok reader) left_opened (λ e. cc) takes in
-    let opened = opened_by held.0 reader (head_of held.0) refl (gives held.0 held.1) in
-    let watched = subst (λ (r : Reading). Watches rules r left_first left old new (Ok tt)) opened.2 watches in
-    answered_watch rules files name held.0 opened.0 Clean old new held.1 opened.1 (watched (drop 24 held.0) (rest held.0 held.1))
+-- the head was refused or not read, and a run is stopped by that
+pub open_stops : (plan : Plan) (names : Options) (files : Files) (course : Course) (why : CaptureFault) (before after : Work) (outcome : Result (Unit {0}) Stop) (stopped : Stop)
+    → outcome ≡ Err stopped → stopped ≡ capture_stop why
+    → names.capture ≡ plan.source → plan.limit ≡ None → course.way ≡ Goes plan → course.warnings ≡ [] → after.alerts ≡ before.alerts
+    → ((bytes : List ℕ) → get files plan.source ≡ Some bytes → Opens (Err why) (head_of bytes))
+    → TakesOr files plan.source (refusing_open why) after.left
+    → IsOfHead why → (refusing_open why ≡ Err fault.Failed → Rose before.host_faults after.host_faults ⊎ (get files plan.source ≡ None))
+    → Ends files course before after (outcome_status outcome) (outcome_text names outcome)
+open_stops plan names files course why before after outcome stopped is from named none goes calm same gives takes kind failed =
+    let by : outcome ≡ Err (capture_stop why) = is ∙ ap Err from in
+    let says : fault_text plan.source why ≡ stop_text names (capture_stop why) = ap (λ (n : List ℕ). fault_text n why) (sym named) ∙ sym (text_of_stop names why) in
+    subst (λ (o : Result (Unit {0}) Stop). Ends files course before after (outcome_status o) (outcome_text names o)) (sym by)
+    (subst (λ (s : Status). Ends files course before after s (stop_text names (capture_stop why))) (sym (status_of_stop why))
+    (subst (λ (text : List ℕ). Ends files course before after (fault_status why) text) says
+    (open_ends plan names files course why before after named none goes calm same gives takes kind failed)))
+
+-- where the watching ends at a fault of the host, the capture is what couldn't be read
+pub fault_is_read : (plan : Plan) (reader : Reading) (old new : Streams) (outcome : Result (Unit {0}) Stop) → Watches plan reader old new outcome → outcome_status outcome ≡ status.HostFault → outcome ≡ Err (capture_stop fault.Failed)
+fault_is_read plan reader old new (Ok done) watches is = absurd cc
+fault_is_read plan reader old new (Err (stop.CannotRead file)) watches is = ap Err watches.0
+fault_is_read plan reader old new (Err why) watches is = absurd cc

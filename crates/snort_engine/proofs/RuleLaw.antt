@@ -16,7 +16,8 @@ use Rattle.std.proofs.lemmas.Option.{cond_some, option_and_then_some, same_Some}
 use Rattle.std.proofs.lemmas.Slice.Eq.{bytes_eq-Decides}
 use Rattle.std.proofs.lemmas.Str.Parse.{IsNumeralModel, numerals_by_value, tells_by_index}
 use Rattle.snort_engine.specs.declared.content_rule.ContentRule.{ContentRule}
-use Rattle.snort_engine.specs.ContentRule.{is_msg_byte, IsRule, before_msg, before_content, before_sid, behind_sid, rule_text, ◌>>=◌, after, msg_at, content_at, sid_at, last_sid, rule_line}
+use Rattle.edge_io.specs.OnOption.{◌>>=◌}
+use Rattle.snort_engine.specs.ContentRule.{is_msg_byte, IsRule, before_msg, before_content, before_sid, behind_sid, rule_text, after, msg_at, content_at, sid_at, last_sid, rule_line}
 use Rattle.snort_engine.proofs.Digits.{digit_range}
 use Rattle.snort_engine.proofs.Spans.{AllPass-prefix}
 

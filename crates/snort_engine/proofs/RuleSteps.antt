@@ -4,12 +4,14 @@ use Rattle.std.proofs.lemmas.List.{append-nil}
 use Rattle.std.specs.Str.Lines.{lines}
 use Rattle.std.specs.Option.{option_to_list}
 use Rattle.snort_engine.specs.declared.content_rule.ContentRule.{ContentRule}
-use Rattle.snort_engine.specs.declared.setup.SetupStop.{SetupStop}
-use Rattle.snort_engine.specs.declared.setup.SetupStop.TheVariants as stops
+use Rattle.snort_engine.specs.declared.stop.Stop.{Stop}
+use Rattle.snort_engine.specs.declared.stop.Stop.TheVariants as stops
 use Rattle.std.specs.List.{All}
 use Rattle.snort_engine.specs.ContentRule.{IsRule, rule_line}
 use Rattle.snort_engine.proofs.RuleLaw.{rule_is}
-use Rattle.snort_engine.specs.Setup.{◌>>=◌, is_skipped, trimmed, rule_or, StopsReading, line_rule, rules_from, rules_of}
+use Rattle.edge_io.specs.Bytes.{trimmed}
+use Rattle.edge_io.specs.OnResult.{◌>>=◌}
+use Rattle.snort_engine.specs.Setup.{is_skipped, rule_or, StopsReading, line_rule, rules_from, rules_of}
 
 -- the rules so far, and those that are still read
 abbrev pub with_front : List ContentRule → Result (List ContentRule) ℕ → Result (List ContentRule) ℕ
@@ -46,15 +48,15 @@ rules_skip front number line rest behind text cut read so_far =
     ∙ rules_step front number line rest behind text None cut read so_far
 
 -- a line at which reading stops ends it for the text
-pub rules_stop : (front : List ContentRule) (number : ℕ) (line rest behind text : List ℕ) (stop : SetupStop) → lines rest ≡ line ∷ lines behind → StopsReading stop (line_rule number line)
+pub rules_stop : (front : List ContentRule) (number : ℕ) (line rest behind text : List ℕ) (stop : Stop) → lines rest ≡ line ∷ lines behind → StopsReading stop (line_rule number line)
     → with_front front (rules_from number (lines rest)) ≡ rules_of text → StopsReading stop (rules_of text)
 unfolding rules_from
-rules_stop front number line rest behind text (stops.Refused at) cut read so_far =
+rules_stop front number line rest behind text (stops.OutsideProfile at) cut read so_far =
     sym so_far
     ∙ ap (λ (left : List (List ℕ)). with_front front (rules_from number left)) cut
     ∙ ap (λ (found : Result (Option ContentRule) ℕ). with_front front (found >>= λ rule. rules_from (number + 1) (lines behind) >>= λ rules. Ok (option_to_list rule ++ rules))) read
-rules_stop front number line rest behind text stops.Failed cut read so_far = absurd read
 rules_stop front number line rest behind text stops.NoMemory cut read so_far = tt
+rules_stop front number line rest behind text stop cut read so_far = absurd read
 
 -- where nothing is left, the rules so far are all
 pub rules_end : (front : List ContentRule) (number : ℕ) (rest text : List ℕ) → length rest ≡ 0 → with_front front (rules_from number (lines rest)) ≡ rules_of text → rules_of text ≡ Ok front

@@ -1,104 +1,107 @@
--- Lines that were written one behind another.
-use Rattle.std.proofs.Common.{◌≡◌, ℕ, ◌+◌, ◌<◌, true, false, cond, List, [], ◌∷◌, ◌++◌, Option, length, get_or, take, drop, sym, ap, subst, ◌∙◌}
-use Rattle.std.specs.Prelude.{filter}
+-- Lines that are made one behind another.
+use Rattle.std.proofs.Common.{◌≡◌, ℕ, ◌+◌, ◌<◌, true, false, cond, List, [], ◌∷◌, ◌++◌, Option, length, get_or, take, drop, map, refl, sym, ap, subst, append_assoc, ◌∙◌}
+use Rattle.std.specs.Prelude.{filter, Result}
 use Rattle.std.specs.List.{flat_map}
-use Rattle.std.proofs.lemmas.List.{append-nil, take-append-drop, take_more}
+use Rattle.std.proofs.lemmas.List.{append-nil, map-append, take-append-drop, take_more}
 use Rattle.std.proofs.lemmas.List.Concat.{flat_map-append}
 use Rattle.std.proofs.lemmas.List.Elements.{filter-append}
-use Rattle.edge_io.specs.Told.{behind}
-use Rattle.edge_io.proofs.Told.{behind-nil, behind-behind}
-use Rattle.snort_engine.specs.declared.content_rule.ContentRule.{ContentRule}
-use Rattle.snort_engine.specs.declared.flight.Flight.{Flight}
-use Rattle.snort_engine.specs.Prefix.{WritesPart}
-use Rattle.std.specs.Prelude.{Result}
 use Rattle.edge_io.specs.declared.link.Link.{Link}
 use Rattle.packet_decode.specs.declared.skip.Skip.{Skip}
 use Rattle.packet_decode.specs.Decoding.{Fields, decoded}
 use Rattle.pcap_input.specs.declared.capture.Record.{Record}
-use Rattle.snort_engine.specs.Alerting.{occurs_in, rule_line_of, flight_lines, all_checks, lines_of_answer, record_lines}
-use Rattle.snort_engine.proofs.Prefixes.{WritesPart-behind, WritesPart-longer, WritesPart-take}
-
--- nothing was written
-pub WritesPart-none : (old : Option (List ℕ)) (text : List ℕ) → WritesPart old text old
-WritesPart-none old text = WritesPart-take old old 0 text (sym (behind-nil old))
-
--- a whole text was written, and then nothing of what follows
-pub WritesPart-whole : (old new : Option (List ℕ)) (text rest : List ℕ) → new ≡ behind old text → WritesPart old (text ++ rest) new
-WritesPart-whole old new text rest e = WritesPart-behind old new new text rest e (WritesPart-none new rest)
+use Rattle.snort_engine.specs.declared.content_rule.ContentRule.{ContentRule}
+use Rattle.snort_engine.specs.declared.flight.Flight.{Flight}
+use Rattle.snort_engine.specs.Course.{Plan}
+use Rattle.snort_engine.specs.Records.{linked}
+use Rattle.snort_engine.specs.Outside.{WritesPart}
+use Rattle.snort_engine.specs.Trace.{occurs_in, alert_of, flight_alerts, all_checks, alerts_of_answer, record_alerts}
+use Rattle.snort_engine.specs.Line.{AlertFacts}
+use Rattle.snort_engine.specs.Lines.{text_of}
+use Rattle.snort_engine.specs.Watching.{Gathering, Gathers, flight_lines, record_lines}
+use Rattle.snort_engine.proofs.Prefixes.{WritesPart-none, WritesPart-longer, gathers_none, gathers_both, gathers_part}
 
 -- the lines of rules, and then those of more rules
 flight_lines-append : (front back : List ContentRule) (flight : Flight) (payload : List ℕ) → flight_lines (front ++ back) flight payload ≡ flight_lines front flight payload ++ flight_lines back flight payload
-unfolding flight_lines
+unfolding flight_lines flight_alerts
 flight_lines-append front back flight payload =
-    ap (flat_map (rule_line_of flight)) (filter-append (λ rule. occurs_in payload rule.content) front back)
-    ∙ flat_map-append (rule_line_of flight) (filter (λ rule. occurs_in payload rule.content) front) (filter (λ rule. occurs_in payload rule.content) back)
+    ap (λ (x : List ContentRule). flat_map text_of (map (alert_of flight) x)) (filter-append (λ rule. occurs_in payload rule.content) front back)
+    ∙ ap (flat_map text_of) (map-append (alert_of flight) (filter (λ rule. occurs_in payload rule.content) front) (filter (λ rule. occurs_in payload rule.content) back))
+    ∙ flat_map-append text_of (map (alert_of flight) (filter (λ rule. occurs_in payload rule.content) front)) (map (alert_of flight) (filter (λ rule. occurs_in payload rule.content) back))
 
 -- one rule
-flight_lines-yes : (rule : ContentRule) (flight : Flight) (payload : List ℕ) → occurs_in payload rule.content ≡ true → flight_lines (rule ∷ []) flight payload ≡ rule_line_of flight rule
-unfolding flight_lines
-flight_lines-yes rule flight payload hit = ap (λ b. flat_map (rule_line_of flight) (cond b (rule ∷ []) [])) hit ∙ append-nil (rule_line_of flight rule)
+flight_lines-yes : (rule : ContentRule) (flight : Flight) (payload : List ℕ) → occurs_in payload rule.content ≡ true → flight_lines (rule ∷ []) flight payload ≡ text_of (alert_of flight rule)
+unfolding flight_lines flight_alerts
+flight_lines-yes rule flight payload hit = ap (λ b. flat_map text_of (map (alert_of flight) (cond b (rule ∷ []) []))) hit ∙ append-nil (text_of (alert_of flight rule))
 
 flight_lines-no : (rule : ContentRule) (flight : Flight) (payload : List ℕ) → occurs_in payload rule.content ≡ false → flight_lines (rule ∷ []) flight payload ≡ []
-unfolding flight_lines
-flight_lines-no rule flight payload miss = ap (λ b. flat_map (rule_line_of flight) (cond b (rule ∷ []) [])) miss
+unfolding flight_lines flight_alerts
+flight_lines-no rule flight payload miss = ap (λ b. flat_map text_of (map (alert_of flight) (cond b (rule ∷ []) []))) miss
+
+pub flight_lines-none : (flight : Flight) (payload : List ℕ) → flight_lines [] flight payload ≡ []
+unfolding flight_lines flight_alerts
+flight_lines-none flight payload = refl
 
 -- the lines of one rule more
-pub one_rule_more : (rules : List ContentRule) (i : ℕ) (d : ContentRule) (flight : Flight) (payload : List ℕ) → i < length rules → flight_lines (take (i + 1) rules) flight payload ≡ flight_lines (take i rules) flight payload ++ flight_lines (get_or rules i d ∷ []) flight payload
-one_rule_more rules i d flight payload lt =
-    ap (λ some. flight_lines some flight payload) (take_more rules i d lt) ∙ flight_lines-append (take i rules) (get_or rules i d ∷ []) flight payload
+one_rule_more : (rules : List ContentRule) (i : ℕ) (rule : ContentRule) (flight : Flight) (payload : List ℕ) → i < length rules → rule ≡ get_or rules i rule → flight_lines (take (i + 1) rules) flight payload ≡ flight_lines (take i rules) flight payload ++ flight_lines (rule ∷ []) flight payload
+one_rule_more rules i rule flight payload lt is =
+    ap (λ some. flight_lines some flight payload) (take_more rules i rule lt) ∙ flight_lines-append (take i rules) (get_or rules i rule ∷ []) flight payload
+    ∙ ap (λ (r : ContentRule). flight_lines (take i rules) flight payload ++ flight_lines (r ∷ []) flight payload) (sym is)
 
--- the lines so far were written, and then that of the next rule, which matches
-pub shown_more : (old middle new : Option (List ℕ)) (rules : List ContentRule) (i : ℕ) (d : ContentRule) (flight : Flight) (payload : List ℕ) → i < length rules → middle ≡ behind old (flight_lines (take i rules) flight payload) → occurs_in payload (get_or rules i d).content ≡ true → new ≡ behind middle (rule_line_of flight (get_or rules i d)) → new ≡ behind old (flight_lines (take (i + 1) rules) flight payload)
-shown_more old middle new rules i d flight payload lt so_far hit more =
-    more ∙ ap (λ (x : Option (List ℕ)). behind x (rule_line_of flight (get_or rules i d))) so_far
-    ∙ behind-behind old (flight_lines (take i rules) flight payload) (rule_line_of flight (get_or rules i d))
-    ∙ ap (λ (x : List ℕ). behind old (flight_lines (take i rules) flight payload ++ x)) (sym (flight_lines-yes (get_or rules i d) flight payload hit))
-    ∙ ap (behind old) (sym (one_rule_more rules i d flight payload lt))
-
--- the lines so far were written, and the next rule doesn't match
-pub passed_more : (old middle : Option (List ℕ)) (rules : List ContentRule) (i : ℕ) (d : ContentRule) (flight : Flight) (payload : List ℕ) → i < length rules → middle ≡ behind old (flight_lines (take i rules) flight payload) → occurs_in payload (get_or rules i d).content ≡ false → middle ≡ behind old (flight_lines (take (i + 1) rules) flight payload)
-passed_more old middle rules i d flight payload lt so_far miss =
-    so_far
-    ∙ ap (behind old) (sym (append-nil (flight_lines (take i rules) flight payload)))
-    ∙ ap (λ (x : List ℕ). behind old (flight_lines (take i rules) flight payload ++ x)) (sym (flight_lines-no (get_or rules i d) flight payload miss))
-    ∙ ap (behind old) (sym (one_rule_more rules i d flight payload lt))
-
--- the lines so far were written, and then a part of that of the next rule
-pub part_of_lines : (old middle new : Option (List ℕ)) (rules : List ContentRule) (i : ℕ) (d : ContentRule) (flight : Flight) (payload : List ℕ) → i < length rules → middle ≡ behind old (flight_lines (take i rules) flight payload) → occurs_in payload (get_or rules i d).content ≡ true → WritesPart middle (rule_line_of flight (get_or rules i d)) new → WritesPart old (flight_lines rules flight payload) new
-part_of_lines old middle new rules i d flight payload lt so_far hit part =
-    let P : List ℕ → Type 0 = λ x. WritesPart old x new in
-    let front = WritesPart-behind old middle new (flight_lines (take i rules) flight payload) (rule_line_of flight (get_or rules i d)) so_far part in
-    let to_next : flight_lines (take i rules) flight payload ++ rule_line_of flight (get_or rules i d) ≡ flight_lines (take (i + 1) rules) flight payload =
-    ap (λ (x : List ℕ). flight_lines (take i rules) flight payload ++ x) (sym (flight_lines-yes (get_or rules i d) flight payload hit)) ∙ sym (one_rule_more rules i d flight payload lt) in
-    let whole : flight_lines (take (i + 1) rules) flight payload ++ flight_lines (drop (i + 1) rules) flight payload ≡ flight_lines rules flight payload =
-    sym (flight_lines-append (take (i + 1) rules) (drop (i + 1) rules) flight payload) ∙ ap (λ some. flight_lines some flight payload) (take-append-drop (i + 1) rules) in
-    subst P whole (WritesPart-longer old new _ (flight_lines (drop (i + 1) rules) flight payload) (subst P to_next front))
-
--- what was written of a text is a part of it
-pub part_of_text : (old new : Option (List ℕ)) (count : ℕ) (text made : List ℕ) → made ≡ text → new ≡ behind old (take count made) → WritesPart old text new
-part_of_text old new count text made same wrote = WritesPart-take old new count text (wrote ∙ ap (λ (x : List ℕ). behind old (take count x)) same)
-
--- the same steps, of the rule that stands at a place
-pub shown_step : (old middle new : Option (List ℕ)) (rules : List ContentRule) (i : ℕ) (rule : ContentRule) (flight : Flight) (payload : List ℕ) → i < length rules → rule ≡ get_or rules i rule → middle ≡ behind old (flight_lines (take i rules) flight payload) → occurs_in payload rule.content ≡ true → new ≡ behind middle (rule_line_of flight rule) → new ≡ behind old (flight_lines (take (i + 1) rules) flight payload)
+-- the lines so far came, and then that of the next rule, which matches
+pub shown_step : (old middle new : Gathering) (rules : List ContentRule) (i : ℕ) (rule : ContentRule) (flight : Flight) (payload : List ℕ) → i < length rules → rule ≡ get_or rules i rule
+    → Gathers (flight_lines (take i rules) flight payload) old middle → occurs_in payload rule.content ≡ true → Gathers (text_of (alert_of flight rule)) middle new
+    → Gathers (flight_lines (take (i + 1) rules) flight payload) old new
 shown_step old middle new rules i rule flight payload lt is so_far hit more =
-    shown_more old middle new rules i rule flight payload lt so_far
-    (subst (λ (r : ContentRule). occurs_in payload r.content ≡ true) is hit)
-    (subst (λ (r : ContentRule). new ≡ behind middle (rule_line_of flight r)) is more)
+    subst (λ (x : List ℕ). Gathers x old new)
+    (ap (λ (x : List ℕ). flight_lines (take i rules) flight payload ++ x) (sym (flight_lines-yes rule flight payload hit)) ∙ sym (one_rule_more rules i rule flight payload lt is))
+    (gathers_both _ _ old middle new so_far more)
 
-pub passed_step : (old middle : Option (List ℕ)) (rules : List ContentRule) (i : ℕ) (rule : ContentRule) (flight : Flight) (payload : List ℕ) → i < length rules → rule ≡ get_or rules i rule → middle ≡ behind old (flight_lines (take i rules) flight payload) → occurs_in payload rule.content ≡ false → middle ≡ behind old (flight_lines (take (i + 1) rules) flight payload)
+-- the lines so far came, and the next rule doesn't match
+pub passed_step : (old middle : Gathering) (rules : List ContentRule) (i : ℕ) (rule : ContentRule) (flight : Flight) (payload : List ℕ) → i < length rules → rule ≡ get_or rules i rule
+    → Gathers (flight_lines (take i rules) flight payload) old middle → occurs_in payload rule.content ≡ false
+    → Gathers (flight_lines (take (i + 1) rules) flight payload) old middle
 passed_step old middle rules i rule flight payload lt is so_far miss =
-    passed_more old middle rules i rule flight payload lt so_far (subst (λ (r : ContentRule). occurs_in payload r.content ≡ false) is miss)
+    subst (λ (x : List ℕ). Gathers x old middle)
+    (sym (append-nil (flight_lines (take i rules) flight payload))
+    ∙ ap (λ (x : List ℕ). flight_lines (take i rules) flight payload ++ x) (sym (flight_lines-no rule flight payload miss))
+    ∙ sym (one_rule_more rules i rule flight payload lt is))
+    so_far
 
-pub part_step : (old middle new : Option (List ℕ)) (rules : List ContentRule) (i : ℕ) (rule : ContentRule) (flight : Flight) (payload : List ℕ) → i < length rules → rule ≡ get_or rules i rule → middle ≡ behind old (flight_lines (take i rules) flight payload) → occurs_in payload rule.content ≡ true → WritesPart middle (rule_line_of flight rule) new → WritesPart old (flight_lines rules flight payload) new
+-- the lines so far came, and then a part of what waits and of that of the next rule was written
+pub part_step : (old middle : Gathering) (new : Option (List ℕ)) (rules : List ContentRule) (i : ℕ) (rule : ContentRule) (flight : Flight) (payload : List ℕ) → i < length rules → rule ≡ get_or rules i rule
+    → Gathers (flight_lines (take i rules) flight payload) old middle → occurs_in payload rule.content ≡ true → WritesPart middle.written (middle.block ++ text_of (alert_of flight rule)) new
+    → WritesPart old.written (old.block ++ flight_lines rules flight payload) new
 part_step old middle new rules i rule flight payload lt is so_far hit part =
-    part_of_lines old middle new rules i rule flight payload lt so_far
-    (subst (λ (r : ContentRule). occurs_in payload r.content ≡ true) is hit)
-    (subst (λ (r : ContentRule). WritesPart middle (rule_line_of flight r) new) is part)
+    let front = flight_lines (take i rules) flight payload in
+    let own = text_of (alert_of flight rule) in
+    let others = flight_lines (drop (i + 1) rules) flight payload in
+    let to_next : front ++ own ≡ flight_lines (take (i + 1) rules) flight payload =
+    ap (λ (x : List ℕ). front ++ x) (sym (flight_lines-yes rule flight payload hit)) ∙ sym (one_rule_more rules i rule flight payload lt is) in
+    let whole : (front ++ own) ++ others ≡ flight_lines rules flight payload =
+    ap (λ (x : List ℕ). x ++ others) to_next
+    ∙ sym (flight_lines-append (take (i + 1) rules) (drop (i + 1) rules) flight payload) ∙ ap (λ some. flight_lines some flight payload) (take-append-drop (i + 1) rules) in
+    let P : List ℕ → Type 0 = λ x. WritesPart old.written x new in
+    subst P (append_assoc old.block (front ++ own) others ∙ ap (λ (x : List ℕ). old.block ++ x) whole)
+    (WritesPart-longer old.written new (old.block ++ (front ++ own)) others (gathers_part front own old middle new so_far part))
 
--- a record without lines leaves what was written
-pub no_lines : (old : Option (List ℕ)) (rules : List ContentRule) (link : Link) (record_here : Record) (bytes : List ℕ) (answer : Result Fields Skip) → answer ≡ decoded link bytes all_checks → bytes ≡ record_here.bytes → lines_of_answer rules record_here.moment answer ≡ [] → old ≡ behind old (record_lines rules link record_here)
-unfolding record_lines
-no_lines old rules link record_here bytes answer is same none =
-    sym (behind-nil old) ∙ ap (behind old) (sym none)
-    ∙ ap (λ d. behind old (lines_of_answer rules record_here.moment d)) is
-    ∙ ap (λ (b : List ℕ). behind old (lines_of_answer rules record_here.moment (decoded link b all_checks))) same
+-- what waits was written, and nothing of a text that came
+pub part_before : (old : Option (List ℕ)) (block text : List ℕ) (new : Option (List ℕ)) → WritesPart old block new → WritesPart old (block ++ text) new
+part_before old block text new part = WritesPart-longer old new block text part
+
+-- the lines of a record by what the decoder found in it
+pub record_lines-by : (plan : Plan) (link : Link) (captured : Record) (bytes : List ℕ) (answer : Result Fields Skip) → answer ≡ decoded link bytes all_checks → bytes ≡ captured.bytes
+    → record_lines plan (linked link captured) ≡ flat_map text_of (alerts_of_answer plan.rules captured.moment answer)
+unfolding record_lines record_alerts
+record_lines-by plan link captured bytes answer is same =
+    sym (ap (λ d. flat_map text_of (alerts_of_answer plan.rules captured.moment d)) is
+    ∙ ap (λ (b : List ℕ). flat_map text_of (alerts_of_answer plan.rules captured.moment (decoded link b all_checks))) same)
+
+-- a record without lines leaves all as it was
+pub no_lines : (old : Gathering) (plan : Plan) (link : Link) (captured : Record) (bytes : List ℕ) (answer : Result Fields Skip) → answer ≡ decoded link bytes all_checks → bytes ≡ captured.bytes
+    → alerts_of_answer plan.rules captured.moment answer ≡ [] → Gathers (record_lines plan (linked link captured)) old old
+no_lines old plan link captured bytes answer is same none =
+    subst (λ (x : List ℕ). Gathers x old old) (sym (record_lines-by plan link captured bytes answer is same ∙ ap (flat_map text_of) none)) (gathers_none old)
+
+-- the lines of no rule came
+pub none_came : (old : Gathering) (flight : Flight) (payload : List ℕ) → Gathers (flight_lines [] flight payload) old old
+none_came old flight payload = subst (λ (x : List ℕ). Gathers x old old) (sym (flight_lines-none flight payload)) (gathers_none old)

@@ -1,202 +1,145 @@
 -- The steps of watching a capture.
-use Rattle.std.proofs.Common.{◌≡◌, ℕ, ◌<◌, List, [], ◌∷◌, ◌++◌, Option, Some, None, Ok, Err, refl, sym, ap, subst, append_assoc, ◌∙◌, arith}
+use Rattle.std.proofs.Common.{◌≡◌, ℕ, ◌+◌, ◌<◌, List, [], ◌∷◌, ◌++◌, map, Option, Some, None, Result, Ok, Err, refl, sym, ap, subst, ◌∙◌, arith}
 use Rattle.std.specs.Option.{IfNone}
 use Rattle.std.proofs.lemmas.List.{append-nil}
-use Rattle.std.proofs.lemmas.List.Concat.{flat_map-append}
-use Rattle.edge_io.specs.Told.{before, behind}
-use Rattle.edge_io.proofs.Told.{before-nil, before-before, behind-nil, behind-behind}
-use Rattle.edge_io.specs.declared.link.Link.{Link}
+use Rattle.edge_io.specs.Told.{behind}
+use Rattle.edge_io.proofs.Told.{behind-nil, behind-behind}
 use Rattle.pcap_input.specs.declared.capture.Record.{Record}
 use Rattle.pcap_input.specs.declared.capture.CaptureFault.{CaptureFault}
-use Rattle.pcap_input.specs.Savefile.{Cut, Ending, Clean, Refused, Next, Ends, Stands, next_of, with_first}
+use Rattle.pcap_input.specs.Savefile.{Cut, Ending, Clean, Refused, Next, Ends, next_of}
 use Rattle.pcap_input.specs.declared.capture.CaptureFault.TheVariants as fault
 use Rattle.pcap_input.specs.declared.capture.CaptureHead.{CaptureHead}
-use Rattle.pcap_input.specs.Reader.{Reading, moved, Gives, TakesRecord, TakesNone, Shows}
-use Rattle.pcap_input.proofs.Laws.{next_means, next_of_nothing}
-use Rattle.pcap_input.proofs.Records.{records_left-ends, records_left-stands}
-use Rattle.pcap_input.proofs.Told.{split_told}
-use Rattle.snort_engine.specs.declared.content_rule.ContentRule.{ContentRule}
-use Rattle.snort_engine.specs.Prefix.{WritesPart}
-use Rattle.snort_engine.specs.Alerting.{record_lines, alert_lines}
-use Rattle.snort_engine.specs.Watching.{cut_left, lines_left, IsWatched, IsCutOff, IsCloseBehind, EndsCapture}
-use Rattle.snort_engine.proofs.Prefixes.{WritesPart-behind, WritesPart-longer}
-use Rattle.snort_engine.proofs.Showing.{WritesPart-whole}
+use Rattle.pcap_input.specs.Reader.{Reading, after_next, Gives, TakesRecord, TakesNone}
+use Rattle.pcap_input.specs.Reading.{cut_for, with_front, HasRead, AreWhole, EndsWith, IsRefusedBy}
+use Rattle.pcap_input.proofs.Reading.{reading-start, reading-more, reading-told, reading-whole, reading-stopped, reading-refused, reading-ended}
+use Rattle.pcap_input.proofs.Laws.{next_means}
+use Rattle.snort_engine.specs.declared.stop.Stop.{Stop}
+use Rattle.snort_engine.specs.declared.stop.Stop.TheVariants as stop
+use Rattle.snort_engine.specs.Course.{Plan}
+use Rattle.snort_engine.specs.Outside.{WritesPart}
+use Rattle.snort_engine.specs.Records.{linked}
+use Rattle.snort_engine.specs.Stop.{capture_stop}
+use Rattle.snort_engine.specs.Trace.{Open, Closed}
+use Rattle.snort_engine.specs.Lines.{lines}
+use Rattle.snort_engine.specs.Watching.{Streams, lines_of, lines_left, record_lines, IsWatched, IsCutOff, IsCloseBehind, WritesSome, WatchesTo, Watches, IsShowStop}
+use Rattle.snort_engine.proofs.Prefixes.{WritesPart-all, WritesPart-behind, WritesPart-longer}
+use Rattle.snort_engine.proofs.LinesLaws.{lines_of-nil, lines_of-closed, lines_of-append, lines_of-more}
 
--- some records, and then what is cut up behind them
-abbrev pub with_front : List Record → Cut → Cut
-with_front given cut = record { records = given ++ cut.records; ending = cut.ending }
-
--- the first reader has become the second: the bytes of some records were taken, and the lines of
--- these were written; whatever follows, the rest of the records and the ending are the second one's
-pub record IsUnderWay (rules : List ContentRule) (first reader : Reading) (left_first left written_first written : Option (List ℕ)) : Type 0 where
-  pub fresh : reader.refused ≡ None
-  pub head : reader.head ≡ first.head
-  pub taken : List ℕ
+-- the first reader has become the second: some records were given, and the lines of these were written
+pub record IsUnderWay (plan : Plan) (first reader : Reading) (old now : Streams) : Type 0 where
   pub given : List Record
-  pub took : left_first ≡ before taken left
-  pub wrote : written ≡ behind written_first (alert_lines rules first.head.link given)
-  pub cut : (more : List ℕ) → cut_left first (taken ++ more) ≡ with_front given (cut_left reader more)
-
--- no records have no lines
-pub alert_lines-nil : (rules : List ContentRule) (link : Link) → alert_lines rules link [] ≡ []
-unfolding alert_lines
-alert_lines-nil rules link = refl
-
--- the lines of a record, and then those of the others
-alert_lines-cons : (rules : List ContentRule) (link : Link) (first : Record) (others : List Record) → alert_lines rules link (first ∷ others) ≡ record_lines rules link first ++ alert_lines rules link others
-unfolding alert_lines
-alert_lines-cons rules link first others = refl
-
--- the lines of records, and then those of the others
-pub alert_lines-append : (rules : List ContentRule) (link : Link) (front back : List Record) → alert_lines rules link (front ++ back) ≡ alert_lines rules link front ++ alert_lines rules link back
-unfolding alert_lines
-alert_lines-append rules link front back = flat_map-append (record_lines rules link) front back
-
--- the lines of one record more
-alert_lines-more : (rules : List ContentRule) (link : Link) (front : List Record) (last : Record) → alert_lines rules link (front ++ last ∷ []) ≡ alert_lines rules link front ++ record_lines rules link last
-alert_lines-more rules link front last =
-    alert_lines-append rules link front (last ∷ [])
-    ∙ ap (λ (x : List ℕ). alert_lines rules link front ++ x)
-    (alert_lines-cons rules link last [] ∙ ap (λ (x : List ℕ). record_lines rules link last ++ x) (alert_lines-nil rules link) ∙ append-nil (record_lines rules link last))
-
--- records, one more, and what follows it
-append_all : (given : List Record) (last : Record) (cut : Cut) → given ++ last ∷ cut.records ≡ (given ++ last ∷ []) ++ cut.records
-append_all given last cut = sym (append_assoc given (last ∷ []) cut.records)
+  pub read : HasRead first reader given old.left now.left
+  pub wrote : now.written ≡ behind old.written (lines_of plan first.head.link given Open)
 
 -- nothing was done yet
-pub under_way-start : (rules : List ContentRule) (reader : Reading) (left written : Option (List ℕ)) → reader.refused ≡ None → IsUnderWay rules reader reader left left written written
-under_way-start rules reader left written fresh = record {
-  fresh = fresh;
-  head = refl;
-  taken = [];
+pub under_way-start : (plan : Plan) (reader : Reading) (old : Streams) → reader.refused ≡ None → IsUnderWay plan reader reader old old
+under_way-start plan reader old fresh = record {
   given = [];
-  took = sym (before-nil left);
-  wrote = sym (behind-nil written) ∙ ap (behind written) (sym (alert_lines-nil rules reader.head.link));
-  cut = λ more. refl;
+  read = reading-start reader old.left fresh;
+  wrote = sym (behind-nil old.written) ∙ ap (behind old.written) (sym (lines_of-nil plan reader.head.link Open));
 }
 
--- where a record stands next, its lines come first
-lines-stands : (rules : List ContentRule) (reader : Reading) (rest more : List ℕ) (given : Record) → next_of reader.head reader.number reader.at rest ≡ Stands given more
-    → lines_left rules reader rest ≡ record_lines rules reader.head.link given ++ lines_left rules (moved reader (Some given)) more
-lines-stands rules reader rest more given stands =
-    ap (λ (cut : Cut). alert_lines rules reader.head.link cut.records) (records_left-stands reader.head reader.number reader.at rest given more stands)
-    ∙ alert_lines-cons rules reader.head.link given _
-
--- where the capture ends next, there are no lines
-lines-ends : (rules : List ContentRule) (reader : Reading) (rest : List ℕ) (ending : Ending) → next_of reader.head reader.number reader.at rest ≡ Ends ending → lines_left rules reader rest ≡ []
-lines-ends rules reader rest ending ends =
-    ap (λ (cut : Cut). alert_lines rules reader.head.link cut.records) (records_left-ends reader.head reader.number reader.at rest ending ends)
-    ∙ alert_lines-nil rules reader.head.link
-
--- a record behind some records, of what is cut up
-with_front-more : (given : List Record) (last : Record) (cut : Cut) → with_front given (with_first last cut) ≡ with_front (given ++ last ∷ []) cut
-with_front-more given last cut = ap (λ (x : List Record). record { records = x; ending = cut.ending }) (append_all given last cut)
+-- the lines of a record, by the link layer of the first reader
+own_lines : (plan : Plan) (first reader : Reading) (given : Record) → reader.head ≡ first.head → record_lines plan (linked reader.head.link given) ≡ record_lines plan (linked first.head.link given)
+own_lines plan first reader given head = ap (λ (h : CaptureHead). record_lines plan (linked h.link given)) head
 
 -- a record was taken and its lines were written
-pub under_way-step : (rules : List ContentRule) (first reader next : Reading) (given : Record) (left_first left left_next written_first written written_next : Option (List ℕ))
-    → IsUnderWay rules first reader left_first left written_first written → TakesRecord reader given left left_next → next ≡ moved reader (Some given)
-    → written_next ≡ behind written (record_lines rules reader.head.link given)
-    → IsUnderWay rules first next left_first left_next written_first written_next
-under_way-step rules first reader next given left_first left left_next written_first written written_next so_far takes is wrote =
-    let own = record_lines rules reader.head.link given in
-    let shown = alert_lines rules first.head.link so_far.given in
-    let of_first : own ≡ record_lines rules first.head.link given = ap (λ (head : CaptureHead). record_lines rules head.link given) so_far.head in
-    let step : IsUnderWay rules first (moved reader (Some given)) left_first left_next written_first written_next = record {
-      fresh = so_far.fresh;
-      head = so_far.head;
-      taken = so_far.taken ++ takes.taken;
+pub under_way-step : (plan : Plan) (first reader next : Reading) (given : Record) (old now after : Streams)
+    → IsUnderWay plan first reader old now → TakesRecord reader given now.left after.left → next ≡ after_next reader (Some given)
+    → after.written ≡ behind now.written (record_lines plan (linked reader.head.link given))
+    → IsUnderWay plan first next old after
+under_way-step plan first reader next given old now after so_far takes is wrote =
+    let shown = lines_of plan first.head.link so_far.given Open in
+    let own = record_lines plan (linked first.head.link given) in
+    record {
       given = so_far.given ++ given ∷ [];
-      took = so_far.took ∙ ap (before so_far.taken) takes.took ∙ before-before so_far.taken takes.taken left_next;
-      wrote = wrote ∙ ap (λ (x : Option (List ℕ)). behind x own) so_far.wrote ∙ behind-behind written_first shown own
-          ∙ ap (λ (x : List ℕ). behind written_first (shown ++ x)) of_first
-          ∙ ap (behind written_first) (sym (alert_lines-more rules first.head.link so_far.given given));
-      cut = λ more.
-          ap (cut_left first) (append_assoc so_far.taken takes.taken more)
-          ∙ so_far.cut (takes.taken ++ more)
-          ∙ ap (with_front so_far.given) (records_left-stands reader.head reader.number reader.at (takes.taken ++ more) given more (takes.goes more))
-          ∙ with_front-more so_far.given given (cut_left (moved reader (Some given)) more);
-    } in
-    subst (λ (r : Reading). IsUnderWay rules first r left_first left_next written_first written_next) (sym is) step
-
--- the lines of what was taken and of what follows are those so far, and then the others
-lines_by : (rules : List ContentRule) (first reader : Reading) (left_first left written_first written : Option (List ℕ)) (so_far : IsUnderWay rules first reader left_first left written_first written) (more : List ℕ)
-    → lines_left rules first (so_far.taken ++ more) ≡ alert_lines rules first.head.link so_far.given ++ lines_left rules reader more
-lines_by rules first reader left_first left written_first written so_far more =
-    ap (λ (cut : Cut). alert_lines rules first.head.link cut.records) (so_far.cut more)
-    ∙ alert_lines-append rules first.head.link so_far.given (cut_left reader more).records
-    ∙ ap (λ (head : CaptureHead). alert_lines rules first.head.link so_far.given ++ alert_lines rules head.link (cut_left reader more).records) (sym so_far.head)
-
--- the capture ends: all lines were written
-pub watched-ends : (rules : List ContentRule) (first reader : Reading) (left_first left written_first written : Option (List ℕ)) (ending : Ending)
-    → IsUnderWay rules first reader left_first left written_first written
-    → ((rest : List ℕ) → left ≡ Some rest → next_of reader.head reader.number reader.at rest ≡ Ends ending)
-    → (whole : List ℕ) → left_first ≡ Some whole → IsWatched rules first whole ending written_first written
-watched-ends rules first reader left_first left written_first written ending so_far ends whole told =
-    let split = split_told left_first left so_far.taken whole so_far.took told in
-    let stands = ends split.rest split.still in
-    let all : lines_left rules first whole ≡ alert_lines rules first.head.link so_far.given =
-    ap (lines_left rules first) split.joined ∙ lines_by _ _ _ _ _ _ _ so_far split.rest
-    ∙ ap (λ (x : List ℕ). alert_lines rules first.head.link so_far.given ++ x) (lines-ends rules reader split.rest ending stands) ∙ append-nil (alert_lines rules first.head.link so_far.given) in
-    record {
-      ends = ap (λ (x : List ℕ). (cut_left first x).ending) split.joined ∙ ap (λ (cut : Cut). cut.ending) (so_far.cut split.rest)
-          ∙ ap (λ (cut : Cut). cut.ending) (records_left-ends reader.head reader.number reader.at split.rest ending stands);
-      wrote = so_far.wrote ∙ ap (behind written_first) (sym all);
+      read = reading-more first reader next so_far.given given old.left now.left after.left so_far.read takes is;
+      wrote = wrote ∙ ap (behind now.written) (own_lines plan first reader given so_far.read.head)
+          ∙ ap (λ (x : Option (List ℕ)). behind x own) so_far.wrote ∙ behind-behind old.written shown own
+          ∙ ap (behind old.written) (sym (lines_of-more plan first.head.link so_far.given given));
     }
 
--- bytes that hold no record were taken: the lines of the whole records within all bytes taken were written
-pub cut_off : (rules : List ContentRule) (first reader : Reading) (left_first left left_next written_first written : Option (List ℕ)) (taken : List ℕ) (ending : Ending)
-    → IsUnderWay rules first reader left_first left written_first written → left ≡ before taken left_next → next_of reader.head reader.number reader.at taken ≡ Ends ending
-    → IsCutOff rules first left_first left_next written_first written
-cut_off rules first reader left_first left left_next written_first written taken ending so_far took ends =
-    let all : lines_left rules first (so_far.taken ++ taken) ≡ alert_lines rules first.head.link so_far.given =
-    lines_by _ _ _ _ _ _ _ so_far taken ∙ ap (λ (x : List ℕ). alert_lines rules first.head.link so_far.given ++ x) (lines-ends rules reader taken ending ends) ∙ append-nil (alert_lines rules first.head.link so_far.given) in
+-- all records were given: all lines were written
+pub watched-ends : (plan : Plan) (first reader : Reading) (old now after : Streams) (ending : Ending) (so_far : IsUnderWay plan first reader old now) → after.written ≡ now.written
+    → EndsWith first so_far.given old.left ending → WatchesTo plan first ending old after
+watched-ends plan first reader old now after ending so_far same ends whole told =
+    let cut = ends whole told in
     record {
-      taken = so_far.taken ++ taken;
-      took = so_far.took ∙ ap (before so_far.taken) took ∙ before-before so_far.taken taken left_next;
-      wrote = so_far.wrote ∙ ap (behind written_first) (sym all);
+      ends = ap (λ (c : Cut). c.ending) cut;
+      wrote = same ∙ so_far.wrote
+          ∙ ap (behind old.written) (sym (ap (λ (c : Cut). lines_of plan first.head.link c.records Closed) cut ∙ lines_of-closed plan first.head.link so_far.given));
     }
+
+-- the records that are whole within the bytes taken are those so far
+cut_off : (plan : Plan) (first reader : Reading) (old now after : Streams) (so_far : IsUnderWay plan first reader old now) → after.written ≡ now.written → AreWhole first so_far.given old.left after.left → IsCutOff plan first old after
+cut_off plan first reader old now after so_far same whole = record {
+  taken = whole.taken;
+  took = whole.took;
+  wrote = same ∙ so_far.wrote ∙ ap (λ (x : List Record). behind old.written (lines_of plan first.head.link x Open)) (sym whole.are);
+}
+
+-- what was written of the lines of some records, and of no others, is a part of all
+part_of_all : (plan : Plan) (first reader : Reading) (given : List Record) (old : Streams) (left new : Option (List ℕ)) → HasRead first reader given old.left left
+    → WritesPart old.written (lines_of plan first.head.link given Open) new
+    → (whole : List ℕ) → old.left ≡ Some whole → WritesPart old.written (lines_left plan first whole Closed) new
+part_of_all plan first reader given old left new read part whole told =
+    let found = reading-told first reader given old.left left whole read told in
+    let others = (cut_for reader found.0).records in
+    let all : lines_left plan first whole Closed
+    ≡ lines_of plan first.head.link given Open ++ lines plan (map (linked first.head.link) given) (map (linked first.head.link) others) Closed =
+    ap (λ (c : Cut). lines_of plan first.head.link c.records Closed) found.2 ∙ lines_of-append plan first.head.link given others Closed in
+    let P : List ℕ → Type 0 = λ x. WritesPart old.written x new in
+    subst P (sym all) (WritesPart-longer old.written new (lines_of plan first.head.link given Open) _ part)
 
 -- the lines so far are a part of all
-pub part_so_far : (rules : List ContentRule) (first reader : Reading) (left_first left written_first written : Option (List ℕ))
-    → IsUnderWay rules first reader left_first left written_first written
-    → (whole : List ℕ) → left_first ≡ Some whole → WritesPart written_first (lines_left rules first whole) written
-part_so_far rules first reader left_first left written_first written so_far whole told =
-    let split = split_told left_first left so_far.taken whole so_far.took told in
-    let P : List ℕ → Type 0 = λ x. WritesPart written_first x written in
-    subst P (sym (ap (lines_left rules first) split.joined ∙ lines_by _ _ _ _ _ _ _ so_far split.rest)) (WritesPart-whole written_first written (alert_lines rules first.head.link so_far.given) (lines_left rules reader split.rest) so_far.wrote)
+part_so_far : (plan : Plan) (first reader : Reading) (old now after : Streams) → IsUnderWay plan first reader old now → after.written ≡ now.written → WritesSome plan first old after
+part_so_far plan first reader old now after so_far same =
+    part_of_all plan first reader so_far.given old now.left after.written so_far.read (WritesPart-all old.written after.written _ (same ∙ so_far.wrote))
 
 -- the lines so far and a part of those of the next record are a part of all
-pub part_of_record : (rules : List ContentRule) (first reader : Reading) (given : Record) (left_first left left_next written_first written written_next : Option (List ℕ))
-    → IsUnderWay rules first reader left_first left written_first written → TakesRecord reader given left left_next
-    → WritesPart written (record_lines rules reader.head.link given) written_next
-    → (whole : List ℕ) → left_first ≡ Some whole → WritesPart written_first (lines_left rules first whole) written_next
-part_of_record rules first reader given left_first left left_next written_first written written_next so_far takes part whole told =
-    let split = split_told left_first left so_far.taken whole so_far.took told in
-    let next = split_told left left_next takes.taken split.rest takes.took split.still in
-    let P : List ℕ → Type 0 = λ x. WritesPart written_first x written_next in
-    let own = record_lines rules reader.head.link given in
-    let others = lines_left rules (moved reader (Some given)) next.rest in
-    let all : lines_left rules first whole ≡ (alert_lines rules first.head.link so_far.given ++ own) ++ others =
-    ap (lines_left rules first) split.joined ∙ lines_by _ _ _ _ _ _ _ so_far split.rest
-    ∙ ap (λ (x : List ℕ). alert_lines rules first.head.link so_far.given ++ lines_left rules reader x) next.joined
-    ∙ ap (λ (x : List ℕ). alert_lines rules first.head.link so_far.given ++ x) (lines-stands rules reader (takes.taken ++ next.rest) next.rest given (takes.goes next.rest))
-    ∙ sym (append_assoc (alert_lines rules first.head.link so_far.given) own others) in
-    subst P (sym all) (WritesPart-longer written_first written_next (alert_lines rules first.head.link so_far.given ++ own) others (WritesPart-behind written_first written written_next (alert_lines rules first.head.link so_far.given) own so_far.wrote part))
+pub part_of_record : (plan : Plan) (first reader : Reading) (given : Record) (old now after : Streams)
+    → IsUnderWay plan first reader old now → TakesRecord reader given now.left after.left
+    → WritesPart now.written (record_lines plan (linked reader.head.link given)) after.written
+    → WritesSome plan first old after
+part_of_record plan first reader given old now after so_far takes part =
+    let next = after_next reader (Some given) in
+    let P : List ℕ → Type 0 = λ x. WritesPart old.written x after.written in
+    let own : WritesPart now.written (record_lines plan (linked first.head.link given)) after.written =
+    subst (λ (x : List ℕ). WritesPart now.written x after.written) (own_lines plan first reader given so_far.read.head) part in
+    part_of_all plan first next (so_far.given ++ given ∷ []) old after.left after.written
+    (reading-more first reader next so_far.given given old.left now.left after.left so_far.read takes refl)
+    (subst P (sym (lines_of-more plan first.head.link so_far.given given)) (WritesPart-behind old.written now.written after.written _ _ so_far.wrote own))
 
 -- a refusal of the capture
-pub capture_stops : (rules : List ContentRule) (first reader : Reading) (left_first left left_next written_first written : Option (List ℕ)) (why : CaptureFault)
-    → IsUnderWay rules first reader left_first left written_first written
-    → ((rest : List ℕ) → left ≡ Some rest → Gives (Err why) (next_of reader.head reader.number reader.at rest))
-    → TakesNone reader why left left_next
-    → EndsCapture rules first left_first left_next written_first written why
-capture_stops rules first reader left_first left left_next written_first written fault.NotPcap so_far gives takes = watched-ends rules first reader left_first left written_first written (Refused fault.NotPcap) so_far gives
-capture_stops rules first reader left_first left left_next written_first written (fault.LinkType link_type) so_far gives takes = watched-ends rules first reader left_first left written_first written (Refused (fault.LinkType link_type)) so_far gives
-capture_stops rules first reader left_first left left_next written_first written (fault.Truncated place) so_far gives takes = watched-ends rules first reader left_first left written_first written (Refused (fault.Truncated place)) so_far gives
-capture_stops rules first reader left_first left left_next written_first written (fault.TooLong place len) so_far gives takes = watched-ends rules first reader left_first left written_first written (Refused (fault.TooLong place len)) so_far gives
-capture_stops rules first reader left_first left left_next written_first written fault.TooMany so_far gives takes = watched-ends rules first reader left_first left written_first written (Refused fault.TooMany) so_far gives
-capture_stops rules first reader left_first left left_next written_first written fault.Failed so_far gives takes =
-    (cut_off rules first reader left_first left left_next written_first written takes.taken takes.shows.0 so_far takes.took takes.shows.1, part_so_far rules first reader left_first left written_first written so_far)
-capture_stops rules first reader left_first left left_next written_first written fault.NoMemory so_far gives takes = part_so_far rules first reader left_first left written_first written so_far
+pub capture_stops : (plan : Plan) (first reader : Reading) (old now after : Streams) (why : CaptureFault)
+    → IsUnderWay plan first reader old now → after.written ≡ now.written
+    → ((rest : List ℕ) → now.left ≡ Some rest → Gives (Err why) (next_of reader.head reader.number reader.at rest))
+    → TakesNone reader why now.left after.left
+    → Watches plan first old after (Err (capture_stop why))
+capture_stops plan first reader old now after why so_far same gives takes =
+    by_fault why (reading-refused first reader so_far.given why old.left now.left so_far.read gives) (reading-stopped first reader so_far.given why old.left now.left after.left so_far.read takes)
+  where
+    by_fault : (f : CaptureFault) → IsRefusedBy first so_far.given old.left f → AreWhole first so_far.given old.left after.left → Watches plan first old after (Err (capture_stop f))
+    by_fault fault.NotPcap ends whole = (fault.NotPcap, refl, watched-ends plan first reader old now after (Refused fault.NotPcap) so_far same ends)
+    by_fault (fault.LinkType link_type) ends whole = (fault.LinkType link_type, refl, watched-ends plan first reader old now after (Refused (fault.LinkType link_type)) so_far same ends)
+    by_fault (fault.Truncated place) ends whole = (fault.Truncated place, refl, watched-ends plan first reader old now after (Refused (fault.Truncated place)) so_far same ends)
+    by_fault (fault.TooLong place len) ends whole = (fault.TooLong place len, refl, watched-ends plan first reader old now after (Refused (fault.TooLong place len)) so_far same ends)
+    by_fault fault.TooMany ends whole = (fault.TooMany, refl, watched-ends plan first reader old now after (Refused fault.TooMany) so_far same ends)
+    by_fault fault.Failed ends whole = (refl, cut_off plan first reader old now after so_far same whole, part_so_far plan first reader old now after so_far same)
+    by_fault fault.NoMemory ends whole = part_so_far plan first reader old now after so_far same
+
+-- the lines were not all written
+pub showing_stops : (plan : Plan) (first : Reading) (old after : Streams) (why : Stop) → IsShowStop why → WritesSome plan first old after → Watches plan first old after (Err why)
+showing_stops plan first old after stop.CannotWrite kind some = some
+showing_stops plan first old after stop.NoMemory kind some = some
+showing_stops plan first old after why kind some = absurd kind
+
+-- the capture ends
+pub clean_ends : (plan : Plan) (first reader : Reading) (old now after : Streams) (found : Option Record) → IsUnderWay plan first reader old now → after.written ≡ now.written
+    → ((given : Record) → found ≡ Some given → ⊥) → ((rest : List ℕ) → now.left ≡ Some rest → Gives (Ok found) (next_of reader.head reader.number reader.at rest))
+    → WatchesTo plan first Clean old after
+clean_ends plan first reader old now after None so_far same none gives = watched-ends plan first reader old now after Clean so_far same (reading-ended first reader so_far.given old.left now.left so_far.read gives)
+clean_ends plan first reader old now after (Some given) so_far same none gives = absurd (none given refl)
 
 -- a record that stands next has a number below 4294967295
 pub number_below : (reader : Reading) (given : Record) (left left_next : Option (List ℕ)) → TakesRecord reader given left left_next → reader.number < 4294967295
@@ -207,74 +150,52 @@ pub said_of_none : {X : Type 0} (found : Option X) (P : Type 0) → ((x : X) →
 said_of_none None P none said = said
 said_of_none (Some x) P none said = absurd (none x refl)
 
--- what is given and is no record is the end
-pub none_ends : (found : Option Record) (next : Next) → ((given : Record) → found ≡ Some given → ⊥) → Gives (Ok found) next → next ≡ Ends Clean
-none_ends None next none gives = gives
-none_ends (Some given) next none gives = absurd (none given refl)
-
 -- ---- how close the lines are behind the records
 
--- what shows a refusal is an ending
-shows_ending : (why : CaptureFault) (next : Next) → Shows why next → (ending : Ending) × (next ≡ Ends ending)
-shows_ending fault.NoMemory next shows = shows
-shows_ending fault.Failed next shows = shows
-shows_ending fault.NotPcap next shows = (Refused fault.NotPcap, shows)
-shows_ending (fault.LinkType link_type) next shows = (Refused (fault.LinkType link_type), shows)
-shows_ending (fault.Truncated place) next shows = (Refused (fault.Truncated place), shows)
-shows_ending (fault.TooLong place len) next shows = (Refused (fault.TooLong place len), shows)
-shows_ending fault.TooMany next shows = (Refused fault.TooMany, shows)
-
--- bytes without a whole record were taken behind the records so far
-close_by : (rules : List ContentRule) (first reader : Reading) (left_first left left_next written_first written : Option (List ℕ)) (taken : List ℕ) (ending : Ending)
-    → IsUnderWay rules first reader left_first left written_first written → left ≡ before taken left_next → next_of reader.head reader.number reader.at taken ≡ Ends ending
-    → IsCloseBehind rules first left_first left_next written_first written
-close_by rules first reader left_first left left_next written_first written taken ending so_far took ends =
-    record {
-      taken = so_far.taken ++ taken;
-      took = so_far.took ∙ ap (before so_far.taken) took ∙ before-before so_far.taken taken left_next;
-      given = so_far.given;
-      last = [];
-      are = ap (λ (cut : Cut). cut.records) (so_far.cut taken)
-          ∙ ap (λ (cut : Cut). so_far.given ++ cut.records) (records_left-ends reader.head reader.number reader.at taken ending ends);
-      few = omega arith;
-      more = [];
-      wrote = so_far.wrote ∙ ap (behind written_first) (sym (append-nil (alert_lines rules first.head.link so_far.given)));
-    }
+-- the records that are whole within the bytes taken are those so far
+close_by : (plan : Plan) (first reader : Reading) (old now after : Streams) (so_far : IsUnderWay plan first reader old now) → after.written ≡ now.written → AreWhole first so_far.given old.left after.left → IsCloseBehind plan first old after
+close_by plan first reader old now after so_far same whole = record {
+  taken = whole.taken;
+  took = whole.took;
+  given = so_far.given;
+  last = [];
+  are = whole.are ∙ sym (append-nil so_far.given);
+  few = omega arith;
+  more = [];
+  wrote = same ∙ so_far.wrote ∙ ap (behind old.written) (sym (append-nil (lines_of plan first.head.link so_far.given Open)));
+}
 
 -- nothing more was taken
-pub close_at_the_end : (rules : List ContentRule) (first reader : Reading) (left_first left left_next written_first written : Option (List ℕ))
-    → IsUnderWay rules first reader left_first left written_first written → left_next ≡ left
-    → IsCloseBehind rules first left_first left_next written_first written
-close_at_the_end rules first reader left_first left left_next written_first written so_far still =
-    close_by rules first reader left_first left left_next written_first written [] Clean so_far (sym still ∙ sym (before-nil left_next)) (next_of_nothing reader.head reader.number reader.at)
+pub close_at_the_end : (plan : Plan) (first reader : Reading) (old now after : Streams)
+    → IsUnderWay plan first reader old now → after.written ≡ now.written → after.left ≡ now.left
+    → IsCloseBehind plan first old after
+close_at_the_end plan first reader old now after so_far same still =
+    close_by plan first reader old now after so_far same
+    (reading-whole first reader so_far.given old.left after.left (subst (λ (left : Option (List ℕ)). HasRead first reader so_far.given old.left left) (sym still) so_far.read))
 
 -- the capture was refused or not read on
-pub close_at_a_refusal : (rules : List ContentRule) (first reader : Reading) (left_first left left_next written_first written : Option (List ℕ)) (why : CaptureFault)
-    → IsUnderWay rules first reader left_first left written_first written → TakesNone reader why left left_next
-    → IsCloseBehind rules first left_first left_next written_first written
-close_at_a_refusal rules first reader left_first left left_next written_first written why so_far takes =
-    let ends = shows_ending why _ takes.shows in
-    close_by rules first reader left_first left left_next written_first written takes.taken ends.0 so_far takes.took ends.1
+pub close_at_a_refusal : (plan : Plan) (first reader : Reading) (old now after : Streams) (why : CaptureFault)
+    → IsUnderWay plan first reader old now → after.written ≡ now.written → TakesNone reader why now.left after.left
+    → IsCloseBehind plan first old after
+close_at_a_refusal plan first reader old now after why so_far same takes =
+    close_by plan first reader old now after so_far same (reading-stopped first reader so_far.given why old.left now.left after.left so_far.read takes)
 
 -- a record was taken, and a part of its lines was written
-pub close_at_a_record : (rules : List ContentRule) (first reader : Reading) (given : Record) (left_first left left_next written_first written written_next : Option (List ℕ))
-    → IsUnderWay rules first reader left_first left written_first written → TakesRecord reader given left left_next
-    → WritesPart written (record_lines rules reader.head.link given) written_next
-    → IsCloseBehind rules first left_first left_next written_first written_next
+pub close_at_a_record : (plan : Plan) (first reader : Reading) (given : Record) (old now after : Streams)
+    → IsUnderWay plan first reader old now → TakesRecord reader given now.left after.left
+    → WritesPart now.written (record_lines plan (linked reader.head.link given)) after.written
+    → IsCloseBehind plan first old after
 unfolding WritesPart
-close_at_a_record rules first reader given left_first left left_next written_first written written_next so_far takes (part, prefix, wrote) =
-    let alone : takes.taken ++ [] ≡ takes.taken = append-nil takes.taken in
-    let behind_it : (cut_left reader takes.taken).records ≡ given ∷ [] =
-    ap (λ (x : List ℕ). (cut_left reader x).records) (sym alone)
-    ∙ ap (λ (cut : Cut). cut.records) (records_left-stands reader.head reader.number reader.at (takes.taken ++ []) given [] (takes.goes []))
-    ∙ ap (λ (cut : Cut). given ∷ cut.records) (records_left-ends reader.head _ _ [] Clean (next_of_nothing reader.head _ _)) in
+close_at_a_record plan first reader given old now after so_far takes (part, prefix, wrote) =
+    let next = after_next reader (Some given) in
+    let whole = reading-whole first next (so_far.given ++ given ∷ []) old.left after.left (reading-more first reader next so_far.given given old.left now.left after.left so_far.read takes refl) in
     record {
-      taken = so_far.taken ++ takes.taken;
-      took = so_far.took ∙ ap (before so_far.taken) takes.took ∙ before-before so_far.taken takes.taken left_next;
+      taken = whole.taken;
+      took = whole.took;
       given = so_far.given;
       last = given ∷ [];
-      are = ap (λ (cut : Cut). cut.records) (so_far.cut takes.taken) ∙ ap (λ (x : List Record). so_far.given ++ x) behind_it;
+      are = whole.are;
       few = omega arith;
       more = part;
-      wrote = wrote ∙ ap (λ (x : Option (List ℕ)). behind x part) so_far.wrote ∙ behind-behind written_first (alert_lines rules first.head.link so_far.given) part;
+      wrote = wrote ∙ ap (λ (x : Option (List ℕ)). behind x part) so_far.wrote ∙ behind-behind old.written (lines_of plan first.head.link so_far.given Open) part;
     }

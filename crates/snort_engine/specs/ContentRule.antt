@@ -5,20 +5,18 @@
 -- `alert udp any any -> any any (msg:"M"; content:"P"; sid:N;)`.
 -- To try it on: `alert udp any any -> any any (msg:"one"; content:"abc"; sid:7;)` is the rule with
 -- message `one`, content `abc` and number 7; with `sid:07` or with an empty content it is no rule.
-use Rattle.std.specs.Prelude.{ℕ, ◌≤◌, ◌<◌, ◌^◌, Bool, List, ◌++◌, Option, Some, None, option_and_then, length, take, drop, slice_index, nat_le, ◌==◌, ◌&&◌, ◌||◌, if◌then◌else◌, codes}
+use Rattle.std.specs.Prelude.{ℕ, ◌≤◌, ◌<◌, ◌^◌, Bool, List, ◌++◌, Option, Some, None, length, take, drop, slice_index, nat_le, ◌==◌, ◌&&◌, ◌||◌, if◌then◌else◌, codes}
 use Rattle.std.specs.Char.{is_ascii_alphanumeric, is_ascii_digit}
 use Rattle.std.specs.Fmt.{decimal}
 use Rattle.std.specs.List.{AllPass, prefix_len}
 use Rattle.std.specs.Str.{bytes_eq}
 use Rattle.std.specs.Str.Parse.{digits_value}
+use Rattle.edge_io.specs.Bytes.{is_blank}
+use Rattle.edge_io.specs.OnOption.{◌>>=◌}
 use Rattle.snort_engine.specs.declared.content_rule.ContentRule.{ContentRule}
 use Rattle.snort_engine.specs.declared.content_rule.RuleParts.{RuleParts}
 
 -- ---- what a rule is, and how it is written
-
--- a blank: a space or a tab
-abbrev pub is_blank : ℕ → Bool
-is_blank byte = byte == 32 || byte == 9
 
 -- a letter, a digit or a blank
 abbrev pub is_msg_byte : ℕ → Bool
@@ -55,10 +53,6 @@ unfoldable pub rule_text : ContentRule → List ℕ
 rule_text rule = before_msg ++ (rule.msg ++ (before_content ++ (rule.content ++ (before_sid ++ (decimal rule.sid ++ behind_sid)))))
 
 -- ---- the rule of a line, from left to right
-
-infixl 10 ◌>>=◌
-abbrev pub ◌>>=◌ : {A B : Type 0} → Option A → (A → Option B) → Option B
-o >>= f = option_and_then f o
 
 -- what follows these bytes, if the text begins with them
 unfoldable pub after : List ℕ → List ℕ → Option (List ℕ)

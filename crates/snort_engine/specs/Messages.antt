@@ -4,8 +4,6 @@
 -- project's own. To try it on: the first 23 bytes of a capture file end a run with
 -- `ERROR: capture is truncated at byte 0`.
 use Rattle.std.specs.Prelude.{ℕ, List, ◌++◌, codes, decimal}
-use Rattle.snort_engine.specs.declared.messages.Message.{Message}
-use Rattle.snort_engine.specs.declared.messages.Message.TheVariants.{CommandLine, OutsideProfile, CannotRead, CannotWrite, NoMemory, NotPcap, LinkType, Truncated, TooLong, TooMany}
 
 -- the command line is faulty
 unfoldable pub command_line_text : List ℕ
@@ -47,16 +45,3 @@ too_long_text at len =
 -- the capture has more records than are read
 unfoldable pub too_many_text : List ℕ
 too_many_text = codes "ERROR: capture has too many records\n"
-
--- the text of each message
-unfoldable pub message_text : Message → List ℕ
-message_text CommandLine = command_line_text
-message_text (OutsideProfile file line) = outside_profile_text file.now line
-message_text (CannotRead name) = cannot_read_text name.now
-message_text CannotWrite = cannot_write_text
-message_text NoMemory = no_memory_text
-message_text NotPcap = not_pcap_text
-message_text (LinkType link) = link_type_text link
-message_text (Truncated at) = truncated_text at
-message_text (TooLong at len) = too_long_text at len
-message_text TooMany = too_many_text

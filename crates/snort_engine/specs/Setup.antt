@@ -7,39 +7,24 @@
 -- To try it on: `# one`, an empty line and a rule are that one rule; `# one` and `x` are refused at 2.
 use Rattle.std.specs.Prelude.{◌≡◌, ◌⊎◌, ℕ, ◌+◌, ◌-◌, Bool, List, [], ◌∷◌, ◌++◌, Option, Some, None, Result, Ok, Err, ⊤, length, take, drop, slice_index, nat_lt, ◌==◌, ◌||◌, if◌then◌else◌}
 use Rattle.std.specs.Option.{option_to_list}
-use Rattle.std.specs.List.{prefix_len, suffix_len}
 use Rattle.std.specs.Str.Lines.{lines}
 use Rattle.std.specs.FinMap.{get}
 use Rattle.edge_io.specs.Files.{Files, Lacks, IsLonger}
 use Rattle.snort_engine.specs.declared.content_rule.ContentRule.{ContentRule}
 use Rattle.edge_io.specs.declared.host.LoadFault.{LoadFault}
 use Rattle.edge_io.specs.declared.host.LoadFault.TheVariants as faults
-use Rattle.snort_engine.specs.declared.setup.SetupStop.{SetupStop}
-use Rattle.snort_engine.specs.declared.setup.SetupStop.TheVariants as stops
-use Rattle.snort_engine.specs.ContentRule.{is_blank, rule_line}
-
--- the text without the blanks at its front
-abbrev pub without_front_blanks : List ℕ → List ℕ
-without_front_blanks text = drop (prefix_len is_blank text) text
-
--- the text without the blanks at its end
-abbrev pub without_end_blanks : List ℕ → List ℕ
-without_end_blanks text = take (length text - suffix_len is_blank text) text
-
--- the text without the blanks at both ends
-unfoldable pub trimmed : List ℕ → List ℕ
-trimmed text = without_end_blanks (without_front_blanks text)
+use Rattle.snort_engine.specs.declared.stop.Stop.{Stop}
+use Rattle.snort_engine.specs.declared.stop.Stop.TheVariants as stops
+use Rattle.snort_engine.specs.declared.stop.InputFile.TheVariants as input
+use Rattle.edge_io.specs.Bytes.{trimmed}
+use Rattle.edge_io.specs.OnResult.{◌>>=◌}
+use Rattle.snort_engine.specs.ContentRule.{rule_line}
 
 -- an empty text, or one that begins with `#`
 abbrev pub is_skipped : List ℕ → Bool
 is_skipped text = length text == 0 || slice_index text 0 == 35
 
 -- ---- the rules of a file, or the number of the line that is refused
-
-infixl 10 ◌>>=◌
-abbrev pub ◌>>=◌ : {A B : Type 0} → Result A ℕ → (A → Result B ℕ) → Result B ℕ
-(Ok x) >>= f = f x
-(Err number) >>= f = Err number
 
 -- the rule that was found, or the number of a line that has none
 abbrev pub rule_or : ℕ → Option ContentRule → Result (Option ContentRule) ℕ
@@ -95,35 +80,44 @@ setup files name = setup_at (get files name)
 -- ---- what the code answers
 
 -- how a fault of loading stops the setup: a file that is too long is refused at line 0
-abbrev pub stop_of : LoadFault → SetupStop
-stop_of faults.Failed = stops.Failed
-stop_of faults.TooLarge = stops.Refused 0
+abbrev pub stop_of : LoadFault → Stop
+stop_of faults.Failed = stops.CannotRead input.Configuration
+stop_of faults.TooLarge = stops.OutsideProfile 0
 stop_of faults.NoMemory = stops.NoMemory
 
 -- lines are refused at the number that reading them gives; want of memory is free, and no line is a fault of the host
-abbrev pub StopsReading : {A : Type 0} → SetupStop → Result A ℕ → Type 0
-StopsReading (stops.Refused line) read = read ≡ Err line
-StopsReading stops.Failed read = ⊥
+abbrev pub StopsReading : {A : Type 0} → Stop → Result A ℕ → Type 0
+StopsReading (stops.OutsideProfile line) read = read ≡ Err line
 StopsReading stops.NoMemory read = ⊤
+StopsReading stop read = ⊥
 
 -- the answer, seen by view, is what reading gives, unless memory ran out
-abbrev pub GivesRead : {A B : Type 0} → (A → B) → Result A SetupStop → Result B ℕ → Type 0
+abbrev pub GivesRead : {A B : Type 0} → (A → B) → Result A Stop → Result B ℕ → Type 0
 GivesRead view (Ok x) read = read ≡ Ok (view x)
 GivesRead view (Err stop) read = StopsReading stop read
 
 -- a file is refused at line 0 where it is longer than the limit; Failed comes where a fault was counted or the name is lacking
-abbrev pub StopsLoading : Type 0 → Option Files → List ℕ → SetupStop → Type 0
-StopsLoading fault told name (stops.Refused line) = (line ≡ 0) × IsLonger told name file_limit
-StopsLoading fault told name stops.Failed = fault ⊎ Lacks told name
+abbrev pub StopsLoading : Type 0 → Option Files → List ℕ → Stop → Type 0
+StopsLoading fault told name (stops.OutsideProfile line) = (line ≡ 0) × IsLonger told name file_limit
+StopsLoading fault told name (stops.CannotRead input.Configuration) = fault ⊎ Lacks told name
 StopsLoading fault told name stops.NoMemory = ⊤
+StopsLoading fault told name stop = ⊥
 
 -- a file is refused at the line of the setup; Failed comes where a fault was counted or the name is lacking
-abbrev pub StopsSetup : Type 0 → SetupStop → Setup → Type 0
-StopsSetup fault (stops.Refused line) meant = meant ≡ RefusedAt line
-StopsSetup fault stops.Failed meant = fault ⊎ (meant ≡ Lacking)
+abbrev pub StopsSetup : Type 0 → Stop → Setup → Type 0
+StopsSetup fault (stops.OutsideProfile line) meant = meant ≡ RefusedAt line
+StopsSetup fault (stops.CannotRead input.Configuration) meant = fault ⊎ (meant ≡ Lacking)
 StopsSetup fault stops.NoMemory meant = ⊤
+StopsSetup fault stop meant = ⊥
 
 -- the answer, seen by view, is the setup, unless memory ran out or a fault was counted
-abbrev pub GivesSetup : {A : Type 0} → (A → List ContentRule) → Type 0 → Result A SetupStop → Setup → Type 0
+abbrev pub GivesSetup : {A : Type 0} → (A → List ContentRule) → Type 0 → Result A Stop → Setup → Type 0
 GivesSetup view fault (Ok x) meant = meant ≡ Rules (view x)
 GivesSetup view fault (Err stop) meant = StopsSetup fault stop meant
+
+-- what may stop the setup
+abbrev pub IsSetupStop : Stop → Type 0
+IsSetupStop (stops.OutsideProfile line) = ⊤
+IsSetupStop (stops.CannotRead input.Configuration) = ⊤
+IsSetupStop stops.NoMemory = ⊤
+IsSetupStop stop = ⊥

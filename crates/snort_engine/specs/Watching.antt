@@ -1,97 +1,120 @@
--- How the watching of a capture ends.
+-- How the watching of a capture ends, from the reader that was opened to the last line.
 --
--- What is left for a reader are the records that it has yet to give, and their lines. To try it on:
--- where a write fails in the line of the second of three records, the lines of the first were
--- written, a part of that line may be, and the bytes of two records were taken.
-use Rattle.std.specs.Prelude.{◌≡◌, ℕ, ◌≤◌, List, ◌++◌, length, Option, Some, Result, Ok, Err, ⊤}
+-- What is left for a reader are the records that it has yet to give. To try it on: where a write fails
+-- in the line of the second of three records, the lines of the first were written, a part of that line
+-- may be, and the bytes of two records were taken.
+use Rattle.std.specs.Prelude.{◌≡◌, ℕ, ◌≤◌, List, [], ◌++◌, length, map, Option, None, Some, Result, Ok, Err, ⊤}
+use Rattle.std.specs.List.{flat_map}
 use Rattle.edge_io.specs.Told.{before, behind}
+use Rattle.edge_io.specs.declared.link.Link.{Link}
 use Rattle.pcap_input.specs.declared.capture.Record.{Record}
 use Rattle.pcap_input.specs.declared.capture.CaptureFault.{CaptureFault}
-use Rattle.pcap_input.specs.declared.capture.CaptureFault.TheVariants as fault
-use Rattle.pcap_input.specs.Savefile.{Cut, Ending, Clean, Refused, records_left}
+use Rattle.pcap_input.specs.declared.capture.CaptureFault.TheVariants.{Failed}
+use Rattle.pcap_input.specs.Savefile.{Ending, Clean, Refused}
 use Rattle.pcap_input.specs.Reader.{Reading}
+use Rattle.pcap_input.specs.Reading.{cut_for}
+use Rattle.snort_engine.specs.declared.plan.Plan as code
+use Rattle.snort_engine.specs.declared.stop.Stop.{Stop}
+use Rattle.snort_engine.specs.declared.stop.Stop.TheVariants as stop
 use Rattle.snort_engine.specs.declared.content_rule.ContentRule.{ContentRule}
-use Rattle.snort_engine.specs.declared.show.ShowStop.TheVariants as show
-use Rattle.snort_engine.specs.declared.watch.WatchStop.{WatchStop}
-use Rattle.snort_engine.specs.declared.watch.WatchStop.TheVariants.{Capture, Show}
-use Rattle.snort_engine.specs.declared.status.Status.{Status}
-use Rattle.snort_engine.specs.declared.status.Status.TheVariants as status
-use Rattle.snort_engine.specs.Prefix.{WritesPart}
-use Rattle.snort_engine.specs.Messages.{cannot_write_text, no_memory_text}
-use Rattle.snort_engine.specs.Answer.{fault_status, fault_text}
-use Rattle.snort_engine.specs.Alerting.{alert_lines}
+use Rattle.snort_engine.specs.declared.flight.Flight.{Flight}
+use Rattle.snort_engine.specs.CommandLine.{Options}
+use Rattle.snort_engine.specs.Course.{Plan}
+use Rattle.snort_engine.specs.Records.{LinkedRecord, linked}
+use Rattle.snort_engine.specs.Trace.{Open, Closed, CaptureState, flight_alerts, record_alerts}
+use Rattle.snort_engine.specs.Lines.{text_of, lines}
+use Rattle.snort_engine.specs.ReadAhead.{batch}
+use Rattle.snort_engine.specs.Outside.{WritesPart}
+use Rattle.snort_engine.specs.Stop.{capture_stop}
 
--- how many records are read at a time
-abbrev pub batch : ℕ
-batch = 1
+-- the plan that the code works by: all records of the capture are read
+abbrev pub plan_of : code.Plan → Plan
+plan_of plan = record { source = plan.source.now; limit = None; rules = plan.rules.now }
 
--- the records and the ending that these bytes hold for a reader
-abbrev pub cut_left : Reading → List ℕ → Cut
-cut_left reader rest = records_left reader.head reader.number reader.at rest
+-- the plan that words and rules give
+abbrev pub plan_by : Options → List ContentRule → Plan
+plan_by names rules = record { source = names.capture; limit = None; rules = rules }
 
--- their lines
-abbrev pub lines_left : List ContentRule → Reading → List ℕ → List ℕ
-lines_left rules reader rest = alert_lines rules reader.head.link (cut_left reader rest).records
+-- ---- lines on their way to the sink
+
+-- what was written, where it is told, and the block in which lines wait
+pub record Gathering : Type 0 where
+  pub written : Option (List ℕ)
+  pub block : List ℕ
+
+-- a text came behind the block: a front of both was written, and the rest waits
+pub record Gathers (text : List ℕ) (old new : Gathering) : Type 0 where
+  pub part : List ℕ
+  pub joined : old.block ++ text ≡ part ++ new.block
+  pub wrote : new.written ≡ behind old.written part
+
+-- the lines of a flight
+unfoldable pub flight_lines : List ContentRule → Flight → List ℕ → List ℕ
+flight_lines rules flight payload = flat_map text_of (flight_alerts rules flight payload)
+
+-- the lines of a record
+unfoldable pub record_lines : Plan → LinkedRecord → List ℕ
+record_lines plan shown = flat_map text_of (record_alerts plan [] shown)
+
+-- what may stop the showing of lines
+abbrev pub IsShowStop : Stop → Type 0
+IsShowStop stop.CannotWrite = ⊤
+IsShowStop stop.NoMemory = ⊤
+IsShowStop why = ⊥
+
+-- ---- the watching
+
+-- what is left of the capture and what was written, where they are told
+pub record Streams : Type 0 where
+  pub left : Option (List ℕ)
+  pub written : Option (List ℕ)
+
+-- the lines of records of one link layer
+unfoldable pub lines_of : Plan → Link → List Record → CaptureState → List ℕ
+lines_of plan link records state = lines plan [] (map (linked link) records) state
+
+-- the lines of the records that these bytes hold for a reader
+abbrev pub lines_left : Plan → Reading → List ℕ → CaptureState → List ℕ
+lines_left plan reader rest state = lines_of plan reader.head.link (cut_for reader rest).records state
 
 -- all lines of the bytes that were left were written, and they end so
-pub record IsWatched (rules : List ContentRule) (reader : Reading) (rest : List ℕ) (ending : Ending) (written_first written : Option (List ℕ)) : Type 0 where
-  pub ends : (cut_left reader rest).ending ≡ ending
-  pub wrote : written ≡ behind written_first (lines_left rules reader rest)
+pub record IsWatched (plan : Plan) (reader : Reading) (rest : List ℕ) (ending : Ending) (old new : Streams) : Type 0 where
+  pub ends : (cut_for reader rest).ending ≡ ending
+  pub wrote : new.written ≡ behind old.written (lines_left plan reader rest Closed)
 
 -- the lines of the records that are whole within the bytes taken were written
-pub record IsCutOff (rules : List ContentRule) (reader : Reading) (left_first left written_first written : Option (List ℕ)) : Type 0 where
+pub record IsCutOff (plan : Plan) (reader : Reading) (old new : Streams) : Type 0 where
   pub taken : List ℕ
-  pub took : left_first ≡ before taken left
-  pub wrote : written ≡ behind written_first (lines_left rules reader taken)
+  pub took : old.left ≡ before taken new.left
+  pub wrote : new.written ≡ behind old.written (lines_left plan reader taken Open)
 
 -- of the records that are whole within the bytes taken, the lines of all but the last batch were
 -- written, and maybe more
-pub record IsCloseBehind (rules : List ContentRule) (reader : Reading) (left_first left written_first written : Option (List ℕ)) : Type 0 where
+pub record IsCloseBehind (plan : Plan) (reader : Reading) (old new : Streams) : Type 0 where
   pub taken : List ℕ
-  pub took : left_first ≡ before taken left
+  pub took : old.left ≡ before taken new.left
   pub given : List Record
   pub last : List Record
-  pub are : (cut_left reader taken).records ≡ given ++ last
+  pub are : (cut_for reader taken).records ≡ given ++ last
   pub few : length last ≤ batch
   pub more : List ℕ
-  pub wrote : written ≡ behind written_first (alert_lines rules reader.head.link given ++ more)
+  pub wrote : new.written ≡ behind old.written (lines_of plan reader.head.link given Open ++ more)
 
--- what a part of the lines that were left, and no other byte, means
-abbrev pub WritesSome : List ContentRule → Reading → Option (List ℕ) → Option (List ℕ) → Option (List ℕ) → Type 0
-WritesSome rules reader left_first written_first written = (rest : List ℕ) → left_first ≡ Some rest → WritesPart written_first (lines_left rules reader rest) written
+-- a part of the lines that were left was written, and no other byte
+abbrev pub WritesSome : Plan → Reading → Streams → Streams → Type 0
+WritesSome plan reader old new = (rest : List ℕ) → old.left ≡ Some rest → WritesPart old.written (lines_left plan reader rest Closed) new.written
 
--- how a refusal of the capture leaves the work: a fault of the host cuts it off, want of memory
--- leaves a part, as that fault does too, and any other is the ending of what was left
-abbrev pub EndsCapture : List ContentRule → Reading → Option (List ℕ) → Option (List ℕ) → Option (List ℕ) → Option (List ℕ) → CaptureFault → Type 0
-EndsCapture rules reader left_first left written_first written fault.Failed = IsCutOff rules reader left_first left written_first written × WritesSome rules reader left_first written_first written
-EndsCapture rules reader left_first left written_first written fault.NoMemory = WritesSome rules reader left_first written_first written
-EndsCapture rules reader left_first left written_first written why = (rest : List ℕ) → left_first ≡ Some rest → IsWatched rules reader rest (Refused why) written_first written
+-- the capture was watched to an ending
+abbrev pub WatchesTo : Plan → Reading → Ending → Streams → Streams → Type 0
+WatchesTo plan reader ending old new = (rest : List ℕ) → old.left ≡ Some rest → IsWatched plan reader rest ending old new
 
--- how the watching ends
-abbrev pub Watches : List ContentRule → Reading → Option (List ℕ) → Option (List ℕ) → Option (List ℕ) → Option (List ℕ) → Result (Unit {0}) WatchStop → Type 0
-Watches rules reader left_first left written_first written (Ok _) = (rest : List ℕ) → left_first ≡ Some rest → IsWatched rules reader rest Clean written_first written
-Watches rules reader left_first left written_first written (Err (Capture why)) = EndsCapture rules reader left_first left written_first written why
-Watches rules reader left_first left written_first written (Err (Show stop)) = WritesSome rules reader left_first written_first written
-
--- the alert sink stopped it
-abbrev pub IsWriteFault : WatchStop → Type 0
-IsWriteFault (Show show.WriteFault) = ⊤
-IsWriteFault (Show show.NoMemory) = ⊥
-IsWriteFault (Capture why) = ⊥
-
--- the host stopped it
-abbrev pub IsReadFault : WatchStop → Type 0
-IsReadFault (Capture fault.Failed) = ⊤
-IsReadFault stop = ⊥
-
--- the status with which a stop ends the run
-abbrev pub stop_status : WatchStop → Status
-stop_status (Capture why) = fault_status why
-stop_status (Show show.WriteFault) = status.WriteFault
-stop_status (Show show.NoMemory) = status.NoMemory
-
--- and the message
-abbrev pub stop_text : List ℕ → WatchStop → List ℕ
-stop_text name (Capture why) = fault_text name why
-stop_text name (Show show.WriteFault) = cannot_write_text
-stop_text name (Show show.NoMemory) = no_memory_text
+-- how the watching ends: at the end of the capture; cut off by the host; stopped by the sink or for
+-- want of memory; or at what can't be read
+abbrev pub Watches : Plan → Reading → Streams → Streams → Result (Unit {0}) Stop → Type 0
+Watches plan reader old new (Ok done) = WatchesTo plan reader Clean old new
+Watches plan reader old new (Err (stop.CannotRead file)) =
+    (stop.CannotRead file ≡ capture_stop Failed) × IsCutOff plan reader old new × WritesSome plan reader old new
+Watches plan reader old new (Err stop.CannotWrite) = WritesSome plan reader old new
+Watches plan reader old new (Err stop.NoMemory) = WritesSome plan reader old new
+Watches plan reader old new (Err why) =
+    (fault : CaptureFault) × (why ≡ capture_stop fault) × WatchesTo plan reader (Refused fault) old new

@@ -4,7 +4,8 @@ ghost use Rattle.std.specs.List.{prefix_len, AllPass};
 ghost use Rattle.std.specs.Option.{option_map, option_copied, SomeIff};
 ghost use Rattle.std.specs.Str.Parse.{digits_value};
 ghost use Rattle.snort_engine.specs.declared.content_rule.ContentRule.{ContentRule};
-ghost use Rattle.snort_engine.specs.ContentRule.{is_blank, is_msg_byte, after, msg_at, content_at, sid_at, last_sid, rule_of, rule_line, IsRule, rule_text};
+ghost use Rattle.edge_io.specs.Bytes.{is_blank};
+ghost use Rattle.snort_engine.specs.ContentRule.{is_msg_byte, after, msg_at, content_at, sid_at, last_sid, rule_of, rule_line, IsRule, rule_text};
 
 use edge_io::{NoMemory, Text};
 use std::alloc::Global;

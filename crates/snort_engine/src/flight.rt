@@ -1,6 +1,6 @@
 ghost use Rattle.std.specs.Prelude.{◌≡◌};
 ghost use Rattle.packet_decode.specs.Decoding.{fields_of};
-ghost use Rattle.snort_engine.specs.Alerting.{flight_of};
+ghost use Rattle.snort_engine.specs.Trace.{flight_of};
 
 use crate::endpoint::Endpoint;
 use edge_io::{Addr, Moment};

@@ -1,9 +1,7 @@
-ghost use Rattle.std.specs.Prelude.{◌≡◌, ℕ, ◌++◌, ◌<◌, ◌≤◌, OnOk, OnErr};
-ghost use Rattle.edge_io.specs.Told.{behind, Rose};
+ghost use Rattle.std.specs.Prelude.{◌≡◌, ◌++◌, ◌<◌, OnOk, OnErr};
 ghost use Rattle.snort_engine.specs.Pieces.{digits, piece_text, pieces_text};
-ghost use Rattle.snort_engine.specs.Prefix.{WritesPart};
 
-use edge_io::{Failed, NoMemory, Sink, write_all};
+use edge_io::NoMemory;
 use itoa::Buffer;
 use std::alloc::AllocError;
 
@@ -39,43 +37,6 @@ fn push_piece(out: &mut Vec<u8>, piece: Piece<'_>) -> Result<(), AllocError>
     match piece {
         Piece::Bytes(bytes) => out.extend_from_slice(bytes),
         Piece::Number(value) => out.extend_from_slice(Buffer::new().format(value).as_bytes()),
-    }
-}
-
-/// Writes the pieces, one behind another. Takes no memory.
-pub(crate) fn write_pieces<S: Sink>(sink: &mut S, pieces: &[Piece<'_>]) -> Result<(), Failed>
-    ensures written { OnOk result (S.written sink.new ≡ behind (S.written sink.old) (pieces_text pieces.now)) }
-    ensures stopped { OnErr result (WritesPart (S.written sink.old) (pieces_text pieces.now) (S.written sink.new)) }
-    ensures failed { OnErr result (Rose (S.faults sink.old) (S.faults sink.new)) }
-    ensures later { S.faults sink.old ≤ S.faults sink.new }
-{
-    for piece in pieces {
-        write_piece(sink, *piece)?;
-    }
-    Ok(())
-}
-
-fn write_piece<S: Sink>(sink: &mut S, piece: Piece<'_>) -> Result<(), Failed>
-    ensures written { OnOk result (S.written sink.new ≡ behind (S.written sink.old) (piece_text piece.entry)) }
-    ensures stopped { OnErr result (WritesPart (S.written sink.old) (piece_text piece.entry) (S.written sink.new)) }
-    ensures failed { OnErr result (Rose (S.faults sink.old) (S.faults sink.new)) }
-    ensures later { S.faults sink.old ≤ S.faults sink.new }
-{
-    match piece {
-        Piece::Bytes(bytes) => write_bytes(sink, bytes),
-        Piece::Number(value) => write_bytes(sink, Buffer::new().format(value).as_bytes()),
-    }
-}
-
-fn write_bytes<S: Sink>(sink: &mut S, bytes: &[u8]) -> Result<(), Failed>
-    ensures written { OnOk result (S.written sink.new ≡ behind (S.written sink.old) bytes.now) }
-    ensures stopped { OnErr result (WritesPart (S.written sink.old) bytes.now (S.written sink.new)) }
-    ensures failed { OnErr result (Rose (S.faults sink.old) (S.faults sink.new)) }
-    ensures later { S.faults sink.old ≤ S.faults sink.new }
-{
-    match write_all(sink, bytes) {
-        Ok(()) => Ok(()),
-        Err(_stop) => Err(Failed),
     }
 }
 

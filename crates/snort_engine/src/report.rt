@@ -1,86 +1,54 @@
-ghost use Rattle.std.specs.Prelude.{◌≡◌, ◌≤◌, [], ◌⊎◌};
+ghost use Rattle.std.specs.Prelude.{◌≡◌, ◌≤◌, ◌⊎◌};
 ghost use Rattle.edge_io.specs.Told.{behind, Rose};
-ghost use Rattle.snort_engine.specs.Prefix.{WritesPart};
-ghost use Rattle.snort_engine.specs.Messages.{message_text};
-ghost use Rattle.snort_engine.specs.Report.{report_text};
-ghost use Rattle.snort_engine.specs.Answer.{fault_text, fault_status};
+ghost use Rattle.snort_engine.specs.CommandLine.{options_of};
+ghost use Rattle.snort_engine.specs.Outside.{WritesPart};
+ghost use Rattle.snort_engine.specs.Reporting.{Reports};
 
 use crate::Status;
-use crate::messages::{Message, write_message};
-use edge_io::Sink;
-use pcap_input::CaptureFault;
+use crate::pieces::push_pieces;
+use crate::stop::Stop;
+use crate::words::Options;
+use edge_io::{NoMemory, Sink, write_all};
+use std::alloc::Global;
 
-/// How a run ends, and the message about it, if there is one. Names are lent from the words.
-#[derive(Clone, Copy, Debug)]
-pub(crate) struct Report<'a> {
-    pub status: Status,
-    pub message: Option<Message<'a>>,
-}
-
-impl<'a> Report<'a> {
-    /// The work is done, and there is nothing to say.
-    pub fn done() -> Report<'a>
-        ensures status { result.status ≡ Status.Done }
-        ensures text { report_text result ≡ [] }
-    {
-        Report {
-            status: Status::Done,
-            message: None,
-        }
-    }
-
-    /// The run ends with this status and message.
-    pub fn with(status: Status, message: Message<'a>) -> Report<'a>
-        ensures status { result.status ≡ status }
-        ensures text { report_text result ≡ message_text message.entry }
-    {
-        Report {
-            status,
-            message: Some(message),
-        }
-    }
-
-    /// The capture of this name is refused, or can't be read.
-    #[tactic(auto, unfolding(crate::specs::Messages::message_text))]
-    pub fn of_capture(name: &'a str, why: CaptureFault) -> Report<'a>
-        ensures status { result.status ≡ fault_status why }
-        ensures text { report_text result ≡ fault_text name.now why }
-    {
-        match why {
-            CaptureFault::NotPcap => Report::with(Status::BadCapture, Message::NotPcap),
-            CaptureFault::LinkType(link_type) => {
-                Report::with(Status::BadCapture, Message::LinkType(link_type))
-            }
-            CaptureFault::Truncated { at } => {
-                Report::with(Status::BadCapture, Message::Truncated { at })
-            }
-            CaptureFault::TooLong { at, len } => {
-                Report::with(Status::BadCapture, Message::TooLong { at, len })
-            }
-            CaptureFault::TooMany => Report::with(Status::BadCapture, Message::TooMany),
-            CaptureFault::Failed => Report::with(
-                Status::HostFault,
-                Message::CannotRead {
-                    name: name.as_bytes(),
-                },
-            ),
-            CaptureFault::NoMemory => Report::with(Status::NoMemory, Message::NoMemory),
-        }
-    }
-}
-
-/// Writes the message of a report. A fault of the error sink changes nothing else.
-pub(crate) fn write_report<E: Sink>(errors: &mut E, report: &Report<'_>)
+/// Writes a text to the error sink, in one offer. A fault of that sink changes nothing else.
+fn tell<E: Sink>(errors: &mut E, text: &[u8])
     // The text is written, or a part of it where the sink's count rose.
-    ensures written { (E.written errors.new ≡ behind (E.written errors.old) (report_text report.now))
+    ensures whole { (E.written errors.new ≡ behind (E.written errors.old) text.now)
         ⊎ Rose (E.faults errors.old) (E.faults errors.new) }
-    ensures part { WritesPart (E.written errors.old) (report_text report.now) (E.written errors.new) }
+    ensures part { WritesPart (E.written errors.old) text.now (E.written errors.new) }
     ensures later { E.faults errors.old ≤ E.faults errors.new }
 {
-    match &report.message {
-        None => {}
-        Some(message) => {
-            let _ = write_message(errors, message);
+    match write_all(errors, text) {
+        Ok(()) => {}
+        Err(_stop) => {}
+    }
+}
+
+/// Writes the message of a run that was stopped, if it was, and gives the status. The message is made
+/// whole first; where memory is lacking for it, the run ends for want of memory.
+pub(crate) fn report<E: Sink>(
+    alloc: Global,
+    errors: &mut E,
+    names: &Options<'_>,
+    outcome: Result<(), Stop>,
+) -> Status
+    ensures reports { Reports (options_of names.now) outcome result
+        (E.written errors.old) (E.written errors.new) (Rose (E.faults errors.old) (E.faults errors.new)) }
+    ensures later { E.faults errors.old ≤ E.faults errors.new }
+{
+    let Err(stop) = outcome else {
+        return Status::Done;
+    };
+    let mut text = Vec::new(alloc);
+    match push_pieces(&mut text, &stop.pieces(names)) {
+        Ok(()) => {
+            tell(errors, &text);
+            stop.status()
+        }
+        Err(NoMemory) => {
+            tell(errors, b"ERROR: no memory\n");
+            Status::NoMemory
         }
     }
 }

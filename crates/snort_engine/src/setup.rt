@@ -4,58 +4,15 @@ ghost use Rattle.std.specs.Str.Lines.{lines, strip_carriage_return};
 ghost use Rattle.edge_io.specs.Files.{Files, Holds, Lacks};
 ghost use Rattle.edge_io.specs.Told.{Rose};
 ghost use Rattle.snort_engine.specs.ContentRule.{IsRule};
-ghost use Rattle.snort_engine.specs.ContentRule.{is_blank};
-ghost use Rattle.snort_engine.specs.Setup.{trimmed, line_rule, rules_of, file_limit, setup, GivesRead, StopsLoading, GivesSetup};
+ghost use Rattle.edge_io.specs.Bytes.{is_blank, trimmed};
+ghost use Rattle.snort_engine.specs.declared.stop.InputFile.TheVariants.{Configuration};
+ghost use Rattle.snort_engine.specs.Setup.{line_rule, rules_of, file_limit, setup, GivesRead, StopsLoading, GivesSetup, IsSetupStop};
 
 use crate::content_rule::{ContentRule, is_blank, read_rule};
-use edge_io::{Host, LoadFault, NoMemory};
+use crate::stop::Stop;
+use edge_io::Host;
 use memchr::memchr;
-use std::alloc::{AllocFailed, Global};
-
-/// Why there is no setup.
-#[derive(Clone, Copy, Debug, PartialEq, Eq)]
-pub(crate) enum SetupStop {
-    /// The file is refused at this line, counted from 1; at 0 where it is too long.
-    Refused { line: u32 },
-    /// The host failed, or lacks the file.
-    Failed,
-    /// Memory ran out.
-    NoMemory,
-}
-
-impl From<NoMemory> for SetupStop {
-    ghost use Rattle.snort_engine.specs.declared.setup.SetupStop.TheVariants.{NoMemory as out_of_memory};
-
-    ghost from_gives = { λ _ stop. stop ≡ out_of_memory };
-
-    fn from(_error: NoMemory) -> SetupStop {
-        SetupStop::NoMemory
-    }
-}
-
-impl From<LoadFault> for SetupStop {
-    ghost use Rattle.snort_engine.specs.Setup.{stop_of};
-
-    ghost from_gives = { λ fault stop. stop ≡ stop_of fault };
-
-    fn from(fault: LoadFault) -> SetupStop {
-        match fault {
-            LoadFault::Failed => SetupStop::Failed,
-            LoadFault::TooLarge => SetupStop::Refused { line: 0 },
-            LoadFault::NoMemory => SetupStop::NoMemory,
-        }
-    }
-}
-
-impl<T: Drop> From<AllocFailed<T>> for SetupStop {
-    ghost use Rattle.snort_engine.specs.declared.setup.SetupStop.TheVariants.{NoMemory as out_of_memory};
-
-    ghost from_gives = { λ _ stop. stop ≡ out_of_memory };
-
-    fn from(_error: AllocFailed<T>) -> SetupStop {
-        SetupStop::NoMemory
-    }
-}
+use std::alloc::Global;
 
 /// The most bytes that a configuration may have.
 const FILE_LIMIT: usize = 16_777_216;
@@ -80,7 +37,7 @@ fn end_blanks(text: &[u8]) -> usize
 }
 
 /// A line without the blanks, spaces and tabs, at both ends.
-#[tactic(auto, unfolding(crate::specs::Setup::trimmed))]
+#[tactic(auto, unfolding(edge_io::specs::Bytes::trimmed))]
 fn trimmed(line: &[u8]) -> &[u8]
     ensures { result.now ≡ trimmed line.now }
 {
@@ -112,7 +69,7 @@ fn first_line(text: &[u8]) -> (&[u8], &[u8])
 
 /// The rule of a line, if it has one.
 #[tactic(auto, unfolding(crate::specs::Setup::line_rule))]
-fn line_rule(alloc: Global, number: u32, line: &[u8]) -> Result<Option<ContentRule>, SetupStop>
+fn line_rule(alloc: Global, number: u32, line: &[u8]) -> Result<Option<ContentRule>, Stop>
     ensures { GivesRead (λ rule. rule) result (line_rule number line.now) }
 {
     let text = trimmed(line);
@@ -121,12 +78,12 @@ fn line_rule(alloc: Global, number: u32, line: &[u8]) -> Result<Option<ContentRu
     }
     match read_rule(alloc, text)? {
         Some(rule) => Ok(Some(rule)),
-        None => Err(SetupStop::Refused { line: number }),
+        None => Err(Stop::OutsideProfile { line: number }),
     }
 }
 
 /// The rules of a file's lines, in order.
-fn read_lines(alloc: Global, text: &[u8]) -> Result<Vec<ContentRule>, SetupStop>
+fn read_lines(alloc: Global, text: &[u8]) -> Result<Vec<ContentRule>, Stop>
     requires { length text.now < 2 ^ 32 }
     ensures { GivesRead (λ rules. rules.items) result (rules_of text.now) }
 {
@@ -145,11 +102,12 @@ fn read_lines(alloc: Global, text: &[u8]) -> Result<Vec<ContentRule>, SetupStop>
 }
 
 /// The contents of the named file.
-fn load_file<H: Host>(alloc: Global, host: &mut H, name: &str) -> Result<Vec<u8>, SetupStop>
+fn load_file<H: Host>(alloc: Global, host: &mut H, name: &str) -> Result<Vec<u8>, Stop>
     ensures whole { IfOk result (λ text. Holds (H.contents host.old) name.now text.items) }
     ensures within { IfOk result (λ text. vec_len text ≤ file_limit) }
     ensures stopped { IfErr result (StopsLoading (Rose (H.faults host.old) (H.faults host.new)) (H.contents host.old) name.now) }
     ensures same_contents { H.contents host.new ≡ H.contents host.old }
+    ensures same_opens { H.opens host.new ≡ H.opens host.old }
     ensures same_left { H.left host.new ≡ H.left host.old }
     ensures later { H.faults host.old ≤ H.faults host.new }
 {
@@ -163,16 +121,18 @@ pub(crate) fn read_setup<H: Host>(
     alloc: Global,
     host: &mut H,
     name: &str,
-) -> Result<Vec<ContentRule>, SetupStop>
+) -> Result<Vec<ContentRule>, Stop>
     // Where the host tells its files, the answer is their setup.
     ensures setup { (files : Files) → H.contents host.old ≡ Some files
         → GivesSetup (λ rules. rules.items) (Rose (H.faults host.old) (H.faults host.new)) result (setup files name.now) }
     ensures rules { IfOk result (λ rules. All IsRule rules.items) }
-    ensures failed { IsErrOf result SetupStop.Failed
+    ensures kind { IfErr result IsSetupStop }
+    ensures failed { IsErrOf result (Stop.CannotRead Configuration)
         → Rose (H.faults host.old) (H.faults host.new) ⊎ Lacks (H.contents host.old) name.now }
 
     // The host is as before, but for its count.
     ensures same_contents { H.contents host.new ≡ H.contents host.old }
+    ensures same_opens { H.opens host.new ≡ H.opens host.old }
     ensures same_left { H.left host.new ≡ H.left host.old }
     ensures later { H.faults host.old ≤ H.faults host.new }
 {

@@ -1,44 +1,20 @@
-ghost use Rattle.std.specs.Prelude.{◌≡◌, ◌≤◌, OnOk, OnErr, IsErrOf};
+ghost use Rattle.std.specs.Prelude.{◌≡◌, ◌≤◌, [], ◌++◌, OnOk, OnErr, IfErr, IsErrOf};
 ghost use Rattle.edge_io.specs.Told.{behind, Rose};
-ghost use Rattle.snort_engine.specs.Prefix.{WritesPart};
-ghost use Rattle.snort_engine.specs.Alerting.{occurs_in, rule_line_of, flight_lines, record_lines};
+ghost use Rattle.snort_engine.specs.Outside.{WritesPart};
+ghost use Rattle.snort_engine.specs.Records.{linked};
+ghost use Rattle.snort_engine.specs.Trace.{occurs_in, alert_of};
+ghost use Rattle.snort_engine.specs.Lines.{text_of};
+ghost use Rattle.snort_engine.specs.Watching.{plan_of, Gathers, IsShowStop, flight_lines, record_lines};
 
 use crate::content_rule::ContentRule;
 use crate::flight::Flight;
 use crate::line::{Alert, push_line};
-use edge_io::{Link, NoMemory, Sink, WriteStop, write_all};
+use crate::plan::Plan;
+use crate::stop::Stop;
+use edge_io::{Link, Sink, write_all};
 use memchr::memmem;
 use packet_decode::{Checks, decode};
 use pcap_input::Record;
-
-/// Why the lines of a record were not all written.
-#[derive(Clone, Copy, Debug, PartialEq, Eq)]
-pub(crate) enum ShowStop {
-    /// The alert sink failed.
-    WriteFault,
-    /// Memory ran out.
-    NoMemory,
-}
-
-impl From<NoMemory> for ShowStop {
-    ghost use Rattle.snort_engine.specs.declared.show.ShowStop.TheVariants.{NoMemory as out_of_memory};
-
-    ghost from_gives = { λ _ stop. stop ≡ out_of_memory };
-
-    fn from(_error: NoMemory) -> ShowStop {
-        ShowStop::NoMemory
-    }
-}
-
-impl From<WriteStop> for ShowStop {
-    ghost use Rattle.snort_engine.specs.declared.show.ShowStop.TheVariants.{WriteFault};
-
-    ghost from_gives = { λ _ stop. stop ≡ WriteFault };
-
-    fn from(_stop: WriteStop) -> ShowStop {
-        ShowStop::WriteFault
-    }
-}
 
 const ALL_CHECKS: Checks = Checks {
     ip: true,
@@ -47,25 +23,66 @@ const ALL_CHECKS: Checks = Checks {
     icmp: true,
 };
 
+/// How many bytes of lines wait for a write at most, but for the last line.
+const BLOCK: usize = 65_536;
+
 /// Whether the content stands somewhere in the payload.
-#[tactic(auto, unfolding(crate::specs::Alerting::occurs_in))]
+#[tactic(auto, unfolding(crate::specs::Trace::occurs_in))]
 fn occurs_in(payload: &[u8], content: &[u8]) -> bool
     ensures { result ≡ occurs_in payload.now content.now }
 {
     memmem::find(payload, content).is_some()
 }
 
-/// Writes the line of a rule that matches a flight, whole. `line` is the memory in which it is made.
-#[tactic(auto, unfolding(crate::specs::Alerting::rule_line_of))]
+/// Writes the lines that wait, whole.
+fn offer<A: Sink>(block: &mut Vec<u8>, alerts: &mut A) -> Result<(), Stop>
+    ensures offered { OnOk result (A.written alerts.new ≡ behind (A.written alerts.old) block.old.items) }
+    ensures emptied { OnOk result (block.new.items ≡ []) }
+    ensures stopped { OnErr result (WritesPart (A.written alerts.old) block.old.items (A.written alerts.new)) }
+    ensures kind { IfErr result IsShowStop }
+    ensures fault { IsErrOf result Stop.CannotWrite → Rose (A.faults alerts.old) (A.faults alerts.new) }
+    ensures later { A.faults alerts.old ≤ A.faults alerts.new }
+{
+    match write_all(alerts, block) {
+        Ok(()) => {
+            block.clear();
+            Ok(())
+        }
+        Err(_stop) => Err(Stop::CannotWrite),
+    }
+}
+
+/// Writes the lines that wait, where they fill the block.
+fn offer_full<A: Sink>(block: &mut Vec<u8>, alerts: &mut A) -> Result<(), Stop>
+    ensures shown { OnOk result (Gathers []
+        (record { written = A.written alerts.old; block = block.old.items })
+        (record { written = A.written alerts.new; block = block.new.items })) }
+    ensures stopped { OnErr result (WritesPart (A.written alerts.old) block.old.items (A.written alerts.new)) }
+    ensures kind { IfErr result IsShowStop }
+    ensures fault { IsErrOf result Stop.CannotWrite → Rose (A.faults alerts.old) (A.faults alerts.new) }
+    ensures later { A.faults alerts.old ≤ A.faults alerts.new }
+{
+    if block.len() < BLOCK {
+        return Ok(());
+    }
+    offer(block, alerts)
+}
+
+/// Makes the line of a rule that matches a flight, behind those that wait.
+#[tactic(auto, using(crate::proofs::Prefixes::rising))]
 fn show_line<A: Sink>(
     rule: &ContentRule,
     flight: &Flight,
-    line: &mut Vec<u8>,
+    block: &mut Vec<u8>,
     alerts: &mut A,
-) -> Result<(), ShowStop>
-    ensures shown { OnOk result (A.written alerts.new ≡ behind (A.written alerts.old) (rule_line_of flight.now rule.now)) }
-    ensures stopped { OnErr result (WritesPart (A.written alerts.old) (rule_line_of flight.now rule.now) (A.written alerts.new)) }
-    ensures fault { IsErrOf result ShowStop.WriteFault → Rose (A.faults alerts.old) (A.faults alerts.new) }
+) -> Result<(), Stop>
+    ensures shown { OnOk result (Gathers (text_of (alert_of flight.now rule.now))
+        (record { written = A.written alerts.old; block = block.old.items })
+        (record { written = A.written alerts.new; block = block.new.items })) }
+    ensures stopped { OnErr result (WritesPart (A.written alerts.old)
+        (block.old.items ++ text_of (alert_of flight.now rule.now)) (A.written alerts.new)) }
+    ensures kind { IfErr result IsShowStop }
+    ensures fault { IsErrOf result Stop.CannotWrite → Rose (A.faults alerts.old) (A.faults alerts.new) }
     ensures later { A.faults alerts.old ≤ A.faults alerts.new }
 {
     let alert = Alert {
@@ -80,52 +97,82 @@ fn show_line<A: Sink>(
         source: flight.source,
         destination: flight.destination,
     };
-    line.clear();
-    push_line(&alert, line)?;
-    write_all(alerts, line)?;
-    Ok(())
+    push_line(&alert, block)?;
+    offer_full(block, alerts)
 }
 
-/// Writes the lines of the rules whose content stands in the payload, in the order of the rules.
+/// Makes the lines of the rules whose content stands in the payload, in the order of the rules.
+#[tactic(auto, using(crate::proofs::Prefixes::rising))]
 fn show_flight<A: Sink>(
     rules: &[ContentRule],
     flight: &Flight,
     payload: &[u8],
-    line: &mut Vec<u8>,
+    block: &mut Vec<u8>,
     alerts: &mut A,
-) -> Result<(), ShowStop>
-    ensures shown { OnOk result (A.written alerts.new ≡ behind (A.written alerts.old) (flight_lines rules.now flight.now payload.now)) }
-    ensures stopped { OnErr result (WritesPart (A.written alerts.old) (flight_lines rules.now flight.now payload.now) (A.written alerts.new)) }
-    ensures fault { IsErrOf result ShowStop.WriteFault → Rose (A.faults alerts.old) (A.faults alerts.new) }
+) -> Result<(), Stop>
+    ensures shown { OnOk result (Gathers (flight_lines rules.now flight.now payload.now)
+        (record { written = A.written alerts.old; block = block.old.items })
+        (record { written = A.written alerts.new; block = block.new.items })) }
+    ensures stopped { OnErr result (WritesPart (A.written alerts.old)
+        (block.old.items ++ flight_lines rules.now flight.now payload.now) (A.written alerts.new)) }
+    ensures kind { IfErr result IsShowStop }
+    ensures fault { IsErrOf result Stop.CannotWrite → Rose (A.faults alerts.old) (A.faults alerts.new) }
     ensures later { A.faults alerts.old ≤ A.faults alerts.new }
 {
     for rule in rules {
         if occurs_in(payload, rule.content.bytes()) {
-            show_line(rule, flight, line, alerts)?;
+            show_line(rule, flight, block, alerts)?;
         }
     }
     Ok(())
 }
 
-/// Writes the lines of a record.
-#[tactic(auto, unfolding(crate::specs::Alerting::record_lines))]
-pub(crate) fn show_record<A: Sink>(
-    rules: &[ContentRule],
+/// Makes the lines of a record, behind those that wait.
+#[tactic(auto, unfolding(crate::specs::Watching::record_lines, crate::specs::Watching::flight_lines, crate::specs::Trace::record_alerts))]
+fn show_record<A: Sink>(
+    plan: &Plan<'_>,
     link: Link,
     record: &Record,
-    line: &mut Vec<u8>,
+    block: &mut Vec<u8>,
     alerts: &mut A,
-) -> Result<(), ShowStop>
-    ensures shown { OnOk result (A.written alerts.new ≡ behind (A.written alerts.old) (record_lines rules.now link «record».now)) }
-    ensures stopped { OnErr result (WritesPart (A.written alerts.old) (record_lines rules.now link «record».now) (A.written alerts.new)) }
-    ensures fault { IsErrOf result ShowStop.WriteFault → Rose (A.faults alerts.old) (A.faults alerts.new) }
+) -> Result<(), Stop>
+    ensures shown { OnOk result (Gathers (record_lines (plan_of plan.now) (linked link «record».now))
+        (record { written = A.written alerts.old; block = block.old.items })
+        (record { written = A.written alerts.new; block = block.new.items })) }
+    ensures stopped { OnErr result (WritesPart (A.written alerts.old)
+        (block.old.items ++ record_lines (plan_of plan.now) (linked link «record».now)) (A.written alerts.new)) }
+    ensures kind { IfErr result IsShowStop }
+    ensures fault { IsErrOf result Stop.CannotWrite → Rose (A.faults alerts.old) (A.faults alerts.new) }
     ensures later { A.faults alerts.old ≤ A.faults alerts.new }
 {
     match decode(link, record.bytes.bytes(), ALL_CHECKS) {
         Ok(packet) => match Flight::of(record.moment, &packet) {
-            Some(flight) => show_flight(rules, &flight, packet.payload, line, alerts),
+            Some(flight) => show_flight(plan.rules, &flight, packet.payload, block, alerts),
             None => Ok(()),
         },
         Err(_skip) => Ok(()),
     }
+}
+
+/// Writes the lines of a batch, which is one record. `block` is the memory in which they are made.
+#[tactic(auto, using(crate::proofs::Prefixes::rising))]
+pub(crate) fn show_batch<A: Sink>(
+    plan: &Plan<'_>,
+    link: Link,
+    record: &Record,
+    block: &mut Vec<u8>,
+    alerts: &mut A,
+) -> Result<(), Stop>
+    requires { block.old.items ≡ [] }
+    ensures shown { OnOk result (A.written alerts.new
+        ≡ behind (A.written alerts.old) (record_lines (plan_of plan.now) (linked link «record».now))) }
+    ensures emptied { OnOk result (block.new.items ≡ []) }
+    ensures stopped { OnErr result (WritesPart (A.written alerts.old)
+        (record_lines (plan_of plan.now) (linked link «record».now)) (A.written alerts.new)) }
+    ensures kind { IfErr result IsShowStop }
+    ensures fault { IsErrOf result Stop.CannotWrite → Rose (A.faults alerts.old) (A.faults alerts.new) }
+    ensures later { A.faults alerts.old ≤ A.faults alerts.new }
+{
+    show_record(plan, link, record, block, alerts)?;
+    offer(block, alerts)
 }

@@ -5,7 +5,7 @@
 //! configuration and the capture mean, and what is written, is the contract of `run`.
 #![tactic(auto)]
 
-use edge_io::{FileHost, LiteralMaker, OpenGate, StdSink};
+use edge_io::{FileHost, LiteralMaker, OpenGate, StdSink, write_all};
 use snort_engine::{Status, run};
 use std::process::ExitCode;
 use std::rt::Env;
@@ -24,8 +24,11 @@ fn main(rt: HostRuntime) -> ExitCode {
     let alloc = rt.alloc();
     let mut alerts = StdSink::output(rt.stdout());
     let mut errors = StdSink::errors(rt.stderr());
-    // Where memory is lacking for the words or the host, there is no message.
     let (Ok(words), Ok(mut host)) = (words(&rt), FileHost::new(alloc, &rt)) else {
+        // Memory is lacking before the run. A fault of the error stream changes nothing.
+        match write_all(&mut errors, b"ERROR: no memory\n") {
+            Ok(()) | Err(_) => {}
+        }
         return ExitCode::from(Status::NoMemory.code());
     };
     let status = run(

@@ -1,21 +1,19 @@
-use Rattle.snort_engine.proofs.Runs.{stated_part, read_part, read_prefix, write_part, memory_part}
+use Rattle.std.specs.Option.{option_map}
+use Rattle.snort_engine.specs.CommandLine.{options_of}
+use Rattle.snort_engine.proofs.Runs.{headline_of}
 use Rattle.snort_engine.proofs.detector.run.Goals as goal
 
-pub returns-clause-ended_as_stated : goal.returns-clause-ended_as_stated
-returns-clause-ended_as_stated g c files told =
-    stated_part _ _ _ _ _ _ _ _ _ _ (c.detect-report.ensures.ends files told) (record { part = c.write_report.ensures.part; whole = c.write_report.ensures.written })
-
-pub returns-clause-read_fault_leaves_whole_records : goal.returns-clause-read_fault_leaves_whole_records
-returns-clause-read_fault_leaves_whole_records g c files told =
-    read_part _ _ _ _ _ _ _ _ _ _ _ _ _ (c.detect-report.ensures.ends files told) (record { part = c.write_report.ensures.part; whole = c.write_report.ensures.written })
-
-pub returns-clause-read_fault_leaves_a_prefix : goal.returns-clause-read_fault_leaves_a_prefix
-returns-clause-read_fault_leaves_a_prefix g c files told = read_prefix _ _ _ _ _ _ _ (c.detect-report.ensures.ends files told)
-
-pub returns-clause-write_fault_leaves_a_prefix : goal.returns-clause-write_fault_leaves_a_prefix
-returns-clause-write_fault_leaves_a_prefix g c files told =
-    write_part _ _ _ _ _ _ _ _ _ _ (c.detect-report.ensures.ends files told) (record { part = c.write_report.ensures.part; whole = c.write_report.ensures.written })
-
-pub returns-clause-no_memory_leaves_a_prefix : goal.returns-clause-no_memory_leaves_a_prefix
-returns-clause-no_memory_leaves_a_prefix g c files told =
-    memory_part _ _ _ _ _ _ _ _ _ _ (c.detect-report.ensures.ends files told) (record { part = c.write_report.ensures.part; whole = c.write_report.ensures.written })
+pub returns-clause-headline : goal.returns-clause-headline
+returns-clause-headline g c =
+    let reports = rw c.names_of.ensures at c.report.ensures.reports in
+    headline_of _ (option_map options_of c.read_words-options.result) _ _ c.detect-outcome.result c.report.result c.read_words-options.ensures
+    (record {
+      ends = c.detect-outcome.ensures.ends;
+      faulty_words = c.detect-outcome.ensures.faulty_words;
+      write_fault = c.detect-outcome.ensures.write_fault;
+      host_fault = c.detect-outcome.ensures.host_fault;
+      reports = reports;
+      opened_once = c.detect-outcome.ensures.opened_once;
+      same_files = c.detect-outcome.ensures.same_contents;
+      counts = record { host = c.detect-outcome.ensures.later; alerts = c.detect-outcome.ensures.later_alerts; errors = c.report.ensures.later };
+    })

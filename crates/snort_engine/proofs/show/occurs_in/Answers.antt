@@ -1,5 +1,5 @@
 use Rattle.std.proofs.Common.{◌∙◌}
-use Rattle.snort_engine.specs.Alerting.{occurs_in}
+use Rattle.snort_engine.specs.Trace.{occurs_in}
 use Rattle.snort_engine.proofs.Occurring.{found_somewhere}
 use Rattle.snort_engine.proofs.show.occurs_in.Goals as goal
 

@@ -1,50 +1,25 @@
-use Rattle.snort_engine.specs.Watching.{IsReadFault}
+use Rattle.std.proofs.Common.{refl}
+use Rattle.std.proofs.lemmas.Result.{err_from_is_err_and}
+use Rattle.snort_engine.specs.CommandLine.{options_of}
+use Rattle.snort_engine.specs.Watching.{plan_by}
 use Rattle.snort_engine.proofs.Prefixes.{rose_since}
-use Rattle.snort_engine.proofs.Captures.{open_ends, stopped_ends, clean_ends}
-use Rattle.snort_engine.proofs.Ahead.{open_ahead, watched_ahead, stopped_ahead}
+use Rattle.snort_engine.proofs.Captures.{open_stops, capture_ends, fault_is_read}
 use Rattle.snort_engine.proofs.watch.watch_capture.Goals as goal
 
-pub returns-in-Err-clause-ends : goal.returns-in-Err-clause-ends
-returns-in-Err-clause-ends g c files told =
-    let gives = rw told at c.in-Err.ensures.gives in
-    let takes = rw told at c.in-Err.ensures.takes in
-    let failed = rw told at c.in-Err.ensures.failed in
-    rw (c.of_capture.ensures.status, c.of_capture.ensures.text)
-    (open_ends c.args.rules.now files c.args.name.now c.in-Err.why _ _ _ gives takes c.in-Err.ensures.kinds failed)
+pub returns-in_err-reader-clause-ends : goal.returns-in_err-reader-clause-ends
+returns-in_err-reader-clause-ends g c = λ files course told goes calm.
+    let p = err_from_is_err_and c.from_residual.result c.from_residual.ensures.1 in
+    let gives = rw told at c.in_err-reader.ensures.gives in
+    let takes = rw told at c.in_err-reader.ensures.takes in
+    let failed = rw told at c.in_err-reader.ensures.failed in
+    open_stops (plan_by (options_of c.args.options.now) c.args.rules.now) (options_of c.args.options.now) files course c.in_err-reader.field-0.0 _ _ c.from_residual.result p.0 p.1 p.2
+    refl refl goes calm refl gives takes c.in_err-reader.ensures.kinds failed
 
-pub returns-in-Ok-watch_records-clause-ends : goal.returns-in-Ok-watch_records-clause-ends
-returns-in-Ok-watch_records-clause-ends g c files told =
-    let gives = rw told at c.in-Ok.ensures.gives in
-    let rest = rw told at c.in-Ok.ensures.rest in
-    let takes = rw told at c.in-Ok.ensures.takes in
-    rw (c.done.ensures.status, c.done.ensures.text)
-    (clean_ends c.args.rules.now files c.args.name.now c.in-Ok.reader _ _ (g.H.Host.left c.watch_records.new.host) _ _ takes gives rest c.in-Ok-watch_records.ensures.watches)
-
-pub returns-in-Err-watch_records-clause-ends : goal.returns-in-Err-watch_records-clause-ends
-returns-in-Err-watch_records-clause-ends g c files told =
-    let gives = rw told at c.in-Ok.ensures.gives in
-    let rest = rw told at c.in-Ok.ensures.rest in
-    let takes = rw told at c.in-Ok.ensures.takes in
-    let risen = λ (fault : IsReadFault c.in-Err-watch_records.stop). rose_since _ _ _ c.in-Ok.ensures.later (c.in-Err-watch_records.ensures.read_fault fault) in
-    rw (c.report_stop.ensures.status, c.report_stop.ensures.text)
-    (stopped_ends c.args.rules.now files c.args.name.now c.in-Ok.reader _ _ _ _ _ _ c.in-Err-watch_records.stop takes gives rest c.in-Err-watch_records.ensures.watches risen)
-
-pub returns-in-Err-clause-read_ahead : goal.returns-in-Err-clause-read_ahead
-returns-in-Err-clause-read_ahead g c files told =
-    let takes = rw told at c.in-Err.ensures.takes in
-    rw c.of_capture.ensures.status (open_ahead c.args.rules.now files c.args.name.now c.in-Err.why _ _ _ takes c.in-Err.ensures.kinds)
-
-pub returns-in-Ok-watch_records-clause-read_ahead : goal.returns-in-Ok-watch_records-clause-read_ahead
-returns-in-Ok-watch_records-clause-read_ahead g c files told =
-    let gives = rw told at c.in-Ok.ensures.gives in
-    let rest = rw told at c.in-Ok.ensures.rest in
-    let takes = rw told at c.in-Ok.ensures.takes in
-    rw c.done.ensures.status (watched_ahead c.args.rules.now files c.args.name.now c.in-Ok.reader _ _ _ _ _ takes gives rest c.in-Ok-watch_records.ensures.close)
-
-pub returns-in-Err-watch_records-clause-read_ahead : goal.returns-in-Err-watch_records-clause-read_ahead
-returns-in-Err-watch_records-clause-read_ahead g c files told =
-    let gives = rw told at c.in-Ok.ensures.gives in
-    let rest = rw told at c.in-Ok.ensures.rest in
-    let takes = rw told at c.in-Ok.ensures.takes in
-    rw c.report_stop.ensures.status
-    (stopped_ahead _ _ _ c.in-Err-watch_records.stop (watched_ahead c.args.rules.now files c.args.name.now c.in-Ok.reader _ _ _ _ _ takes gives rest c.in-Err-watch_records.ensures.close))
+pub returns-clause-ends : goal.returns-clause-ends
+returns-clause-ends g c = λ files course told goes calm.
+    let gives = rw told at c.in_ok-reader.ensures.gives in
+    let rest = rw told at c.in_ok-reader.ensures.rest in
+    let takes = rw told at c.in_ok-reader.ensures.takes in
+    capture_ends (plan_by (options_of c.args.options.now) c.args.rules.now) (options_of c.args.options.now) files course c.in_ok-reader.reader _ _ _ c.watch_records.result
+    refl refl goes calm takes gives rest c.watch_records.ensures.watches c.watch_records.ensures.close
+    (λ is. rose_since _ _ _ c.in_ok-reader.ensures.later (c.watch_records.ensures.read_fault (fault_is_read _ _ _ _ c.watch_records.result c.watch_records.ensures.watches is)))

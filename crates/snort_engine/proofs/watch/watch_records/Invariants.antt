@@ -1,12 +1,15 @@
--- The work is under way, and no count fell.
-use Rattle.std.proofs.Common.{◌≡◌, ◌≤◌, ◌-◌}
+-- The work is under way, no line waits, and no count fell.
+use Rattle.std.proofs.Common.{◌≡◌, ◌≤◌, ◌-◌, []}
+use Rattle.snort_engine.specs.Watching.{plan_of}
 use Rattle.snort_engine.proofs.Watched.{IsUnderWay}
 use Rattle.snort_engine.proofs.watch.watch_records.Given as goal
 
 abbrev pub invariant-records : goal.invariant-records
 invariant-records g l = record {
-  going : IsUnderWay l.rules l.fn.reader l.reader (g.H.Host.left l.fn.host) (g.H.Host.left l.host) (g.A.Sink.written l.fn.alerts) (g.A.Sink.written l.alerts);
+  going : IsUnderWay (plan_of l.plan) l.fn.reader l.reader (record { left = g.H.Host.left l.fn.host; written = g.A.Sink.written l.fn.alerts }) (record { left = g.H.Host.left l.host; written = g.A.Sink.written l.alerts });
   link : l.link ≡ l.reader.head.link;
+  empty : l.block.items ≡ [];
+  opens : g.H.Host.opens l.host ≡ g.H.Host.opens l.fn.host;
   contents : g.H.Host.contents l.host ≡ g.H.Host.contents l.fn.host;
   later : g.H.Host.faults l.fn.host ≤ g.H.Host.faults l.host;
   later_alerts : g.A.Sink.faults l.fn.alerts ≤ g.A.Sink.faults l.alerts;

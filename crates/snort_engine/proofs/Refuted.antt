@@ -1,0 +1,75 @@
+-- Runs that the headline refuses: one line short, one record too far ahead, a second opening.
+--
+-- Each speaks of a capture of two records that alert. They show that the relations say something of
+-- such runs by themselves, whatever a body's proof looks like.
+use Rattle.std.proofs.Common.{◌≡◌, ℕ, ◌+◌, ◌≤◌, List, [], ◌∷◌, ◌++◌, Option, Some, None, length, take, refl, sym, ap, subst, ◌∙◌, arith, inl, inr, ⊎_elim}
+use Rattle.std.specs.FinMap.{get}
+use Rattle.std.proofs.lemmas.List.{length-append, take_at}
+use Rattle.edge_io.specs.Told.{behind}
+use Rattle.edge_io.specs.Files.{Files}
+use Rattle.snort_engine.specs.declared.status.Status.TheVariants as status
+use Rattle.snort_engine.specs.Course.{Plan, Way, Stops, Goes, Course}
+use Rattle.snort_engine.specs.Records.{LinkedRecord, records_of}
+use Rattle.snort_engine.specs.Trace.{Open}
+use Rattle.snort_engine.specs.Lines.{lines}
+use Rattle.snort_engine.specs.Answer.{answer_of}
+use Rattle.snort_engine.specs.Outside.{Outside, Work}
+use Rattle.snort_engine.specs.ReadAhead.{batch, all_but, lines_due, IsReadAhead, ReadsAhead, ReadsAheadOn}
+use Rattle.snort_engine.specs.Ending.{Ends}
+use Rattle.snort_engine.specs.Headline.{Headline}
+use Rattle.snort_engine.specs.Watching.{record_lines}
+use Rattle.snort_engine.proofs.LinesLaws.{lines-one}
+
+-- behind what is told, a text and no text differ
+behind_apart : (old text : List ℕ) (byte : ℕ) (rest : List ℕ) → behind (Some old) text ≡ behind (Some old) (text ++ byte ∷ rest) → ⊥
+unfolding behind
+behind_apart old text byte rest same =
+    let joined : old ++ text ≡ old ++ (text ++ byte ∷ rest) = cc in
+    let lengths : length (old ++ text) ≡ length (old ++ (text ++ byte ∷ rest)) = ap length joined in
+    absurd (omega (arith, lengths, length-append old text, length-append old (text ++ byte ∷ rest), length-append text (byte ∷ rest)))
+
+-- the lines of the first record alone, where the answer has those of both: no run ends so as Done
+pub one_line_short : (files : Files) (course : Course) (before after : Work) (message old first : List ℕ) (byte : ℕ) (second : List ℕ) → before.alerts ≡ Some old
+    → (answer_of files course).alerts ≡ first ++ byte ∷ second → after.alerts ≡ behind (Some old) first → Ends files course before after status.Done message → ⊥
+one_line_short files course before after message old first byte second told answers wrote ends =
+    behind_apart old first byte second
+    (sym wrote ∙ ends.wrote ∙ ap (λ (b : Option (List ℕ)). behind b ends.alerts) told
+    ∙ ap (behind (Some old)) ((ends.ended_as_stated tt).alerts_are ∙ answers))
+
+-- the lines due of two records are those of the first
+due_of_two : (plan : Plan) (taken : List ℕ) (first second : LinkedRecord) → (records_of plan taken).records ≡ first ∷ second ∷ [] → lines_due plan taken ≡ record_lines plan first
+unfolding lines_due
+due_of_two plan taken first second are = ap (λ (x : List LinkedRecord). lines plan [] (all_but batch x) Open) are ∙ lines-one plan [] first Open
+
+-- fronts of one text before one rest are the same
+same_front : (front other rest other_rest : List ℕ) → rest ≡ other_rest → front ++ rest ≡ other ++ other_rest → front ≡ other
+same_front front other rest other_rest rests wholes =
+    let one : front ++ rest ≡ other ++ rest = wholes ∙ ap (λ (x : List ℕ). other ++ x) (sym rests) in
+    let lengths : length (front ++ rest) ≡ length (other ++ rest) = ap length one in
+    let size : length front ≡ length other = omega (arith, lengths, length-append front rest, length-append other rest) in
+    sym (take_at front rest (length front) refl) ∙ ap (take (length front)) one ∙ take_at other rest (length front) (sym size)
+
+-- two records were taken, of which the first has a line, and none was written: no run ends so at a write fault
+pub one_record_too_far : (files : Files) (course : Course) (plan : Plan) (before after : Work) (message old taken rest : List ℕ) (first second : LinkedRecord) (byte : ℕ) (line : List ℕ)
+    → course.way ≡ Goes plan → get files plan.source ≡ Some (taken ++ rest) → after.left ≡ Some rest
+    → (records_of plan taken).records ≡ first ∷ second ∷ [] → record_lines plan first ≡ byte ∷ line
+    → before.alerts ≡ Some old → after.alerts ≡ Some old → Ends files course before after status.WriteFault message → ⊥
+unfolding ReadsAhead behind
+one_record_too_far files course plan before after message old taken rest first second byte line goes held left are alerts told wrote ends =
+    ⊎_elim
+    (λ (r : IsReadAhead plan (get files plan.source) before after).
+    let rests : r.rest ≡ rest = cc in
+    let wholes : r.taken ++ r.rest ≡ taken ++ rest = cc in
+    let takens : r.taken ≡ taken = same_front r.taken taken r.rest rest rests wholes in
+    let due : lines_due plan r.taken ≡ byte ∷ line = ap (lines_due plan) takens ∙ due_of_two plan taken first second are ∙ alerts in
+    let joined : Some old ≡ Some (old ++ ((byte ∷ line) ++ r.more)) =
+    sym wrote ∙ r.wrote ∙ ap (λ (b : Option (List ℕ)). behind b (lines_due plan r.taken ++ r.more)) told ∙ ap (λ (x : List ℕ). Some (old ++ (x ++ r.more))) due in
+    let same : old ≡ old ++ (byte ∷ (line ++ r.more)) = cc in
+    let lengths : length old ≡ length (old ++ (byte ∷ (line ++ r.more))) = ap length same in
+    absurd (omega (arith, lengths, length-append old (byte ∷ (line ++ r.more)))))
+    (λ cut. ⊎_elim (λ is. absurd cc) (λ is. absurd cc) cut.0)
+    (subst (λ (way : Way). ReadsAheadOn files way before after status.WriteFault) goes ends.read_ahead)
+
+-- a capture that was opened a second time
+pub opened_twice : (words : List (List ℕ)) (before after : Outside) → before.opens + 2 ≤ after.opens → Headline words before after status.Done → ⊥
+opened_twice words before after twice run = absurd (omega (arith, run.opened_once))

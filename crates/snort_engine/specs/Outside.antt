@@ -1,0 +1,52 @@
+-- What is seen of the outside: of the host, of both sinks and of the maker of patterns.
+--
+-- A run is stated over what was seen before it and what is seen afterwards.
+-- To try it on: a run that is refused for its words leaves the host and the alert sink as they were,
+-- and `ERROR: command line` behind the error bytes.
+use Rattle.std.specs.Prelude.{◌≡◌, ℕ, ◌≤◌, List, Option}
+use mathlib.Core.List.{IsPrefix}
+use Rattle.edge_io.specs.Told.{behind, Rose}
+use Rattle.edge_io.specs.Files.{Files}
+use Rattle.edge_io.specs.declared.pattern.Refusal.{Refusal}
+
+-- of the host: its files and what is left of the open capture, where they are told, how often a
+-- capture was opened, and how many faults there were; of the two sinks: the bytes written, where they
+-- are told, and how many faults there were; of the maker: what it refused
+pub record Outside : Type 0 where
+  pub files : Option Files
+  pub left : Option (List ℕ)
+  pub opens : ℕ
+  pub host_faults : ℕ
+  pub alerts : Option (List ℕ)
+  pub alert_faults : ℕ
+  pub errors : Option (List ℕ)
+  pub error_faults : ℕ
+  pub refusals : List Refusal
+
+-- of the capture and the alert sink alone
+pub record Work : Type 0 where
+  pub left : Option (List ℕ)
+  pub opens : ℕ
+  pub host_faults : ℕ
+  pub alerts : Option (List ℕ)
+
+-- the part of the outside that the work on a capture touches
+abbrev pub work_of : Outside → Work
+work_of seen = record { left = seen.left; opens = seen.opens; host_faults = seen.host_faults; alerts = seen.alerts }
+
+-- behind what was told a beginning of the text was written, and no other byte
+unfoldable pub WritesPart : Option (List ℕ) → List ℕ → Option (List ℕ) → Type 0
+WritesPart old text new = (part : List ℕ) × IsPrefix part text × (new ≡ behind old part)
+
+-- no count of faults rose, and the maker refused nothing
+pub record NoFault (before after : Outside) : Type 0 where
+  pub host : ¬ Rose before.host_faults after.host_faults
+  pub alerts : ¬ Rose before.alert_faults after.alert_faults
+  pub errors : ¬ Rose before.error_faults after.error_faults
+  pub refusals : after.refusals ≡ before.refusals
+
+-- no count fell
+pub record NoCountFell (before after : Outside) : Type 0 where
+  pub host : before.host_faults ≤ after.host_faults
+  pub alerts : before.alert_faults ≤ after.alert_faults
+  pub errors : before.error_faults ≤ after.error_faults

@@ -1,0 +1,53 @@
+use crate::file::NamedFile;
+use std::alloc::{AllocError, Global};
+
+/// A run, and what it must leave.
+#[derive(Drop)]
+pub(crate) struct Row {
+    pub label: String,
+    /// The words of the command, between single blanks; empty for `snort -c r -r p`.
+    pub words: String,
+    pub files: Vec<NamedFile>,
+    /// How many records the capture has, and the moment of the next one where it is told.
+    pub records: u32,
+    pub moment: Option<(u32, u32)>,
+    /// How many bytes a sink takes at a call.
+    pub step: u32,
+    /// The calls that fail, counted from 0.
+    pub host: Vec<u32>,
+    pub alerts: Vec<u32>,
+    pub errors: Vec<u32>,
+    /// What must be left: the status, the bytes in both sinks, and the bytes left of the capture.
+    pub status: u32,
+    pub alert_bytes: Vec<u8>,
+    pub error_bytes: Vec<u8>,
+    pub left: Option<u32>,
+}
+
+impl Row {
+    /// A row without a label.
+    pub fn new(alloc: Global) -> Row {
+        Row {
+            label: String::new(alloc),
+            words: String::new(alloc),
+            files: Vec::new(alloc),
+            records: 0,
+            moment: None,
+            step: 10,
+            host: Vec::new(alloc),
+            alerts: Vec::new(alloc),
+            errors: Vec::new(alloc),
+            status: 0,
+            alert_bytes: Vec::new(alloc),
+            error_bytes: Vec::new(alloc),
+            left: None,
+        }
+    }
+
+    /// A row with a label and nothing else.
+    pub fn labelled(alloc: Global, label: &str) -> Result<Row, AllocError> {
+        let mut row = Row::new(alloc);
+        row.label = String::from_str(alloc, label)?;
+        Ok(row)
+    }
+}
