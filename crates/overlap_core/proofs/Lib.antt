@@ -12,3 +12,4 @@ pub mod Recut
 pub mod Standing
 pub mod Telling
 mod Walks
+pub mod Few

@@ -25,6 +25,11 @@ abbrev pub IsRow : ℕ → List Piece → ℕ → Type 0
 IsRow low [] high = low ≤ high
 IsRow low (piece ∷ pieces) high = (low ≤ piece.start) × (0 < length piece.bytes) × IsRow (piece_end piece) pieces high
 
+-- the bytes that pieces have, counted
+abbrev pub bytes_held : List Piece → ℕ
+bytes_held [] = 0
+bytes_held (piece ∷ pieces) = length piece.bytes + bytes_held pieces
+
 -- the whole bounds of a segment, and its byte at one place
 pub record Kept : Type 0 where
   pub whole : Bounds

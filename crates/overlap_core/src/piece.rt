@@ -100,7 +100,7 @@ impl Piece {
         Ok(Piece {
             start: at,
             bytes: Vec::from_slice(alloc, &self.bytes[count..])?,
-            whole: self.whole,
+            whole: self.whole(),
         })
     }
 

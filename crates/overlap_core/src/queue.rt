@@ -1,7 +1,7 @@
 ghost use Rattle.std.specs.Prelude.{◌≡◌, ℕ, ◌+◌, ◌^◌, ◌<◌, ◌≤◌, ◌↔◌, [], None, Some, length, IsTrue, IsSome, OnOk, OnErr};
 ghost use Rattle.std.specs.Bool.{OnTrue};
 ghost use Rattle.overlap_core.specs.Overlap.{chosen_byte, covered_end, is_covered, IsCoveredEnd};
-ghost use Rattle.overlap_core.specs.Pieces.{HoldChosen, IsRow};
+ghost use Rattle.overlap_core.specs.Pieces.{bytes_held, HoldChosen, IsRow};
 ghost use Rattle.overlap_core.specs.QueueState.{byte_of, with_room, with_segment, from_floor};
 ghost use Rattle.overlap_core.specs.Runs.{AppendsRuns, AreBytes};
 
@@ -122,11 +122,14 @@ impl Queue {
     }
 
     /// What the queue keeps, in order of place: the bytes that stand from the floor on, each piece with
-    /// the whole bounds of the segment that it came in. The place in the list and its spare nodes are
-    /// open. Takes no memory.
+    /// the whole bounds of the segment that it came in. There are at most as many as they have bytes, each
+    /// of another place. The place in the list and its spare nodes are open. Takes no memory.
+    #[tactic(auto, using(crate::proofs::Few::few))]
     pub fn pieces(&self) -> &PieceList<Piece>
         ensures order { IsRow self.now.floor result.now.list (covered_end self.now.floor self.now.segments) }
         ensures holds { HoldChosen self.now.preference self.now.segments self.now.floor result.now.list }
+        ensures few { length result.now.list ≤ bytes_held result.now.list }
+        ensures places { self.now.floor + bytes_held result.now.list ≤ covered_end self.now.floor self.now.segments }
     {
         &self.pieces
     }
