@@ -1,0 +1,8 @@
+pub mod PolicyNames
+pub mod FirstLines
+pub mod Networks
+pub mod Places
+pub mod Longest
+pub mod Indexed
+pub mod Descent
+pub mod Turns

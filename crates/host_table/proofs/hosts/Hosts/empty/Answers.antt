@@ -1,0 +1,5 @@
+use Rattle.host_table.proofs.Indexed.{indexed-nil}
+use Rattle.host_table.proofs.hosts.Hosts.empty.Goals as goal
+
+pub invariant_of-result : goal.invariant_of-result
+invariant_of-result c = indexed-nil _ _ _ c.new.ensures.items c.new-2.ensures.empty

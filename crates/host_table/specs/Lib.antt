@@ -1,0 +1,6 @@
+pub mod Lines
+pub mod Policies
+pub mod HostLine
+pub mod Hosts
+pub mod Keys
+pub mod Index

@@ -1,0 +1,24 @@
+ghost use Rattle.std.specs.Prelude.{◌≡◌};
+ghost use Rattle.host_table.specs.Keys.{key_of};
+
+use edge_io::Addr;
+use net_lists::Network;
+
+/// A network as a key of an ordered map: by prefix length, and then by address, version 4 first.
+#[derive(Clone, Copy, Debug, PartialEq, Eq, PartialOrd, Ord)]
+pub struct Key {
+    pub length: u32,
+    pub first: Addr,
+}
+
+impl Key {
+    /// The key of a network.
+    pub fn of(network: Network) -> Key
+        ensures { result ≡ key_of network }
+    {
+        Key {
+            length: network.length,
+            first: network.first,
+        }
+    }
+}

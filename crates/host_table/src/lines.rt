@@ -1,0 +1,38 @@
+//! The lines of a text.
+ghost use Rattle.std.specs.Prelude.{◌≡◌, ◌<◌, [], ◌∷◌, length, MatchOption, IfSome};
+ghost use Rattle.std.specs.Str.Lines.{lines, strip_carriage_return};
+ghost use Rattle.host_table.specs.Lines.{has_content};
+
+use memchr::memchr;
+
+/// The text without a carriage return at its end.
+fn without_return(line: &[u8]) -> &[u8]
+    ensures { result.now ≡ strip_carriage_return line.now }
+{
+    match line {
+        [front @ .., b'\r'] => front,
+        _ => line,
+    }
+}
+
+/// The first line of a text, and what stands behind its line feed; None for an empty text.
+pub fn first_line(text: &[u8]) -> Option<(&[u8], &[u8])>
+    ensures cut { MatchOption result (lines text.now ≡ []) (λ cut. lines text.now ≡ cut.0.now ∷ lines cut.1.now) }
+    ensures shorter { IfSome result (λ cut. length cut.1.now < length text.now) }
+{
+    match memchr(b'\n', text) {
+        Some(end) => Some((without_return(&text[..end]), &text[end + 1..])),
+        None if text.is_empty() => None,
+        None => Some((text, &text[text.len()..])),
+    }
+}
+
+/// Whether a line is neither empty nor a comment.
+pub fn has_content(line: &[u8]) -> bool
+    ensures { result ≡ has_content line.now }
+{
+    match line {
+        [] => false,
+        [first, ..] => *first != b'#',
+    }
+}
