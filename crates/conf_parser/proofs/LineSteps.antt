@@ -1,0 +1,37 @@
+-- From the meaning of a line to how the reading goes on behind it.
+use Rattle.std.proofs.Common.{◌≡◌, ℕ, List, length, Result, Ok, Err, ap, ◌∙◌}
+use Rattle.std.specs.Prelude.{⊤}
+use Rattle.net_lists.specs.declared.stop.Stop.{Stop}
+use Rattle.net_lists.specs.declared.stop.Stop.TheVariants.{Wrong, NoMemory}
+use Rattle.net_lists.specs.Stops.{Gives}
+use Rattle.conf_parser.specs.declared.given.Behind.{Behind}
+use Rattle.conf_parser.specs.declared.line.ConfKind.{ConfKind}
+use Rattle.conf_parser.specs.declared.lines.Numbered.{Numbered}
+use Rattle.conf_parser.specs.declared.reading.Next.{Next}
+use Rattle.conf_parser.specs.declared.reading.Read.{Read}
+use Rattle.conf_parser.specs.declared.reading.Source.{Source}
+use Rattle.conf_parser.specs.Spots.{Spot}
+use Rattle.conf_parser.specs.Reading.{Including, Ended, given_read, meaning_read, line_read, file_count}
+use Rattle.conf_parser.specs.ConfLine.{conf_line}
+use Rattle.conf_parser.specs.Steps.{next_read, line_stop, StepsTo}
+
+-- where a line of this file stands
+abbrev pub spot_of : Source → Read → Spot
+spot_of source read = record { file = source.name; depth = source.depth; files = file_count read }
+
+-- a line that is accepted
+pub step-ok : (source : Source) (line : Numbered) (read : Read) (behind : Behind) (next : Next) → conf_line (spot_of source read) read.settings line.text ≡ Ok behind
+    → ((including : Including) → given_read including source line behind.settings read.output behind.given ≡ next_read including source line next)
+    → StepsTo source line read (Ok next)
+unfolding line_read
+step-ok source line read behind next meant goes = λ including. ap (meaning_read including source line read.output) meant ∙ goes including
+
+-- a line that is refused
+abbrev pub refusal : Stop ConfKind → Result Behind (Stop ConfKind)
+refusal stop = Err stop
+
+pub step-err : (source : Source) (line : Numbered) (read : Read) (stop : Stop ConfKind) → Gives (refusal stop) (conf_line (spot_of source read) read.settings line.text)
+    → StepsTo source line read (Err (line_stop source line read.output stop))
+unfolding line_read
+step-err source line read (Wrong kind) meant = λ including. ap (meaning_read including source line read.output) meant
+step-err source line read NoMemory meant = tt

@@ -1,0 +1,8 @@
+use Rattle.conf_parser.proofs.FirstLine.{lines_cut, lines_last}
+use Rattle.conf_parser.proofs.lines.first_line.Goals as goal
+
+pub returns-in-Some-clause-cut : goal.returns-in-Some-clause-cut
+returns-in-Some-clause-cut c = rw c.without_return.ensures (lines_cut c.args.text.now c.in-Some.end c.in-Some.ensures)
+
+pub returns-in-None-clause-cut : goal.returns-in-None-clause-cut
+returns-in-None-clause-cut c = lines_last c.args.text.now c.requires c.in-None.ensures

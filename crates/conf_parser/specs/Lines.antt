@@ -1,0 +1,57 @@
+-- The lines of a file: cut at line feeds, joined where a backslash stands at a line's end, without the blanks
+-- at their ends; empty lines and comments are skipped.
+--
+-- A carriage return before a line feed is dropped, and what follows the last line feed is a line if it is not
+-- empty. A line whose last byte is a backslash is joined with the next one, without the backslash, and goes on
+-- only if that one ends in a backslash too. A joined line has the number of its first line, counted from 1.
+-- Joining comes before all else. (Snort Users Manual 2.9, section 2.1; the fine points are our own.)
+-- To try it on: the lines `a \`, ` b` and `# c` are one line `a  b` with the number 1.
+use Rattle.std.specs.Prelude.{ℕ, ◌+◌, ◌-◌, ◌==◌, ◌&&◌, not, Bool, true, false, List, [], ◌∷◌, ◌++◌, length, take, slice_index, filter, map, if◌then◌else◌}
+use Rattle.std.specs.Str.Lines.{lines}
+use Rattle.edge_io.specs.Bytes.{trimmed}
+use Rattle.conf_parser.specs.declared.lines.Numbered.{Numbered}
+
+-- a line with its number
+abbrev pub numbered : ℕ → List ℕ → Numbered
+numbered number text = record { number = number; text = text }
+
+-- the line ends in a backslash (92)
+abbrev pub is_open : List ℕ → Bool
+is_open line = slice_index line (length line - 1) == 92
+
+-- the line without its last byte
+abbrev pub without_last : List ℕ → List ℕ
+without_last line = take (length line - 1) line
+
+-- a front with this number before the first of the lines; alone, where there is none
+abbrev pub joined_onto : ℕ → List ℕ → List Numbered → List Numbered
+joined_onto number front [] = numbered number front ∷ []
+joined_onto number front (next ∷ rest) = numbered number (front ++ next.text) ∷ rest
+
+-- the joined lines; the first has this number
+unfoldable pub joined_lines : ℕ → List (List ℕ) → List Numbered
+joined_lines number [] = []
+joined_lines number (line ∷ rest) =
+    if is_open line then joined_onto number (without_last line) (joined_lines (number + 1) rest)
+    else numbered number line ∷ joined_lines (number + 1) rest
+
+-- a line that is neither empty nor a comment, which begins with `#` (35)
+abbrev pub has_content : List ℕ → Bool
+has_content [] = false
+has_content (first ∷ rest) = not (first == 35)
+
+-- the line without the blanks at its ends
+abbrev pub bare_line : Numbered → Numbered
+bare_line line = numbered line.number (trimmed line.text)
+
+-- the lines without the blanks at their ends that are neither empty nor comments
+abbrev pub kept : List Numbered → List Numbered
+kept lines = filter (λ line. has_content line.text) (map bare_line lines)
+
+-- the same of one line
+abbrev pub kept_line : Numbered → List Numbered
+kept_line line = if has_content (trimmed line.text) then bare_line line ∷ [] else []
+
+-- the lines of a file that are read
+unfoldable pub content_lines : List ℕ → List Numbered
+content_lines bytes = kept (joined_lines 1 (lines bytes))

@@ -1,0 +1,23 @@
+//! What one line gives.
+
+use crate::draft::Settings;
+use edge_io::Text;
+
+/// What a line hands on.
+#[derive(Drop)]
+pub enum Given {
+    Nothing,
+    /// The line is a rule.
+    Rule,
+    /// The line is skipped with a warning of its first word and the name behind it.
+    Skipped(Text, Text),
+    /// The file of this name is read here.
+    Include(Text),
+}
+
+/// What stands behind a line.
+#[derive(Drop)]
+pub struct Behind {
+    pub settings: Settings,
+    pub given: Given,
+}

@@ -1,0 +1,51 @@
+//! Settings that are a name and its value, one after another.
+ghost use Rattle.std.specs.Prelude.{◌≡◌, ◌≤◌, ◌∷◌, length, Bool, List, ℕ, Option, Result, option_copied};
+ghost use Rattle.net_lists.specs.Stops.{Gives};
+ghost use Rattle.conf_parser.specs.declared.line.ConfKind.{ConfKind};
+ghost use Rattle.conf_parser.specs.Options.{setting, paired, settings_behind};
+
+use crate::line::ConfKind;
+use net_lists::{Parts, Stop};
+
+/// A step over settings.
+pub trait SettingStep<D> {
+    ghost alone: { Self → List ℕ → Bool };
+
+    ghost next_draft: { Self → D → List ℕ → Option (List ℕ) → Result D ConfKind };
+
+    /// Whether the setting of this name has no value.
+    fn stands_alone(&self, name: &[u8]) -> bool
+        ensures { result ≡ alone self.now name.now };
+
+    /// The draft behind a setting; a value lacks only where the setting has none, or at the end.
+    fn next(&self, draft: D, name: &[u8], value: Option<&[u8]>) -> Result<D, Stop<ConfKind>>
+        ensures { Gives result (next_draft self.now draft name.now (option_copied value.entry)) };
+}
+
+/// The value behind a name: the next word, if the name does not stand alone and there is one.
+#[tactic(auto, using(crate::proofs::Pairs::pairs))]
+fn value_behind<'a>(words: &mut Parts<'a>, alone: bool) -> Option<&'a [u8]>
+    ensures pairs { (test : List ℕ → Bool) → (name : List ℕ) → test name ≡ alone
+        → paired test (name ∷ words.old) ≡ setting name (option_copied result) ∷ paired test words.new }
+    ensures shorter { length words.new ≤ length words.old }
+{
+    if alone { None } else { words.next() }
+}
+
+/// The draft behind all settings of a text.
+#[tactic(auto, using(net_lists::proofs::Drafts::draft_steps))]
+pub fn settings_behind<D, S: SettingStep<D>>(
+    text: &[u8],
+    step: &S,
+    draft: D,
+) -> Result<D, Stop<ConfKind>>
+    ensures { Gives result (settings_behind (S.alone step.now) (S.next_draft step.now) draft text.now) }
+{
+    let mut words = Parts::settings(text);
+    let mut draft = draft;
+    'settings: while let Some(name) = words.next() {
+        let value = value_behind(&mut words, step.stands_alone(name));
+        draft = step.next(draft, name, value)?;
+    }
+    Ok(draft)
+}

@@ -1,0 +1,351 @@
+//! The stream5 lines.
+ghost use Rattle.std.specs.Prelude.{◌≡◌, option_copied, option_map, length};
+ghost use Rattle.conf_parser.specs.Stream5.{stream_parts, whole, is_unread_global, global_name, track_icmp, global_value, wants_value, named_global, global_part, global_values, with_global, stream5_global, udp_timeout, udp_part, with_udp, stream5_udp};
+
+use crate::config::StreamEngine;
+use crate::draft::{StreamDraft, StreamGlobal};
+use crate::line::ConfKind;
+use crate::settings::DEFAULT_GLOBAL;
+use crate::value::{setting_text, yes_or_no};
+use edge_io::Items;
+use net_lists::{PartStep, Parts, PortPart, first_word, number_in};
+
+/// What the settings read so far say.
+#[derive(Drop)]
+pub struct Partial<D> {
+    pub draft: D,
+    /// A setting stood without its value.
+    pub lacks: bool,
+}
+
+/// An engine's settings read so far.
+#[derive(Drop)]
+pub struct TcpDraft {
+    pub engine: StreamEngine,
+    /// The ports for the client's data; without parts, all ports.
+    pub client: Option<Items<PortPart>>,
+    /// The ports for the server's data; without parts, all ports.
+    pub server: Option<Items<PortPart>>,
+    /// A `ports` setting stood.
+    pub ports_stood: bool,
+}
+
+/// Whose data a `ports` setting speaks of.
+#[derive(Clone, Copy)]
+pub enum Side {
+    Client,
+    Server,
+    Both,
+}
+
+/// The settings of `stream5_global`.
+#[derive(Clone, Copy)]
+pub enum GlobalName {
+    TrackTcp,
+    TrackUdp,
+    TrackIcmp,
+    MaxTcp,
+    MaxUdp,
+    /// Changes nothing.
+    Unread,
+}
+
+/// The settings of `stream5_tcp`.
+#[derive(Clone, Copy)]
+pub enum TcpName {
+    Policy,
+    Timeout,
+    BindTo,
+    Handshake,
+    QueuedBytes,
+    QueuedSegs,
+    Ports,
+    /// Changes nothing.
+    Unread,
+}
+
+/// Whether this setting of `stream5_global` changes nothing.
+#[tactic(auto, unfolding(crate::specs::Stream5::is_unread_global))]
+fn is_unread_global(name: &[u8]) -> bool
+    ensures { result ≡ is_unread_global name.now }
+{
+    name == b"max_icmp".as_slice()
+        || name == b"max_ip".as_slice()
+        || name == b"memcap".as_slice()
+        || name == b"flush_on_alert".as_slice()
+        || name == b"show_rebuilt_packets".as_slice()
+        || name == b"prune_log_max".as_slice()
+        || name == b"max_active_responses".as_slice()
+        || name == b"min_response_seconds".as_slice()
+}
+
+/// The setting of `stream5_global` of this name.
+#[tactic(auto, unfolding(crate::specs::Stream5::global_name))]
+fn global_name(name: &[u8]) -> Option<GlobalName>
+    ensures { result ≡ global_name name.now }
+{
+    if name == b"track_tcp".as_slice() {
+        Some(GlobalName::TrackTcp)
+    } else if name == b"track_udp".as_slice() {
+        Some(GlobalName::TrackUdp)
+    } else if name == b"track_icmp".as_slice() {
+        Some(GlobalName::TrackIcmp)
+    } else if name == b"max_tcp".as_slice() {
+        Some(GlobalName::MaxTcp)
+    } else if name == b"max_udp".as_slice() {
+        Some(GlobalName::MaxUdp)
+    } else if is_unread_global(name) {
+        Some(GlobalName::Unread)
+    } else {
+        None
+    }
+}
+
+/// `track_icmp`: no.
+#[tactic(auto, unfolding(crate::specs::Stream5::track_icmp))]
+fn track_icmp(value: &[u8]) -> Result<bool, ConfKind>
+    ensures { result ≡ track_icmp value.now }
+{
+    let (word, _) = first_word(value);
+    if word == b"yes".as_slice() {
+        Err(ConfKind::OutsideProfile)
+    } else if value == b"no".as_slice() {
+        Ok(false)
+    } else {
+        Err(ConfKind::BadValue)
+    }
+}
+
+/// The value of a setting of `stream5_global`.
+fn global_value(
+    values: StreamGlobal,
+    name: GlobalName,
+    value: &[u8],
+) -> Result<StreamGlobal, ConfKind>
+    ensures { result ≡ global_value values name value.now }
+{
+    match name {
+        GlobalName::TrackTcp => {
+            let track_tcp = yes_or_no(value).ok_or(ConfKind::BadValue)?;
+            Ok(StreamGlobal {
+                track_tcp,
+                ..values
+            })
+        }
+        GlobalName::TrackUdp => {
+            let track_udp = yes_or_no(value).ok_or(ConfKind::BadValue)?;
+            Ok(StreamGlobal {
+                track_udp,
+                ..values
+            })
+        }
+        GlobalName::TrackIcmp => {
+            track_icmp(value)?;
+            Ok(values)
+        }
+        GlobalName::MaxTcp => {
+            let max_tcp = number_in(1, 1048576, value).ok_or(ConfKind::BadValue)?;
+            Ok(StreamGlobal { max_tcp, ..values })
+        }
+        GlobalName::MaxUdp => {
+            let max_udp = number_in(1, 1048576, value).ok_or(ConfKind::BadValue)?;
+            Ok(StreamGlobal { max_udp, ..values })
+        }
+        GlobalName::Unread => Ok(values),
+    }
+}
+
+impl GlobalName {
+    /// Whether the setting wants a value.
+    fn wants_value(self) -> bool
+        ensures { result ≡ wants_value self }
+    {
+        !matches!(self, GlobalName::Unread)
+    }
+}
+
+/// The settings of `stream5_global`.
+#[derive(Drop)]
+struct GlobalStep;
+
+impl PartStep<Partial<StreamGlobal>, ConfKind> for GlobalStep {
+    ghost next_draft = { λ step partial part. global_part partial part };
+
+    #[tactic(auto, unfolding(crate::specs::Stream5::global_part))]
+    fn next(
+        &self,
+        partial: Partial<StreamGlobal>,
+        part: &[u8],
+    ) -> Result<Partial<StreamGlobal>, ConfKind> {
+        let (word, value) = first_word(part);
+        let name = global_name(word).ok_or(ConfKind::BadValue)?;
+        named_global(partial, name, value)
+    }
+}
+
+/// A setting of `stream5_global` by its name.
+#[tactic(auto, unfolding(crate::specs::Stream5::named_global))]
+fn named_global(
+    partial: Partial<StreamGlobal>,
+    name: GlobalName,
+    value: &[u8],
+) -> Result<Partial<StreamGlobal>, ConfKind>
+    ensures { result ≡ named_global partial name value.now }
+{
+    if name.wants_value() && value.is_empty() {
+        return Ok(Partial {
+            lacks: true,
+            ..partial
+        });
+    }
+    let draft = global_value(partial.draft, name, value)?;
+    Ok(Partial {
+        draft,
+        lacks: partial.lacks,
+    })
+}
+
+/// The settings of a line's text: none where it is empty.
+#[tactic(auto, using(crate::proofs::StreamParts::no_stream_parts))]
+pub fn stream_parts(text: &[u8]) -> Parts<'_>
+    ensures { result ≡ stream_parts text.now }
+{
+    if text.is_empty() {
+        Parts::words(text)
+    } else {
+        Parts::commas(text)
+    }
+}
+
+/// The global line, which stands once.
+#[tactic(auto, unfolding(crate::specs::Stream5::with_global))]
+fn with_global(draft: StreamDraft, values: StreamGlobal) -> Result<StreamDraft, ConfKind>
+    ensures { result ≡ with_global draft values }
+{
+    if draft.global.is_some() {
+        return Err(ConfKind::Duplicate);
+    }
+    Ok(StreamDraft {
+        global: Some(values),
+        ..draft
+    })
+}
+
+/// What the whole line says, if no setting lacked its value.
+fn whole_global(partial: Partial<StreamGlobal>) -> Result<StreamGlobal, ConfKind>
+    ensures { result ≡ whole partial }
+{
+    if partial.lacks {
+        Err(ConfKind::BadValue)
+    } else {
+        Ok(partial.draft)
+    }
+}
+
+/// `stream5_global`, by what stands behind the name.
+#[tactic(auto, unfolding(crate::specs::Stream5::stream5_global))]
+pub fn stream5_global(draft: StreamDraft, rest: &[u8]) -> Result<StreamDraft, ConfKind>
+    ensures { result ≡ stream5_global draft rest.now }
+{
+    let text = setting_text(rest)?;
+    let values = global_values(text)?;
+    with_global(draft, values)
+}
+
+/// The values that the settings of a text give.
+#[tactic(auto, unfolding(crate::specs::Stream5::global_values))]
+fn global_values(text: &[u8]) -> Result<StreamGlobal, ConfKind>
+    ensures { result ≡ global_values text.now }
+{
+    let first = Partial {
+        draft: DEFAULT_GLOBAL,
+        lacks: false,
+    };
+    let partial = stream_parts(text).fold_by(&GlobalStep, first)?;
+    whole_global(partial)
+}
+
+/// One setting of `stream5_udp`.
+#[tactic(auto, unfolding(crate::specs::Stream5::udp_part))]
+fn udp_part(partial: Partial<u32>, part: &[u8]) -> Result<Partial<u32>, ConfKind>
+    ensures { result ≡ udp_part partial part.now }
+{
+    let (word, value) = first_word(part);
+    if word == b"ignore_any_rules".as_slice() {
+        return Ok(partial);
+    }
+    if word != b"timeout".as_slice() {
+        return Err(ConfKind::BadValue);
+    }
+    if value.is_empty() {
+        return Ok(Partial {
+            lacks: true,
+            ..partial
+        });
+    }
+    let draft = number_in(1, 86400, value).ok_or(ConfKind::BadValue)?;
+    Ok(Partial {
+        draft,
+        lacks: partial.lacks,
+    })
+}
+
+/// The settings of `stream5_udp`.
+#[derive(Drop)]
+struct UdpStep;
+
+impl PartStep<Partial<u32>, ConfKind> for UdpStep {
+    ghost next_draft = { λ step partial part. udp_part partial part };
+
+    fn next(&self, partial: Partial<u32>, part: &[u8]) -> Result<Partial<u32>, ConfKind> {
+        udp_part(partial, part)
+    }
+}
+
+/// The timeout of the whole line, if no setting lacked its value.
+fn whole_udp(partial: Partial<u32>) -> Result<u32, ConfKind>
+    ensures { result ≡ whole partial }
+{
+    if partial.lacks {
+        Err(ConfKind::BadValue)
+    } else {
+        Ok(partial.draft)
+    }
+}
+
+/// The line of UDP, which stands once.
+#[tactic(auto, unfolding(crate::specs::Stream5::with_udp))]
+fn with_udp(draft: StreamDraft, timeout: u32) -> Result<StreamDraft, ConfKind>
+    ensures { result ≡ with_udp draft timeout }
+{
+    if draft.udp_timeout.is_some() {
+        return Err(ConfKind::Duplicate);
+    }
+    Ok(StreamDraft {
+        udp_timeout: Some(timeout),
+        ..draft
+    })
+}
+
+/// `stream5_udp`, by what stands behind the name.
+#[tactic(auto, unfolding(crate::specs::Stream5::stream5_udp))]
+pub fn stream5_udp(draft: StreamDraft, rest: &[u8]) -> Result<StreamDraft, ConfKind>
+    ensures { result ≡ stream5_udp draft rest.now }
+{
+    let text = setting_text(rest)?;
+    let timeout = udp_timeout(text)?;
+    with_udp(draft, timeout)
+}
+
+/// The timeout that the settings of a text give.
+#[tactic(auto, unfolding(crate::specs::Stream5::udp_timeout))]
+fn udp_timeout(text: &[u8]) -> Result<u32, ConfKind>
+    ensures { result ≡ udp_timeout text.now }
+{
+    let first = Partial {
+        draft: 30,
+        lacks: false,
+    };
+    let partial = stream_parts(text).fold_by(&UdpStep, first)?;
+    whole_udp(partial)
+}

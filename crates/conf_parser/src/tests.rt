@@ -1,0 +1,430 @@
+//! Configurations that are accepted or refused, with what the definitions give, worked out by hand; and that the
+//! types cross threads. The rows are text, so that another one costs nothing to prove.
+
+use crate::conf_line::conf_line;
+use crate::draft::{Settings, Spot};
+use crate::settings::first_draft;
+use crate::{ConfKind, Config, LoadStop, Loaded, load};
+use edge_io::crossing::{sendable, shareable};
+use edge_io::{MemHost, NoMemory};
+use net_lists::{PortList, Stop, Vars};
+use std::alloc::{AllocError, Global};
+use std::test::Fail;
+
+/// What the rows call a kind.
+fn kind_name(kind: &ConfKind) -> &'static str {
+    match kind {
+        ConfKind::UnknownDirective => "directive",
+        ConfKind::BadValue => "value",
+        ConfKind::UnknownVariable(_) => "variable",
+        ConfKind::BadAddress => "address",
+        ConfKind::BadPort => "port",
+        ConfKind::Duplicate => "twice",
+        ConfKind::TooDeep => "deep",
+        ConfKind::TooLarge => "large",
+        ConfKind::OutsideProfile => "outside",
+        ConfKind::Limit => "limit",
+    }
+}
+
+/// A row for each case: the kind of the first line that is refused, or `fine`, and the lines, between `&&`.
+const LINE_ROWS: &str = "directive: fetch me
+fine: alert tcp any any -> any any (sid:1;)
+fine: output x: y
+outside: threshold gen_id 1
+outside: preprocessor stream5_icmp
+fine: preprocessor normalize_ip4 && config disable_decode_alerts && config && preprocessor
+value: var N
+value: var 1N x
+variable: var N $M
+fine: var N $(M:-x) && var M $N
+address: ipvar H [10.0.0.0/8
+fine: ipvar H [10.0.0.0/8, !10.1.0.0/16] && ipvar G $H
+variable: ipvar H [10.0.0,$X]
+fine: portvar P [80,8080] && portvar Q !$P
+port: portvar P 65536
+value: include
+variable: include $X
+deep: include a
+fine: config classification: a,Some text, 2 && config classification: a,Other,3
+value: config classification: a,,2
+value: config classification: a,b,2,3
+value: config classification: a,b,0
+fine: config checksum_mode : none noip all
+value: config checksum_mode: none noipx
+value: config checksum_mode:
+value: config checksum_mode all
+fine: config event_queue: max_queue 8 log 5 order_events content_length
+fine: config event_queue:
+value: config event_queue: log 1025
+value: config event_queue: log
+fine: config detection: search-method ac-split no_stream_inserts
+fine: config reference && config pcre_match_limit: x
+twice: preprocessor frag3_global: max_frags 65536, memcap 0 && preprocessor frag3_global
+value: preprocessor frag3_global max_frags 1
+value: preprocessor frag3_global: memcap 4294967296
+fine: preprocessor frag3_engine: policy Windows detect_anomalies overlap_limit 10 timeout 180
+fine: preprocessor frag3_engine: detect_anomalies && preprocessor frag3_engine: bind_to 10.0.0.0/8
+twice: preprocessor frag3_engine && preprocessor frag3_engine: timeout 1
+value: preprocessor frag3_engine: policy vista
+address: preprocessor frag3_engine: bind_to [10.0.0.0/8, timeout 0
+variable: preprocessor frag3_engine: bind_to $X timeout 0
+fine: preprocessor stream5_global: track_tcp yes, track_icmp no, max_active_responses 2 3
+outside: preprocessor stream5_global: track_tcp, track_icmp yes or no
+value: preprocessor stream5_global: track_tcp
+value: preprocessor stream5_global: track_tcp yes,
+twice: preprocessor stream5_global && preprocessor stream5_global:
+fine: preprocessor stream5_tcp: policy windows, require_3whs 180, ports client 21 25, ports both 80 8080
+address: preprocessor stream5_tcp: timeout, bind_to 10.0
+variable: preprocessor stream5_tcp: ports client, bind_to $X
+value: preprocessor stream5_tcp: ports client
+value: preprocessor stream5_tcp: max_queued_bytes 0, max_queued_segs 1
+twice: preprocessor stream5_tcp && preprocessor stream5_tcp: timeout 1
+twice: preprocessor stream5_udp: timeout 180, ignore_any_rules && preprocessor stream5_udp
+twice: event_filter gen_id 1, sig_id 1, type limit, track by_src, count 2, seconds 60 && event_filter seconds 1, count 1, track by_dst, type both, sig_id 1, gen_id 1
+value: event_filter gen_id 0, sig_id 1, type limit, track by_src, count 1, seconds 60
+fine: suppress gen_id 1, sig_id 0 && suppress gen_id 1, sig_id 1, track by_src, ip [10.0.0.1, 10.0.0.2]
+address: suppress gen_id, sig_id 1, track by_src, ip 10.0
+value: suppress gen_id 1, sig_id 1, track by_src, ip 10.0.0.1, x
+";
+
+/// The kind of the first line that is refused, or `fine`; the lines stand in a file 16 includes deep.
+fn lines_outcome(alloc: Global, lines: &str) -> Result<&'static str, NoMemory> {
+    let mut settings = Settings {
+        vars: Vars::new(alloc),
+        draft: first_draft(alloc),
+    };
+    for line in lines.split(" && ") {
+        let spot = Spot {
+            file: b"etc/snort.conf".as_slice(),
+            depth: 16,
+            files: 17,
+        };
+        match conf_line(alloc, &spot, settings, line.as_bytes()) {
+            Ok(behind) => settings = behind.settings,
+            Err(Stop::Wrong(kind)) => return Ok(kind_name(&kind)),
+            Err(Stop::NoMemory) => return Err(NoMemory),
+        }
+    }
+    Ok("fine")
+}
+
+#[test]
+fn lines_and_their_kinds(rt: HostRuntime) -> Result<(), Fail> {
+    for row in LINE_ROWS.lines() {
+        let (kind, lines) = row.split_once(": ").ok_or("row")?;
+        assert_eq!(rt; lines_outcome(rt.alloc(), lines)?, kind, "{row}");
+    }
+    Ok(())
+}
+
+/// What loading the files gives, the answer and what stands in `out`, where the host fails at these calls. Each
+/// file is `===` with its name and then its lines; the configuration is the file `r`.
+fn loading(
+    alloc: Global,
+    files: &str,
+    failing: &[u32],
+) -> Result<(Result<(), LoadStop>, Loaded), NoMemory> {
+    let mut host = MemHost::new(alloc);
+    for file in files.split("=== ") {
+        if let Some((name, text)) = file.split_once('\n') {
+            host.put(name, text.as_bytes())?;
+        }
+    }
+    host.fail_calls(failing)?;
+    let mut vars = Vars::new(alloc);
+    let mut out = Loaded::new(alloc);
+    let answer = load(alloc, &mut host, "r", &mut vars, &mut out);
+    Ok((answer, out))
+}
+
+/// `fine` with the numbers of warnings and rule lines, a kind with its file and line, or `host` with the numbers
+/// of files and warnings.
+fn files_outcome(alloc: Global, files: &str, failing: &[u32]) -> Result<String, Fail> {
+    let (answer, out) = loading(alloc, files, failing)?;
+    let warnings = out.warnings.as_slice().len();
+    match answer {
+        Ok(()) => Ok(format!(in alloc; "fine {} {}", warnings, out.rules.as_slice().len())?),
+        Err(LoadStop::Conf(fault)) => Ok(format!(in alloc;
+            "{} {} {}",
+            kind_name(&fault.kind),
+            fault.file,
+            fault.line
+        )?),
+        Err(LoadStop::HostFailed { name: _ }) => Ok(format!(in alloc;
+            "host {} {}",
+            out.files.as_slice().len(),
+            warnings
+        )?),
+        Err(LoadStop::NoMemory) => Err(NoMemory)?,
+    }
+}
+
+/// A row for each case: what loading gives, and the files. A joined line has the number of its first line, joining
+/// goes by each line's own last byte and comes before comments, a name without `/` stands beside its file.
+const FILE_ROWS: &str = "@@ directive 0 3
+=== r
+ipvar H [10.0.0.0/8,\\
+11.0.0.0/8]
+fetch me
+@@ directive 0 3
+=== r
+var N a\\\\
+
+fetch me
+@@ directive 0 3
+=== r
+# a \\
+fetch me
+fetch
+@@ address 0 1
+=== r
+ipvar H [10.0.0.0/8
+@@ deep 16 1
+=== r
+include r
+@@ fine 1 1
+=== r
+output x: y
+alert udp any any -> any any (sid:1;)
+@@ directive 2 3
+=== r
+include d/a
+fetch
+=== d/a
+include b
+=== d/b
+
+
+fetch
+@@ directive 0 2
+=== r
+include d/a
+fetch
+=== d/a
+include /b
+=== /b
+pass
+@@ host 1 1
+=== r
+output x
+include a
+@@ fine 0 0
+=== r
+event_filter gen_id 1, sig_id 1, type limit, track by_src, count 2, seconds 60
+event_filter gen_id 1, sig_id 0, type limit, track by_src, count 1, seconds 60
+@@ twice 2 1
+=== r
+include s
+include s
+=== s
+event_filter gen_id 1, sig_id 1, type limit, track by_src, count 2, seconds 60
+@@ value 0 2
+=== r
+event_filter gen_id 1, sig_id 1, type limit, track by_src, count 2, seconds 60
+event_filter gen_id 0, sig_id 1, type limit, track by_src, count 1, seconds 60
+";
+
+/// A file whose include the host may fail at.
+const INCLUDING: &str = "=== r
+output x
+include a
+=== a
+";
+
+#[test]
+fn files_and_their_refusals(rt: HostRuntime) -> Result<(), Fail> {
+    for row in FILE_ROWS.split("@@ ").skip(1) {
+        let (want, files) = row.split_once('\n').ok_or("row")?;
+        let got = files_outcome(rt.alloc(), files, &[])?;
+        assert_eq!(rt; got.as_str(), want, "{row}");
+    }
+    assert_eq!(rt;
+        files_outcome(rt.alloc(), INCLUDING, &[1])?.as_str(),
+        "host 1 1"
+    );
+    Ok(())
+}
+
+const MANUAL: &str = "=== r
+ipvar HOME_NET 10.0.0.0/8
+ipvar EXTERNAL_NET any
+portvar HTTP_PORTS [80,8080]
+var RULE_PATH rules
+config disable_decode_alerts
+config checksum_mode: all
+config detection: search-method ac-split search-optimize max-pattern-len 20
+config event_queue: max_queue 8 log 5 order_events content_length
+preprocessor normalize_ip4
+preprocessor frag3_global: max_frags 65536
+preprocessor frag3_engine: policy windows detect_anomalies overlap_limit 10 min_fragment_length 100 timeout 180
+preprocessor stream5_global: track_tcp yes, \\
+   track_udp yes, track_icmp no, max_tcp 262144, max_udp 131072, \\
+   max_active_responses 2, min_response_seconds 5
+preprocessor stream5_tcp: policy windows, detect_anomalies, require_3whs 180, \\
+   overlap_limit 10, small_segments 3 bytes 150, timeout 180, \\
+   ports client 21 25, ports both 80 8080
+preprocessor stream5_udp: timeout 180
+output unified2: filename merged.log, limit 128
+include classification.config
+include $RULE_PATH/local.rules
+=== classification.config
+config classification: web-application-attack,Web Application Attack,1
+=== rules/local.rules
+alert tcp $EXTERNAL_NET any -> $HOME_NET $HTTP_PORTS (msg:\"LOCAL attack word\"; flow:to_server,established; content:\"attack\"; fast_pattern; nocase; classtype:web-application-attack; sid:1000001; rev:2;)
+";
+
+const LOCAL_RULE: &str =
+    "alert tcp $EXTERNAL_NET any -> $HOME_NET $HTTP_PORTS (msg:\"LOCAL attack word\"; flow:to_server,established; content:\"attack\"; fast_pattern; nocase; classtype:web-application-attack; sid:1000001; rev:2;)";
+
+/// The ports of a list among some.
+fn listed(ports: &Option<PortList>) -> [bool; 6] {
+    let mut listed = [false; 6];
+    if let Some(ports) = ports {
+        for (place, port) in [21, 25, 53, 80, 8080, 3306].iter().enumerate() {
+            listed[place] = ports.contains(*port);
+        }
+    }
+    listed
+}
+
+/// The values of a configuration, a line for each part.
+fn described(alloc: Global, config: &Config) -> Result<String, AllocError> {
+    let mut text = String::new(alloc);
+    writeln!(
+        text,
+        "{:?} {:?} inserts {}",
+        config.checks, config.queue, config.inserts
+    )?;
+    if let Some(frag) = &config.frag {
+        writeln!(text, "max_frags {}", frag.max_frags)?;
+        for engine in frag.engines.as_slice() {
+            writeln!(
+                text,
+                "frag {} {:?} {} {}",
+                engine.bind.is_some(),
+                engine.policy,
+                engine.timeout,
+                engine.min_ttl
+            )?;
+        }
+    }
+    let stream = &config.stream;
+    writeln!(
+        text,
+        "tcp {} {} udp {} {} {}",
+        stream.tcp, stream.max_tcp, stream.udp, stream.max_udp, stream.udp_timeout
+    )?;
+    for engine in stream.engines.as_slice() {
+        writeln!(
+            text,
+            "stream {} {:?} {} {:?} {} {}",
+            engine.bind.is_some(),
+            engine.policy,
+            engine.timeout,
+            engine.handshake,
+            engine.bytes_limit,
+            engine.segs_limit
+        )?;
+        writeln!(
+            text,
+            "{:?} {:?}",
+            listed(&engine.client_ports),
+            listed(&engine.server_ports)
+        )?;
+    }
+    for filter in config.filters.as_slice() {
+        writeln!(text, "{filter:?}")?;
+    }
+    for suppress in config.suppress.as_slice() {
+        writeln!(
+            text,
+            "suppress {} {} {}",
+            suppress.gid,
+            suppress.sid,
+            suppress.track.is_some()
+        )?;
+    }
+    Ok(text)
+}
+
+#[test]
+fn a_configuration_value_by_value(rt: HostRuntime) -> Result<(), Fail> {
+    let (answer, out) = loading(rt.alloc(), MANUAL, &[])?;
+    assert!(rt; answer.is_ok());
+    let want =
+        "Checks { ip: true, tcp: true, udp: true, icmp: true } QueueLimits { max_queue: 8, log: 5, by_priority: false } inserts true
+max_frags 65536
+frag false Windows 180 1
+tcp true 262144 udp true 131072 180
+stream false Windows 180 Some(180) 1048576 2621
+[true, true, false, true, true, false] [false, false, false, true, true, false]
+";
+    assert_eq!(rt; described(rt.alloc(), &out.config)?.as_str(), want);
+    let classes = &out.config.classes;
+    assert_eq!(rt; classes.find(b"web-application-attack"), Some(0));
+    assert_eq!(rt; classes.find(b"Web Application Attack"), None);
+    assert_eq!(rt; out.files.as_slice().len(), 3);
+    for rule in out.rules.as_slice() {
+        assert_eq!(rt;
+            (rule.file, rule.line, rule.text.bytes()),
+            (2, 1, LOCAL_RULE.as_bytes())
+        );
+    }
+    let warned = [
+        (5, "config", "disable_decode_alerts"),
+        (9, "preprocessor", "normalize_ip4"),
+        (19, "output", "unified2"),
+    ];
+    assert_eq!(rt; out.warnings.as_slice().len(), warned.len());
+    for (warning, (line, directive, name)) in out.warnings.as_slice().iter().zip(&warned) {
+        assert_eq!(rt; (warning.file, warning.line), (0, *line));
+        assert_eq!(rt; warning.directive.bytes(), directive.as_bytes());
+        assert_eq!(rt; warning.name.bytes(), name.as_bytes());
+    }
+    Ok(())
+}
+
+#[test]
+fn values_of_other_lines(rt: HostRuntime) -> Result<(), Fail> {
+    const LINES: &str = "=== r
+config checksum_mode: none
+config checksum_mode: notcp
+config event_queue: order_events priority
+config detection: no_stream_inserts
+preprocessor frag3_engine: min_ttl 10
+preprocessor frag3_engine: bind_to [10.0.0.0/8, 11.0.0.1] policy first
+preprocessor stream5_tcp: max_queued_bytes 0, max_queued_segs 2, ports server none
+preprocessor stream5_tcp: bind_to 10.0.0.0/8, require_3whs
+preprocessor stream5_global: track_tcp no
+event_filter gen_id 1, sig_id 0, type both, track by_dst, count 1, seconds 60
+suppress gen_id 0, sig_id 0
+suppress gen_id 1, sig_id 2, track by_src, ip 10.0.0.1
+";
+    let want =
+        "Checks { ip: false, tcp: false, udp: false, icmp: false } QueueLimits { max_queue: 8, log: 3, by_priority: true } inserts false
+max_frags 8192
+frag false Bsd 60 10
+frag true First 60 1
+tcp false 262144 udp false 131072 30
+stream false Bsd 30 None 1073741824 2
+[false, false, false, false, false, false] [false, false, false, false, false, false]
+stream true Bsd 30 Some(0) 1048576 2621
+[true, true, true, true, false, true] [false, false, false, false, false, false]
+EventFilter { gid: 1, sid: 0, kind: Both, by_src: false, count: 1, seconds: 60 }
+suppress 0 0 false
+suppress 1 2 true
+";
+    let (answer, out) = loading(rt.alloc(), LINES, &[])?;
+    assert!(rt; answer.is_ok());
+    assert_eq!(rt; described(rt.alloc(), &out.config)?.as_str(), want);
+    Ok(())
+}
+
+#[test]
+fn types_cross_threads(_rt: HostRuntime) -> Result<(), Fail> {
+    sendable::<Loaded>();
+    shareable::<Loaded>();
+    sendable::<LoadStop>();
+    Ok(())
+}
