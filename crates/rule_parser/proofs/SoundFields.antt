@@ -1,0 +1,118 @@
+-- Options on numbers of a header keep a rule sound.
+use Rattle.std.proofs.Common.{ℕ, ◌+◌, ◌≤◌, ◌==◌, ◌&&◌, Bool, true, false, cond, Option, Some, None, Ok, Err, List, [], length, take, drop, is_some, refl, arith, IfSome, IfOk}
+use Rattle.net_lists.specs.Numbers.{number_in}
+use Rattle.net_lists.specs.Stops.{or_kind}
+use Rattle.rule_parser.specs.declared.draft.Draft.{Draft}
+use Rattle.rule_parser.specs.declared.fault.Fault.TheVariants.{OptionValue}
+use Rattle.rule_parser.specs.declared.option.Cmp.{Cmp}
+use Rattle.rule_parser.specs.declared.option.Cmp.TheVariants as cmp
+use Rattle.rule_parser.specs.declared.option.Field.{Field}
+use Rattle.rule_parser.specs.declared.option.Field.TheVariants as field
+use Rattle.rule_parser.specs.declared.option.Opt.{Opt}
+use Rattle.rule_parser.specs.declared.option.Opt.TheVariants as opt
+use Rattle.rule_parser.specs.Drafts.{kept}
+use Rattle.rule_parser.specs.Fields.{sign_of, cmp_of, allows, signed_compare, end_of, ttl_range, dsize_range, place_of, ttl_to, behind_above, dsize_to, dsize_at, protocol_of, protocol_to, compare_of, field_option, dsize_option, sameip_option}
+use Rattle.rule_parser.specs.Sound.{most_of, IsOption}
+use Rattle.rule_parser.proofs.SoundDrafts.{IsSoundDraft, IsPlain, names_after, kept-sound}
+use Rattle.rule_parser.proofs.SoundSteps.{then_ok, kind_ok, if_ok}
+use Rattle.rule_parser.proofs.SoundValues.{IsIn, number_in-within}
+
+-- an option that stands anywhere, and is no fast pattern
+pub IsAnywhere : Opt → Type 0
+IsAnywhere option = ((names : List ℕ) → IsOption names option) × IsPlain option
+
+-- what any such option keeps
+pub anywhere-sound : (classes : ℕ) (draft : Draft) (option : Opt) → IsSoundDraft classes draft → IsAnywhere option → IfOk (kept draft option) (IsSoundDraft classes)
+unfolding IsAnywhere
+anywhere-sound classes draft option sound h = kept-sound classes draft option sound (h.0 (names_after [] draft.opts)) h.1
+
+pub anywhere : (option : Opt) → ((names : List ℕ) → IsOption names option) → IsPlain option → IsAnywhere option
+unfolding IsAnywhere
+anywhere option h plain = (h, plain)
+
+compare-anywhere : (field : Field) (how : Cmp) (low high : ℕ) → low ≤ most_of field → high ≤ most_of field → IsAnywhere (opt.Compare field how low high)
+compare-anywhere field how low high least most = anywhere (opt.Compare field how low high) (λ names. (least, most)) (refl, λ names. refl)
+
+signed-anywhere : (field : Field) (text : List ℕ) → IfOk (signed_compare field text) IsAnywhere
+unfolding signed_compare
+signed-anywhere field text =
+    then_ok (IsIn 0 (most_of field)) IsAnywhere (cond (allows field (sign_of text).0) (or_kind OptionValue (number_in 0 (most_of field) (sign_of text).1)) (Err OptionValue)) _
+    (if_ok (IsIn 0 (most_of field)) (allows field (sign_of text).0) _ (Err OptionValue) (λ _. kind_ok (IsIn 0 (most_of field)) OptionValue (number_in 0 (most_of field) (sign_of text).1) (number_in-within 0 (most_of field) (sign_of text).1)) (λ _. tt))
+    (λ number within. compare-anywhere field (cmp_of (sign_of text).0) number number within.1 within.1)
+
+end_of-most : (lacking : ℕ) (text : List ℕ) → lacking ≤ 4294967295 → IfSome (end_of lacking text) (λ number. number ≤ 4294967295)
+end_of-most lacking text h = go (length text == 0)
+  where
+    weaker : (o : Option ℕ) → IfSome o (IsIn 0 4294967295) → IfSome o (λ number. number ≤ 4294967295)
+    weaker None h = tt
+    weaker (Some number) h = h.1
+
+    go : (b : Bool) → IfSome (cond b (Some lacking) (number_in 0 4294967295 text)) (λ number. number ≤ 4294967295)
+    go true = h
+    go false = weaker (number_in 0 4294967295 text) (number_in-within 0 4294967295 text)
+
+ttl_range-anywhere : (low high : List ℕ) → IfOk (ttl_range low high) IsAnywhere
+unfolding ttl_range
+ttl_range-anywhere low high =
+    then_ok (λ number. number ≤ 4294967295) IsAnywhere (or_kind OptionValue (end_of 0 low)) _ (kind_ok (λ number. number ≤ 4294967295) OptionValue (end_of 0 low) (end_of-most 0 low (omega arith))) (λ least first.
+    then_ok (λ number. number ≤ 4294967295) IsAnywhere (or_kind OptionValue (end_of 4294967295 high)) _ (kind_ok (λ number. number ≤ 4294967295) OptionValue (end_of 4294967295 high) (end_of-most 4294967295 high (omega arith))) (λ most last.
+    if_ok IsAnywhere (length low == 0 && length high == 0) (Err OptionValue) (Ok (opt.Compare field.Ttl cmp.Within least most)) (λ _. tt) (λ _. compare-anywhere field.Ttl cmp.Within least most first last)))
+
+dsize_range-anywhere : (low high : List ℕ) → IfOk (dsize_range low high) IsAnywhere
+unfolding dsize_range
+dsize_range-anywhere low high =
+    then_ok (IsIn 0 65535) IsAnywhere (or_kind OptionValue (number_in 0 65535 low)) _ (kind_ok (IsIn 0 65535) OptionValue (number_in 0 65535 low) (number_in-within 0 65535 low)) (λ least first.
+    then_ok (IsIn 0 65535) IsAnywhere (or_kind OptionValue (number_in 0 65535 high)) _ (kind_ok (IsIn 0 65535) OptionValue (number_in 0 65535 high) (number_in-within 0 65535 high)) (λ most last.
+    compare-anywhere field.Dsize cmp.Within least most first.1 last.1))
+
+ttl_to-anywhere : (text : List ℕ) (place : Option ℕ) → IfOk (ttl_to text place) IsAnywhere
+ttl_to-anywhere text None = signed-anywhere field.Ttl text
+ttl_to-anywhere text (Some place) = ttl_range-anywhere (take place text) (drop (place + 1) text)
+
+dsize_to-anywhere : (text low : List ℕ) (high : Option (List ℕ)) → IfOk (dsize_to text low high) IsAnywhere
+dsize_to-anywhere text low None = signed-anywhere field.Dsize text
+dsize_to-anywhere text low (Some high) = dsize_range-anywhere low high
+
+dsize_at-anywhere : (text : List ℕ) (place : Option ℕ) → IfOk (dsize_at text place) IsAnywhere
+dsize_at-anywhere text None = signed-anywhere field.Dsize text
+dsize_at-anywhere text (Some place) = dsize_to-anywhere text (take place text) (behind_above (drop (place + 1) text))
+
+protocol_of-most : (name : List ℕ) → IfSome (protocol_of name) (λ number. number ≤ 4294967295)
+protocol_of-most name = grind arith
+
+protocol_to-anywhere : (text : List ℕ) (number : Option ℕ) → IfSome number (λ number. number ≤ 4294967295) → IfOk (protocol_to text number) IsAnywhere
+protocol_to-anywhere text None h = signed-anywhere field.IpProto text
+protocol_to-anywhere text (Some number) h = compare-anywhere field.IpProto cmp.Eq number number h h
+
+compare_of-anywhere : (which : Field) (text : List ℕ) → IfOk (compare_of which text) IsAnywhere
+unfolding compare_of
+compare_of-anywhere field.Ttl text = ttl_to-anywhere text (place_of 45 text)
+compare_of-anywhere field.Dsize text = dsize_at-anywhere text (place_of 60 text)
+compare_of-anywhere field.IpProto text = protocol_to-anywhere text (protocol_of text) (protocol_of-most text)
+compare_of-anywhere field.Tos text = signed-anywhere field.Tos text
+compare_of-anywhere field.Window text = signed-anywhere field.Window text
+compare_of-anywhere field.FragOffset text = signed-anywhere field.FragOffset text
+compare_of-anywhere field.Itype text = signed-anywhere field.Itype text
+compare_of-anywhere field.Icode text = signed-anywhere field.Icode text
+compare_of-anywhere field.Id text = signed-anywhere field.Id text
+compare_of-anywhere field.Seq text = signed-anywhere field.Seq text
+compare_of-anywhere field.Ack text = signed-anywhere field.Ack text
+compare_of-anywhere field.IcmpId text = signed-anywhere field.IcmpId text
+compare_of-anywhere field.IcmpSeq text = signed-anywhere field.IcmpSeq text
+
+pub field-sound : (classes : ℕ) (which : Field) (draft : Draft) → IsSoundDraft classes draft → (value : List ℕ) → IfOk (field_option which draft value) (IsSoundDraft classes)
+unfolding field_option
+field-sound classes which draft sound value =
+    then_ok IsAnywhere (IsSoundDraft classes) (compare_of which value) (kept draft) (compare_of-anywhere which value) (λ option h. anywhere-sound classes draft option sound h)
+
+pub dsize-sound : (classes : ℕ) (draft : Draft) → IsSoundDraft classes draft → (value : List ℕ) → IfOk (dsize_option draft value) (IsSoundDraft classes)
+unfolding dsize_option
+dsize-sound classes draft sound value =
+    then_ok IsAnywhere (IsSoundDraft classes) (compare_of field.Dsize value) _ (compare_of-anywhere field.Dsize value) (λ option h.
+    if_ok (IsSoundDraft classes) draft.dsize (Err OptionValue) (kept (record draft { dsize = true }) option) (λ _. tt) (λ _.
+    anywhere-sound classes (record draft { dsize = true }) option (record { kept = sound.kept; msg = sound.msg; gid = sound.gid; sid = sound.sid; class = sound.class; period = sound.period }) h))
+
+pub sameip-sound : (classes : ℕ) (draft : Draft) → IsSoundDraft classes draft → (value : Option (List ℕ)) → IfOk (sameip_option draft value) (IsSoundDraft classes)
+unfolding sameip_option
+sameip-sound classes draft sound value =
+    if_ok (IsSoundDraft classes) (is_some value) (Err OptionValue) (kept draft opt.SameIp) (λ _. tt) (λ _. kept-sound classes draft opt.SameIp sound tt (refl, λ names. refl))

@@ -1,0 +1,5 @@
+use Rattle.rule_parser.proofs.CuttingLaws.{header-written}
+use Rattle.rule_parser.proofs.header.HeaderTexts.cut.Goals as goal
+
+pub returns-clause-written : goal.returns-clause-written
+returns-clause-written c = header-written c.from_words.result c.args.line.now c.from_words.ensures

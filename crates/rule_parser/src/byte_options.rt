@@ -1,0 +1,304 @@
+//! Numbers in the payload: byte_test, byte_jump, byte_extract and isdataat.
+ghost use Rattle.std.specs.Prelude.{◌≡◌, pos, negsuc, MatchResult, Ok, Err, option_copied, if◌then◌else◌};
+ghost use Rattle.std.specs.List.{prefix_len};
+ghost use Rattle.edge_io.specs.Bytes.{is_blank};
+ghost use Rattle.net_lists.specs.Stops.{Gives};
+ghost use Rattle.rule_parser.specs.Names.{is_name, place_among, signed_or_named};
+ghost use Rattle.rule_parser.specs.ByteOptions.{seen, first_part, next_part, words_of, operator_of, seen_comparison, comparison_of, byte_test_option, byte_jump_option, byte_extract_option, with_name, data_word, data_words, parts_behind, isdataat_option};
+
+use crate::byte_words::{Which, Words};
+use crate::contents::negation;
+use crate::draft::Draft;
+use crate::extracted::Extracted;
+use crate::fault::Fault;
+use crate::fields::place_of;
+use crate::number::{is_name, number_or_named, place_among, signed_or_named};
+use crate::{Cmp, Num, Opt};
+use edge_io::Text;
+use net_lists::{Parts, Stop, number_in, trimmed};
+use std::alloc::Global;
+
+/// A part of a value between commas, without the blanks around it.
+#[derive(Clone, Copy, Debug, PartialEq, Eq)]
+pub(crate) struct LentPart<'a> {
+    pub text: &'a [u8],
+    /// How many bytes of the line are left where it begins.
+    pub left: usize,
+    /// What stands behind its comma, if a comma stands there.
+    pub behind: Option<&'a [u8]>,
+    /// How many bytes of the line are left where that begins.
+    pub left_behind: usize,
+}
+
+/// Space or tab.
+fn is_blank(byte: u8) -> bool
+    ensures { result ≡ is_blank byte }
+{
+    byte == b' ' || byte == b'\t'
+}
+
+/// How many blanks stand in front.
+#[tactic(auto, using(net_lists::proofs::Fronts::fronts))]
+pub(crate) fn blanks_len(text: &[u8]) -> usize
+    ensures { result ≡ prefix_len is_blank text.now }
+{
+    text.iter()
+        .position(|byte| !is_blank(*byte))
+        .unwrap_or(text.len())
+}
+
+/// The first part of a text that begins where so many bytes of the line are left.
+#[tactic(auto, unfolding(crate::specs::ByteOptions::first_part))]
+pub(crate) fn first_part(left: usize, text: &[u8]) -> LentPart<'_>
+    ensures { seen result ≡ first_part left text.now }
+{
+    let start = left.saturating_sub(blanks_len(text));
+    match place_of(b',', text) {
+        None => LentPart {
+            text: trimmed(text),
+            left: start,
+            behind: None,
+            left_behind: 0,
+        },
+        Some(place) => LentPart {
+            text: trimmed(&text[..place]),
+            left: start,
+            behind: Some(&text[place + 1..]),
+            left_behind: left.saturating_sub(place + 1),
+        },
+    }
+}
+
+/// The part behind one, where one stands there.
+#[tactic(auto, unfolding(crate::specs::ByteOptions::next_part))]
+pub(crate) fn next_part<'a>(part: &LentPart<'a>) -> Result<LentPart<'a>, Fault>
+    ensures { MatchResult result (λ next. next_part (seen part.now) ≡ Ok (seen next)) (λ why. next_part (seen part.now) ≡ Err why) }
+{
+    let text = part.behind.ok_or(Fault::OptionValue)?;
+    Ok(first_part(part.left_behind, text))
+}
+
+/// All words behind the parts that have their places.
+#[tactic(auto, unfolding(crate::specs::ByteOptions::words_of))]
+fn words_of(which: Which, behind: Option<&[u8]>) -> Result<Words, Fault>
+    ensures { result ≡ words_of which (option_copied behind.entry) }
+{
+    match behind {
+        None => Ok(Words::none()),
+        Some(text) => Parts::commas(text).fold_by(&which, Words::none()),
+    }
+}
+
+/// The words of a byte_test.
+fn test_words(behind: Option<&[u8]>) -> Result<Words, Fault>
+    ensures { result ≡ words_of Which.Test (option_copied behind.entry) }
+{
+    words_of(Which::Test, behind)
+}
+
+/// The words of a byte_jump.
+fn jump_words(behind: Option<&[u8]>) -> Result<Words, Fault>
+    ensures { result ≡ words_of Which.Jump (option_copied behind.entry) }
+{
+    words_of(Which::Jump, behind)
+}
+
+/// An operator of byte_test behind its `!`, if one stands there.
+#[tactic(auto, unfolding(crate::specs::ByteOptions::operator_of))]
+fn operator_of(negated: bool, text: &[u8]) -> Result<Cmp, Fault>
+    ensures { result ≡ operator_of negated text.now }
+{
+    if text == b"<".as_slice() {
+        Ok(Cmp::Lt)
+    } else if text == b">".as_slice() {
+        Ok(Cmp::Gt)
+    } else if text == b"=".as_slice() {
+        Ok(Cmp::Eq)
+    } else if text == b"<=".as_slice() {
+        Ok(Cmp::Le)
+    } else if text == b">=".as_slice() {
+        Ok(Cmp::Ge)
+    } else if text == b"&".as_slice() {
+        Ok(Cmp::And)
+    } else if text == b"^".as_slice() {
+        Err(Fault::OutsideProfile)
+    } else if negated && text.is_empty() {
+        Ok(Cmp::Eq)
+    } else {
+        Err(Fault::OptionValue)
+    }
+}
+
+/// An offset: -65535 to 65535, or a name.
+fn offset_of(names: &Extracted, part: &LentPart) -> Result<Num, Fault>
+    ensures { result ≡ signed_or_named (negsuc 65534) (pos 65535) names.now part.now.left part.now.text.now }
+{
+    signed_or_named(-65535, 65535, names.as_slice(), part.left, part.text)
+}
+
+#[tactic(auto, unfolding(crate::specs::ByteOptions::byte_jump_option))]
+pub(crate) fn byte_jump_option(
+    draft: Draft,
+    left: usize,
+    value: &[u8],
+) -> Result<Draft, Stop<Fault>>
+    ensures { Gives result (byte_jump_option draft left value.now) }
+{
+    let count = first_part(left, value);
+    let bytes = number_in(1, 10, count.text).ok_or(Fault::OptionValue)? as u8;
+    let place = next_part(&count)?;
+    let offset = offset_of(&draft.names, &place)?;
+    let words = jump_words(place.behind)?;
+    let fetch = words.fetch(bytes, offset)?;
+    draft.kept(words.jump_option(fetch))
+}
+
+/// What byte_test compares with, and how.
+#[derive(Clone, Copy, Debug, PartialEq, Eq)]
+pub(crate) struct LentComparison<'a> {
+    pub negated: bool,
+    pub cmp: Cmp,
+    pub value: Num,
+    /// The part that tells the value.
+    pub part: LentPart<'a>,
+}
+
+/// The comparison behind the first part.
+#[tactic(auto, unfolding(crate::specs::ByteOptions::comparison_of))]
+fn comparison_of<'a>(names: &Extracted, count: &LentPart<'a>) -> Result<LentComparison<'a>, Fault>
+    ensures { MatchResult result (λ found. comparison_of names.now (seen count.now) ≡ Ok (seen_comparison found)) (λ why. comparison_of names.now (seen count.now) ≡ Err why) }
+{
+    let operator = next_part(count)?;
+    let (negated, sign) = negation(operator.text);
+    let cmp = operator_of(negated, sign)?;
+    let part = next_part(&operator)?;
+    let value = number_or_named(0, u32::MAX, names.as_slice(), part.left, part.text)?;
+    Ok(LentComparison {
+        negated,
+        cmp,
+        value,
+        part,
+    })
+}
+
+#[tactic(auto, unfolding(crate::specs::ByteOptions::byte_test_option))]
+pub(crate) fn byte_test_option(
+    draft: Draft,
+    left: usize,
+    value: &[u8],
+) -> Result<Draft, Stop<Fault>>
+    ensures { Gives result (byte_test_option draft left value.now) }
+{
+    let count = first_part(left, value);
+    let bytes = number_in(1, 10, count.text).ok_or(Fault::OptionValue)? as u8;
+    let against = comparison_of(&draft.names, &count)?;
+    let place = next_part(&against.part)?;
+    let offset = offset_of(&draft.names, &place)?;
+    let words = test_words(place.behind)?;
+    let fetch = words.fetch(bytes, offset)?;
+    draft.kept(Opt::ByteTest {
+        fetch,
+        not: against.negated,
+        cmp: against.cmp,
+        value: against.value,
+    })
+}
+
+/// Whether the one word that follows is `relative`.
+fn data_word(word: &[u8]) -> Result<bool, Fault>
+    ensures { result ≡ data_word word.now }
+{
+    if word == b"relative".as_slice() {
+        Ok(true)
+    } else if word == b"rawbytes".as_slice() {
+        Ok(false)
+    } else {
+        Err(Fault::OptionValue)
+    }
+}
+
+/// Whether `relative` stands among what may follow the number of isdataat.
+#[tactic(auto, unfolding(crate::specs::ByteOptions::data_words))]
+fn data_words(behind: Option<&[u8]>) -> Result<bool, Fault>
+    ensures { result ≡ data_words (parts_behind (option_copied behind.entry)) }
+{
+    let Some(text) = behind else {
+        return Ok(false);
+    };
+    let mut parts = Parts::commas(text);
+    let Some(first) = parts.next() else {
+        return Ok(false);
+    };
+    let Some(second) = parts.next() else {
+        return data_word(first);
+    };
+    if parts.next().is_some() {
+        return Err(Fault::OptionValue);
+    }
+    if first == b"relative".as_slice() && second == b"rawbytes".as_slice() {
+        return Ok(true);
+    }
+    Err(Fault::OptionValue)
+}
+
+#[tactic(auto, unfolding(crate::specs::ByteOptions::isdataat_option))]
+pub(crate) fn isdataat_option(draft: Draft, left: usize, value: &[u8]) -> Result<Draft, Stop<Fault>>
+    ensures { Gives result (isdataat_option draft left value.now) }
+{
+    let place = first_part(left, value);
+    let (negated, number) = negation(place.text);
+    let start = place.left.saturating_sub(usize::from(negated));
+    let at = number_or_named(0, 65535, draft.names.as_slice(), start, number)?;
+    let relative = data_words(place.behind)?;
+    draft.kept(Opt::IsDataAt {
+        at,
+        relative,
+        negated,
+    })
+}
+
+/// The names with this one, and its place: a name that is there keeps its place.
+fn with_name(alloc: Global, names: Extracted, name: &[u8]) -> Result<(Extracted, u8), Stop<Fault>>
+    ensures { Gives result (with_name names name.now (place_among name.now names)) }
+{
+    if let Some(place) = place_among(name, names.as_slice()) {
+        return Ok((names, place as u8));
+    }
+    let count = names.as_slice().len();
+    if count >= 2 {
+        return Err(Stop::Wrong(Fault::Limit));
+    }
+    let name = Text::copy(alloc, name)?;
+    let names = names.with(name)?;
+    Ok((names, count as u8))
+}
+
+/// The words of a byte_extract, where its name has the form of one.
+fn extract_words(name: &[u8], behind: Option<&[u8]>) -> Result<Words, Fault>
+    ensures { result ≡ (if is_name name.now then words_of Which.Extract (option_copied behind.entry) else Err Fault.OptionValue) }
+{
+    if !is_name(name) {
+        return Err(Fault::OptionValue);
+    }
+    words_of(Which::Extract, behind)
+}
+
+#[tactic(auto, unfolding(crate::specs::ByteOptions::byte_extract_option))]
+pub(crate) fn byte_extract_option(
+    alloc: Global,
+    draft: Draft,
+    left: usize,
+    value: &[u8],
+) -> Result<Draft, Stop<Fault>>
+    ensures { Gives result (byte_extract_option draft left value.now) }
+{
+    let count = first_part(left, value);
+    let bytes = number_in(1, 10, count.text).ok_or(Fault::OptionValue)? as u8;
+    let place = next_part(&count)?;
+    let offset = offset_of(&draft.names, &place)?;
+    let name = next_part(&place)?;
+    let words = extract_words(name.text, name.behind)?;
+    let fetch = words.fetch(bytes, offset)?;
+    let (names, number) = with_name(alloc, draft.names, name.text)?;
+    Draft { names, ..draft }.kept(words.extract_option(fetch, number))
+}

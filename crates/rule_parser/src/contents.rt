@@ -1,0 +1,344 @@
+//! Contents and their modifiers.
+ghost use Rattle.std.specs.Prelude.{◌≡◌, ◌<◌, ◌≤◌, length, take, IfOk, MatchResult, Ok, Err, option_copied, if◌then◌else◌};
+ghost use Rattle.net_lists.specs.Cutting.{comma_parts};
+ghost use Rattle.net_lists.specs.Numbers.{number_in};
+ghost use Rattle.net_lists.specs.Stops.{Gives, or_kind};
+ghost use Rattle.rule_parser.specs.Contents.{negation, plain_content, with_content, with_bytes, content_option, nocase_option, rawbytes_option, is_placed, bars_from, bars_room, place_text, from_option, room_of, room_option, fast_part, fast_mode, is_only, fast_on, bars_fast, fast_pattern_option};
+
+use crate::draft::{Draft, Held};
+use crate::fault::Fault;
+use crate::number::{named, signed_or_named};
+use crate::quoted::{Style, meaning};
+use crate::texts::quoted_whole;
+use crate::{Content, FastMode, Num};
+use edge_io::{NoMemory, Text};
+use net_lists::{Parts, Stop, number_in};
+use std::alloc::Global;
+
+/// Bytes that a content may have.
+const MOST_BYTES: usize = 2048;
+
+/// Whether a `!` stands in front, and what stands behind it.
+pub(crate) fn negation(text: &[u8]) -> (bool, &[u8])
+    ensures negated { result.0 ≡ (negation text.now).0 }
+    ensures rest { result.1.now ≡ (negation text.now).1 }
+{
+    match text {
+        [b'!', rest @ ..] => (true, rest),
+        _ => (false, text),
+    }
+}
+
+impl Content {
+    /// A content before its modifiers.
+    fn plain(negated: bool, bytes: Text) -> Content
+        ensures { result ≡ plain_content negated bytes }
+    {
+        Content {
+            bytes,
+            negated,
+            nocase: false,
+            relative: false,
+            from: None,
+            room: None,
+            fast: FastMode::No,
+        }
+    }
+
+    /// Whether a place is told by `offset` or `depth`.
+    fn is_placed(&self) -> bool
+        ensures { result ≡ is_placed self.now }
+    {
+        (self.from.is_some() || self.room.is_some()) && !self.relative
+    }
+
+    /// Whether `offset`, or `distance`, may not stand any more.
+    fn bars_from(&self, relative: bool) -> bool
+        ensures { result ≡ bars_from relative self.now }
+    {
+        self.from.is_some()
+            || if relative {
+                self.is_placed()
+            } else {
+                self.relative
+            }
+    }
+
+    /// Whether `depth`, or `within`, may not stand any more.
+    fn bars_room(&self, relative: bool) -> bool
+        ensures { result ≡ bars_room relative self.now }
+    {
+        self.room.is_some()
+            || if relative {
+                self.is_placed()
+            } else {
+                self.relative
+            }
+    }
+}
+
+/// The draft with this content apart and the one before in its place.
+fn with_content(draft: Draft, content: Content) -> Result<Draft, NoMemory>
+    ensures { IfOk result (λ next. next ≡ with_content draft content) }
+{
+    let known = draft.names.as_slice().len();
+    let draft = draft.settled()?;
+    let place = draft.opts.as_slice().len();
+    Ok(Draft {
+        held: Some(Held {
+            content,
+            place,
+            known,
+            raw: false,
+            placeless: false,
+        }),
+        ..draft
+    })
+}
+
+/// The draft with a content of these bytes, where there are some, not too many, and there is room.
+fn with_bytes(draft: Draft, negated: bool, bytes: Text) -> Result<Draft, Stop<Fault>>
+    ensures { Gives result (with_bytes draft negated bytes) }
+{
+    if bytes.bytes().is_empty() {
+        return Err(Stop::Wrong(Fault::OptionValue));
+    }
+    if bytes.bytes().len() > MOST_BYTES || draft.is_full() {
+        return Err(Stop::Wrong(Fault::Limit));
+    }
+    Ok(with_content(draft, Content::plain(negated, bytes))?)
+}
+
+#[tactic(auto, unfolding(crate::specs::Contents::content_option))]
+pub(crate) fn content_option(
+    alloc: Global,
+    draft: Draft,
+    value: &[u8],
+) -> Result<Draft, Stop<Fault>>
+    ensures { Gives result (content_option draft value.now) }
+{
+    let (negated, text) = negation(value);
+    let inside = quoted_whole(text)?;
+    let bytes = meaning(alloc, Style::Bytes, inside)?;
+    with_bytes(draft, negated, bytes)
+}
+
+#[tactic(auto, unfolding(crate::specs::Contents::nocase_option))]
+pub(crate) fn nocase_option(draft: Draft, value: Option<&[u8]>) -> Result<Draft, Fault>
+    ensures { result ≡ nocase_option draft (option_copied value.entry) }
+{
+    let held = draft.held.ok_or(Fault::Misplaced)?;
+    if held.content.nocase {
+        return Err(Fault::Misplaced);
+    }
+    if value.is_some() {
+        return Err(Fault::OptionValue);
+    }
+    let content = Content {
+        nocase: true,
+        ..held.content
+    };
+    Ok(Draft {
+        held: Some(Held { content, ..held }),
+        ..draft
+    })
+}
+
+#[tactic(auto, unfolding(crate::specs::Contents::rawbytes_option))]
+pub(crate) fn rawbytes_option(draft: Draft, value: Option<&[u8]>) -> Result<Draft, Fault>
+    ensures { result ≡ rawbytes_option draft (option_copied value.entry) }
+{
+    let held = draft.held.ok_or(Fault::Misplaced)?;
+    if held.raw {
+        return Err(Fault::Misplaced);
+    }
+    if value.is_some() {
+        return Err(Fault::OptionValue);
+    }
+    Ok(Draft {
+        held: Some(Held { raw: true, ..held }),
+        ..draft
+    })
+}
+
+/// The value of a modifier that tells a place or a room, where it may stand.
+fn place_text(bars: bool, placeless: bool, value: Option<&[u8]>) -> Result<&[u8], Fault>
+    ensures { MatchResult result (λ text. place_text bars placeless (option_copied value.entry) ≡ Ok text.now) (λ why. place_text bars placeless (option_copied value.entry) ≡ Err why) }
+{
+    if bars {
+        return Err(Fault::Misplaced);
+    }
+    if placeless {
+        return Err(Fault::OptionValue);
+    }
+    value.ok_or(Fault::OptionValue)
+}
+
+/// The first names of these.
+fn first_names(names: &[Text], count: usize) -> &[Text]
+    ensures value { result.now ≡ take count names.now }
+    ensures within { length result.now ≤ length names.now }
+{
+    if count < names.len() {
+        &names[..count]
+    } else {
+        names
+    }
+}
+
+#[tactic(auto, unfolding(crate::specs::Contents::from_option))]
+pub(crate) fn from_option(
+    relative: bool,
+    draft: Draft,
+    left: usize,
+    value: Option<&[u8]>,
+) -> Result<Draft, Fault>
+    ensures { result ≡ from_option relative draft left (option_copied value.entry) }
+{
+    let held = draft.held.ok_or(Fault::Misplaced)?;
+    let text = place_text(held.content.bars_from(relative), held.placeless, value)?;
+    let known = first_names(draft.names.as_slice(), held.known);
+    let from = signed_or_named(-65535, 65535, known, left, text)?;
+    let content = Content {
+        relative,
+        from: Some(from),
+        ..held.content
+    };
+    Ok(Draft {
+        held: Some(Held { content, ..held }),
+        ..draft
+    })
+}
+
+/// How far a content of so many bytes may go.
+fn room_of(size: usize, known: &[Text], left: usize, text: &[u8]) -> Result<Num, Fault>
+    requires { length known.now < 256 }
+    ensures { result ≡ room_of size known.now left text.now (number_in 0 65535 text.now) }
+{
+    match number_in(0, 65535, text) {
+        Some(number) => {
+            if size > number as usize {
+                return Err(Fault::OptionValue);
+            }
+            Ok(Num::Value(i64::from(number)))
+        }
+        None => named(known, left, text),
+    }
+}
+
+#[tactic(auto, unfolding(crate::specs::Contents::room_option))]
+pub(crate) fn room_option(
+    relative: bool,
+    draft: Draft,
+    left: usize,
+    value: Option<&[u8]>,
+) -> Result<Draft, Fault>
+    ensures { result ≡ room_option relative draft left (option_copied value.entry) }
+{
+    let held = draft.held.ok_or(Fault::Misplaced)?;
+    let text = place_text(held.content.bars_room(relative), held.placeless, value)?;
+    let known = first_names(draft.names.as_slice(), held.known);
+    let room = room_of(held.content.bytes.bytes().len(), known, left, text)?;
+    let content = Content {
+        relative,
+        room: Some(room),
+        ..held.content
+    };
+    Ok(Draft {
+        held: Some(Held { content, ..held }),
+        ..draft
+    })
+}
+
+impl FastMode {
+    /// A part of a content of so many bytes.
+    #[tactic(auto, unfolding(crate::specs::Contents::fast_part))]
+    fn part(size: usize, value: &[u8]) -> Result<FastMode, Fault>
+        ensures { result ≡ fast_part size (comma_parts value.now) }
+    {
+        let mut parts = Parts::commas(value);
+        let (Some(first), Some(second), None) = (parts.next(), parts.next(), parts.next()) else {
+            return Err(Fault::OptionValue);
+        };
+        let from = number_in(0, 2048, first).ok_or(Fault::OptionValue)?;
+        let len = number_in(1, 2048, second).ok_or(Fault::OptionValue)?;
+        if from as usize + len as usize > size {
+            return Err(Fault::OptionValue);
+        }
+        Ok(FastMode::Part { from, len })
+    }
+
+    /// What the value of a `fast_pattern` says.
+    #[tactic(auto, unfolding(crate::specs::Contents::fast_mode))]
+    fn read(size: usize, value: Option<&[u8]>) -> Result<FastMode, Fault>
+        ensures { result ≡ fast_mode size (option_copied value.entry) }
+    {
+        let Some(value) = value else {
+            return Ok(FastMode::Yes);
+        };
+        if value == b"only".as_slice() {
+            return Ok(FastMode::Only);
+        }
+        FastMode::part(size, value)
+    }
+
+    fn is_only(self) -> bool
+        ensures { result ≡ is_only self }
+    {
+        match self {
+            FastMode::Only => true,
+            FastMode::No | FastMode::Yes | FastMode::Part { .. } => false,
+        }
+    }
+
+    /// What stands on a content.
+    fn on(self, negated: bool) -> FastMode
+        ensures { result ≡ fast_on negated self }
+    {
+        if negated { FastMode::No } else { self }
+    }
+}
+
+/// Whether a `fast_pattern` of this form may not stand on the content.
+fn bars_fast(mode: FastMode, content: &Content) -> bool
+    ensures { result ≡ bars_fast mode content.now }
+{
+    let has_room = content.from.is_some() || content.room.is_some();
+    (mode.is_only() && content.negated) || ((mode.is_only() || content.negated) && has_room)
+}
+
+/// The last content, where no `fast_pattern` stands yet.
+fn held_for_fast(stands: bool, held: Option<Held>) -> Result<Held, Fault>
+    ensures { result ≡ (if stands then Err Fault.Misplaced else or_kind Fault.Misplaced held) }
+{
+    if stands {
+        return Err(Fault::Misplaced);
+    }
+    held.ok_or(Fault::Misplaced)
+}
+
+#[tactic(auto, unfolding(crate::specs::Contents::fast_pattern_option))]
+pub(crate) fn fast_pattern_option(draft: Draft, value: Option<&[u8]>) -> Result<Draft, Fault>
+    ensures { result ≡ fast_pattern_option draft (option_copied value.entry) }
+{
+    let held = held_for_fast(draft.fast, draft.held)?;
+    let mode = FastMode::read(held.content.bytes.bytes().len(), value)?;
+    if bars_fast(mode, &held.content) {
+        return Err(Fault::OptionValue);
+    }
+    let placeless = mode.is_only() || held.content.negated;
+    let fast = mode.on(held.content.negated);
+    let content = Content {
+        fast,
+        ..held.content
+    };
+    Ok(Draft {
+        fast: true,
+        held: Some(Held {
+            content,
+            placeless,
+            ..held
+        }),
+        ..draft
+    })
+}

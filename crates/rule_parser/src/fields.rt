@@ -1,0 +1,277 @@
+//! Numbers of a packet's headers, and the length of its payload.
+ghost use Rattle.std.specs.Prelude.{◌≡◌, ◌<◌, length, option_copied, IfSome};
+ghost use Rattle.net_lists.specs.Stops.{Gives};
+ghost use Rattle.rule_parser.specs.Fields.{sign_of, cmp_of, is_plain, is_not, is_strict, allows, against, signed_compare, end_of, ttl_range, dsize_range, place_of, behind_above, protocol_of, compare_of, ttl_to, dsize_at, protocol_to, field_option, dsize_option, sameip_option};
+ghost use Rattle.rule_parser.specs.Sound.{most_of};
+
+use crate::draft::Draft;
+use crate::fault::Fault;
+use crate::{Cmp, Field, Opt};
+use net_lists::{Stop, number_in};
+
+/// What stands before a number.
+#[derive(Clone, Copy, Debug, PartialEq, Eq)]
+pub(crate) enum Sign {
+    Plain,
+    Equal,
+    Not,
+    Below,
+    Above,
+    UpTo,
+    From,
+}
+
+/// The sign in front of a number, and what stands behind it.
+#[tactic(auto, unfolding(crate::specs::Fields::sign_of))]
+fn sign_of(text: &[u8]) -> (Sign, &[u8])
+    ensures sign { result.0 ≡ (sign_of text.now).0 }
+    ensures rest { result.1.now ≡ (sign_of text.now).1 }
+{
+    match text {
+        [b'<', b'=', rest @ ..] => (Sign::UpTo, rest),
+        [b'<', rest @ ..] => (Sign::Below, rest),
+        [b'>', b'=', rest @ ..] => (Sign::From, rest),
+        [b'>', rest @ ..] => (Sign::Above, rest),
+        [b'=', rest @ ..] => (Sign::Equal, rest),
+        [b'!', rest @ ..] => (Sign::Not, rest),
+        _ => (Sign::Plain, text),
+    }
+}
+
+impl Sign {
+    fn cmp(self) -> Cmp
+        ensures { result ≡ cmp_of self }
+    {
+        match self {
+            Sign::Plain | Sign::Equal => Cmp::Eq,
+            Sign::Not => Cmp::Ne,
+            Sign::Below => Cmp::Lt,
+            Sign::Above => Cmp::Gt,
+            Sign::UpTo => Cmp::Le,
+            Sign::From => Cmp::Ge,
+        }
+    }
+
+    fn is_plain(self) -> bool
+        ensures { result ≡ is_plain self }
+    {
+        self == Sign::Plain
+    }
+
+    fn is_not(self) -> bool
+        ensures { result ≡ is_not self }
+    {
+        self == Sign::Not
+    }
+
+    fn is_strict(self) -> bool
+        ensures { result ≡ is_strict self }
+    {
+        self == Sign::Below || self == Sign::Above
+    }
+}
+
+impl Field {
+    /// Whether the field has this sign.
+    fn allows(self, sign: Sign) -> bool
+        ensures { result ≡ allows self sign }
+    {
+        match self {
+            Field::Ttl => !sign.is_not(),
+            Field::Tos | Field::Window => sign.is_plain() || sign.is_not(),
+            Field::FragOffset | Field::IpProto => {
+                sign.is_plain() || sign.is_not() || sign.is_strict()
+            }
+            Field::Itype | Field::Icode | Field::Dsize => sign.is_plain() || sign.is_strict(),
+            Field::Id | Field::Seq | Field::Ack | Field::IcmpId | Field::IcmpSeq => sign.is_plain(),
+        }
+    }
+
+    /// The greatest number of the field.
+    fn most(self) -> u32
+        ensures { result ≡ most_of self }
+    {
+        if self == Field::Dsize {
+            65535
+        } else {
+            u32::MAX
+        }
+    }
+
+    fn against(self, cmp: Cmp, number: u32) -> Opt
+        ensures { result ≡ against self cmp number }
+    {
+        Opt::Compare {
+            field: self,
+            cmp,
+            low: number,
+            high: number,
+        }
+    }
+
+    /// A number, a sign before it perhaps.
+    #[tactic(auto, unfolding(crate::specs::Fields::signed_compare))]
+    fn signed_compare(self, text: &[u8]) -> Result<Opt, Fault>
+        ensures { result ≡ signed_compare self text.now }
+    {
+        let (sign, rest) = sign_of(text);
+        if !self.allows(sign) {
+            return Err(Fault::OptionValue);
+        }
+        let number = number_in(0, self.most(), rest).ok_or(Fault::OptionValue)?;
+        Ok(self.against(sign.cmp(), number))
+    }
+}
+
+/// An end of a range, or what stands for one that lacks.
+fn end_of(lacking: u32, text: &[u8]) -> Option<u32>
+    ensures { result ≡ end_of lacking text.now }
+{
+    if text.is_empty() {
+        Some(lacking)
+    } else {
+        number_in(0, u32::MAX, text)
+    }
+}
+
+#[tactic(auto, unfolding(crate::specs::Fields::ttl_range))]
+fn ttl_range(low: &[u8], high: &[u8]) -> Result<Opt, Fault>
+    ensures { result ≡ ttl_range low.now high.now }
+{
+    let least = end_of(0, low).ok_or(Fault::OptionValue)?;
+    let most = end_of(u32::MAX, high).ok_or(Fault::OptionValue)?;
+    if low.is_empty() && high.is_empty() {
+        return Err(Fault::OptionValue);
+    }
+    Ok(Opt::Compare {
+        field: Field::Ttl,
+        cmp: Cmp::Within,
+        low: least,
+        high: most,
+    })
+}
+
+#[tactic(auto, unfolding(crate::specs::Fields::dsize_range))]
+fn dsize_range(low: &[u8], high: &[u8]) -> Result<Opt, Fault>
+    ensures { result ≡ dsize_range low.now high.now }
+{
+    let least = number_in(0, 65535, low).ok_or(Fault::OptionValue)?;
+    let most = number_in(0, 65535, high).ok_or(Fault::OptionValue)?;
+    Ok(Opt::Compare {
+        field: Field::Dsize,
+        cmp: Cmp::Within,
+        low: least,
+        high: most,
+    })
+}
+
+/// The place of the first of these bytes.
+pub(crate) fn place_of(byte: u8, text: &[u8]) -> Option<usize>
+    ensures place { result ≡ place_of byte text.now }
+    ensures within { IfSome result (λ place. place < length text.now) }
+{
+    text.iter().position(|b| *b == byte)
+}
+
+fn ttl_of(text: &[u8]) -> Result<Opt, Fault>
+    ensures { result ≡ ttl_to text.now (place_of 45 text.now) }
+{
+    match place_of(b'-', text) {
+        None => Field::Ttl.signed_compare(text),
+        Some(place) => ttl_range(&text[..place], &text[place + 1..]),
+    }
+}
+
+fn behind_above(text: &[u8]) -> Option<&[u8]>
+    ensures { option_copied result ≡ behind_above text.now }
+{
+    match text {
+        [b'>', rest @ ..] => Some(rest),
+        _ => None,
+    }
+}
+
+fn dsize_of(text: &[u8]) -> Result<Opt, Fault>
+    ensures { result ≡ dsize_at text.now (place_of 60 text.now) }
+{
+    let Some(place) = place_of(b'<', text) else {
+        return Field::Dsize.signed_compare(text);
+    };
+    match behind_above(&text[place + 1..]) {
+        None => Field::Dsize.signed_compare(text),
+        Some(high) => dsize_range(&text[..place], high),
+    }
+}
+
+/// The protocols that have names.
+fn protocol_of(name: &[u8]) -> Option<u32>
+    ensures { result ≡ protocol_of name.now }
+{
+    if name == b"icmp".as_slice() {
+        Some(1)
+    } else if name == b"igmp".as_slice() {
+        Some(2)
+    } else if name == b"tcp".as_slice() {
+        Some(6)
+    } else if name == b"udp".as_slice() {
+        Some(17)
+    } else {
+        None
+    }
+}
+
+fn ip_proto_of(text: &[u8]) -> Result<Opt, Fault>
+    ensures { result ≡ protocol_to text.now (protocol_of text.now) }
+{
+    match protocol_of(text) {
+        None => Field::IpProto.signed_compare(text),
+        Some(number) => Ok(Field::IpProto.against(Cmp::Eq, number)),
+    }
+}
+
+/// What a field's value says.
+#[tactic(auto, unfolding(crate::specs::Fields::compare_of))]
+fn compare_of(field: Field, text: &[u8]) -> Result<Opt, Fault>
+    ensures { result ≡ compare_of field text.now }
+{
+    match field {
+        Field::Ttl => ttl_of(text),
+        Field::Dsize => dsize_of(text),
+        Field::IpProto => ip_proto_of(text),
+        _ => field.signed_compare(text),
+    }
+}
+
+/// An option of one number, `dsize` apart.
+#[tactic(auto, unfolding(crate::specs::Fields::field_option))]
+pub(crate) fn field_option(field: Field, draft: Draft, value: &[u8]) -> Result<Draft, Stop<Fault>>
+    ensures { Gives result (field_option field draft value.now) }
+{
+    let option = compare_of(field, value)?;
+    draft.kept(option)
+}
+
+#[tactic(auto, unfolding(crate::specs::Fields::dsize_option))]
+pub(crate) fn dsize_option(draft: Draft, value: &[u8]) -> Result<Draft, Stop<Fault>>
+    ensures { Gives result (dsize_option draft value.now) }
+{
+    let option = compare_of(Field::Dsize, value)?;
+    if draft.dsize {
+        return Err(Stop::Wrong(Fault::OptionValue));
+    }
+    Draft {
+        dsize: true,
+        ..draft
+    }
+    .kept(option)
+}
+
+#[tactic(auto, unfolding(crate::specs::Fields::sameip_option))]
+pub(crate) fn sameip_option(draft: Draft, value: Option<&[u8]>) -> Result<Draft, Stop<Fault>>
+    ensures { Gives result (sameip_option draft (option_copied value.entry)) }
+{
+    if value.is_some() {
+        return Err(Stop::Wrong(Fault::OptionValue));
+    }
+    draft.kept(Opt::SameIp)
+}

@@ -1,0 +1,353 @@
+//! What a rule asks of a session, of TCP flags and of fragment bits.
+ghost use Rattle.std.specs.Prelude.{◌≡◌};
+ghost use Rattle.net_lists.specs.Cutting.{comma_parts};
+ghost use Rattle.net_lists.specs.Folds.{draft_behind};
+ghost use Rattle.net_lists.specs.Stops.{Gives};
+ghost use Rattle.rule_parser.specs.Flags.{no_flow, first_of_group, session_word, item_word, flow_word, flow_option, no_letters, mode_of, flag_bit, frag_bit, with_bit, with_mode, if_any, flag_step, frag_step, flag_letters, frag_letters, frag_signed, mask_of, flags_parts, flags_option, fragbits_option};
+
+use crate::draft::Draft;
+use crate::fault::Fault;
+use crate::{FlowOpt, Mode, Opt};
+use net_lists::{PartStep, Parts, Stop};
+
+impl FlowOpt {
+    /// Nothing is asked.
+    fn nothing() -> FlowOpt
+        ensures { result ≡ no_flow }
+    {
+        FlowOpt {
+            established: None,
+            stateless: false,
+            from_client: None,
+            stream: None,
+            frag: None,
+        }
+    }
+
+    /// This, where its group has no word yet.
+    fn unless(self, stands: bool) -> Result<FlowOpt, Fault>
+        ensures { result ≡ first_of_group stands self }
+    {
+        if stands {
+            Err(Fault::OptionValue)
+        } else {
+            Ok(self)
+        }
+    }
+
+    /// With a word on the session.
+    #[tactic(auto, unfolding(crate::specs::Flags::session_word))]
+    fn session_word(self, word: &[u8]) -> Result<FlowOpt, Fault>
+        ensures { result ≡ session_word self word.now }
+    {
+        let stands = self.established.is_some() || self.stateless;
+        if word == b"established".as_slice() {
+            FlowOpt {
+                established: Some(true),
+                ..self
+            }
+            .unless(stands)
+        } else if word == b"not_established".as_slice() {
+            FlowOpt {
+                established: Some(false),
+                ..self
+            }
+            .unless(stands)
+        } else if word == b"stateless".as_slice() {
+            FlowOpt {
+                stateless: true,
+                ..self
+            }
+            .unless(stands)
+        } else {
+            Err(Fault::OptionValue)
+        }
+    }
+
+    /// With a word on how the item came to be, or on the session.
+    #[tactic(auto, unfolding(crate::specs::Flags::item_word))]
+    fn item_word(self, word: &[u8]) -> Result<FlowOpt, Fault>
+        ensures { result ≡ item_word self word.now }
+    {
+        if word == b"only_stream".as_slice() {
+            FlowOpt {
+                stream: Some(true),
+                ..self
+            }
+            .unless(self.stream.is_some())
+        } else if word == b"no_stream".as_slice() {
+            FlowOpt {
+                stream: Some(false),
+                ..self
+            }
+            .unless(self.stream.is_some())
+        } else if word == b"only_frag".as_slice() {
+            FlowOpt {
+                frag: Some(true),
+                ..self
+            }
+            .unless(self.frag.is_some())
+        } else if word == b"no_frag".as_slice() {
+            FlowOpt {
+                frag: Some(false),
+                ..self
+            }
+            .unless(self.frag.is_some())
+        } else {
+            self.session_word(word)
+        }
+    }
+
+    /// With one word more.
+    #[tactic(auto, unfolding(crate::specs::Flags::flow_word))]
+    fn word(self, word: &[u8]) -> Result<FlowOpt, Fault>
+        ensures { result ≡ flow_word self word.now }
+    {
+        if word == b"to_server".as_slice() || word == b"from_client".as_slice() {
+            FlowOpt {
+                from_client: Some(true),
+                ..self
+            }
+            .unless(self.from_client.is_some())
+        } else if word == b"to_client".as_slice() || word == b"from_server".as_slice() {
+            FlowOpt {
+                from_client: Some(false),
+                ..self
+            }
+            .unless(self.from_client.is_some())
+        } else {
+            self.item_word(word)
+        }
+    }
+}
+
+/// The words of a `flow`.
+struct FlowWords;
+
+impl PartStep<FlowOpt, Fault> for FlowWords {
+    ghost next_draft = { λ _ flow word. flow_word flow word };
+
+    fn next(&self, flow: FlowOpt, word: &[u8]) -> Result<FlowOpt, Fault> {
+        flow.word(word)
+    }
+}
+
+/// What the words ask.
+fn flow_words(value: &[u8]) -> Result<FlowOpt, Fault>
+    ensures { result ≡ draft_behind flow_word no_flow (comma_parts value.now) }
+{
+    Parts::commas(value).fold_by(&FlowWords, FlowOpt::nothing())
+}
+
+#[tactic(auto, unfolding(crate::specs::Flags::flow_option))]
+pub(crate) fn flow_option(draft: Draft, value: &[u8]) -> Result<Draft, Stop<Fault>>
+    ensures { Gives result (flow_option draft value.now) }
+{
+    let flow = flow_words(value)?;
+    if draft.flow {
+        return Err(Stop::Wrong(Fault::OptionValue));
+    }
+    Draft {
+        flow: true,
+        ..draft
+    }
+    .kept(Opt::Flow(flow))
+}
+
+/// The letters of `flags` or `fragbits` so far.
+#[derive(Clone, Copy, Debug, PartialEq, Eq)]
+pub(crate) struct Letters {
+    /// The sign that stands.
+    pub mode: Option<Mode>,
+    pub bits: u8,
+    /// A letter stands.
+    pub any: bool,
+}
+
+/// The sign that a byte is.
+fn mode_of(byte: u8) -> Option<Mode>
+    ensures { result ≡ mode_of byte }
+{
+    match byte {
+        b'!' => Some(Mode::NoneSet),
+        b'*' => Some(Mode::Any),
+        b'+' => Some(Mode::All),
+        _ => None,
+    }
+}
+
+/// The bit of a letter of TCP flags.
+fn flag_bit(byte: u8) -> Option<u8>
+    ensures { result ≡ flag_bit byte }
+{
+    match byte {
+        b'F' => Some(1),
+        b'S' => Some(2),
+        b'R' => Some(4),
+        b'P' => Some(8),
+        b'A' => Some(16),
+        b'U' => Some(32),
+        b'E' | b'2' => Some(64),
+        b'C' | b'1' => Some(128),
+        b'0' => Some(0),
+        _ => None,
+    }
+}
+
+/// The bit of a letter of fragment bits.
+fn frag_bit(byte: u8) -> Option<u8>
+    ensures { result ≡ frag_bit byte }
+{
+    match byte {
+        b'M' => Some(1),
+        b'D' => Some(2),
+        b'R' => Some(4),
+        _ => None,
+    }
+}
+
+impl Letters {
+    fn none() -> Letters
+        ensures { result ≡ no_letters }
+    {
+        Letters {
+            mode: None,
+            bits: 0,
+            any: false,
+        }
+    }
+
+    /// With one bit more, if there is one.
+    fn with_bit(self, bit: Option<u8>) -> Option<Letters>
+        ensures { result ≡ with_bit self bit }
+    {
+        let bit = bit?;
+        Some(Letters {
+            bits: self.bits | bit,
+            any: true,
+            ..self
+        })
+    }
+
+    /// With a sign, if the byte is one, or else with its bit.
+    fn with_mode(self, bit: Option<u8>, mode: Option<Mode>) -> Option<Letters>
+        ensures { result ≡ with_mode self (with_bit self bit) mode }
+    {
+        match mode {
+            None => self.with_bit(bit),
+            Some(_) => {
+                if self.mode.is_some() {
+                    return None;
+                }
+                Some(Letters { mode, ..self })
+            }
+        }
+    }
+
+    /// These, where a letter stands.
+    fn unless_none(self) -> Option<Letters>
+        ensures { result ≡ if_any self }
+    {
+        if self.any { Some(self) } else { None }
+    }
+
+    /// With a letter of TCP flags, or a sign where signs may stand.
+    #[tactic(auto, unfolding(crate::specs::Flags::flag_step))]
+    fn with_flag(self, signs: bool, byte: u8) -> Option<Letters>
+        ensures { result ≡ flag_step signs self byte }
+    {
+        let mode = if signs { mode_of(byte) } else { None };
+        self.with_mode(flag_bit(byte), mode)
+    }
+
+    /// With a letter of fragment bits, or a sign where it is the last byte.
+    #[tactic(auto, unfolding(crate::specs::Flags::frag_step))]
+    fn with_frag(self, last: bool, byte: u8) -> Option<Letters>
+        ensures { result ≡ frag_step last self byte }
+    {
+        let mode = if last { mode_of(byte) } else { None };
+        self.with_mode(frag_bit(byte), mode)
+    }
+}
+
+/// The letters of TCP flags, a sign anywhere among them where signs may stand.
+#[tactic(auto, using(crate::proofs::Lettering::flag_steps))]
+fn flag_letters(signs: bool, text: &[u8]) -> Option<Letters>
+    ensures { result ≡ flag_letters signs no_letters text.now }
+{
+    let mut letters = Letters::none();
+    for byte in text {
+        letters = letters.with_flag(signs, *byte)?;
+    }
+    letters.unless_none()
+}
+
+/// The letters of fragment bits behind this, of which a sign may be the last byte.
+#[tactic(auto, using(crate::proofs::Lettering::frag_steps))]
+fn frag_letters(mode: Option<Mode>, text: &[u8]) -> Option<Letters>
+    ensures { result ≡ frag_letters (record no_letters { mode = mode }) text.now }
+{
+    let mut letters = Letters {
+        mode,
+        ..Letters::none()
+    };
+    let mut left = text.len();
+    for byte in text {
+        left -= 1;
+        letters = letters.with_frag(left == 0, *byte)?;
+    }
+    letters.unless_none()
+}
+
+/// The letters of fragment bits with a sign in front or behind.
+fn frag_signed(text: &[u8]) -> Option<Letters>
+    ensures { result ≡ frag_signed text.now }
+{
+    let [byte, rest @ ..] = text else {
+        return None;
+    };
+    match mode_of(*byte) {
+        None => frag_letters(None, text),
+        Some(mode) => frag_letters(Some(mode), rest),
+    }
+}
+
+/// The bits of a mask that may lack.
+fn mask_of(mut rest: Parts) -> Result<u8, Fault>
+    ensures { result ≡ mask_of rest.entry }
+{
+    let Some(mask) = rest.next() else {
+        return Ok(0);
+    };
+    if rest.next().is_some() {
+        return Err(Fault::OptionValue);
+    }
+    let letters = flag_letters(false, mask).ok_or(Fault::OptionValue)?;
+    Ok(letters.bits)
+}
+
+#[tactic(auto, unfolding(crate::specs::Flags::flags_option))]
+pub(crate) fn flags_option(draft: Draft, value: &[u8]) -> Result<Draft, Stop<Fault>>
+    ensures { Gives result (flags_option draft value.now) }
+{
+    let mut parts = Parts::commas(value);
+    let first = parts.next().ok_or(Fault::OptionValue)?;
+    let letters = flag_letters(true, first).ok_or(Fault::OptionValue)?;
+    let mask = mask_of(parts)?;
+    draft.kept(Opt::Flags {
+        mode: letters.mode.unwrap_or(Mode::Exact),
+        bits: letters.bits,
+        mask,
+    })
+}
+
+#[tactic(auto, unfolding(crate::specs::Flags::fragbits_option))]
+pub(crate) fn fragbits_option(draft: Draft, value: &[u8]) -> Result<Draft, Stop<Fault>>
+    ensures { Gives result (fragbits_option draft value.now) }
+{
+    let letters = frag_signed(value).ok_or(Fault::OptionValue)?;
+    draft.kept(Opt::FragBits {
+        mode: letters.mode.unwrap_or(Mode::Exact),
+        bits: letters.bits,
+    })
+}

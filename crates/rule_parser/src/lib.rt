@@ -1,0 +1,42 @@
+//! Rules: what a rule line says.
+//!
+//! A rule is a header, seven words that say which packets it speaks of, and options, tests of an
+//! item's header and payload (Snort Users Manual 2.9, chapter 3). `read_rule` reads one line. The crates
+//! that try rules on items stand on the types.
+#![tactic(auto)]
+
+mod bits;
+mod byte_options;
+mod byte_words;
+mod contents;
+mod draft;
+mod extracted;
+mod fault;
+mod fields;
+mod flags;
+mod flowbits;
+mod header;
+mod line;
+#[cfg(test)]
+mod line_tests;
+mod names;
+mod number;
+mod option;
+#[cfg(test)]
+mod option_tests;
+mod options;
+mod patterns;
+mod periods;
+mod quoted;
+mod rule;
+mod steering;
+mod texts;
+mod written;
+
+pub use bits::BitNames;
+pub use fault::{RuleFault, RuleKind};
+pub use line::read_rule;
+pub use option::{
+    Base, BitChange, Cmp, Content, FastMode, Fetch, Field, FlowOpt, Mode, Num, Opt, Side,
+};
+pub use rule::{Action, Period, Proto, Rule};

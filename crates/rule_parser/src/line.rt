@@ -1,0 +1,225 @@
+//! Reading one rule line.
+ghost use Rattle.std.specs.Prelude.{◌≡◌, ◌+◌, ◌<◌, ◌≤◌, ◌++◌, ◌∷◌, [], List, ℕ, Result, length, option_copied, OnErr, IfOk, IfSome};
+ghost use Rattle.net_lists.specs.Stops.{Gives};
+ghost use Rattle.rule_parser.specs.declared.fault.Fault.{Fault};
+ghost use Rattle.rule_parser.specs.declared.rule.Rule.{Rule};
+ghost use Rattle.rule_parser.specs.Bits.{GivesWith, IsGivenWith, Begins};
+ghost use Rattle.rule_parser.specs.RuleLine.{in_parentheses, options_of, IsClassOf, class_of, class_priority, finished, rule_body, IsRuleLine, IsAnswered, AnswersAs};
+ghost use Rattle.rule_parser.specs.Sound.{IsSound};
+ghost use Rattle.rule_parser.specs.Written.{outside, option_texts, AreOptionTexts, IsOptionText, options_text};
+
+use crate::Rule;
+use crate::bits::BitNames;
+use crate::draft::{ClassName, Draft};
+use crate::fault::{Fault, RuleFault, stop_fault};
+use crate::header::{Header, HeaderTexts};
+use crate::options::rule_option;
+use crate::written::{are_blank, first_option};
+use conf_parser::Classes;
+use edge_io::Text;
+use net_lists::{Stop, Vars};
+use std::alloc::Global;
+
+/// What stands between the parentheses that hold the options.
+#[tactic(auto, unfolding(crate::specs::RuleLine::in_parentheses))]
+fn in_parentheses(text: &[u8]) -> Option<&[u8]>
+    ensures { option_copied result ≡ in_parentheses text.now }
+{
+    let len = text.len();
+    if len < 2 || text[0] != b'(' || text[len - 1] != b')' {
+        return None;
+    }
+    Some(&text[1..len - 1])
+}
+
+/// How many bytes of the line are left where these options begin: they and the `)`.
+fn left_from(options: &[u8]) -> usize
+    ensures { result ≡ length options.now + 1 }
+{
+    options.len() + 1
+}
+
+/// The options of a rule, read in their order.
+fn read_options(
+    alloc: Global,
+    classes: &Classes,
+    bits: &mut BitNames,
+    inside: &[u8],
+) -> Result<Draft, Stop<Fault>>
+    ensures gives { GivesWith result bits.new
+        (options_of classes.now bits.old inside.now (option_texts outside inside.now)) }
+    ensures begins { Begins bits.old bits.new }
+{
+    let mut draft = Draft::new(alloc);
+    let mut rest = inside;
+    while let Some((text, behind)) = first_option(rest) {
+        draft = rule_option(alloc, classes, bits, draft, left_from(rest), text)?;
+        rest = behind;
+    }
+    if !are_blank(rest) {
+        return Err(Stop::Wrong(Fault::OptionSyntax));
+    }
+    Ok(draft)
+}
+
+/// The options of a rule. Options that are written one behind another are read one behind another.
+fn rule_options(
+    alloc: Global,
+    classes: &Classes,
+    bits: &mut BitNames,
+    inside: &[u8],
+) -> Result<Draft, Stop<Fault>>
+    ensures gives { GivesWith result bits.new
+        (options_of classes.now bits.old inside.now (option_texts outside inside.now)) }
+    ensures begins { Begins bits.old bits.new }
+    ensures written { (options : List (List ℕ)) (rest : List ℕ)
+        → AreOptionTexts options → IsOptionText rest → inside.now ≡ options_text options rest
+        → GivesWith result bits.new (options_of classes.now bits.old inside.now (options ++ rest ∷ [])) }
+{
+    read_options(alloc, classes, bits, inside)
+}
+
+/// The class that a rule names, if it names one.
+#[tactic(auto, unfolding(crate::specs::RuleLine::class_of))]
+fn class_of(class: Option<ClassName>) -> Result<Option<u32>, Fault>
+    ensures { result ≡ class_of class }
+{
+    match class {
+        None => Ok(None),
+        Some(ClassName::Known(place)) => Ok(Some(place)),
+        Some(ClassName::Unknown) => Err(Fault::UnknownClass),
+    }
+}
+
+/// The priority of a class, 0 where there is none.
+fn class_priority(classes: &Classes, class: Option<u32>) -> u32
+    requires { IfSome class (λ place. place < length classes.now) }
+    ensures { result ≡ class_priority classes.now class }
+{
+    match class {
+        None => 0,
+        Some(place) => classes.priority(place),
+    }
+}
+
+/// A rule of this header whose options are read.
+#[tactic(auto, using(crate::proofs::Classing::class_there), unfolding(crate::specs::RuleLine::finished))]
+fn finished(
+    alloc: Global,
+    classes: &Classes,
+    header: Header,
+    draft: Draft,
+) -> Result<Rule, Stop<Fault>>
+    requires { IsClassOf (length classes.now) draft.class }
+    ensures { Gives result (finished classes.now header draft) }
+{
+    let sid = draft.sid.ok_or(Fault::MissingSid)?;
+    let Draft {
+        opts,
+        msg,
+        gid,
+        rev,
+        class,
+        priority,
+        noalert,
+        period,
+        ..
+    } = draft.settled()?;
+    let class = class_of(class)?;
+    let class_priority = class_priority(classes, class);
+    let Header {
+        action,
+        proto,
+        src,
+        sports,
+        dst,
+        dports,
+        both,
+    } = header;
+    Ok(Rule {
+        action,
+        proto,
+        src,
+        sports,
+        dst,
+        dports,
+        both,
+        opts,
+        msg: msg.unwrap_or(Text::from_vec(Vec::new(alloc))),
+        gid: gid.unwrap_or(1),
+        sid,
+        rev: rev.unwrap_or(0),
+        class,
+        priority: priority.unwrap_or(class_priority),
+        noalert,
+        period,
+    })
+}
+
+/// The rule of a header with what stands behind it.
+#[tactic(auto, unfolding(crate::specs::RuleLine::rule_body))]
+fn rule_body(
+    alloc: Global,
+    classes: &Classes,
+    bits: &mut BitNames,
+    header: Header,
+    text: &[u8],
+) -> Result<Rule, Stop<Fault>>
+    requires { length bits.old ≤ 1024 }
+    ensures gives { GivesWith result bits.new (rule_body classes.now bits.old header text.now) }
+    ensures begins { Begins bits.old bits.new }
+{
+    let inside = in_parentheses(text).ok_or(Fault::OptionSyntax)?;
+    let draft = rule_options(alloc, classes, bits, inside)?;
+    finished(alloc, classes, header, draft)
+}
+
+/// The rule of a line. Where the line is none, names may stand behind those that stood before.
+fn rule_of(
+    alloc: Global,
+    line: &[u8],
+    vars: &Vars,
+    classes: &Classes,
+    bits: &mut BitNames,
+) -> Result<Rule, Stop<Fault>>
+    requires { length bits.old ≤ 1024 }
+    ensures meant { IsGivenWith result bits.new (IsRuleLine vars.now classes.now bits.old line.now) }
+    ensures begins { Begins bits.old bits.new }
+{
+    let texts = HeaderTexts::cut(line);
+    let header = Header::read(alloc, vars, &texts)?;
+    rule_body(alloc, classes, bits, header, texts.options)
+}
+
+/// The rule that a line of a rule file says, with the variables, the classes and the flowbit names that stand
+/// (Snort Users Manual 2.9, chapter 3).
+///
+/// The leftmost fault in the line decides: the words of the header, its parentheses, the options one after
+/// another, then a missing `sid` and a class that there is not. Behind a rule the names of its flowbits stand
+/// behind those before; behind a fault the names are as they were.
+pub fn read_rule(
+    alloc: Global,
+    line: &[u8],
+    vars: &Vars,
+    classes: &Classes,
+    bits: &mut BitNames,
+) -> Result<Rule, RuleFault>
+    ensures meant { IsAnswered (length line.now) result bits.new
+        (IsRuleLine vars.now classes.now bits.old line.now) }
+    // The meaning of a line is one: no other is its meaning.
+    ensures only { (meant : Result (Rule × List (List ℕ)) Fault)
+        → IsRuleLine vars.now classes.now bits.old line.now meant
+        → AnswersAs (length line.now) result bits.new meant }
+    ensures begins { Begins bits.old bits.new }
+    ensures refused { OnErr result (bits.new ≡ bits.old) }
+    ensures sound { IfOk result (IsSound classes.now) }
+{
+    let before = bits.as_slice().len();
+    match rule_of(alloc, line, vars, classes, bits) {
+        Ok(rule) => Ok(rule),
+        Err(stop) => {
+            bits.truncate(before);
+            Err(stop_fault(line.len(), stop))
+        }
+    }
+}

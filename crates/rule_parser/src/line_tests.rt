@@ -1,0 +1,201 @@
+//! Whole lines of rules: which are read, what their options stand for, and which fault decides where there are
+//! several. Each was worked out by hand from the grammar of the manual's chapter 3.
+
+use crate::{BitNames, Rule, RuleFault, read_rule};
+use conf_parser::Classes;
+use net_lists::{Vars, is_name};
+use std::alloc::Global;
+use std::test::Fail;
+
+/// Variables: E is `any`, H a list of addresses, P one of ports, and L a list of 1025 ports.
+fn variables(alloc: Global) -> Result<Vars, Fail> {
+    let mut vars = Vars::new(alloc);
+    let (e, h, p, l) = (
+        b"E".as_slice(),
+        b"H".as_slice(),
+        b"P".as_slice(),
+        b"L".as_slice(),
+    );
+    let mut long = String::from_str(alloc, "[1")?;
+    for _ in 0..1024 {
+        long.push_str(",1")?;
+    }
+    long.push_str("]")?;
+    if is_name(e) && is_name(h) && is_name(p) && is_name(l) {
+        vars.define(e, b"any", false)?;
+        vars.define(h, b"[10.0.0.0/8,!10.1.0.0/16]", false)?;
+        vars.define(p, b"[80,8080]", false)?;
+        vars.define(l, long.as_bytes(), false)?;
+    }
+    Ok(vars)
+}
+
+/// What a line says, with these names of flowbits before it.
+fn read(alloc: Global, line: &str, bits: &mut BitNames) -> Result<Result<Rule, RuleFault>, Fail> {
+    let vars = variables(alloc)?;
+    let classes = Classes::new(alloc);
+    Ok(read_rule(alloc, line.as_bytes(), &vars, &classes, bits))
+}
+
+/// What a line gives: the rule's number, how many options it keeps and whether it gives no event; or the kind
+/// of the fault, and the places of what an unknown variable shows.
+fn outcome(alloc: Global, line: &str) -> Result<String, Fail> {
+    let mut bits = BitNames::new(alloc);
+    match read(alloc, line, &mut bits)? {
+        Ok(rule) => {
+            let (sid, kept, silent) = (rule.sid, rule.opts.as_slice().len(), rule.noalert);
+            Ok(format!(in alloc; "rule {sid} {kept} {silent}")?)
+        }
+        Err(RuleFault { kind, from, to }) => Ok(format!(in alloc; "{kind:?} {from} {to}")?),
+    }
+}
+
+/// Lines, each with an `@` and what it gives behind it.
+const LINES: &str =
+    r#"alert udp any any -> any any (msg:"t"; content:"abc"; depth:3; sid:1;)@rule 1 1 false
+alert udp any any -> any any (msg:"t"; content:"abcd"; depth:4; sid:2;)@rule 2 1 false
+alert ip any any -> any any (content:"AAAABBBB"; flow:only_frag; sid:2;)@rule 2 2 false
+alert udp any any -> any any (content:"ab"; content:"c"; distance:0; within:1; sid:1;)@rule 1 2 false
+alert udp any any -> any any (pcre:"/ab/"; content:"c"; distance:0; within:1; sid:1;)@rule 1 2 false
+alert udp any any -> any any (byte_jump:1,0; isdataat:0,relative; sid:1;)@rule 1 2 false
+alert udp any any -> any any (content:"ab"; content:!"X"; within:5; sid:1;)@rule 1 2 false
+alert tcp any any -> any 80 (msg:"t"; content:"attk"; sid:1;)@rule 1 1 false
+alert tcp any any -> any any (content:"abc"; flow:only_stream; sid:1;)@rule 1 2 false
+alert tcp any any -> any any (flags:S; sid:2;)@rule 2 1 false
+alert tcp any any -> any any (flags:+S; sid:2;)@rule 2 1 false
+alert udp any any -> any any (content:"a"; flowbits:set,x; flowbits:noalert; sid:1;)@rule 1 2 true
+alert udp any any -> any any (content:"b"; flowbits:isset,x; sid:2;)@rule 2 2 false
+alert udp any any -> any any (content:"a"; detection_filter:track by_src, count 2, seconds 60; sid:1;)@rule 1 1 false
+alert udp any any -> any any (content:"xABC"; nocase; sid:1;)@rule 1 1 false
+pass udp any any -> any any (content:"a"; sid:1;)@rule 1 1 false
+alert udp any any -> any any (pcre:"/AB/i"; content:"c"; distance:0; sid:1;)@rule 1 2 false
+alert udp any any -> any 53 (msg:"g"; content:"gen-749"; sid:2;)@rule 2 1 false
+alert tcp any any -> any any (content:"evil"; flow:established; sid:1;)@rule 1 2 false
+alert udp any any -> any any (byte_extract:1,0,n; content:"b"; offset:n; depth:1; sid:1;)@rule 1 2 false
+alert udp any any -> any any (byte_test:2,=,256,0; sid:1;)@rule 1 1 false
+alert udp any any -> any any (byte_test:2,=,256,0,little; sid:1;)@rule 1 1 false
+alert icmp any any -> any any (msg:"t"; itype:8; sid:1;)@rule 1 1 false
+alert udp any any -> any any (content:"|61 62|c"; depth:3; content:!"zz"; sid:1;)@rule 1 2 false
+alert tcp any any -> any any (content:"b"; flow:no_stream; stream_size:client,>,3; sid:1;)@rule 1 3 false
+alert tcp any any -> any any (content:"off"; stream_reassemble:disable,client,noalert; sid:1;)@rule 1 2 true
+alert tcp $E any -> $H $P (flow:to_server,established; content:"attack"; fast_pattern; nocase; sid:1000001;)@rule 1000001 2 false
+alert tcp [$H, 11.0.0.1] any <> !192.168.0.0/16 [1:1023, !80] (sid:1;)@rule 1 0 false
+pass ip 10.0.0.1 ![80,81] <> 2001:db8::/32 1024: ( sid : 4294967295 ; )@rule 4294967295 0 false
+alert udp any any -> any any (msg:"a;b\";)"; sid:1;)@rule 1 0 false
+@Action 0 0
+fetch udp any any -> any any (sid:1;)@Action 0 0
+Alert udp any any -> any any (sid:1;)@Action 0 0
+log udp $X any -> any any (sid:1;)@OutsideProfile 0 0
+drop udp any any -> any any (sid:1;)@OutsideProfile 0 0
+sdrop@OutsideProfile 0 0
+alert@Protocol 0 0
+alert tcpx $X any -> any any (sid:1;)@Protocol 0 0
+alert UDP any any -> any any (sid:1;)@Protocol 0 0
+alert udp@Address 0 0
+alert udp [10.0.0.0/8 any -> any any (sid:1;)@Address 0 0
+alert udp [any] any -> any any (sid:1;)@Address 0 0
+alert udp any any -> 10.0.0 any (sid:1;)@Address 0 0
+alert udp $(X:?need X) any -> any any (sid:1;)@Address 0 0
+alert udp any any -> any@Port 0 0
+alert udp any 99999 => any any (sid:1;)@Port 0 0
+alert udp any ![80,!81] -> any any (sid:1;)@Port 0 0
+alert udp any any -> any 80:79 (sid:1;)@Port 0 0
+alert udp any any -> any any(sid:1;)@Port 0 0
+alert udp any any@Direction 0 0
+alert udp any any => $X any (sid:1;)@Direction 0 0
+alert udp any any <- any any (sid:1;)@Direction 0 0
+alert udp any any -> any any@OptionSyntax 0 0
+alert udp any any -> any any sid:1;)@OptionSyntax 0 0
+alert udp any any -> any any (sid:1;) @OptionSyntax 0 0
+alert udp any any -> any any (sid:0; x;@OptionSyntax 0 0
+alert udp any any -> any any (@OptionSyntax 0 0
+alert udp any any -> any any (sid:1)@OptionSyntax 0 0
+alert udp any any -> any any (sid:1; x)@OptionSyntax 0 0
+alert udp any any -> any any (msg:"t; sid:1;)@OptionSyntax 0 0
+alert udp any any -> any any (x; sid:0;)@UnknownOption 0 0
+alert udp any any -> any any (sid:0; x;)@OptionValue 0 0
+alert udp any any -> any any (stream_size:client,~,3; sid:1;)@OptionValue 0 0
+alert udp any any -> any any (content:"a"; offset:1; distance:1; sid:1;)@MisplacedModifier 0 0
+alert udp any any -> any any (classtype:c; nocase;)@MisplacedModifier 0 0
+alert udp any any -> any any (msg:"t";)@MissingSid 0 0
+alert udp any any -> any any ()@MissingSid 0 0
+alert udp any any -> any any (   )@MissingSid 0 0
+alert udp any any -> any any (classtype:c; msg:"t";)@MissingSid 0 0
+alert udp any any -> any any (classtype:c; sid:1;)@UnknownClass 0 0
+alert udp $X any -> any any (sid:1;)@UnknownVariable 11 12
+alert udp any $Ports => any any (sid:1;)@UnknownVariable 15 20
+alert udp [1.2.3.4,$(X)] any -> any any (sid:1;)@UnknownVariable 21 22
+alert udp any any -> $(Q:?needQ) any (sid:1;)@UnknownVariable 26 31
+alert udp any any -> any any (content:"a"; offset:n; sid:1;)@UnknownVariable 50 51
+alert udp any any -> any any (byte_test:1,=,n,0; sid:1;)@UnknownVariable 44 45
+alert udp any any -> any any (byte_jump: 4 , nn , relative; sid:1;)@UnknownVariable 45 47
+alert udp any any -> any any (isdataat:!n; sid:1;)@UnknownVariable 40 41
+alert udp any $L -> any any (sid:1;)@Limit 0 0
+alert tcp any any -> any 80 (msg:"t"; content:"x"; http_uri; sid:1;)@OutsideProfile 0 0
+alert tcp any any -> any any (stream_reassemble:disable,both,fastpath; sid:1;)@OutsideProfile 0 0
+alert udp any any -> any any (flowbits:setx,a; sid:1;)@OutsideProfile 0 0
+"#;
+
+#[test]
+fn lines_give_rules_or_their_leftmost_faults(rt: HostRuntime) -> Result<(), Fail> {
+    for row in LINES.lines() {
+        let (line, wanted) = row.split_once('@').ok_or("a row")?;
+        assert_eq!(rt; outcome(rt.alloc(), line)?.as_str(), wanted, "{line}");
+    }
+    Ok(())
+}
+
+/// The options of a rule of this line, as they are kept.
+fn values(alloc: Global, line: &str, bits: &mut BitNames) -> Result<String, Fail> {
+    let opts = read(alloc, line, bits)?.ok().ok_or("a rule")?.opts;
+    let opts = opts.as_slice();
+    Ok(format!(in alloc; "{opts:?}")?)
+}
+
+/// Options, each row with an `@` and what they stand for behind it.
+const VALUES: &str =
+    r#"content:!"a|20 7C|\"b"; nocase;@[Content(Content { bytes: Text { bytes: [97, 32, 124, 34, 98] }, negated: true, nocase: true, relative: false, from: None, room: None, fast: No })]
+content:"ab"; distance:-1; within:3; rawbytes;@[Content(Content { bytes: Text { bytes: [97, 98] }, negated: false, nocase: false, relative: true, from: Some(Value(-1)), room: Some(Value(3)), fast: No })]
+content:"abc"; fast_pattern:1,2;@[Content(Content { bytes: Text { bytes: [97, 98, 99] }, negated: false, nocase: false, relative: false, from: None, room: None, fast: Part { from: 1, len: 2 } })]
+content:!"a"; fast_pattern; content:"b"; dsize:1; depth:1;@[Content(Content { bytes: Text { bytes: [97] }, negated: true, nocase: false, relative: false, from: None, room: None, fast: No }), Content(Content { bytes: Text { bytes: [98] }, negated: false, nocase: false, relative: false, from: None, room: Some(Value(1)), fast: No }), Compare { field: Dsize, cmp: Eq, low: 1, high: 1 }]
+pcre:!"/a\/b\d/iR";@[Pcre { text: Text { bytes: [97, 47, 98, 92, 100] }, flags: PatternFlags { nocase: true, dot_all: false, multi_line: false, extended: false }, relative: true, negated: true }]
+byte_test:4, !>=, 1000, 20, relative;@[ByteTest { fetch: Fetch { bytes: 4, offset: Value(20), relative: true, base: Binary { little: false } }, not: true, cmp: Ge, value: Value(1000) }]
+byte_jump:2,-4,string,hex,multiplier 3,align,from_beginning,post_offset -1;@[ByteJump { fetch: Fetch { bytes: 2, offset: Value(-4), relative: false, base: Hex }, times: 3, align: true, beginning: true, post: -1 }]
+byte_extract:1,0,n,little,align 2; isdataat:!n,relative;@[ByteExtract { fetch: Fetch { bytes: 1, offset: Value(0), relative: false, base: Binary { little: true } }, name: 0, times: 1, align: 2 }, IsDataAt { at: Name(0), relative: true, negated: true }]
+flow:not_established,from_server,only_stream,no_frag;@[Flow(FlowOpt { established: Some(false), stateless: false, from_client: Some(false), stream: Some(true), frag: Some(false) })]
+flags:SA+,12;@[Flags { mode: All, bits: 18, mask: 192 }]
+fragbits:MD*;@[FragBits { mode: Any, bits: 3 }]
+ttl:3-5; ttl:-5; ttl:<=2;@[Compare { field: Ttl, cmp: Within, low: 3, high: 5 }, Compare { field: Ttl, cmp: Within, low: 0, high: 5 }, Compare { field: Ttl, cmp: Le, low: 2, high: 2 }]
+dsize:2<>7; itype:>3; ip_proto:udp;@[Compare { field: Dsize, cmp: Within, low: 2, high: 7 }, Compare { field: Itype, cmp: Gt, low: 3, high: 3 }, Compare { field: IpProto, cmp: Eq, low: 17, high: 17 }]
+stream_size:either,!=,9; stream_reassemble:enable,both; sameip;@[StreamSize { side: Either, cmp: Ne, value: 9 }, Reassemble { on: true, side: Both }, SameIp]
+flowbits:set,x; flowbits:isnotset,y; flowbits:toggle,x;@[BitDo { change: Set, bit: 0 }, BitTest { bit: 1, want: false }, BitDo { change: Toggle, bit: 0 }]
+msg:"t"; reference:url,a.b; metadata:a b; flowbits:noalert;@[]
+"#;
+
+#[test]
+fn options_stand_for_their_values(rt: HostRuntime) -> Result<(), Fail> {
+    for row in VALUES.lines() {
+        let (options, wanted) = row.split_once('@').ok_or("a row")?;
+        let line = format!(in rt.alloc(); "alert ip any any -> any any ({options} sid:1;)")?;
+        let mut bits = BitNames::new(rt.alloc());
+        assert_eq!(rt;
+            values(rt.alloc(), line.as_str(), &mut bits)?.as_str(),
+            wanted,
+            "{options}"
+        );
+    }
+    Ok(())
+}
+
+#[test]
+fn a_refused_rule_leaves_no_names_of_flowbits(rt: HostRuntime) -> Result<(), Fail> {
+    let mut bits = BitNames::new(rt.alloc());
+    let first = "alert ip any any -> any any (flowbits:set,x; sid:1;)";
+    let wrong = "alert ip any any -> any any (flowbits:set,y; sid:0;)";
+    let second = "alert ip any any -> any any (flowbits:set,z; flowbits:isset,x; sid:2;)";
+    let _ = values(rt.alloc(), first, &mut bits)?;
+    assert_eq!(rt; read(rt.alloc(), wrong, &mut bits)?.is_ok(), false);
+    let wanted = "[BitDo { change: Set, bit: 1 }, BitTest { bit: 0, want: true }]";
+    assert_eq!(rt; values(rt.alloc(), second, &mut bits)?.as_str(), wanted);
+    Ok(())
+}

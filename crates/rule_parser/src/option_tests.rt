@@ -1,0 +1,409 @@
+//! Options of rules, one a line: which are read, and why the others are refused. Each was worked out by hand
+//! from the grammar of the manual's chapter 3.
+
+use crate::{BitNames, RuleKind, read_rule};
+use conf_parser::Classes;
+use net_lists::Vars;
+use std::alloc::{AllocError, Global};
+use std::test::Fail;
+
+/// The kind of the fault of a rule with these options and a `sid` behind them; None where it is read.
+fn kind_of(alloc: Global, options: &str) -> Result<Option<RuleKind>, AllocError> {
+    let line = format!(in alloc; "alert ip any any -> any any ({options} sid:1;)")?;
+    let mut bits = BitNames::new(alloc);
+    let vars = Vars::new(alloc);
+    let classes = Classes::new(alloc);
+    match read_rule(alloc, line.as_bytes(), &vars, &classes, &mut bits) {
+        Ok(_) => Ok(None),
+        Err(fault) => Ok(Some(fault.kind)),
+    }
+}
+
+/// Options that are read.
+const READ: &str = r#"msg:"t";
+msg:"a\"b;c\\";
+gid:1;
+gid:4294967295;
+rev:0;
+rev:7;
+priority:0;
+priority:4294967295;
+reference:url,a.b;
+reference;
+metadata:a b, c d;
+metadata;
+content:"a";
+content:!"|61 62|c|63|";
+content:"a"; nocase;
+content:!"a"; depth:1; nocase;
+content:"a"; rawbytes;
+content:"a"; nocase; rawbytes;
+content:"a"; offset:-65535;
+byte_extract:1,0,n; content:"a"; offset:n;
+content:"ab"; depth:2;
+content:"a"; depth:65535;
+content:"a"; distance:65535;
+content:"a"; distance:-1; within:1;
+content:"ab"; within:2;
+byte_extract:1,0,n; content:"ab"; within:n;
+content:"a"; fast_pattern;
+content:"a"; fast_pattern:only;
+content:"abc"; fast_pattern:1,2;
+content:!"a"; fast_pattern;
+pcre:"/a/";
+pcre:!"/a\/b/ismxR";
+byte_test:4, !>, 1000, 20, relative;
+byte_test:10,=,0,-65535,string,oct;
+byte_test:1,!,1,0,big,little;
+byte_jump:1,0;
+byte_jump:4,0,multiplier 2,align,from_beginning,post_offset -1;
+byte_jump:10,65535,hex,string;
+byte_extract:1,0,n;
+byte_extract:2,-4,_n1,align 4,multiplier 0;
+byte_extract:1,0,n; byte_extract:1,0,m; byte_extract:1,1,n;
+isdataat:0;
+isdataat:!65535,relative,rawbytes;
+byte_extract:1,0,n; isdataat:n,rawbytes;
+flow:established,to_server,no_stream,only_frag;
+flow:stateless;
+flags:S;
+flags:S+A,12;
+flags:0;
+flowbits:set,a.b_c-1;
+flowbits:isnotset, a; flowbits:toggle,a;
+flowbits:noalert;
+detection_filter:track by_src, count 1, seconds 1;
+detection_filter:track by_dst,count 4294967295,seconds 60;
+dsize:0;
+dsize:>65535;
+dsize:8<>4;
+ttl:5;
+ttl:>=3;
+ttl:=3;
+ttl:-5;
+ttl:5-;
+ttl:1-5;
+tos:4;
+tos:!4;
+window:0;
+window:!4294967295;
+id:0;
+id:4294967295;
+seq:0;
+seq:1;
+ack:0;
+ack:1;
+icmp_id:0;
+icmp_id:1;
+icmp_seq:0;
+icmp_seq:1;
+fragbits:M;
+fragbits:+MD;
+fragbits:R!;
+fragoffset:0;
+fragoffset:!1;
+fragoffset:<4;
+ip_proto:tcp;
+ip_proto:!6;
+ip_proto:>5;
+itype:8;
+itype:<8;
+icode:0;
+icode:>3;
+sameip;
+sameip; sameip;
+stream_size:client,>,3;
+stream_size:either, !=, 0;
+stream_reassemble:enable,both;
+stream_reassemble:disable,client,noalert;
+ ttl : 5 ; 
+content:"a;b"; content:"\"";
+content:"a"; content:"b"; fast_pattern; content:"c";
+content:"a"; dsize:1; depth:1;
+priority:1; gid:2; rev:3; msg:"t";
+flow:established; dsize:1; sameip;
+content:"|7c|\|\:";
+pcre:"/a/b/";"#;
+
+/// Options with wrong values.
+const WRONG: &str = r#"msg;
+msg:t;
+msg:"t" x;
+msg:"a"; msg:"b";
+gid:0;
+gid:01;
+gid:4294967296;
+gid:1; gid:2;
+sid:0;
+sid:x;
+sid:1; sid:2;
+rev:-1;
+rev:;
+rev:1; rev:1;
+priority:x;
+priority;
+priority:1; priority:1;
+classtype:;
+classtype;
+classtype:a; classtype:b;
+content;
+content:"";
+content:a;
+content:"a" b;
+content:"|6|";
+content:"|6 1|";
+content:"|61";
+content:"||";
+content:"a"; nocase:;
+content:"a"; nocase:x;
+content:"a"; nocase:"";
+content:"a"; rawbytes:;
+content:"a"; rawbytes:x;
+content:"a"; rawbytes:1;
+content:"a"; offset;
+content:"a"; offset:65536;
+content:"a"; offset:x-y;
+content:"a"; distance;
+content:"a"; distance:-65536;
+content:"a"; distance:+1;
+content:"ab"; depth:1;
+content:"a"; depth:65536;
+content:"a"; depth:-1;
+content:"ab"; within:1;
+content:"a"; within;
+content:"a"; within:1 1;
+content:"abc"; fast_pattern:1,3;
+content:"abc"; fast_pattern:0,0;
+content:"abc"; fast_pattern:1;
+content:!"a"; fast_pattern:only;
+content:"a"; offset:1; fast_pattern:only;
+content:"a"; fast_pattern:only; depth:1;
+content:!"a"; fast_pattern; within:1;
+pcre;
+pcre:"a";
+pcre:"/a/ii";
+pcre:"/a/z";
+pcre:/a/;
+byte_test:0,=,1,0;
+byte_test:5,=,1,0;
+byte_test:1,==,1,0;
+byte_test:1,=,1;
+byte_test:1,=,1,0,relative,relative;
+byte_test:1,=,1,0,dec;
+byte_test:1,=,4294967296,0;
+byte_jump:5,0;
+byte_jump:1;
+byte_jump:1,0,multiplier;
+byte_jump:1,0,post_offset 65536;
+byte_jump:1,0,align 4;
+byte_extract:1,0;
+byte_extract:1,0,1n;
+byte_extract:1,0,n,align;
+byte_extract:1,0,n,align 3;
+isdataat;
+isdataat:65536;
+isdataat:1,rawbytes,relative;
+isdataat:-1;
+flow;
+flow:;
+flow:x;
+flow:established,stateless;
+flow:to_client,from_client;
+flow:established; flow:to_server;
+flags;
+flags:+;
+flags:SX;
+flags:S,;
+flags:!S+;
+flags:S,1,2;
+flowbits;
+flowbits:set;
+flowbits:set,;
+flowbits:set,a b;
+flowbits:noalert,x;
+flowbits:get,a;
+detection_filter;
+detection_filter:track by_x, count 1, seconds 1;
+detection_filter:track by_src, count 0, seconds 1;
+detection_filter:track by_src, count 1;
+detection_filter:count 1, track by_src, seconds 1;
+detection_filter:track by_src, count 1, seconds 1, x;
+dsize;
+dsize:65536;
+dsize:4<>;
+dsize:!4;
+dsize:1; dsize:1;
+ttl;
+ttl:-;
+ttl:!5;
+ttl:1-2-3;
+tos;
+tos:<4;
+tos:!;
+window;
+window:>1;
+window:-1;
+id;
+id:=4;
+id:!4;
+seq;
+seq:x;
+seq:!1;
+ack;
+ack:4294967296;
+ack:<1;
+icmp_id;
+icmp_id:0x1;
+icmp_id:!1;
+icmp_seq;
+icmp_seq:01;
+icmp_seq:>1;
+fragbits;
+fragbits:;
+fragbits:X;
+fragbits:M+D;
+fragbits:+M+;
+fragoffset;
+fragoffset:<=4;
+fragoffset:4-5;
+ip_proto;
+ip_proto:!tcp;
+ip_proto:=6;
+itype;
+itype:3<>5;
+itype:!8;
+icode;
+icode:3<>5;
+icode:!8;
+sameip:;
+sameip:x;
+sameip:"";
+stream_size;
+stream_size:client,~,3;
+stream_size:fastpath,>,3;
+stream_size:client,>;
+stream_reassemble;
+stream_reassemble:enable;
+stream_reassemble:on,both;
+stream_reassemble:enable,either;"#;
+
+/// Options without a name.
+const NAMELESS: &str = r#";
+:x;
+ttl:5; :;"#;
+
+/// Names that are none.
+const UNKNOWN: &str = r#"Ttl:5;
+flow_bits:set,a;
+http;"#;
+
+/// Modifiers that stand where they may not.
+const MISPLACED: &str = r#"nocase;
+rawbytes:x;
+offset:x-y;
+depth:1;
+distance:n;
+within:1;
+fast_pattern;
+content:"a"; nocase; nocase;
+content:"a"; rawbytes; rawbytes;
+content:"a"; offset:1; offset:2;
+content:"a"; depth:1; depth:2;
+content:"a"; distance:1; distance:2;
+content:"a"; within:1; within:2;
+content:"a"; offset:1; distance:1;
+content:"a"; within:1; depth:1;
+content:"a"; depth:1; within:n;
+content:"a"; fast_pattern; content:"b"; fast_pattern:9;"#;
+
+/// Names that were not extracted, or too late.
+const NOT_EXTRACTED: &str = r#"content:"a"; offset:n;
+content:"a"; byte_extract:1,0,n; depth:n;
+content:"a"; distance:n;
+content:"a"; within:n;
+byte_test:1,=,n,0;
+byte_test:1,=,1,n;
+byte_jump:1,n;
+byte_extract:1,n,n;
+isdataat:!n;"#;
+
+/// A class that there is not.
+const CLASSLESS: &str = r#"classtype:a;"#;
+
+/// What is outside the profile.
+const OUTSIDE: &str = r#"http_uri;
+dce_iface:x;
+sip_method:x;
+ssl_state:x;
+gtp_type:x;
+modbus_func:x;
+dnp3_func:x;
+cip_attribute:x;
+uricontent:"a";
+byte_math:x;
+threshold:x;
+file_group:x;
+tag:session;
+flowbits:set,a&b;
+flowbits:isset,a|b;
+flowbits:set,a,group;
+flowbits:setx,a;
+flowbits:reset;
+byte_test:1,^,1,0;
+byte_test:1,!^,1,0;
+byte_test:1,=,1,0,dce;
+byte_jump:1,0,dce;
+pcre:"/a/U";
+pcre:"/a/iP"x;
+stream_reassemble:disable,both,fastpath;
+stream_reassemble:enable,fastpath;
+stream_reassemble:disable,both,noalert,fastpath;"#;
+
+/// More names than a rule may extract.
+const TOO_MANY: &str = r#"byte_extract:1,0,a; byte_extract:1,0,b; byte_extract:1,0,c;
+byte_extract:1,0,a; byte_extract:1,0,b; byte_extract:1,0,c; x;"#;
+
+#[test]
+fn options_are_read_or_refused(rt: HostRuntime) -> Result<(), Fail> {
+    let tables = [
+        (READ, None),
+        (WRONG, Some(RuleKind::OptionValue)),
+        (NAMELESS, Some(RuleKind::OptionSyntax)),
+        (UNKNOWN, Some(RuleKind::UnknownOption)),
+        (MISPLACED, Some(RuleKind::MisplacedModifier)),
+        (NOT_EXTRACTED, Some(RuleKind::UnknownVariable)),
+        (CLASSLESS, Some(RuleKind::UnknownClass)),
+        (OUTSIDE, Some(RuleKind::OutsideProfile)),
+        (TOO_MANY, Some(RuleKind::Limit)),
+    ];
+    for (table, kind) in tables {
+        for options in table.lines() {
+            assert_eq!(rt; kind_of(rt.alloc(), options)?, kind, "{options}");
+        }
+    }
+    Ok(())
+}
+
+/// What stands in front of a repeated text, the text, what stands behind, and how often it may stand.
+const LIMITS: [(&str, &str, &str, usize); 4] = [
+    ("", "ttl:1;", "", 64),
+    ("content:\"", "|61|", "\";", 2048),
+    ("msg:\"", "\\a", "\";", 1024),
+    ("pcre:\"/", "a", "/\";", 4096),
+];
+
+#[test]
+fn limits_are_kept(rt: HostRuntime) -> Result<(), Fail> {
+    for (front, text, behind, most) in LIMITS {
+        let mut options = String::from_str(rt.alloc(), front)?;
+        for _ in 0..most {
+            options.push_str(text)?;
+        }
+        let full = format!(in rt.alloc(); "{options}{behind}")?;
+        assert_eq!(rt; kind_of(rt.alloc(), full.as_str())?, None, "{front}");
+        let over = format!(in rt.alloc(); "{options}{text}{behind}")?;
+        let kind = kind_of(rt.alloc(), over.as_str())?;
+        assert_eq!(rt; kind, Some(RuleKind::Limit), "{front}");
+    }
+    Ok(())
+}

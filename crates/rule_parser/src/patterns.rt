@@ -1,0 +1,193 @@
+//! Regular expressions.
+ghost use Rattle.std.specs.Prelude.{◌≡◌, ◌≤◌, ◌+◌, ◌==◌, length, option_map, Ok, Err, if◌then◌else◌};
+ghost use Rattle.std.specs.List.{list_all, suffix_len};
+ghost use Rattle.net_lists.specs.Stops.{Gives, or_kind};
+ghost use Rattle.rule_parser.specs.declared.quoted.Place.TheVariants.{Plain};
+ghost use Rattle.rule_parser.specs.Quotes.{meaning};
+ghost use Rattle.rule_parser.specs.Patterns.{no_flags, no_flag, with_flag, flags_of, pattern_flags, is_no_slash, slashed, is_ascii, pcre_option};
+
+use crate::Opt;
+use crate::contents::negation;
+use crate::draft::Draft;
+use crate::fault::Fault;
+use crate::quoted::{Style, meaning, quoted};
+use edge_io::{PatternFlags, Text};
+use net_lists::Stop;
+use std::alloc::Global;
+
+/// Bytes that an expression may have.
+const MOST_BYTES: usize = 4096;
+
+/// The flags that stand behind an expression.
+#[derive(Clone, Copy, Debug, PartialEq, Eq)]
+pub(crate) struct Flags {
+    pub nocase: bool,
+    pub dot_all: bool,
+    pub multi_line: bool,
+    pub extended: bool,
+    /// The search begins where the option before ended.
+    pub relative: bool,
+}
+
+/// What is given for a letter that is no flag.
+fn no_flag(letter: u8) -> Fault
+    ensures { result ≡ no_flag letter }
+{
+    if b'A' <= letter && letter <= b'Z' {
+        Fault::OutsideProfile
+    } else {
+        Fault::OptionValue
+    }
+}
+
+impl Flags {
+    fn none() -> Flags
+        ensures { result ≡ no_flags }
+    {
+        Flags {
+            nocase: false,
+            dot_all: false,
+            multi_line: false,
+            extended: false,
+            relative: false,
+        }
+    }
+
+    /// These flags, where the letter's does not stand yet.
+    fn unless(self, stands: bool) -> Result<Flags, Fault>
+        ensures { result ≡ (if stands then Err Fault.OptionValue else Ok self) }
+    {
+        if stands {
+            Err(Fault::OptionValue)
+        } else {
+            Ok(self)
+        }
+    }
+
+    /// With the flag of a letter.
+    #[tactic(auto, unfolding(crate::specs::Patterns::with_flag))]
+    fn with(self, letter: u8) -> Result<Flags, Fault>
+        ensures { result ≡ with_flag self letter }
+    {
+        match letter {
+            b'i' => Flags {
+                nocase: true,
+                ..self
+            }
+            .unless(self.nocase),
+            b's' => Flags {
+                dot_all: true,
+                ..self
+            }
+            .unless(self.dot_all),
+            b'm' => Flags {
+                multi_line: true,
+                ..self
+            }
+            .unless(self.multi_line),
+            b'x' => Flags {
+                extended: true,
+                ..self
+            }
+            .unless(self.extended),
+            b'R' => Flags {
+                relative: true,
+                ..self
+            }
+            .unless(self.relative),
+            _ => Err(no_flag(letter)),
+        }
+    }
+
+    /// The flags of these letters.
+    #[tactic(auto, using(crate::proofs::Flagging::flagging))]
+    fn read(letters: &[u8]) -> Result<Flags, Fault>
+        ensures { result ≡ flags_of no_flags letters.now }
+    {
+        let mut flags = Flags::none();
+        for letter in letters {
+            flags = flags.with(*letter)?;
+        }
+        Ok(flags)
+    }
+
+    fn pattern(self) -> PatternFlags
+        ensures { result ≡ pattern_flags self }
+    {
+        PatternFlags {
+            nocase: self.nocase,
+            dot_all: self.dot_all,
+            multi_line: self.multi_line,
+            extended: self.extended,
+        }
+    }
+}
+
+/// How many bytes stand up to the last `/`, that one among them.
+fn slash_end(text: &[u8]) -> usize
+    ensures len { result + suffix_len is_no_slash text.now ≡ length text.now }
+    ensures within { result ≤ length text.now }
+{
+    let mut len = text.len();
+    while len > 0 {
+        if text[len - 1] == b'/' {
+            return len;
+        }
+        len -= 1;
+    }
+    0
+}
+
+/// What stands between a `/` in front and the last `/`, and what stands behind that.
+#[tactic(auto, unfolding(crate::specs::Patterns::slashed))]
+fn slashed(text: &[u8]) -> Option<(&[u8], &[u8])>
+    ensures { option_map (λ parts. (parts.0.now, parts.1.now)) result ≡ slashed text.now }
+{
+    let [b'/', rest @ ..] = text else {
+        return None;
+    };
+    let end = slash_end(rest);
+    if end == 0 {
+        return None;
+    }
+    Some((&rest[..end - 1], &rest[end..]))
+}
+
+fn is_ascii(text: &[u8]) -> bool
+    ensures { result ≡ list_all is_ascii text.now }
+{
+    text.iter().all(|byte| *byte < 128)
+}
+
+/// What an expression between slashes stands for, where nothing stands behind its quotes.
+fn expression(alloc: Global, behind: &[u8], text: &[u8]) -> Result<Text, Stop<Fault>>
+    ensures { Gives result (if length behind.now == 0 then or_kind Fault.OptionValue (meaning Style.Pattern Plain text.now) else Err Fault.OptionValue) }
+{
+    if !behind.is_empty() {
+        return Err(Stop::Wrong(Fault::OptionValue));
+    }
+    meaning(alloc, Style::Pattern, text)
+}
+
+#[tactic(auto, unfolding(crate::specs::Patterns::pcre_option))]
+pub(crate) fn pcre_option(alloc: Global, draft: Draft, value: &[u8]) -> Result<Draft, Stop<Fault>>
+    ensures { Gives result (pcre_option draft value.now) }
+{
+    let (negated, rest) = negation(value);
+    let (inside, behind) = quoted(rest).ok_or(Fault::OptionValue)?;
+    let (expression_text, letters) = slashed(inside).ok_or(Fault::OptionValue)?;
+    let flags = Flags::read(letters)?;
+    let text = expression(alloc, behind, expression_text)?;
+    if !is_ascii(text.bytes()) {
+        return Err(Stop::Wrong(Fault::OptionValue));
+    }
+    if text.bytes().len() > MOST_BYTES {
+        return Err(Stop::Wrong(Fault::Limit));
+    }
+    draft.kept(Opt::Pcre {
+        text,
+        flags: flags.pattern(),
+        relative: flags.relative,
+        negated,
+    })
+}

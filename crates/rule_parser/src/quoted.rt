@@ -1,0 +1,241 @@
+//! Texts in double quotes: messages, contents and patterns.
+ghost use Rattle.std.specs.Prelude.{◌≡◌, ◌<◌, ◌==◌, ◌&&◌, ◌++◌, false, not, length, option_map, IfSome, OnOk};
+ghost use Rattle.net_lists.specs.Stops.{Gives, or_kind};
+ghost use Rattle.rule_parser.specs.Quotes.{closing_len, quoted, hex_value, has_bars, frees, may_end, silent, giving, bytes_of, plain_step, escaped_step, bars_step, half_step, step_at, meaning};
+
+use crate::fault::Fault;
+use edge_io::Text;
+use net_lists::Stop;
+use std::alloc::{AllocError, Global};
+
+/// What a quoted text is.
+#[derive(Clone, Copy, Debug, PartialEq, Eq)]
+pub(crate) enum Style {
+    Message,
+    Bytes,
+    Pattern,
+}
+
+/// Where the next byte stands.
+#[derive(Clone, Copy, Debug, PartialEq, Eq)]
+pub(crate) enum Place {
+    Plain,
+    /// Behind a backslash.
+    Escaped,
+    /// Between bars, before a pair of hex digits.
+    Bars,
+    /// Between bars, behind this digit.
+    Half(u8),
+}
+
+/// Where the byte behind stands, and what was given.
+#[derive(Clone, Copy, Debug, PartialEq, Eq)]
+pub(crate) struct Step {
+    pub place: Place,
+    /// A backslash goes before the byte.
+    pub slash: bool,
+    pub byte: Option<u8>,
+}
+
+impl Place {
+    fn may_end(self) -> bool
+        ensures { result ≡ may_end self }
+    {
+        match self {
+            Place::Plain => true,
+            Place::Escaped | Place::Bars | Place::Half(_) => false,
+        }
+    }
+}
+
+impl Step {
+    fn silent(place: Place) -> Step
+        ensures { result ≡ silent place }
+    {
+        Step {
+            place,
+            slash: false,
+            byte: None,
+        }
+    }
+
+    fn giving(place: Place, byte: u8) -> Step
+        ensures { result ≡ giving place byte }
+    {
+        Step {
+            place,
+            slash: false,
+            byte: Some(byte),
+        }
+    }
+}
+
+/// Whether a byte is a `"` that no backslash takes along.
+fn closes(escaped: bool, byte: u8) -> bool
+    ensures { result ≡ (not escaped && byte == 34) }
+{
+    !escaped && byte == b'"'
+}
+
+/// Whether a byte is a backslash that takes the next one along.
+fn escapes(escaped: bool, byte: u8) -> bool
+    ensures { result ≡ (not escaped && byte == 92) }
+{
+    !escaped && byte == b'\\'
+}
+
+/// The place of the first `"` that no backslash takes along.
+#[tactic(auto, using(crate::proofs::Quoting::closing))]
+fn closing_len(text: &[u8]) -> Option<usize>
+    ensures len { result ≡ closing_len false text.now }
+    ensures within { IfSome result (λ len. len < length text.now) }
+{
+    let mut len: usize = 0;
+    let mut escaped = false;
+    for byte in text {
+        if closes(escaped, *byte) {
+            return Some(len);
+        }
+        escaped = escapes(escaped, *byte);
+        len += 1;
+    }
+    None
+}
+
+/// What stands between the quotes, as it is written, and what stands behind them.
+#[tactic(auto, unfolding(crate::specs::Quotes::quoted))]
+pub(crate) fn quoted(text: &[u8]) -> Option<(&[u8], &[u8])>
+    ensures { option_map (λ parts. (parts.0.now, parts.1.now)) result ≡ quoted text.now }
+{
+    let [b'"', rest @ ..] = text else {
+        return None;
+    };
+    let len = closing_len(rest)?;
+    Some((&rest[..len], &rest[len + 1..]))
+}
+
+/// The value of a hex digit.
+#[tactic(auto, unfolding(crate::specs::Quotes::hex_value))]
+fn hex_value(byte: u8) -> Option<u8>
+    ensures value { result ≡ hex_value byte }
+    ensures within { IfSome result (λ value. value < 16) }
+{
+    match byte {
+        b'0'..=b'9' => Some(byte - b'0'),
+        b'A'..=b'F' => Some(byte - b'A' + 10),
+        b'a'..=b'f' => Some(byte - b'a' + 10),
+        _ => None,
+    }
+}
+
+impl Style {
+    fn has_bars(self) -> bool
+        ensures { result ≡ has_bars self }
+    {
+        match self {
+            Style::Bytes => true,
+            Style::Message | Style::Pattern => false,
+        }
+    }
+
+    fn frees(self, byte: u8) -> bool
+        ensures { result ≡ frees self byte }
+    {
+        match self {
+            Style::Bytes | Style::Message => true,
+            Style::Pattern => byte == b'"' || byte == b';' || byte == b':' || byte == b'/',
+        }
+    }
+
+    #[tactic(auto, unfolding(crate::specs::Quotes::plain_step))]
+    fn plain_step(self, byte: u8) -> Step
+        ensures { result ≡ plain_step self byte }
+    {
+        if byte == b'\\' {
+            Step::silent(Place::Escaped)
+        } else if byte == b'|' && self.has_bars() {
+            Step::silent(Place::Bars)
+        } else {
+            Step::giving(Place::Plain, byte)
+        }
+    }
+
+    #[tactic(auto, unfolding(crate::specs::Quotes::escaped_step))]
+    fn escaped_step(self, byte: u8) -> Step
+        ensures { result ≡ escaped_step self byte }
+    {
+        let slash = !self.frees(byte);
+        Step {
+            place: Place::Plain,
+            slash,
+            byte: Some(byte),
+        }
+    }
+}
+
+#[tactic(auto, unfolding(crate::specs::Quotes::bars_step))]
+fn bars_step(byte: u8) -> Option<Step>
+    ensures { result ≡ bars_step byte }
+{
+    match byte {
+        b'|' => Some(Step::silent(Place::Plain)),
+        b' ' | b'\t' => Some(Step::silent(Place::Bars)),
+        _ => match hex_value(byte) {
+            Some(_) => Some(Step::silent(Place::Half(byte))),
+            None => None,
+        },
+    }
+}
+
+#[tactic(auto, unfolding(crate::specs::Quotes::half_step))]
+fn half_step(first: u8, byte: u8) -> Option<Step>
+    ensures { result ≡ half_step first byte }
+{
+    let high = hex_value(first)?;
+    let low = hex_value(byte)?;
+    Some(Step::giving(Place::Bars, high * 16 + low))
+}
+
+/// What a byte gives where it stands.
+fn step_at(style: Style, place: Place, byte: u8) -> Option<Step>
+    ensures { result ≡ step_at style place byte }
+{
+    match place {
+        Place::Plain => Some(style.plain_step(byte)),
+        Place::Escaped => Some(style.escaped_step(byte)),
+        Place::Bars => bars_step(byte),
+        Place::Half(first) => half_step(first, byte),
+    }
+}
+
+/// Adds what a step gives.
+fn push_step(out: &mut Vec<u8>, step: Step) -> Result<(), AllocError>
+    ensures { OnOk result (out.new.items ≡ out.old.items ++ bytes_of step.slash step.byte) }
+{
+    let Some(byte) = step.byte else {
+        return Ok(());
+    };
+    if step.slash {
+        out.push(b'\\')?;
+    }
+    out.push(byte)?;
+    Ok(())
+}
+
+/// What the text between quotes stands for.
+#[tactic(auto, using(crate::proofs::Quoting::meanings))]
+pub(crate) fn meaning(alloc: Global, style: Style, text: &[u8]) -> Result<Text, Stop<Fault>>
+    ensures { Gives result (or_kind Fault.OptionValue (meaning style Place.Plain text.now)) }
+{
+    let mut out = Vec::new(alloc);
+    let mut place = Place::Plain;
+    for byte in text {
+        let step = step_at(style, place, *byte).ok_or(Fault::OptionValue)?;
+        push_step(&mut out, step)?;
+        place = step.place;
+    }
+    if !place.may_end() {
+        return Err(Stop::Wrong(Fault::OptionValue));
+    }
+    Ok(Text::from_vec(out))
+}

@@ -1,0 +1,141 @@
+//! Options on reassembled streams: stream_size and stream_reassemble.
+ghost use Rattle.std.specs.Prelude.{◌≡◌};
+ghost use Rattle.net_lists.specs.Cutting.{comma_parts};
+ghost use Rattle.net_lists.specs.Stops.{Gives};
+ghost use Rattle.rule_parser.specs.Steering.{side_of, sized_side, size_cmp, size_parts, stream_size_option, switched, quiet, quiet_end, stream_reassemble_option};
+
+use crate::draft::Draft;
+use crate::fault::Fault;
+use crate::{Cmp, Opt, Side};
+use net_lists::{Parts, Stop, number_in};
+
+impl Side {
+    /// A side, or both.
+    #[tactic(auto, unfolding(crate::specs::Steering::side_of))]
+    fn read(text: &[u8]) -> Result<Side, Fault>
+        ensures { result ≡ side_of text.now }
+    {
+        if text == b"client".as_slice() {
+            Ok(Side::Client)
+        } else if text == b"server".as_slice() {
+            Ok(Side::Server)
+        } else if text == b"both".as_slice() {
+            Ok(Side::Both)
+        } else if text == b"fastpath".as_slice() {
+            Err(Fault::OutsideProfile)
+        } else {
+            Err(Fault::OptionValue)
+        }
+    }
+
+    /// The sides whose sizes are compared.
+    #[tactic(auto, unfolding(crate::specs::Steering::sized_side))]
+    fn read_sized(text: &[u8]) -> Result<Side, Fault>
+        ensures { result ≡ sized_side text.now }
+    {
+        if text == b"either".as_slice() {
+            Ok(Side::Either)
+        } else if text == b"fastpath".as_slice() {
+            Err(Fault::OptionValue)
+        } else {
+            Side::read(text)
+        }
+    }
+}
+
+/// How sizes are compared.
+#[tactic(auto, unfolding(crate::specs::Steering::size_cmp))]
+fn size_cmp(text: &[u8]) -> Result<Cmp, Fault>
+    ensures { result ≡ size_cmp text.now }
+{
+    if text == b"<".as_slice() {
+        Ok(Cmp::Lt)
+    } else if text == b">".as_slice() {
+        Ok(Cmp::Gt)
+    } else if text == b"=".as_slice() {
+        Ok(Cmp::Eq)
+    } else if text == b"!=".as_slice() {
+        Ok(Cmp::Ne)
+    } else if text == b"<=".as_slice() {
+        Ok(Cmp::Le)
+    } else if text == b">=".as_slice() {
+        Ok(Cmp::Ge)
+    } else {
+        Err(Fault::OptionValue)
+    }
+}
+
+#[tactic(auto, unfolding(crate::specs::Steering::stream_size_option, crate::specs::Steering::size_parts))]
+pub(crate) fn stream_size_option(draft: Draft, value: &[u8]) -> Result<Draft, Stop<Fault>>
+    ensures { Gives result (stream_size_option draft value.now) }
+{
+    let mut parts = Parts::commas(value);
+    let (Some(first), Some(second), Some(third), None) = (
+        parts.next(),
+        parts.next(),
+        parts.next(),
+        parts.next(),
+    ) else {
+        return Err(Stop::Wrong(Fault::OptionValue));
+    };
+    let side = Side::read_sized(first)?;
+    let cmp = size_cmp(second)?;
+    let value = number_in(0, u32::MAX, third).ok_or(Fault::OptionValue)?;
+    draft.kept(Opt::StreamSize { side, cmp, value })
+}
+
+/// On or off.
+#[tactic(auto, unfolding(crate::specs::Steering::switched))]
+fn switched(text: &[u8]) -> Result<bool, Fault>
+    ensures { result ≡ switched text.now }
+{
+    if text == b"enable".as_slice() {
+        Ok(true)
+    } else if text == b"disable".as_slice() {
+        Ok(false)
+    } else if text == b"fastpath".as_slice() {
+        Err(Fault::OutsideProfile)
+    } else {
+        Err(Fault::OptionValue)
+    }
+}
+
+/// Whether `noalert` stands in what is left, as the last part.
+#[tactic(auto, unfolding(crate::specs::Steering::quiet, crate::specs::Steering::quiet_end))]
+fn quiet(mut rest: Parts) -> Result<bool, Fault>
+    ensures { result ≡ quiet rest.entry }
+{
+    let Some(first) = rest.next() else {
+        return Ok(false);
+    };
+    if first == b"fastpath".as_slice() {
+        return Err(Fault::OutsideProfile);
+    }
+    if first != b"noalert".as_slice() {
+        return Err(Fault::OptionValue);
+    }
+    let Some(next) = rest.next() else {
+        return Ok(true);
+    };
+    if next == b"fastpath".as_slice() {
+        return Err(Fault::OutsideProfile);
+    }
+    Err(Fault::OptionValue)
+}
+
+#[tactic(auto, unfolding(crate::specs::Steering::stream_reassemble_option, crate::specs::Steering::reassemble_parts))]
+pub(crate) fn stream_reassemble_option(draft: Draft, value: &[u8]) -> Result<Draft, Stop<Fault>>
+    ensures { Gives result (stream_reassemble_option draft value.now) }
+{
+    let mut parts = Parts::commas(value);
+    let first = parts.next().ok_or(Fault::OptionValue)?;
+    let on = switched(first)?;
+    let second = parts.next().ok_or(Fault::OptionValue)?;
+    let side = Side::read(second)?;
+    let noalert = quiet(parts)?;
+    Draft {
+        noalert: draft.noalert || noalert,
+        ..draft
+    }
+    .kept(Opt::Reassemble { on, side })
+}

@@ -1,0 +1,129 @@
+//! Options that name a rule: msg, gid, sid, rev, priority and classtype.
+ghost use Rattle.std.specs.Prelude.{◌≡◌, MatchResult, Ok, Err};
+ghost use Rattle.net_lists.specs.Stops.{Gives};
+ghost use Rattle.rule_parser.specs.Texts.{once, gid_option, sid_option, rev_option, priority_option, quoted_whole, msg_option, class_named, classtype_option};
+ghost use Rattle.rule_parser.specs.RuleOption.{class_place};
+
+use crate::draft::{ClassName, Draft};
+use crate::fault::Fault;
+use crate::quoted::{Style, meaning, quoted};
+use conf_parser::Classes;
+use net_lists::{Stop, number_in};
+use std::alloc::Global;
+
+/// Bytes that a message may have.
+const MOST_MESSAGE: usize = 1024;
+
+/// A number from `least` on that may stand once.
+#[tactic(auto, unfolding(crate::specs::Texts::once))]
+fn once(before: Option<u32>, least: u32, value: &[u8]) -> Result<u32, Fault>
+    ensures { result ≡ once before least value.now }
+{
+    let number = number_in(least, u32::MAX, value).ok_or(Fault::OptionValue)?;
+    if before.is_some() {
+        return Err(Fault::OptionValue);
+    }
+    Ok(number)
+}
+
+#[tactic(auto, unfolding(crate::specs::Texts::gid_option))]
+pub(crate) fn gid_option(draft: Draft, value: &[u8]) -> Result<Draft, Fault>
+    ensures { result ≡ gid_option draft value.now }
+{
+    let gid = once(draft.gid, 1, value)?;
+    Ok(Draft {
+        gid: Some(gid),
+        ..draft
+    })
+}
+
+#[tactic(auto, unfolding(crate::specs::Texts::sid_option))]
+pub(crate) fn sid_option(draft: Draft, value: &[u8]) -> Result<Draft, Fault>
+    ensures { result ≡ sid_option draft value.now }
+{
+    let sid = once(draft.sid, 1, value)?;
+    Ok(Draft {
+        sid: Some(sid),
+        ..draft
+    })
+}
+
+#[tactic(auto, unfolding(crate::specs::Texts::rev_option))]
+pub(crate) fn rev_option(draft: Draft, value: &[u8]) -> Result<Draft, Fault>
+    ensures { result ≡ rev_option draft value.now }
+{
+    let rev = once(draft.rev, 0, value)?;
+    Ok(Draft {
+        rev: Some(rev),
+        ..draft
+    })
+}
+
+#[tactic(auto, unfolding(crate::specs::Texts::priority_option))]
+pub(crate) fn priority_option(draft: Draft, value: &[u8]) -> Result<Draft, Fault>
+    ensures { result ≡ priority_option draft value.now }
+{
+    let priority = once(draft.priority, 0, value)?;
+    Ok(Draft {
+        priority: Some(priority),
+        ..draft
+    })
+}
+
+/// What stands between quotes behind which nothing stands.
+#[tactic(auto, unfolding(crate::specs::Texts::quoted_whole))]
+pub(crate) fn quoted_whole(value: &[u8]) -> Result<&[u8], Fault>
+    ensures { MatchResult result (λ inside. quoted_whole value.now ≡ Ok inside.now) (λ fault. quoted_whole value.now ≡ Err fault) }
+{
+    let (inside, behind) = quoted(value).ok_or(Fault::OptionValue)?;
+    if !behind.is_empty() {
+        return Err(Fault::OptionValue);
+    }
+    Ok(inside)
+}
+
+#[tactic(auto, unfolding(crate::specs::Texts::msg_option))]
+pub(crate) fn msg_option(alloc: Global, draft: Draft, value: &[u8]) -> Result<Draft, Stop<Fault>>
+    ensures { Gives result (msg_option draft value.now) }
+{
+    let inside = quoted_whole(value)?;
+    let msg = meaning(alloc, Style::Message, inside)?;
+    if draft.msg.is_some() {
+        return Err(Stop::Wrong(Fault::OptionValue));
+    }
+    if msg.bytes().len() > MOST_MESSAGE {
+        return Err(Stop::Wrong(Fault::Limit));
+    }
+    Ok(Draft {
+        msg: Some(msg),
+        ..draft
+    })
+}
+
+/// The class of a name among the configuration's.
+fn class_named(place: Option<u32>) -> ClassName
+    ensures { result ≡ class_named place }
+{
+    match place {
+        None => ClassName::Unknown,
+        Some(place) => ClassName::Known(place),
+    }
+}
+
+#[tactic(auto, unfolding(crate::specs::Texts::classtype_option))]
+pub(crate) fn classtype_option(
+    classes: &Classes,
+    draft: Draft,
+    value: &[u8],
+) -> Result<Draft, Fault>
+    ensures { result ≡ classtype_option (class_place classes.now) draft value.now }
+{
+    if value.is_empty() || draft.class.is_some() {
+        return Err(Fault::OptionValue);
+    }
+    let class = class_named(classes.find(value));
+    Ok(Draft {
+        class: Some(class),
+        ..draft
+    })
+}
