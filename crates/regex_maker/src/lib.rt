@@ -1,0 +1,16 @@
+//! Patterns by the library `regex`: the maker behind the option `pcre`.
+//!
+//! A maker builds the bytes form of a regular expression, with `(?-u)` in front of its text, so that
+//! characters are bytes. `specs/Meaning` says what it finds: what that crate's grammar reads in the
+//! text has its leftmost match there, by that crate's definition of a match. Look-around and
+//! back-references are in no such grammar: their texts are refused (Snort Users Manual 2.9, section
+//! 3.5.29, takes them by PCRE).
+#![tactic(auto)]
+
+mod made;
+mod maker;
+#[cfg(test)]
+mod tests;
+
+pub use made::RegexPattern;
+pub use maker::RegexMaker;

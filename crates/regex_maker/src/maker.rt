@@ -1,0 +1,110 @@
+ghost use Rattle.std.specs.Prelude.{◌≡◌, ℕ, List, [], ◌∷◌, ◌++◌, IfOk, IsErrOf, OnOk, OnErr, string_bytes};
+ghost use Rattle.edge_io.specs.declared.pattern.PatternFlags.{PatternFlags};
+ghost use Rattle.regex.specs.Bytes.{regex_source, regex_config, IsReadFromSource};
+ghost use Rattle.regex_maker.specs.Finding.{found_by};
+ghost use Rattle.regex_maker.specs.Meaning.{IsPattern, pattern_text, options_of, regex_span};
+
+use crate::made::RegexPattern;
+use edge_io::{MakeFault, NoMemory, PatternFlags, PatternMaker, Refusal, Text};
+use regex::bytes::Regex;
+use regex::{Error, RegexBuilder};
+use std::alloc::Global;
+use std::marker::Model;
+
+/// Makes patterns by the library `regex`. Contracts see what it refused so far.
+#[derive(Debug, Drop)]
+pub struct RegexMaker {
+    refused: Vec<Refusal>,
+}
+
+impl Model for RegexMaker {
+    ghost use Rattle.std.specs.Prelude.{List};
+    ghost use Rattle.edge_io.specs.declared.pattern.Refusal.{Refusal};
+
+    ghost Value = { List Refusal };
+
+    ghost view = { λ maker. maker.refused.items };
+}
+
+/// The text of the expression: behind `(?-u)` a character is a byte.
+fn pattern_text(alloc: Global, text: &str) -> Result<String, NoMemory>
+    ensures { IfOk result (λ source. string_bytes source ≡ pattern_text text.now) }
+{
+    let mut source = String::from_str(alloc, "(?-u)")?;
+    source.push_str(text)?;
+    Ok(source)
+}
+
+/// The regular expression that the text with the flags spells. It is refused where it is none, nests
+/// too deep or would take more memory than the library gives one by itself.
+fn regex_of(alloc: Global, text: &str, flags: PatternFlags) -> Result<Regex, MakeFault>
+    ensures source { IfOk result (λ regex. regex_source regex ≡ pattern_text text.now) }
+    ensures options { IfOk result (λ regex. regex_config regex ≡ options_of flags) }
+    ensures read { IfOk result IsReadFromSource }
+{
+    let source = pattern_text(alloc, text)?;
+    let builder = RegexBuilder::new(&source)
+        .case_insensitive(flags.nocase)
+        .dot_matches_new_line(flags.dot_all)
+        .multi_line(flags.multi_line)
+        .ignore_whitespace(flags.extended);
+    match builder.build_bytes(alloc) {
+        Ok(regex) => Ok(regex),
+        Err(Error::OutOfMemory) => Err(MakeFault::NoMemory),
+        Err(Error::Syntax(_) | Error::CompiledTooBig | Error::Internal) => Err(MakeFault::Refused),
+    }
+}
+
+impl RegexMaker {
+    /// A maker that refused nothing. Takes no memory.
+    pub fn new(alloc: Global) -> RegexMaker
+        ensures { result ≡ [] }
+    {
+        RegexMaker {
+            refused: Vec::new(alloc),
+        }
+    }
+
+    /// Keeps a text that is refused.
+    fn refuse(&mut self, alloc: Global, text: &str, flags: PatternFlags) -> Result<(), NoMemory>
+        ensures kept { OnOk result (self.new ≡ self.old ++ record { text = text.now; flags = flags } ∷ []) }
+        ensures unchanged { OnErr result (self.new ≡ self.old) }
+    {
+        let text = Text::copy(alloc, text.as_bytes())?;
+        self.refused.push(Refusal { text, flags })?;
+        Ok(())
+    }
+}
+
+impl PatternMaker for RegexMaker {
+    type Made = RegexPattern;
+
+    ghost means = { λ _ text flags bytes. regex_span text flags bytes };
+
+    ghost refusals = { λ maker. maker };
+
+    fn make(
+        &mut self,
+        alloc: Global,
+        text: &str,
+        flags: PatternFlags,
+    ) -> Result<RegexPattern, MakeFault>
+        ensures made { IfOk result (λ pattern. (bytes : List ℕ) →
+            found_by pattern bytes ≡ regex_span text.now flags bytes) }
+        // A text that is no pattern is never made.
+        ensures spelled { OnOk result (IsPattern text.now flags) }
+        ensures refused { IsErrOf result MakeFault.Refused →
+            self.new ≡ self.old ++ record { text = text.now; flags = flags } ∷ [] }
+        ensures made_unrefused { OnOk result (self.new ≡ self.old) }
+        ensures no_memory { IsErrOf result MakeFault.NoMemory → self.new ≡ self.old }
+    {
+        match regex_of(alloc, text, flags) {
+            Ok(regex) => Ok(RegexPattern { alloc, regex }),
+            Err(MakeFault::NoMemory) => Err(MakeFault::NoMemory),
+            Err(MakeFault::Refused) => {
+                self.refuse(alloc, text, flags)?;
+                Err(MakeFault::Refused)
+            }
+        }
+    }
+}
