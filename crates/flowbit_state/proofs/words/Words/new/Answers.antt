@@ -1,0 +1,6 @@
+use Rattle.std.proofs.Common.{refl}
+use Rattle.flowbit_state.proofs.WordLaws.{set_in-zeros}
+use Rattle.flowbit_state.proofs.words.Words.new.Goals as goal
+
+pub returns : goal.returns
+returns c = set_in-zeros _ refl

@@ -1,0 +1,9 @@
+use Rattle.std.proofs.Common.{rules}
+use Rattle.flowbit_state.proofs.WordLaws.{test_past, test_at}
+use Rattle.flowbit_state.proofs.words.Words.test.Goals as goal
+
+pub returns-in-None-clause-set : goal.returns-in-None-clause-set
+returns-in-None-clause-set c = test_past c.self.inside.words c.args.self.now c.args.bit c.self.view_is c.self.invariant (search rules)
+
+pub returns-in-Some-clause-set : goal.returns-in-Some-clause-set
+returns-in-Some-clause-set c = test_at c.self.inside.words c.args.self.now c.args.bit c.in-Some.word.now c.self.view_is c.self.invariant (search rules) (search rules)
