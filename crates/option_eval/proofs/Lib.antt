@@ -1,0 +1,11 @@
+pub mod Asking
+pub mod Chosen
+pub mod Contents
+pub mod Digits
+pub mod Staying
+pub mod Leading
+pub mod Occurrences
+pub mod Rising
+pub mod Spans
+pub mod Sweeping
+pub mod Walking

@@ -1,0 +1,9 @@
+use Rattle.std.proofs.Common.{arith}
+use Rattle.std.proofs.lemmas.Int.{ints}
+use Rattle.option_eval.proofs.content.reach.Goals as goal
+
+pub invariant_of-result : goal.invariant_of-result
+invariant_of-result c = record {
+  from_small = (omega (arith, ints), omega (arith, ints));
+  room_small = λ x none. absurd (cc);
+}

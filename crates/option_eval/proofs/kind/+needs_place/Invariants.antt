@@ -1,0 +1,5 @@
+use Rattle.std.proofs.Common.{length}
+use Rattle.option_eval.proofs.kind.+needs_place.Given as goal
+
+abbrev pub decreases-needs_place : goal.decreases-needs_place
+decreases-needs_place l = length l.options.now

@@ -1,0 +1,10 @@
+use Rattle.option_eval.proofs.Occurrences.{folded_stands, stands_folded}
+use Rattle.option_eval.proofs.needle.stands_folded.Goals as goal
+
+pub returns : goal.returns
+returns c =
+    let payload = c.args.payload.now in
+    let bytes = c.args.bytes.now in (
+      λ yes. folded_stands payload bytes c.args.at c.requires.fits (c.eq_ignore_ascii_case.ensures.test.0 yes),
+      λ here. c.eq_ignore_ascii_case.ensures.test.1 (stands_folded payload bytes c.args.at c.requires.fits here),
+    )

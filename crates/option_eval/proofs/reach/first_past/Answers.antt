@@ -1,0 +1,9 @@
+use Rattle.std.proofs.Common.{arith}
+use Rattle.std.proofs.lemmas.Int.{ints}
+use Rattle.option_eval.proofs.Spans.{past_the_room}
+use Rattle.option_eval.proofs.reach.first_past.Goals as goal
+
+pub returns-clause-end : goal.returns-clause-end
+returns-clause-end c = λ i below.
+    let h = c.first_from.ensures.from i below in
+    past_the_room c.args.start c.args.room _ c.args.size i c.first_from.result (omega (arith, ints)) h.0 h.1

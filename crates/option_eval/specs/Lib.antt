@@ -1,0 +1,9 @@
+pub mod Numbers
+pub mod Places
+pub mod RuleSet
+pub mod Ranges
+pub mod Ready
+pub mod Sets
+pub mod Kinds
+pub mod Next
+pub mod Walks

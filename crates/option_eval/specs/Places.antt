@@ -1,0 +1,151 @@
+-- Where the payload options of a rule can lead, and when a payload matches a rule.
+--
+-- An option leads from a standing, a place of the payload with the values extracted so far, to
+-- standings behind it. A payload matches where some way leads from the payload's start through all
+-- options of the rule, in their order. How a way is found is not said here.
+-- Source: Snort Users Manual 2.9, section 3.5.
+-- To try it on: in `abxabc` the content `ab` leads from the start to the places 2 and 5; the content `c`
+-- with distance 0 and within 1 leads on from 5 alone, to 6. So the payload matches these two.
+use Rattle.std.specs.Prelude.{◌≡◌, ◌≢◌, ℕ, ◌+◌, ◌*◌, ◌≤◌, ℤ, pos, negsuc, ◌+ℤ◌, ◌≤ℤ◌, ◌<ℤ◌, Bool, true, false, List, [], ◌∷◌, length, drop, Option, Some, None, IfSome, MatchBool, option_map, unwrap_or, bit_and, slice_set, if◌then◌else◌}
+use Rattle.memchr.specs.Find.{OccursAt}
+use Rattle.edge_io.specs.declared.pattern.PatternFlags.{PatternFlags}
+use Rattle.edge_io.specs.declared.pattern.Span.{Span}
+use Rattle.edge_io.specs.Matching.{folded}
+use Rattle.rule_parser.specs.declared.option.Cmp.{Cmp}
+use Rattle.rule_parser.specs.declared.option.Cmp.TheVariants as cmp
+use Rattle.rule_parser.specs.declared.option.Content.{Content}
+use Rattle.rule_parser.specs.declared.option.FastMode.{FastMode}
+use Rattle.rule_parser.specs.declared.option.FastMode.TheVariants as fast
+use Rattle.rule_parser.specs.declared.option.Opt.{Opt}
+use Rattle.rule_parser.specs.declared.option.Opt.TheVariants as opt
+use Rattle.rule_parser.specs.declared.rule.Rule.{Rule}
+use Rattle.option_eval.specs.Numbers.{Standing, Fetched, number_of, number_if, origin, fetched, rounded_up}
+
+-- what a text with flags finds in bytes, for a maker of patterns
+abbrev pub Means : Type 0
+Means = List ℕ → PatternFlags → List ℕ → Option Span
+
+-- the standing at another place
+abbrev pub at_place : Standing → ℕ → Standing
+at_place before place = record before { place = place }
+
+-- how a content is sought: in either case or as it is, from a place on, and up to a place if there is one
+pub record Sought : Type 0 where
+  pub nocase : Bool
+  pub from : ℤ
+  pub until : Option ℤ
+
+-- fast_pattern:only, which asks for the content anywhere and in either case
+abbrev pub is_only : FastMode → Bool
+is_only fast.Only = true
+is_only _ = false
+
+-- the place from which the content's place and room count on
+abbrev pub content_start : Content → Standing → ℤ
+content_start content before = pos (origin content.relative before) +ℤ unwrap_or (number_if before.values content.from) (pos 0)
+
+-- how the content is sought from a standing
+abbrev pub sought : Content → Standing → Sought
+sought content before =
+    if is_only content.fast
+    then record { nocase = true; from = pos 0; until = None }
+    else record {
+      nocase = content.nocase;
+      from = content_start content before;
+      until = option_map (λ room. content_start content before +ℤ room) (number_if before.values content.room);
+    }
+
+-- bytes stand in the payload at place i, within what is sought
+pub record StandsAt (bytes payload : List ℕ) (how : Sought) (i : ℕ) : Type 0 where
+  pub from : how.from ≤ℤ pos i
+  pub until : IfSome how.until (λ end. pos (i + length bytes) ≤ℤ end)
+  pub occurs : OccursAt (folded how.nocase payload) (folded how.nocase bytes) i
+
+-- a content leads behind each place where it stands; a negated one stays, where it stands nowhere; one
+-- that is sought by the fast pattern alone stays too
+abbrev pub ContentLeads : Content → List ℕ → Standing → Standing → Type 0
+ContentLeads content payload before after =
+    let Stands = StandsAt content.bytes payload (sought content before) in
+    MatchBool content.negated
+    (((i : ℕ) → ¬ Stands i) × (after ≡ before))
+    ((i : ℕ) × Stands i × (after ≡ (if is_only content.fast then before else at_place before (i + length content.bytes))))
+
+-- a pattern leads to the end of the one match that it finds, in the bytes from the place on if it is
+-- relative; a negated one stays, where it finds nothing
+abbrev pub PatternLeads : (List ℕ → Option Span) → Bool → Bool → List ℕ → Standing → Standing → Type 0
+PatternLeads finds relative negated payload before after =
+    let found = finds (drop (origin relative before) payload) in
+    MatchBool negated
+    ((found ≡ None) × (after ≡ before))
+    ((span : Span) × (found ≡ Some span) × (after ≡ at_place before (origin relative before + span.end)))
+
+-- two numbers have a bit in common
+abbrev pub SharesBit : ℕ → ℤ → Type 0
+SharesBit number (pos value) = bit_and number value ≢ 0
+SharesBit number (negsuc value) = ⊥
+
+-- a fetched number compares with a value
+abbrev pub Compares : Cmp → ℕ → ℤ → Type 0
+Compares cmp.Eq number value = pos number ≡ value
+Compares cmp.Ne number value = pos number ≢ value
+Compares cmp.Lt number value = pos number <ℤ value
+Compares cmp.Gt number value = value <ℤ pos number
+Compares cmp.Le number value = pos number ≤ℤ value
+Compares cmp.Ge number value = value ≤ℤ pos number
+Compares cmp.And number value = SharesBit number value
+Compares cmp.Within number value = pos number ≡ value
+
+-- a fact, or that it doesn't hold
+abbrev pub Unless : Bool → Type 0 → Type 0
+Unless negated P = MatchBool negated (¬ P) P
+
+-- the jump of a fetched number
+abbrev pub jump : ℕ → Bool → ℕ → ℕ
+jump times align number = rounded_up (if align then 4 else 0) (number * times)
+
+-- from a standing an option leads to another, which has the place and the values behind it; an option
+-- that asks nothing of the payload leads nowhere else
+unfoldable pub Leads : Means → List ℕ → Opt → Standing → Standing → Type 0
+Leads means payload (opt.Content content) before after = ContentLeads content payload before after
+Leads means payload (opt.Pcre text flags relative negated) before after = PatternLeads (means text flags) relative negated payload before after
+Leads means payload (opt.ByteTest fetch not cmp value) before after =
+    (read : Fetched) × (fetched payload fetch before ≡ Some read) × Unless not (Compares cmp read.number (number_of before.values value)) × (after ≡ before)
+Leads means payload (opt.ByteJump fetch times align beginning post) before after =
+    (read : Fetched) × (fetched payload fetch before ≡ Some read) × (after.values ≡ before.values) × (after.place ≤ length payload)
+    × (pos after.place ≡ (pos ((if beginning then 0 else read.stop) + jump times align read.number) +ℤ post))
+Leads means payload (opt.ByteExtract fetch name times align) before after =
+    (read : Fetched) × (fetched payload fetch before ≡ Some read)
+    × (after ≡ record { place = read.stop; values = slice_set before.values name (rounded_up align (read.number * times)) })
+Leads means payload (opt.IsDataAt at relative negated) before after =
+    Unless negated ((pos (origin relative before) +ℤ number_of before.values at) <ℤ pos (length payload)) × (after ≡ before)
+Leads means payload _ before after = after ≡ before
+
+-- a way through the options: the standings behind each of them
+abbrev pub IsWay : Means → List ℕ → List Opt → Standing → List Standing → Type 0
+IsWay means payload [] before [] = Unit {0}
+IsWay means payload (option ∷ options) before (after ∷ later) = Leads means payload option before after × IsWay means payload options after later
+IsWay means payload [] before (after ∷ later) = ⊥
+IsWay means payload (option ∷ options) before [] = ⊥
+
+-- the payload's start, with no value extracted
+abbrev pub start : Standing
+start = record { place = 0; values = 0 ∷ 0 ∷ [] }
+
+-- the payload matches the rule: some way leads from its start through all options
+abbrev pub PayloadMatches : Means → Rule → List ℕ → Type 0
+PayloadMatches means rule payload = (way : List Standing) × IsWay means payload rule.opts start way
+
+-- an option that asks something of the payload
+abbrev pub is_payload_option : Opt → Bool
+is_payload_option (opt.Content content) = true
+is_payload_option (opt.Pcre text flags relative negated) = true
+is_payload_option (opt.ByteTest fetch not cmp value) = true
+is_payload_option (opt.ByteJump fetch times align beginning post) = true
+is_payload_option (opt.ByteExtract fetch name times align) = true
+is_payload_option (opt.IsDataAt at relative negated) = true
+is_payload_option _ = false
+
+-- an option that extracts a value
+abbrev pub is_extract : Opt → Bool
+is_extract (opt.ByteExtract fetch name times align) = true
+is_extract _ = false

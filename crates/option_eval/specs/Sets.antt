@@ -1,0 +1,96 @@
+-- Sets of places, as lists that rise, and what an option leads to from them.
+use Rattle.std.specs.Prelude.{◌≡◌, ℕ, ◌+◌, ◌<◌, ◌≤◌, ℤ, pos, ◌+ℤ◌, ◌≤ℤ◌, Bool, ◌&&◌, ◌||◌, not, ◌⊎◌, List, [], ◌∷◌, ◌++◌, length, Contains, Option, Some, None, IfSome, MatchBool, unwrap_or, if◌then◌else◌}
+use Rattle.memchr.specs.Find.{OccursAt}
+use Rattle.edge_io.specs.Matching.{folded}
+use Rattle.rule_parser.specs.declared.option.Content.{Content}
+use Rattle.rule_parser.specs.declared.option.Opt.{Opt}
+use Rattle.option_eval.specs.Numbers.{Standing, number_if}
+use Rattle.option_eval.specs.Places.{Means, Leads, StandsAt, is_only, sought}
+use Rattle.option_eval.specs.declared.reach.Reach.{Reach}
+
+-- places that rise, from one on and below another
+abbrev pub IsRising : ℕ → List ℕ → ℕ → Type 0
+IsRising low [] high = low ≤ high
+IsRising low (place ∷ places) high = (low ≤ place) × IsRising (place + 1) places high
+
+-- a place is in the set, where every place is wanted; else some place is
+abbrev pub IsGot : Bool → List ℕ → ℕ → Type 0
+IsGot every places place = MatchBool every (Contains places place) (0 < length places)
+
+-- the set has places of a kind alone, and every one of them if every one is wanted, else one if there is one
+pub record Gathers (every : Bool) (P : ℕ → Type 0) (places : List ℕ) : Type 0 where
+  pub sound : (q : ℕ) → Contains places q → P q
+  pub complete : (q : ℕ) → P q → IsGot every places q
+
+-- the standing at a place with these values
+abbrev pub standing : List ℕ → ℕ → Standing
+standing values place = record { place = place; values = values }
+
+-- the option leads from one place to another, and leaves the values
+abbrev pub LeadsFrom : Means → List ℕ → List ℕ → Opt → ℕ → ℕ → Type 0
+LeadsFrom means payload values option p q = Leads means payload option (standing values p) (standing values q)
+
+-- the option leads to a place from one of the set
+abbrev pub IsLedTo : (ℕ → ℕ → Type 0) → List ℕ → ℕ → Type 0
+IsLedTo leads places q = (p : ℕ) × Contains places p × leads p q
+
+-- it leads from a place to this one alone, or nowhere
+abbrev pub LeadsOnlyTo : (ℕ → Type 0) → Option ℕ → Type 0
+LeadsOnlyTo leads None = (q : ℕ) → ¬ leads q
+LeadsOnlyTo leads (Some place) = leads place × ((q : ℕ) → leads q → q ≡ place)
+
+-- a content of so many bytes that stands at place i is within reach of a place
+pub record IsWithin (reach : Reach) (size place i : ℕ) : Type 0 where
+  pub low : (pos place +ℤ reach.from) ≤ℤ pos i
+  pub high : IfSome reach.room (λ room. pos (i + size) ≤ℤ ((pos place +ℤ reach.from) +ℤ room))
+
+-- bytes occur at a place of the payload, in either case or as they are
+abbrev pub Occurs : Bool → List ℕ → List ℕ → ℕ → Type 0
+Occurs nocase payload bytes i = OccursAt (folded nocase payload) (folded nocase bytes) i
+
+-- bytes end at a place, and stand within reach of some place of the set
+abbrev pub IsHitFrom : Bool → List ℕ → List ℕ → Reach → List ℕ → ℕ → Type 0
+IsHitFrom nocase payload bytes reach places q =
+    (p : ℕ) × (i : ℕ) × Contains places p × IsWithin reach (length bytes) p i × Occurs nocase payload bytes i × (q ≡ i + length bytes)
+
+-- bytes end at a place, and stand from one place on and below another
+abbrev pub IsHitIn : Bool → List ℕ → List ℕ → ℕ → ℕ → ℕ → Type 0
+IsHitIn nocase payload bytes low end q = (i : ℕ) × (low ≤ i) × (i < end) × Occurs nocase payload bytes i × (q ≡ i + length bytes)
+
+-- places of a kind are added to a set: every one if every one is wanted, else one if there is one
+pub record Adds (every : Bool) (P : ℕ → Type 0) (old new : List ℕ) : Type 0 where
+  pub sound : (q : ℕ) → Contains new q → Contains old q ⊎ P q
+  pub kept : (q : ℕ) → Contains old q → Contains new q
+  pub complete : (q : ℕ) → P q → IsGot every new q
+
+-- a content's reach from its origin, whether it folds case, and its origin, where a place stands before it
+abbrev pub reach_from : Content → List ℕ → ℤ
+reach_from content values = if is_only content.fast then pos 0 else unwrap_or (number_if values content.from) (pos 0)
+
+abbrev pub reach_room : Content → List ℕ → Option ℤ
+reach_room content values = if is_only content.fast then None else number_if values content.room
+
+abbrev pub folds_case : Content → Bool
+folds_case content = is_only content.fast || content.nocase
+
+abbrev pub content_origin : Content → ℕ → ℕ
+content_origin content place = if not (is_only content.fast) && content.relative then place else 0
+
+-- the content stands somewhere, seen from a place
+abbrev pub StandsFrom : List ℕ → Content → List ℕ → ℕ → Type 0
+StandsFrom payload content values place = (i : ℕ) × StandsAt content.bytes payload (sought content (standing values place)) i
+
+-- a whole number is this place of a payload of so many bytes, or is none
+abbrev pub PlaceIn : ℤ → ℕ → Option ℕ → Type 0
+PlaceIn place len None = (q : ℕ) → q ≤ len → ¬ (pos q ≡ place)
+PlaceIn place len (Some q) = (q ≤ len) × (pos q ≡ place)
+
+-- places, and one more if there is one
+abbrev pub with_if : List ℕ → Option ℕ → List ℕ
+with_if places None = places
+with_if places (Some place) = places ++ place ∷ []
+
+-- numbers that don't fall
+abbrev pub IsAscending : ℕ → List ℕ → Type 0
+IsAscending low [] = Unit {0}
+IsAscending low (x ∷ xs) = (low ≤ x) × IsAscending x xs

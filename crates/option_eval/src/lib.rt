@@ -1,0 +1,28 @@
+//! Whether a payload matches a rule's payload options.
+//!
+//! A rule's options are gone through in their order, each from the places to which those before it led
+//! (Snort Users Manual 2.9, section 3.5; specs/Numbers, specs/Places). A `RuleSet` keeps the rules with
+//! what was made of them once, and `payload_matches` says whether some way leads through all options of
+//! a rule. The lanes of flows stand on this crate.
+#![tactic(auto)]
+
+mod content;
+mod fetch;
+mod kind;
+mod led;
+mod made;
+mod making;
+mod needle;
+mod next;
+mod reach;
+mod rule_set;
+mod steps;
+mod sweep;
+mod walk;
+
+pub use making::PushFault;
+pub use rule_set::{RuleSet, payload_matches};
+pub use steps::Steps;
+
+#[cfg(test)]
+mod tests;

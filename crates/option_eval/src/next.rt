@@ -1,0 +1,283 @@
+//! Where an option leads from a set of places.
+
+ghost use Rattle.std.specs.Prelude.{◌≡◌, ℕ, ◌+◌, ◌<◌, ◌≤◌, ◌++◌, ◌∷◌, [], Bool, true, false, ◌↔◌, ◌^◌, Contains, take, length, IfOk, MatchBool, if◌then◌else◌};
+ghost use Rattle.std.specs.List.Sorted.{IsPermutation, IsNonDecreasing};
+ghost use Rattle.option_eval.specs.Kinds.{is_relative, is_test, IsJump};
+ghost use Rattle.option_eval.specs.Next.{next_set};
+ghost use Rattle.option_eval.specs.Places.{Means, is_payload_option, is_extract};
+ghost use Rattle.option_eval.specs.Ready.{IsReady, pattern_of};
+ghost use Rattle.option_eval.specs.RuleSet.{IsMade};
+ghost use Rattle.option_eval.specs.Sets.{IsRising, Gathers, IsLedTo, LeadsFrom, with_if};
+
+use crate::Steps;
+use crate::content::content_places;
+use crate::fetch::Values;
+use crate::kind::{is_payload_option, is_relative, is_test};
+use crate::led::{led_place, test_holds};
+use crate::made::Made;
+use crate::sweep::Places;
+use edge_io::{NoMemory, Pattern};
+use rule_parser::Opt;
+use smallvec::SmallVec;
+use std::alloc::Global;
+use std::sync::ledger::Ledger;
+
+/// The places behind an option.
+#[derive(Drop)]
+pub(crate) enum Next {
+    /// Those before it.
+    Same,
+    /// These.
+    To(Places),
+}
+
+/// How many visits a test of the first place is: where a content isn't negated, the places where it is
+/// compared.
+fn cost(option: &Opt, payload: &[u8]) -> u64
+    ensures { result ≤ length payload.now + 1 }
+{
+    match option {
+        Opt::Content(content) if !content.negated => payload.len() as u64,
+        _ => 1,
+    }
+}
+
+/// Where an option other than an extraction leads from a set of places. Every place is given if every
+/// one is wanted, else one at least where there is one.
+pub(crate) fn next_places<P: Pattern, L: Ledger>(
+    alloc: Global,
+    option: &Opt,
+    made: &Made<P>,
+    payload: &[u8],
+    places: &[usize],
+    values: &Values,
+    every: bool,
+    visits: &mut Steps<L>,
+) -> Result<Next, NoMemory>
+    requires ready { IsReady option.now made.now }
+    requires plain { is_extract option.now ≡ false }
+    requires asked { 0 < length places.now }
+    requires rising { IsRising 0 places.now (length payload.now + 1) }
+    ensures found { (means : Means) → IsMade P.finds means option.now (pattern_of made.now) → IfOk result (λ next.
+        Gathers every (IsLedTo (LeadsFrom means payload.now values.now option.now) places.now) (next_set next places.now)) }
+    ensures rising { IfOk result (λ next. IsRising 0 (next_set next places.now) (length payload.now + 1)) }
+    ensures bounded { visits.new ≤ visits.old + (if is_payload_option option.now then length payload.now + 1 else 0) }
+{
+    if !is_payload_option(option) {
+        return Ok(Next::Same);
+    }
+    if is_test(option) {
+        return tested(alloc, option, made, payload, places, values, visits);
+    }
+    moved(alloc, option, made, payload, places, values, every, visits)
+}
+
+/// The places at which a test holds.
+fn tested<P: Pattern, L: Ledger>(
+    alloc: Global,
+    option: &Opt,
+    made: &Made<P>,
+    payload: &[u8],
+    places: &[usize],
+    values: &Values,
+    visits: &mut Steps<L>,
+) -> Result<Next, NoMemory>
+    requires ready { IsReady option.now made.now }
+    requires test { is_test option.now ≡ true }
+    requires asked { 0 < length places.now }
+    requires rising { IsRising 0 places.now (length payload.now + 1) }
+    ensures found { (means : Means) → (every : Bool) → IsMade P.finds means option.now (pattern_of made.now) → IfOk result (λ next.
+        Gathers every (IsLedTo (LeadsFrom means payload.now values.now option.now) places.now) (next_set next places.now)) }
+    ensures rising { IfOk result (λ next. IsRising 0 (next_set next places.now) (length payload.now + 1)) }
+    ensures bounded { visits.new ≤ visits.old + (length payload.now + 1) }
+{
+    if is_relative(option) {
+        return Ok(Next::To(kept_places(alloc, option, made, payload, places, values, visits)?));
+    }
+    visits.tick_by(cost(option, payload));
+    if test_holds(option, made, payload, places[0], values)? {
+        Ok(Next::Same)
+    } else {
+        Ok(Next::To(SmallVec::new(alloc)))
+    }
+}
+
+/// The places at which a relative test holds, each asked.
+fn kept_places<P: Pattern, L: Ledger>(
+    alloc: Global,
+    option: &Opt,
+    made: &Made<P>,
+    payload: &[u8],
+    places: &[usize],
+    values: &Values,
+    visits: &mut Steps<L>,
+) -> Result<Places, NoMemory>
+    requires ready { IsReady option.now made.now }
+    requires test { is_test option.now ≡ true }
+    requires rising { IsRising 0 places.now (length payload.now + 1) }
+    ensures found { (means : Means) → (every : Bool) → IsMade P.finds means option.now (pattern_of made.now) → IfOk result (λ next.
+        Gathers every (IsLedTo (LeadsFrom means payload.now values.now option.now) places.now) next.items) }
+    ensures rising { IfOk result (λ next. IsRising 0 next.items (length payload.now + 1)) }
+    ensures bounded { visits.new ≤ visits.old + length places.now }
+{
+    let mut next = SmallVec::new(alloc);
+    let mut done = 0;
+    let mut rest = places;
+    while let [place, later @ ..] = rest {
+        visits.tick();
+        let holds = test_holds(option, made, payload, *place, values)?;
+        next = with_place(next, holds, *place)?;
+        done = *place + 1;
+        rest = later;
+    }
+    Ok(next)
+}
+
+/// The places, and one more if it is wanted.
+fn with_place(mut places: Places, wanted: bool, place: usize) -> Result<Places, NoMemory>
+    ensures { IfOk result (λ next. next.items ≡ (if wanted then places.items ++ place ∷ [] else places.items)) }
+{
+    if wanted {
+        places.push(place)?;
+    }
+    Ok(places)
+}
+
+/// Where an option that isn't a test leads.
+fn moved<P: Pattern, L: Ledger>(
+    alloc: Global,
+    option: &Opt,
+    made: &Made<P>,
+    payload: &[u8],
+    places: &[usize],
+    values: &Values,
+    every: bool,
+    visits: &mut Steps<L>,
+) -> Result<Next, NoMemory>
+    requires ready { IsReady option.now made.now }
+    requires plain { is_extract option.now ≡ false }
+    requires moves { is_test option.now ≡ false }
+    requires asked { 0 < length places.now }
+    requires rising { IsRising 0 places.now (length payload.now + 1) }
+    ensures found { (means : Means) → IsMade P.finds means option.now (pattern_of made.now) → IfOk result (λ next.
+        Gathers every (IsLedTo (LeadsFrom means payload.now values.now option.now) places.now) (next_set next places.now)) }
+    ensures rising { IfOk result (λ next. IsRising 0 (next_set next places.now) (length payload.now + 1)) }
+    ensures bounded { visits.new ≤ visits.old + (length payload.now + 1) }
+{
+    match (option, made) {
+        (Opt::Content(content), Made::Needle(finder)) => Ok(Next::To(content_places(
+            alloc, content, finder, payload, places, values, every, visits,
+        )?)),
+        (Opt::Content(_), _) => Ok(Next::Same),
+        _ => Ok(Next::To(jumped(alloc, option, made, payload, places, values, visits)?)),
+    }
+}
+
+/// The places that are asked: the first alone, unless the option is relative.
+fn asked_of(relative: bool, places: &[usize]) -> &[usize]
+    ensures { result.now ≡ (if relative then places.now else take 1 places.now) }
+{
+    if relative {
+        places
+    } else {
+        &places[..places.len().min(1)]
+    }
+}
+
+/// Where jumps lead, each place asked.
+fn jumped<P: Pattern, L: Ledger>(
+    alloc: Global,
+    option: &Opt,
+    made: &Made<P>,
+    payload: &[u8],
+    places: &[usize],
+    values: &Values,
+    visits: &mut Steps<L>,
+) -> Result<Places, NoMemory>
+    requires ready { IsReady option.now made.now }
+    requires jumps { IsJump option.now }
+    requires asked { 0 < length places.now }
+    requires rising { IsRising 0 places.now (length payload.now + 1) }
+    ensures found { (means : Means) → (every : Bool) → IsMade P.finds means option.now (pattern_of made.now) → IfOk result (λ next.
+        Gathers every (IsLedTo (LeadsFrom means payload.now values.now option.now) places.now) next.items) }
+    ensures rising { IfOk result (λ next. IsRising 0 next.items (length payload.now + 1)) }
+    ensures bounded { visits.new ≤ visits.old + (length payload.now + 1) }
+{
+    let led = led_places(
+        alloc,
+        option,
+        made,
+        payload,
+        asked_of(is_relative(option), places),
+        values,
+        visits,
+    )?;
+    rising(alloc, sorted(led).as_slice())
+}
+
+/// The places in order.
+fn sorted(mut places: Places) -> Places
+    ensures same { IsPermutation places.items result.items }
+    ensures order { IsNonDecreasing result.items }
+{
+    places.as_mut_slice().sort_unstable();
+    places
+}
+
+/// Where jumps lead from these places, in the order of the places.
+fn led_places<P: Pattern, L: Ledger>(
+    alloc: Global,
+    option: &Opt,
+    made: &Made<P>,
+    payload: &[u8],
+    places: &[usize],
+    values: &Values,
+    visits: &mut Steps<L>,
+) -> Result<Places, NoMemory>
+    requires ready { IsReady option.now made.now }
+    requires jumps { IsJump option.now }
+    requires within { (p : ℕ) → Contains places.now p → p ≤ length payload.now }
+    ensures found { (means : Means) → IsMade P.finds means option.now (pattern_of made.now) → IfOk result (λ led. (q : ℕ) →
+        Contains led.items q ↔ IsLedTo (LeadsFrom means payload.now values.now option.now) places.now q) }
+    ensures within { IfOk result (λ led. (q : ℕ) → Contains led.items q → q ≤ length payload.now) }
+    ensures bounded { visits.new ≤ visits.old + length places.now }
+{
+    let mut led = SmallVec::new(alloc);
+    let mut rest = places;
+    while let [place, later @ ..] = rest {
+        visits.tick();
+        let next = led_place(option, made, payload, *place, values)?;
+        led = with_led(led, next)?;
+        rest = later;
+    }
+    Ok(led)
+}
+
+/// The places, and one more if there is one.
+fn with_led(mut places: Places, led: Option<usize>) -> Result<Places, NoMemory>
+    ensures { IfOk result (λ next. next.items ≡ with_if places.items led) }
+{
+    if let Some(place) = led {
+        places.push(place)?;
+    }
+    Ok(places)
+}
+
+/// Sorted places, each once.
+fn rising(alloc: Global, sorted: &[usize]) -> Result<Places, NoMemory>
+    requires order { IsNonDecreasing sorted.now }
+    requires small { (q : ℕ) → Contains sorted.now q → q < 2 ^ 63 }
+    ensures same { IfOk result (λ next. (q : ℕ) → Contains next.items q ↔ Contains sorted.now q) }
+    ensures rising { (high : ℕ) → ((q : ℕ) → Contains sorted.now q → q < high)
+        → IfOk result (λ next. IsRising 0 next.items high) }
+{
+    let mut next = SmallVec::new(alloc);
+    let mut low = 0;
+    let mut rest = sorted;
+    while let [place, later @ ..] = rest {
+        next = with_place(next, low <= *place, *place)?;
+        low = *place + 1;
+        rest = later;
+    }
+    Ok(next)
+}
