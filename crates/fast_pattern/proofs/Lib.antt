@@ -1,0 +1,16 @@
+pub mod Choosing
+pub mod Filling
+pub mod Growing
+pub mod Hitting
+pub mod Lettering
+pub mod Linking
+pub mod Making
+pub mod Needing
+pub mod Occurring
+pub mod Ordering
+pub mod Ports
+pub mod Selecting
+pub mod Sizes
+pub mod Tries
+pub mod Walking
+pub mod Words

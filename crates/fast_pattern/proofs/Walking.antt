@@ -1,0 +1,137 @@
+-- The walk, a byte at a time.
+use Rattle.std.proofs.Common.{◌≡◌, ℕ, ◌+◌, ◌*◌, ◌/◌, ◌%◌, ◌<◌, ◌≤◌, inl, Bool, true, false, ◌&&◌, ◌||◌, cond, eqb, ltb, List, [], ◌∷◌, length, take, get_or, slice_index, sym, refl, ap, subst, ◌∙◌, arith, ⊎_elim, lit<}
+use Rattle.std.specs.List.Sorted.{IsPermutation}
+use Rattle.std.proofs.lemmas.List.{length-map, take_all}
+use Rattle.std.proofs.lemmas.List.Sorted.{IsPermutation-refl}
+use Rattle.std.proofs.lemmas.Nat.{div-mul-add}
+use Rattle.std.proofs.lemmas.Bool.{cases_eq, eq-eqb, ne_eqb, lt-ltb, le-ltb, ltb-true, and_parts, and_from, cond-true, cond-false}
+use Rattle.fast_pattern.specs.declared.automaton.Automaton.{Automaton}
+use Rattle.fast_pattern.specs.Words.{begins, has_ended, word_of, word_at, IsAt}
+use Rattle.fast_pattern.specs.Outputs.{is_left, ends_word, AreWords, entry_of}
+use Rattle.fast_pattern.specs.Finding.{numbers, is_marked, is_ended, IsClosedUnder, words_in, Walks, Notes, AreHits}
+use Rattle.fast_pattern.proofs.Words.{ended-push, ended-none, ended-suffix, walk-step}
+use Rattle.fast_pattern.proofs.Growing.{word_of-more}
+use Rattle.fast_pattern.proofs.Hitting.{numbers-same, numbers-none}
+
+pub word_of-none : (letters : List ℕ) → word_of letters [] ≡ []
+unfolding word_of
+word_of-none letters = refl
+
+ended-tells : (patterns : List (List ℕ)) (read : List ℕ) (place : ℕ) → is_ended patterns read place ≡ true → (0 < length (word_at patterns place)) × (has_ended (word_at patterns place) read ≡ true)
+unfolding is_ended
+ended-tells patterns read place e =
+    let parts = and_parts (ltb 0 (length (word_at patterns place))) (has_ended (word_at patterns place) read) e in
+    (ltb-true 0 (length (word_at patterns place)) parts.0, parts.1)
+
+ended-from : (patterns : List (List ℕ)) (read : List ℕ) (place : ℕ) → 0 < length (word_at patterns place) → has_ended (word_at patterns place) read ≡ true → is_ended patterns read place ≡ true
+unfolding is_ended
+ended-from patterns read place some e = and_from (ltb 0 (length (word_at patterns place))) (has_ended (word_at patterns place) read) (lt-ltb 0 (length (word_at patterns place)) some) e
+
+ended-start : (patterns : List (List ℕ)) (place : ℕ) → is_ended patterns [] place ≡ false
+unfolding is_ended
+ended-start patterns place = ⊎_elim
+    (λ empty. ap (λ b. b && has_ended (word_at patterns place) []) (le-ltb 0 (length (word_at patterns place)) (omega (arith, empty))))
+    (λ some. ap (λ b. b && has_ended (word_at patterns place) []) (lt-ltb 0 (length (word_at patterns place)) (omega arith)) ∙ ended-none (word_at patterns place) (omega arith))
+    (cases_eq (length (word_at patterns place)) 0)
+
+-- one letter on, what ended before or ends here
+ended-more : (words patterns : List (List ℕ)) (ends : List ℕ) (read : List ℕ) (letter state place : ℕ) → AreWords words patterns ends → IsAt words (letter ∷ read) (word_at words state) → place < length patterns → (is_ended patterns read place || ends_word patterns (word_at words state) place) ≡ is_ended patterns (letter ∷ read) place
+unfolding is_ended ends_word
+ended-more words patterns ends read letter state place are at h =
+    let word = word_at patterns place in
+    let here : begins word (letter ∷ read) ≡ begins word (word_at words state) = ap (λ w. begins w (letter ∷ read)) (sym (are.word place h)) ∙ at (slice_index ends place) (are.within place h) ∙ ap (λ w. begins w (word_at words state)) (are.word place h) in
+    go (ltb 0 (length word)) (has_ended word read) (begins word (word_at words state)) ∙ ap (λ b. ltb 0 (length word) && b) (ap (λ b. b || has_ended word read) (sym here) ∙ sym (ended-push word letter read))
+  where
+    go : (n e b : Bool) → ((n && e) || (n && b)) ≡ (n && (b || e))
+    go true true true = refl
+    go true true false = refl
+    go true false true = refl
+    go true false false = refl
+    go false e b = refl
+
+closed-under : (patterns : List (List ℕ)) (read : List ℕ) (seen : List Bool) → ((place : ℕ) → place < length patterns → is_marked seen place ≡ is_ended patterns read place) → IsClosedUnder patterns seen
+closed-under patterns read seen marked one other j k m some b =
+    let tells = ended-tells patterns read other (sym (marked other k) ∙ m) in
+    marked one j ∙ ended-from patterns read one some (ended-suffix (word_at patterns one) (word_at patterns other) read b tells.1)
+
+pub count-words : (letters : List ℕ) (patterns : List (List ℕ)) → length (words_in letters patterns) ≡ length patterns
+count-words letters patterns = length-map patterns (word_of letters)
+
+pub walks-none : (automaton : Automaton) → Walks automaton (word_of automaton.letters []) 0 [] []
+walks-none automaton =
+    let P : List ℕ → Type 0 = λ read. Walks automaton read 0 [] [] in
+    subst P (sym (word_of-none automaton.letters)) (record {
+      small = lit< tt;
+      sized = inl refl;
+      walked = λ patterns finds.
+          let Q : List ℕ → Type 0 = λ ns. IsPermutation ns [] in
+          record {
+            state = 0;
+            within = finds.some;
+            row = refl_row automaton.width;
+            is = λ state h. ap (begins (word_at finds.words state)) (sym finds.root);
+            marked = λ place h. sym (ended-start (words_in automaton.letters patterns) place);
+            listed = subst Q (sym (numbers-none (is_marked []) 0 (length (words_in automaton.letters patterns)) (λ place. refl))) (IsPermutation-refl []);
+          };
+    })
+  where
+    refl_row : (width : ℕ) → 0 ≡ 0 * width
+    refl_row width = omega arith
+
+pub walks-more : (automaton : Automaton) (bytes : List ℕ) (i at letter entry : ℕ) (old new : List Bool) (old_hits new_hits : List ℕ) → Walks automaton (word_of automaton.letters (take i bytes)) at old old_hits → i < length bytes → letter ≡ slice_index automaton.letters (get_or bytes i 0) → entry ≡ slice_index automaton.table.items (at + letter) → entry < 4294967296 → Notes automaton entry old old_hits new new_hits → Walks automaton (word_of automaton.letters (take (i + 1) bytes)) (entry / 2) new new_hits
+walks-more automaton bytes i at letter entry old new old_hits new_hits was h letter_is entry_is short notes =
+    let read = word_of automaton.letters (take i bytes) in
+    let P : List ℕ → Type 0 = λ r. Walks automaton r (entry / 2) new new_hits in
+    subst P (ap (λ l. l ∷ read) letter_is ∙ sym (word_of-more automaton.letters bytes i h)) (record {
+      small = omega arith;
+      sized = notes.sized was.sized;
+      walked = λ patterns finds.
+          let w = was.walked patterns finds in
+          let words = finds.words in
+          let pats = words_in automaton.letters patterns in
+          let wide : letter < automaton.width = omega (arith, letter_is, finds.below (get_or bytes i 0)) in
+          let has = finds.entries w.state letter w.within wide in
+          let entry_here : entry ≡ entry_of automaton.width automaton.heads.items has.next = entry_is ∙ ap (λ (a : ℕ). slice_index automaton.table.items (a + letter)) w.row ∙ has.is in
+          let head = slice_index automaton.heads.items has.next in
+          let chain = finds.chains has.next has.within in
+          let half = halves (has.next * automaton.width) head entry entry_here in
+          let row : entry / 2 / automaton.width ≡ has.next = ap (λ (x : ℕ). x / automaton.width) half.0 ∙ whole has.next automaton.width (omega arith) in
+          let known : head ≡ slice_index automaton.heads.items (entry / 2 / automaton.width) = ap (slice_index automaton.heads.items) (sym row) in
+          let at_next = walk-step words finds.closed read (word_at words w.state) (word_at words has.next) letter w.is has.at in
+          let count : length pats ≡ length automaton.nexts.items = count-words automaton.letters patterns ∙ sym finds.count in
+          record {
+            state = has.next;
+            within = has.within;
+            row = half.0;
+            is = at_next;
+            marked = λ place k.
+                notes.marked pats head (omega arith) was.sized count finds.nexts (closed-under pats read old w.marked) (chain.within, chain.some) known half.1 place k
+                ∙ ap (λ b. b || is_left pats head place) (w.marked place k)
+                ∙ ap (λ b. is_ended pats read place || b) (chain.left place k)
+                ∙ ended-more words pats finds.ends read letter has.next place finds.are at_next k;
+            listed =
+                let Q : ℕ → Type 0 = λ n. IsPermutation (numbers (is_marked old) 0 n) old_hits in
+                let R : ℕ → Type 0 = λ n. IsPermutation (numbers (is_marked new) 0 n) new_hits in
+                subst R (sym count) (notes.listed was.sized (subst Q count w.listed));
+          };
+    })
+  where
+    whole : (a w : ℕ) → 0 < w → a * w / w ≡ a
+    whole a w some = let e : a * w ≡ a * w + 0 = omega arith in ap (λ (x : ℕ). x / w) e ∙ div-mul-add a w 0 some
+
+    halves : (x hd e : ℕ) → e ≡ 2 * x + cond (eqb hd 0) 0 1 → (e / 2 ≡ x) × (e % 2 ≡ 0 → hd ≡ 0)
+    halves x hd e is = ⊎_elim
+        (λ none. let same : ◌≡◌ {A = ℕ} (cond (eqb hd 0) 0 1) 0 = cond-true {A = ℕ} (eqb hd 0) 0 1 (eq-eqb hd 0 none) in (omega (arith, same), λ even. none))
+        (λ some. let same : ◌≡◌ {A = ℕ} (cond (eqb hd 0) 0 1) 1 = cond-false {A = ℕ} (eqb hd 0) 0 1 (ne_eqb hd 0 some) in (omega (arith, same), λ even. absurd (omega (arith, same))))
+        (cases_eq hd 0)
+
+pub hits-all : (automaton : Automaton) (bytes : List ℕ) (i at : ℕ) (seen : List Bool) (hits : List ℕ) → length bytes ≤ i → Walks automaton (word_of automaton.letters (take i bytes)) at seen hits → AreHits automaton bytes hits
+hits-all automaton bytes i at seen hits h walks = record {
+  found = λ patterns finds.
+      let w = walks.walked patterns finds in
+      let pats = words_in automaton.letters patterns in
+      let same = numbers-same (is_marked seen) (is_ended pats (word_of automaton.letters bytes)) 0 (length pats) (λ place j k. w.marked place (omega arith) ∙ ap (λ bs. is_ended pats (word_of automaton.letters bs) place) (take_all i bytes h)) in
+      let P : List ℕ → Type 0 = λ ns. IsPermutation ns hits in
+      let Q : ℕ → Type 0 = λ n. IsPermutation (numbers (is_ended pats (word_of automaton.letters bytes)) 0 n) hits in
+      subst Q (count-words automaton.letters patterns) (subst P same w.listed);
+}

@@ -1,0 +1,7 @@
+use Rattle.std.proofs.Common.{◌≡◌, drop}
+use Rattle.fast_pattern.specs.FastPattern.{chosen}
+use Rattle.fast_pattern.proofs.Choosing.{chosen_behind}
+use Rattle.fast_pattern.proofs.choice.chosen.Given as goal
+
+abbrev pub invariant-loop-place : goal.invariant-loop-place
+invariant-loop-place l = chosen_behind l.best l.place (drop l.place l.options) ≡ chosen l.options

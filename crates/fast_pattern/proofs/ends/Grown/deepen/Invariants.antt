@@ -1,0 +1,11 @@
+use Rattle.std.proofs.Common.{◌≡◌, ◌+◌}
+use Rattle.fast_pattern.specs.Words.{IsTrie, words_of}
+use Rattle.fast_pattern.specs.Growing.{AreBetween}
+use Rattle.fast_pattern.proofs.ends.Grown.deepen.Given as goal
+
+abbrev pub invariant-loop-place : goal.invariant-loop-place
+invariant-loop-place l = record {
+  trie : IsTrie l.trie (l.depth + 1);
+  width : l.trie.width ≡ l.fn.trie.width;
+  ends : AreBetween (words_of l.trie.steps.items) l.letters l.patterns l.ends l.depth l.place;
+}

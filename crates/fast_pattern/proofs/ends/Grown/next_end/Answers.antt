@@ -1,0 +1,11 @@
+use Rattle.std.proofs.Common.{slice_index, get_or, refl}
+use Rattle.fast_pattern.proofs.Growing.{advance-some, trie-at}
+use Rattle.fast_pattern.proofs.ends.Grown.next_end.Goals as goal
+
+pub child-requires-clause-trie : goal.child-requires-clause-trie
+child-requires-clause-trie c =
+    trie-at c.args.trie.now c.args.letters.now c.args.pattern.now c.args.depth c.args.end c.requires.trie c.requires.end c.if-pattern-depth.false
+
+pub returns : goal.returns
+returns c =
+    advance-some c.args.trie.now c.child.new.self c.args.letters.now c.args.pattern.now c.args.depth c.args.end (slice_index c.args.letters.now (get_or c.args.pattern.now c.args.depth 0)) c.in_ok-next.next c.requires.end c.if-pattern-depth.false refl c.in_ok-next.ensures

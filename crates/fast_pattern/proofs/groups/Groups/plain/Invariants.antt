@@ -1,0 +1,7 @@
+use Rattle.std.proofs.Common.{◌≡◌}
+use Rattle.fast_pattern.specs.Grouping.{is_plain}
+use Rattle.fast_pattern.specs.Finding.{numbers}
+use Rattle.fast_pattern.proofs.groups.Groups.plain.Given as goal
+
+abbrev pub invariant-loop-place : goal.invariant-loop-place
+invariant-loop-place l = l.plain.items ≡ numbers (is_plain l.rules l.patterns l.kind) 0 l.place

@@ -1,0 +1,5 @@
+use Rattle.fast_pattern.proofs.Needing.{needs-pattern}
+use Rattle.fast_pattern.proofs.groups.matching_needs_the_fast_pattern.Goals as goal
+
+pub returns : goal.returns
+returns c = λ rule payload occur. needs-pattern rule.opts payload occur

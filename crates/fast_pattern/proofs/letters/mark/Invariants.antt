@@ -1,0 +1,10 @@
+use Rattle.std.proofs.Common.{◌≡◌, length, take}
+use Rattle.fast_pattern.specs.Letters.{AreMarked, KeepsMarks}
+use Rattle.fast_pattern.proofs.letters.mark.Given as goal
+
+abbrev pub invariant-loop-byte : goal.invariant-loop-byte
+invariant-loop-byte l = record {
+  sized : length l.used ≡ 256;
+  kept : KeepsMarks l.fn.used l.used;
+  marked : AreMarked l.used (take l.byte-index l.pattern);
+}

@@ -1,0 +1,5 @@
+use Rattle.fast_pattern.specs.Outputs.{AreNexts}
+use Rattle.fast_pattern.proofs.links.nexts.Given as goal
+
+abbrev pub invariant-loop-place : goal.invariant-loop-place
+invariant-loop-place l = AreNexts l.ends l.sames l.links.fails.items l.links.heads.items l.nexts.items l.place

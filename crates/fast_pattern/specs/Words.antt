@@ -1,0 +1,95 @@
+-- Words, and the states of an automaton that finds many of them at once.
+--
+-- Aho and Corasick, Efficient String Matching (Communications of the ACM 18, 1975). Words and what was
+-- read stand with the latest letter first, so that what ends at a moment is what the list begins with.
+-- To try it on: behind the letters h, s, h, e the words `he` and `she` have ended, `his` hasn't; as lists
+-- they are e h, e h s and s i h, and what was read is e h s h.
+use Rattle.std.specs.Prelude.{◌≡◌, ℕ, ◌+◌, ◌*◌, ◌<◌, ◌≤◌, ◌==◌, Bool, true, false, ◌&&◌, ◌||◌, List, [], ◌∷◌, ◌++◌, length, map, reverse, slice_index, slice_index_or}
+use Rattle.fast_pattern.specs.declared.trie.Step.{Step}
+use Rattle.fast_pattern.specs.declared.trie.Trie.{Trie}
+
+-- the list begins with the word
+unfoldable pub begins : List ℕ → List ℕ → Bool
+begins [] text = true
+begins (letter ∷ word) [] = false
+begins (letter ∷ word) (other ∷ text) = (letter == other) && begins word text
+
+-- the word has ended at some moment
+unfoldable pub has_ended : List ℕ → List ℕ → Bool
+has_ended word [] = begins word []
+has_ended word (letter ∷ earlier) = begins word (letter ∷ earlier) || has_ended word earlier
+
+-- the letters of these bytes, the latest first
+unfoldable pub word_of : List ℕ → List ℕ → List ℕ
+word_of letters bytes = reverse (map (slice_index letters) bytes)
+
+-- the word with this number
+abbrev pub word_at : List (List ℕ) → ℕ → List ℕ
+word_at words number = slice_index_or words number []
+
+-- each word is empty, or all but its last letter is a word too
+abbrev pub IsClosed : List (List ℕ) → Type 0
+IsClosed words = (state : ℕ) → state < length words → 0 < length (word_at words state)
+    → (up : ℕ) × (by : ℕ) × (up < length words) × (word_at words state ≡ by ∷ word_at words up)
+
+-- the same words have ended behind what was read as behind this word: it is the state there
+abbrev pub IsAt : List (List ℕ) → List ℕ → List ℕ → Type 0
+IsAt words read word = (state : ℕ) → state < length words → begins (word_at words state) read ≡ begins (word_at words state) word
+
+-- the longest of the words which another word ends in
+pub record IsFail (words : List (List ℕ)) (word fail : List ℕ) : Type 0 where
+  pub shorter : length fail < length word
+  pub same : (state : ℕ) → state < length words → length (word_at words state) < length word → begins (word_at words state) word ≡ begins (word_at words state) fail
+
+-- the words of a trie: a letter behind an earlier word each, behind the words that there are
+unfoldable pub words_from : List (List ℕ) → List Step → List (List ℕ)
+words_from words [] = words
+words_from words (step ∷ steps) = words_from (words ++ (step.by ∷ word_at words step.up) ∷ []) steps
+
+-- the words of a trie: the empty one first
+abbrev pub words_of : List Step → List (List ℕ)
+words_of steps = words_from ([] ∷ []) steps
+
+-- the number in a row and a column of a table
+abbrev pub cell : List ℕ → ℕ → ℕ → ℕ → ℕ
+cell cells width row column = slice_index cells (row * width + column)
+
+-- which word is longer by a letter: none, where the number is 0
+pub record IsChild (words : List (List ℕ)) (state letter child : ℕ) : Type 0 where
+  pub lacks : child ≡ 0 → (other : ℕ) → other < length words → ¬ (word_at words other ≡ letter ∷ word_at words state)
+  pub within : child < length words
+  pub grown : 0 < child → word_at words child ≡ letter ∷ word_at words state
+
+-- the step of a state behind the empty word
+abbrev pub step_at : List Step → ℕ → Step
+step_at steps number = slice_index_or steps number (record { up = 0; by = 0 })
+
+-- the numbers of a trie whose words have at most so many letters
+pub record IsTrieOf (words : List (List ℕ)) (trie : Trie) (deep : ℕ) : Type 0 where
+  pub count : length words ≡ length trie.steps.items + 1
+  pub cells : length trie.cells.items ≡ length words * trie.width
+  pub root : word_at words 0 ≡ []
+  pub steps : (state : ℕ) → 0 < state → state < length words → (up : ℕ) × (by : ℕ) × (up < state) × (by < trie.width) × (word_at words state ≡ by ∷ word_at words up)
+  pub told : (number : ℕ) → number < length trie.steps.items → word_at words (number + 1) ≡ (step_at trie.steps.items number).by ∷ word_at words (step_at trie.steps.items number).up
+  pub ups : (number : ℕ) → number < length trie.steps.items → (step_at trie.steps.items number).up ≤ number
+  pub bys : (number : ℕ) → number < length trie.steps.items → (step_at trie.steps.items number).by < trie.width
+  pub children : (state letter : ℕ) → state < length words → letter < trie.width → IsChild words state letter (cell trie.cells.items trie.width state letter)
+  pub apart : (one other : ℕ) → one < length words → other < length words → word_at words one ≡ word_at words other → one ≡ other
+  pub levels : (one other : ℕ) → one ≤ other → other < length words → length (word_at words one) ≤ length (word_at words other)
+  pub deepest : (state : ℕ) → state < length words → length (word_at words state) ≤ deep
+
+abbrev pub IsTrie : Trie → ℕ → Type 0
+IsTrie trie deep = IsTrieOf (words_of trie.steps.items) trie deep
+
+-- the words that there were have kept their numbers
+pub record Extends (old new : List (List ℕ)) : Type 0 where
+  pub longer : length old ≤ length new
+  pub kept : (state : ℕ) → state < length old → word_at new state ≡ word_at old state
+
+-- the trie has a state whose word is this state's with the letter behind it
+pub record HasChild (old : Trie) (state letter child : ℕ) (new : Trie) : Type 0 where
+  pub trie : IsTrie new (length (word_at (words_of old.steps.items) state) + 1)
+  pub width : new.width ≡ old.width
+  pub extends : Extends (words_of old.steps.items) (words_of new.steps.items)
+  pub within : child < length (words_of new.steps.items)
+  pub grown : word_at (words_of new.steps.items) child ≡ letter ∷ word_at (words_of old.steps.items) state

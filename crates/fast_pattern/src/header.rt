@@ -1,0 +1,110 @@
+//! Whether a rule's header fits an item, addresses aside.
+
+ghost use Rattle.std.specs.Prelude.{◌≡◌, IfOk};
+ghost use Rattle.fast_pattern.specs.Candidates.{has_port, ports_fit, header_fits};
+
+use edge_io::NoMemory;
+use net_lists::PortList;
+use packet_decode::Body;
+use rule_parser::{Proto, Rule};
+use std::alloc::Global;
+
+/// What decides it: the protocol, the ports and the direction of a rule.
+#[derive(Drop)]
+pub struct Asked {
+    pub proto: Proto,
+    pub sports: PortList,
+    pub dports: PortList,
+    pub both: bool,
+}
+
+/// What an item carries, as far as a rule without ports asks.
+#[derive(Clone, Copy)]
+pub enum Kind {
+    Tcp,
+    Udp,
+    Icmp,
+    Other,
+}
+
+/// Whether the list has the port.
+fn has_port(ports: &PortList, port: u16) -> bool
+    ensures { result ≡ has_port ports.now port }
+{
+    ports.contains(port)
+}
+
+/// A copy of the list.
+fn copied(alloc: Global, ports: &PortList) -> Result<PortList, NoMemory>
+    ensures { IfOk result (λ copy. copy ≡ ports.now) }
+{
+    Ok(PortList::from_vec(Vec::from_slice(alloc, ports.parts())?))
+}
+
+impl Kind {
+    ghost use Rattle.fast_pattern.specs.Grouping.{kind_of, is_for};
+
+    /// The kind of what an item carries.
+    pub fn of(body: &Body) -> Kind
+        ensures { result ≡ kind_of body.now }
+    {
+        match body {
+            Body::Tcp(_) | Body::Stream { .. } => Kind::Tcp,
+            Body::Udp { .. } => Kind::Udp,
+            Body::Icmp { .. } => Kind::Icmp,
+            Body::Other | Body::Fragment => Kind::Other,
+        }
+    }
+
+    /// Whether rules of the protocol may fit the kind.
+    pub fn has(self, proto: Proto) -> bool
+        ensures { result ≡ is_for self proto }
+    {
+        match (self, proto) {
+            (_, Proto::Ip) => true,
+            (Kind::Tcp, Proto::Tcp) => true,
+            (Kind::Udp, Proto::Udp) => true,
+            (Kind::Icmp, Proto::Icmp) => true,
+            _ => false,
+        }
+    }
+}
+
+impl Asked {
+    ghost use Rattle.fast_pattern.specs.Grouping.{asked_of};
+
+    /// What is asked of the rule's header.
+    pub fn of(alloc: Global, rule: &Rule) -> Result<Asked, NoMemory>
+        ensures { IfOk result (λ asked. asked ≡ asked_of rule.now) }
+    {
+        Ok(Asked {
+            proto: rule.proto,
+            sports: copied(alloc, &rule.sports)?,
+            dports: copied(alloc, &rule.dports)?,
+            both: rule.both,
+        })
+    }
+
+    /// Whether the ports fit; under `<>` they may be exchanged.
+    fn has_ports(&self, sport: u16, dport: u16) -> bool
+        ensures { result ≡ ports_fit self.now.sports self.now.dports self.now.both sport dport }
+    {
+        let forth = has_port(&self.sports, sport) && has_port(&self.dports, dport);
+        let back = self.both && has_port(&self.sports, dport) && has_port(&self.dports, sport);
+        forth || back
+    }
+
+    /// Whether the protocol and the ports fit.
+    pub fn fits(&self, body: &Body) -> bool
+        ensures { result ≡ header_fits self.now.proto self.now.sports self.now.dports self.now.both body.now }
+    {
+        match (self.proto, body) {
+            (Proto::Ip, _) => true,
+            (Proto::Tcp, Body::Tcp(head)) => self.has_ports(head.sport, head.dport),
+            (Proto::Tcp, Body::Stream { sport, dport }) => self.has_ports(*sport, *dport),
+            (Proto::Udp, Body::Udp { sport, dport }) => self.has_ports(*sport, *dport),
+            (Proto::Icmp, Body::Icmp { .. }) => true,
+            _ => false,
+        }
+    }
+}
