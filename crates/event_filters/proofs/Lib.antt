@@ -1,0 +1,9 @@
+pub mod KeyTests
+pub mod Numbers
+pub mod Intervals
+pub mod Stages
+pub mod Tallies
+pub mod Running
+pub mod Queues
+pub mod Dropping
+pub mod Given

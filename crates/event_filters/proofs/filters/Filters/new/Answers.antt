@@ -1,0 +1,8 @@
+use Rattle.event_filters.proofs.Given.{given-none}
+use Rattle.event_filters.proofs.filters.Filters.new.Goals as goal
+
+pub returns : goal.returns
+returns c =
+    let own = rw c.as_slice-filters.ensures at c.in_ok-own_places.ensures in
+    let global = rw c.as_slice-filters.ensures at c.in_ok-global_places.ensures in
+    λ config_sound rules_sound. given-none c.args.config.now c.args.rules.now _ config_sound rules_sound c.in_ok-sizes_of.ensures own global c.new.ensures.empty c.new-2.ensures.empty c.new-3.ensures.empty

@@ -1,0 +1,8 @@
+pub mod Keys
+pub mod Counting
+pub mod Queue
+pub mod Events
+pub mod Windows
+pub mod Counts
+pub mod Runs
+pub mod Standing

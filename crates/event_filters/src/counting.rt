@@ -1,0 +1,158 @@
+//! Windows of counted events, by their keys.
+ghost use Rattle.std.specs.Prelude.{◌≡◌, ◌+◌, ◌*◌, ◌≤◌, ◌<◌, OnOk, Some, nat_lt, if◌then◌else◌};
+ghost use Rattle.std.specs.HashMap.{spare};
+ghost use Rattle.event_filters.specs.Keys.{tracked, same_key};
+ghost use Rattle.event_filters.specs.declared.counting.Key.{Key};
+ghost use Rattle.event_filters.specs.Windows.{answer_of, next_number, next_window, shows, window_at, windows_after};
+
+use edge_io::{Addr, Moment, NoMemory};
+use packet_decode::ItemHead;
+use std::collections::HashMap;
+
+/// How a line decides by the number of an event in its interval.
+#[derive(Clone, Copy, Debug, PartialEq, Eq)]
+pub(crate) enum Kind {
+    /// The first `count` events are let through.
+    Limit,
+    /// Every `count`th event is.
+    Threshold,
+    /// The `count`th event is.
+    Both,
+    /// Those behind the `count`th are.
+    Above,
+}
+
+/// A line that counts events in intervals of so many seconds.
+#[derive(Clone, Copy, Debug, PartialEq, Eq)]
+pub(crate) struct Line {
+    pub kind: Kind,
+    pub count: u32,
+    pub seconds: u32,
+}
+
+/// What events are counted by: the place of the line, or of the rule with a detection filter, the
+/// event's generator and number, the tracked address.
+#[derive(Clone, Copy, Debug, PartialEq, Eq, Hash)]
+pub(crate) struct Key {
+    pub place: u32,
+    pub gid: u32,
+    pub sid: u32,
+    pub addr: Addr,
+}
+
+/// How an event is counted.
+#[derive(Clone, Copy, Debug)]
+pub(crate) struct Count {
+    pub key: Key,
+    pub line: Line,
+}
+
+/// An interval at hand: when it began, in nanoseconds, and the number of its last event as far as the
+/// line can tell.
+#[derive(Clone, Copy, Debug)]
+pub(crate) struct Window {
+    pub start: u64,
+    pub number: u64,
+}
+
+/// Makes room for so many keys more.
+pub(crate) fn reserve(windows: &mut Windows, keys: usize) -> Result<(), NoMemory>
+    ensures same { (key : Key) → window_at windows.new.entries key
+        ≡ window_at windows.old.entries key }
+    ensures room { OnOk result (keys ≤ spare windows.new) }
+{
+    windows.reserve(keys)?;
+    Ok(())
+}
+
+/// The windows of all keys.
+pub(crate) type Windows = HashMap<Key, Window>;
+
+/// The tracked address of an item.
+pub(crate) fn tracked(by_src: bool, head: &ItemHead) -> Addr
+    ensures { result ≡ tracked by_src head.now }
+{
+    if by_src { head.ip.src } else { head.ip.dst }
+}
+
+/// The number behind this one.
+fn next_number(line: Line, number: u64) -> u64
+    ensures { result ≡ next_number line.kind line.count number }
+{
+    let count = u64::from(line.count);
+    match line.kind {
+        Kind::Threshold => { if number < count { number + 1 } else { 1 } }
+        Kind::Limit | Kind::Both | Kind::Above => number.min(count) + 1,
+    }
+}
+
+/// Whether the line lets through an event with this number.
+fn shows(line: Line, number: u64) -> bool
+    ensures { result ≡ shows line.kind line.count number }
+{
+    let count = u64::from(line.count);
+    match line.kind {
+        Kind::Limit => number <= count,
+        Kind::Threshold | Kind::Both => number == count,
+        Kind::Above => count < number,
+    }
+}
+
+/// Whether the moment lies in the window's interval.
+fn is_within(line: Line, window: Window, moment: u64) -> bool
+    ensures { result ≡ nat_lt moment (window.start + line.seconds * 1000000000) }
+{
+    u128::from(moment) < u128::from(window.start) + u128::from(line.seconds) * 1_000_000_000
+}
+
+/// The window once an event has come at this moment.
+fn next_window(line: Line, window: Option<Window>, moment: u64) -> Window
+    ensures { result ≡ next_window line window moment }
+{
+    if let Some(window) = window {
+        if is_within(line, window, moment) {
+            return Window {
+                start: window.start,
+                number: next_number(line, window.number),
+            };
+        }
+    }
+    Window {
+        start: moment,
+        number: 1,
+    }
+}
+
+/// Counts an event, where it is counted, and tells whether its line lets it through.
+pub(crate) fn lets_through(windows: &mut Windows, count: Option<Count>, moment: Moment) -> bool
+    requires { 0 < spare windows.old }
+    ensures answer { result ≡ answer_of (window_at windows.old.entries) count moment.nanos }
+    ensures after { (key : Key) → window_at windows.new.entries key
+        ≡ windows_after (window_at windows.old.entries) count moment.nanos key }
+    ensures room { spare windows.old ≤ spare windows.new + 1 }
+{
+    match count {
+        None => true,
+        Some(count) => shows(count.line, counted_window(windows, count, moment).number),
+    }
+}
+
+/// Counts an event, and gives the window behind it.
+fn counted_window(windows: &mut Windows, count: Count, moment: Moment) -> Window
+    requires { 0 < spare windows.old }
+    ensures window { result
+        ≡ next_window count.line (window_at windows.old.entries count.key) moment.nanos }
+    ensures after { (key : Key) → window_at windows.new.entries key
+        ≡ (if same_key count.key key then Some result else window_at windows.old.entries key) }
+    ensures room { spare windows.old ≤ spare windows.new + 1 }
+{
+    if let Some(window) = windows.get_mut(&count.key) {
+        *window = next_window(count.line, Some(*window), moment.nanos);
+        return *window;
+    }
+    let window = next_window(count.line, None, moment.nanos);
+    match windows.insert(count.key, window) {
+        Ok(_) => window,
+        Err(_) => unreachable!(),
+    }
+}
