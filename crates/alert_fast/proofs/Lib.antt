@@ -1,0 +1,4 @@
+pub mod Dates
+pub mod PaddedDigits
+pub mod PieceLists
+pub mod LineTexts
