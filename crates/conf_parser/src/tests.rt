@@ -29,23 +29,50 @@ fn kind_name(kind: &ConfKind) -> &'static str {
 
 /// A row for each case: the kind of the first line that is refused, or `fine`, and the lines, between `&&`.
 const LINE_ROWS: &str = "directive: fetch me
+directive: Alert tcp any any -> any any (sid:1;)
+directive: frag3_engine policy bsd
 fine: alert tcp any any -> any any (sid:1;)
 fine: output x: y
 outside: threshold gen_id 1
+outside: threshold
+outside: threshold gen_id 1, sig_id 1, type limit, track by_src, count 1, seconds 60
+outside: attribute_table
+outside: attribute_table filename hosts.xml
+outside: attribute_table filename $X
+outside: rate_filter
+outside: rate_filter gen_id 1
+outside: rate_filter gen_id 1, sig_id 1, track by_src, count 5, seconds 1, new_action drop, timeout 10
+outside: ruletype
+outside: ruletype redalert
+outside: ruletype suspicious {
+outside: rule_state
+outside: rule_state 1
+outside: rule_state sid 1, state enabled
 outside: preprocessor stream5_icmp
+outside: preprocessor stream5_icmp:
+outside: preprocessor stream5_icmp: timeout 30
 fine: preprocessor normalize_ip4 && config disable_decode_alerts && config && preprocessor
 value: var N
 value: var 1N x
 variable: var N $M
 fine: var N $(M:-x) && var M $N
 address: ipvar H [10.0.0.0/8
+address: ipvar H 10.0.0.0/33
+address: ipvar H []
 fine: ipvar H [10.0.0.0/8, !10.1.0.0/16] && ipvar G $H
 variable: ipvar H [10.0.0,$X]
 fine: portvar P [80,8080] && portvar Q !$P
 port: portvar P 65536
+port: portvar P [80:79]
+port: portvar P [any]
+port: portvar P ![80,!81]
+variable: portvar P $X
+value: portvar 1P 80
 value: include
 variable: include $X
 deep: include a
+deep: include $(N:-a)
+deep: var N b && include d/$N
 fine: config classification: a,Some text, 2 && config classification: a,Other,3
 value: config classification: a,,2
 value: config classification: a,b,2,3
@@ -58,7 +85,14 @@ fine: config event_queue: max_queue 8 log 5 order_events content_length
 fine: config event_queue:
 value: config event_queue: log 1025
 value: config event_queue: log
+value: config event_queue: max_queue 0
+value: config event_queue: order_events length
+value: config event_queue max_queue 8
 fine: config detection: search-method ac-split no_stream_inserts
+fine: config detection:
+value: config detection
+value: config detection no_stream_inserts
+value: config detection search-method: ac
 fine: config reference && config pcre_match_limit: x
 twice: preprocessor frag3_global: max_frags 65536, memcap 0 && preprocessor frag3_global
 value: preprocessor frag3_global max_frags 1
@@ -81,10 +115,20 @@ value: preprocessor stream5_tcp: ports client
 value: preprocessor stream5_tcp: max_queued_bytes 0, max_queued_segs 1
 twice: preprocessor stream5_tcp && preprocessor stream5_tcp: timeout 1
 twice: preprocessor stream5_udp: timeout 180, ignore_any_rules && preprocessor stream5_udp
+twice: preprocessor stream5_udp && preprocessor stream5_udp: timeout 1
+value: preprocessor stream5_udp: timeout 86401
+value: preprocessor stream5_udp: policy bsd
+value: preprocessor stream5_udp timeout 1
 twice: event_filter gen_id 1, sig_id 1, type limit, track by_src, count 2, seconds 60 && event_filter seconds 1, count 1, track by_dst, type both, sig_id 1, gen_id 1
 value: event_filter gen_id 0, sig_id 1, type limit, track by_src, count 1, seconds 60
+value: event_filter gen_id 1, sig_id 1, type limit, track by_src, count 1
+value: event_filter gen_id 1, sig_id 1, type some, track by_src, count 1, seconds 60
+value: event_filter gen_id 1, sig_id 1, type limit, track by_src, count 0, seconds 60
 fine: suppress gen_id 1, sig_id 0 && suppress gen_id 1, sig_id 1, track by_src, ip [10.0.0.1, 10.0.0.2]
 address: suppress gen_id, sig_id 1, track by_src, ip 10.0
+address: suppress gen_id 1, sig_id 1, track by_src, ip 10.0.0
+variable: suppress gen_id 1, sig_id 1, track by_src, ip $X
+value: suppress sig_id 1, gen_id 1
 value: suppress gen_id 1, sig_id 1, track by_src, ip 10.0.0.1, x
 ";
 
@@ -243,6 +287,58 @@ fn files_and_their_refusals(rt: HostRuntime) -> Result<(), Fail> {
         files_outcome(rt.alloc(), INCLUDING, &[1])?.as_str(),
         "host 1 1"
     );
+    Ok(())
+}
+
+/// Files whose counts are full, and what one more of the middle text gives: the text in front, the text that is
+/// repeated, the text behind, how often it may stand, and the refusal.
+const LIMITS: [(&str, &str, &str, usize, &str); 6] = [
+    (
+        "=== r\n",
+        "suppress gen_id 1, sig_id 1\n",
+        "",
+        1024,
+        "limit 0 1025",
+    ),
+    (
+        "=== r\n",
+        "preprocessor frag3_engine: bind_to 10.0.0.1\n",
+        "",
+        1024,
+        "limit 0 1025",
+    ),
+    (
+        "=== r\n",
+        "preprocessor stream5_tcp: bind_to 10.0.0.1\n",
+        "",
+        1024,
+        "limit 0 1025",
+    ),
+    (
+        "=== r\nipvar H [",
+        "10.0.0.1,",
+        "10.0.0.1]\n",
+        1023,
+        "limit 0 1",
+    ),
+    ("=== r\nportvar P [", "80,", "80]\n", 1023, "limit 0 1"),
+    ("=== r\n", "include a\n", "=== a\n", 4095, "limit 0 4096"),
+];
+
+#[test]
+fn limits_are_kept(rt: HostRuntime) -> Result<(), Fail> {
+    for (front, text, behind, most, want) in LIMITS {
+        let mut files = String::from_str(rt.alloc(), front)?;
+        for _ in 0..most {
+            files.push_str(text)?;
+        }
+        let full = format!(in rt.alloc(); "{files}{behind}")?;
+        let got = files_outcome(rt.alloc(), full.as_str(), &[])?;
+        assert_eq!(rt; got.as_str(), "fine 0 0", "{text}");
+        let over = format!(in rt.alloc(); "{files}{text}{behind}")?;
+        let got = files_outcome(rt.alloc(), over.as_str(), &[])?;
+        assert_eq!(rt; got.as_str(), want, "{text}");
+    }
     Ok(())
 }
 

@@ -82,28 +82,47 @@ alert tcp $E any -> $H $P (flow:to_server,established; content:"attack"; fast_pa
 alert tcp [$H, 11.0.0.1] any <> !192.168.0.0/16 [1:1023, !80] (sid:1;)@rule 1 0 false
 pass ip 10.0.0.1 ![80,81] <> 2001:db8::/32 1024: ( sid : 4294967295 ; )@rule 4294967295 0 false
 alert udp any any -> any any (msg:"a;b\";)"; sid:1;)@rule 1 0 false
+pass icmp !10.0.0.1 any <> [10.0.0.0/8, ![10.1.0.0/16, 10.2.0.0/16]] :1023 (sid:7; rev:1;)@rule 7 0 false
+alert tcp any [80,!443] -> any !8080 (sid:1; reference:a; metadata:b;)@rule 1 0 false
 @Action 0 0
 fetch udp any any -> any any (sid:1;)@Action 0 0
 Alert udp any any -> any any (sid:1;)@Action 0 0
+alerts udp $X any -> any any (sid:1;)@Action 0 0
+(sid:1;)@Action 0 0
 log udp $X any -> any any (sid:1;)@OutsideProfile 0 0
 drop udp any any -> any any (sid:1;)@OutsideProfile 0 0
 sdrop@OutsideProfile 0 0
+activate udp any any -> any any (sid:1;)@OutsideProfile 0 0
+dynamic tcpx any any -> any any (sid:1;)@OutsideProfile 0 0
+reject udp any any@OutsideProfile 0 0
 alert@Protocol 0 0
 alert tcpx $X any -> any any (sid:1;)@Protocol 0 0
 alert UDP any any -> any any (sid:1;)@Protocol 0 0
+pass icmp6 any any -> any any (sid:1;)@Protocol 0 0
+alert 6 any any -> any any (sid:1;)@Protocol 0 0
 alert udp@Address 0 0
 alert udp [10.0.0.0/8 any -> any any (sid:1;)@Address 0 0
 alert udp [any] any -> any any (sid:1;)@Address 0 0
 alert udp any any -> 10.0.0 any (sid:1;)@Address 0 0
 alert udp $(X:?need X) any -> any any (sid:1;)@Address 0 0
+alert udp 10.0.0.0/33 any -> any any (sid:1;)@Address 0 0
+alert udp !any any -> any any (sid:1;)@Address 0 0
+alert udp any any -> ![10.0.0.1,!10.0.0.2] any (sid:1;)@Address 0 0
+alert udp $L any -> any any (sid:1;)@Address 0 0
 alert udp any any -> any@Port 0 0
 alert udp any 99999 => any any (sid:1;)@Port 0 0
 alert udp any ![80,!81] -> any any (sid:1;)@Port 0 0
 alert udp any any -> any 80:79 (sid:1;)@Port 0 0
 alert udp any any -> any any(sid:1;)@Port 0 0
+alert udp any [80 81] -> any any (sid:1;)@Port 0 0
+alert udp any [$L,any] -> any any (sid:1;)@Port 0 0
+alert udp any any -> any : (sid:1;)@Port 0 0
+alert udp any any -> any 080 (sid:1;)@Port 0 0
 alert udp any any@Direction 0 0
 alert udp any any => $X any (sid:1;)@Direction 0 0
 alert udp any any <- any any (sid:1;)@Direction 0 0
+alert udp any any ->any any (sid:1;)@Direction 0 0
+alert udp any any <-> any any (sid:1;)@Direction 0 0
 alert udp any any -> any any@OptionSyntax 0 0
 alert udp any any -> any any sid:1;)@OptionSyntax 0 0
 alert udp any any -> any any (sid:1;) @OptionSyntax 0 0
@@ -112,6 +131,12 @@ alert udp any any -> any any (@OptionSyntax 0 0
 alert udp any any -> any any (sid:1)@OptionSyntax 0 0
 alert udp any any -> any any (sid:1; x)@OptionSyntax 0 0
 alert udp any any -> any any (msg:"t; sid:1;)@OptionSyntax 0 0
+alert udp any any -> any any (reference:"a; sid:1;)@OptionSyntax 0 0
+alert udp any any -> any any (sid:1; reference:a)@OptionSyntax 0 0
+alert udp any any -> any any (sid:1; reference)@OptionSyntax 0 0
+alert udp any any -> any any (metadata:a "b\"; sid:1;)@OptionSyntax 0 0
+alert udp any any -> any any (sid:1; metadata:a b)@OptionSyntax 0 0
+alert udp any any -> any any (sid:1; metadata)@OptionSyntax 0 0
 alert udp any any -> any any (x; sid:0;)@UnknownOption 0 0
 alert udp any any -> any any (sid:0; x;)@OptionValue 0 0
 alert udp any any -> any any (stream_size:client,~,3; sid:1;)@OptionValue 0 0
@@ -121,16 +146,27 @@ alert udp any any -> any any (msg:"t";)@MissingSid 0 0
 alert udp any any -> any any ()@MissingSid 0 0
 alert udp any any -> any any (   )@MissingSid 0 0
 alert udp any any -> any any (classtype:c; msg:"t";)@MissingSid 0 0
+alert udp any any -> any any (content:"a"; nocase; gid:2;)@MissingSid 0 0
+alert udp any any -> any any (reference:a\; sid:1;)@MissingSid 0 0
 alert udp any any -> any any (classtype:c; sid:1;)@UnknownClass 0 0
+alert udp any any -> any any (classtype:c; priority:1; sid:1;)@UnknownClass 0 0
+alert udp any any -> any any (sid:1; priority:2; classtype:c d;)@UnknownClass 0 0
 alert udp $X any -> any any (sid:1;)@UnknownVariable 11 12
 alert udp any $Ports => any any (sid:1;)@UnknownVariable 15 20
 alert udp [1.2.3.4,$(X)] any -> any any (sid:1;)@UnknownVariable 21 22
 alert udp any any -> $(Q:?needQ) any (sid:1;)@UnknownVariable 26 31
+alert udp !$Xy any -> any any (sid:1;)@UnknownVariable 12 14
+pass ip any any -> any $Q (sid:1;)@UnknownVariable 24 25
 alert udp any any -> any any (content:"a"; offset:n; sid:1;)@UnknownVariable 50 51
 alert udp any any -> any any (byte_test:1,=,n,0; sid:1;)@UnknownVariable 44 45
 alert udp any any -> any any (byte_jump: 4 , nn , relative; sid:1;)@UnknownVariable 45 47
 alert udp any any -> any any (isdataat:!n; sid:1;)@UnknownVariable 40 41
+alert udp any any -> any any (content:"a"; byte_extract:1,0,n; depth:n; sid:1;)@UnknownVariable 69 70
+alert udp any any -> any any (byte_extract:1,0,n; byte_test:1,=,N1,n; sid:1;)@UnknownVariable 64 66
 alert udp any $L -> any any (sid:1;)@Limit 0 0
+alert udp any [$L,2] => any any (sid:1;)@Limit 0 0
+alert udp any any -> any !$L (x;)@Limit 0 0
+alert udp any any -> any any (byte_extract:1,0,a; byte_extract:1,0,b; byte_extract:1,0,c; sid:0;)@Limit 0 0
 alert tcp any any -> any 80 (msg:"t"; content:"x"; http_uri; sid:1;)@OutsideProfile 0 0
 alert tcp any any -> any any (stream_reassemble:disable,both,fastpath; sid:1;)@OutsideProfile 0 0
 alert udp any any -> any any (flowbits:setx,a; sid:1;)@OutsideProfile 0 0

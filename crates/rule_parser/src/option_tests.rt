@@ -123,7 +123,52 @@ content:"a"; dsize:1; depth:1;
 priority:1; gid:2; rev:3; msg:"t";
 flow:established; dsize:1; sameip;
 content:"|7c|\|\:";
-pcre:"/a/b/";"#;
+pcre:"/a/b/";
+msg:"";
+rev:4294967295;
+reference:;
+reference:"a;b";
+metadata:;
+metadata:"x;y", z;
+content:"| 61 |";
+content:"a"; offset:-0;
+content:"a"; offset:65535; depth:1;
+content:"a"; within:65535;
+content:"a"; fast_pattern; offset:1;
+content:"abc"; fast_pattern: 0 , 3 ;
+content:!"a"; fast_pattern:0,1;
+byte_test:1,<,1,0;
+byte_test:1,<=,4294967295,-65535;
+byte_test:4,!&,0,65535,dec,string,little,big;
+byte_jump:1,0,multiplier 65535,post_offset 65535;
+byte_extract:10,0,n,string,multiplier 65535;
+isdataat:65535,relative;
+flow:not_established,from_client;
+flow:to_client,only_stream,no_frag;
+flags:F!S,CE;
+flags:*UPR0;
+flowbits:set,a; flowbits:isset,a; flowbits:unset,a;
+detection_filter: track by_src , count 1 , seconds 4294967295 ;
+dsize:<65535;
+ttl:<3;
+ttl:4294967295;
+ttl:9-2;
+tos:4294967295;
+window:9;
+id:7;
+seq:4294967295;
+ack:4294967295;
+icmp_id:65536;
+icmp_seq:65536;
+fragbits:DR*;
+fragoffset:>0;
+ip_proto:igmp;
+ip_proto:<4;
+itype:>0;
+icode:<1;
+stream_size:server,<=,4294967295;
+stream_size:both,=,1;
+stream_reassemble:enable,server;"#;
 
 /// Options with wrong values.
 const WRONG: &str = r#"msg;
@@ -285,7 +330,61 @@ stream_size:client,>;
 stream_reassemble;
 stream_reassemble:enable;
 stream_reassemble:on,both;
-stream_reassemble:enable,either;"#;
+stream_reassemble:enable,either;
+msg:"a"b"c";
+gid:0x1;
+sid:4294967296;
+rev:00;
+priority:-1;
+content:"a|";
+content:"|6g|";
+content:!;
+content:"a"; depth:-0;
+content:"a"; offset:-65536;
+content:"a"; distance:65536;
+content:"a"; within:65536;
+content:"a"; within:1; fast_pattern:only;
+content:!"abc"; distance:1; fast_pattern:0,2;
+pcre:"/a";
+pcre:"/a/r";
+pcre:"/a/zU";
+byte_test:11,=,1,0,string;
+byte_test:0,^,1,0;
+byte_test:1,=,1x,n;
+byte_test:4,=,1,0,string,dec,hex;
+byte_jump:1,0,multiplier 65536;
+byte_jump:1,0,align,align;
+byte_extract:5,0,n;
+byte_extract:1,0,n,multiplier 65536;
+byte_extract:1,0,a; byte_extract:1,0,b; byte_extract:1,0,c,x;
+isdataat:-0;
+flow:no_frag,only_frag;
+flow:established,,to_server;
+flags:*S!;
+flags:S,X;
+flowbits:set,a b,g;
+flowbits:set,a; flowbits:isset;
+detection_filter:track by_src, count 1, seconds 0;
+dsize:>65536;
+dsize:<=4;
+ttl:4294967296;
+ttl:!=5;
+tos:!!4;
+window:!4294967296;
+id:01;
+seq:-0;
+ack:;
+icmp_id:4294967296;
+icmp_seq:<1;
+fragbits:+;
+fragoffset:!;
+ip_proto:xtp;
+ip_proto:!;
+itype:>=8;
+icode:=1;
+stream_size:server,<=,4294967296;
+stream_size:both,=,1,1;
+stream_reassemble:disable,both,x;"#;
 
 /// Options without a name.
 const NAMELESS: &str = r#";
@@ -295,7 +394,13 @@ ttl:5; :;"#;
 /// Names that are none.
 const UNKNOWN: &str = r#"Ttl:5;
 flow_bits:set,a;
-http;"#;
+http;
+httpx;
+HTTP_uri;
+flowbit:set,a;
+msg2:"t";
+sid1:1;
+count_:1;"#;
 
 /// Modifiers that stand where they may not.
 const MISPLACED: &str = r#"nocase;
@@ -314,7 +419,17 @@ content:"a"; within:1; within:2;
 content:"a"; offset:1; distance:1;
 content:"a"; within:1; depth:1;
 content:"a"; depth:1; within:n;
-content:"a"; fast_pattern; content:"b"; fast_pattern:9;"#;
+content:"a"; fast_pattern; content:"b"; fast_pattern:9;
+ttl:5; rawbytes;
+pcre:"/a/"; nocase;
+fast_pattern:only;
+content:"a"; nocase; nocase:;
+content:"a"; rawbytes; rawbytes:x;
+content:"a"; distance:1; offset:x-y;
+content:"a"; distance:1; depth:0;
+content:"a"; offset:1; within:0;
+content:"a"; depth:1; distance:n;
+content:"a"; fast_pattern:only; content:"b"; offset:1; fast_pattern:only;"#;
 
 /// Names that were not extracted, or too late.
 const NOT_EXTRACTED: &str = r#"content:"a"; offset:n;
@@ -325,10 +440,22 @@ byte_test:1,=,n,0;
 byte_test:1,=,1,n;
 byte_jump:1,n;
 byte_extract:1,n,n;
-isdataat:!n;"#;
+isdataat:!n;
+content:"a"; byte_extract:1,0,n; offset:n;
+content:"a"; byte_extract:1,0,n; distance:n;
+content:"a"; byte_extract:1,0,n; within:n;
+byte_test:5,=,n,0;
+byte_test:1,=,n,65536;
+byte_jump:1,n,multiplier 65536;
+byte_extract:1,0,n; byte_extract:1,m,n;
+byte_extract:1,0,a; byte_extract:1,0,b; byte_extract:1,c,c;
+byte_extract:1,0,n; isdataat:N;"#;
 
 /// A class that there is not.
-const CLASSLESS: &str = r#"classtype:a;"#;
+const CLASSLESS: &str = r#"classtype:a;
+classtype:a b;
+priority:1; classtype:a;
+classtype:a; priority:1;"#;
 
 /// What is outside the profile.
 const OUTSIDE: &str = r#"http_uri;
@@ -357,11 +484,45 @@ pcre:"/a/U";
 pcre:"/a/iP"x;
 stream_reassemble:disable,both,fastpath;
 stream_reassemble:enable,fastpath;
-stream_reassemble:disable,both,noalert,fastpath;"#;
+stream_reassemble:disable,both,noalert,fastpath;
+http_;
+urilen:1;
+file_data;
+pkt_data;
+base64_decode;
+base64_data;
+ftpbounce;
+asn1:x;
+cvs:x;
+rpc:1,*,*;
+ipopts:rr;
+logto:"x";
+session:all;
+resp:x;
+react:x;
+replace:"a";
+activates:1;
+activated_by:1;
+count:1;
+protected_content:"a";
+hash:x;
+length:1;
+appid:x;
+sd_pattern:x;
+file_type:x;
+flowbits:setx,a,b;
+flowbits:unset,a b&c;
+flowbits:toggle,a,b;
+byte_test:5,^,1,0;
+byte_test:1,=,1,0,hex,dce;
+byte_extract:1,0,n,dce;
+byte_extract:1,0,a; byte_extract:1,0,b; byte_extract:1,0,c,dce;
+pcre:"/a/Uz";"#;
 
 /// More names than a rule may extract.
 const TOO_MANY: &str = r#"byte_extract:1,0,a; byte_extract:1,0,b; byte_extract:1,0,c;
-byte_extract:1,0,a; byte_extract:1,0,b; byte_extract:1,0,c; x;"#;
+byte_extract:1,0,a; byte_extract:1,0,b; byte_extract:1,0,c; x;
+byte_extract:1,0,a; byte_extract:1,0,b; byte_extract:1,a,c;"#;
 
 #[test]
 fn options_are_read_or_refused(rt: HostRuntime) -> Result<(), Fail> {
@@ -385,8 +546,10 @@ fn options_are_read_or_refused(rt: HostRuntime) -> Result<(), Fail> {
 }
 
 /// What stands in front of a repeated text, the text, what stands behind, and how often it may stand.
-const LIMITS: [(&str, &str, &str, usize); 4] = [
+const LIMITS: [(&str, &str, &str, usize); 6] = [
     ("", "ttl:1;", "", 64),
+    ("content:\"a\";", "sameip;", "", 63),
+    ("msg:\"t\"; reference; flowbits:noalert;", "id:1;", "", 64),
     ("content:\"", "|61|", "\";", 2048),
     ("msg:\"", "\\a", "\";", 1024),
     ("pcre:\"/", "a", "/\";", 4096),
