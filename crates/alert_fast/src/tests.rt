@@ -1,21 +1,67 @@
-//! Whole lines, and addresses of version 6, that the calls succeed.
+//! Whole lines, and addresses of version 6, that the calls succeed. The rows are text, so that another one
+//! costs nothing to prove.
 
 use crate::address::push_address;
 use crate::line;
-use conf_parser::{Classes, Loaded, load};
-use edge_io::{Addr, Items, MemHost, Moment, Text};
-use net_lists::{AddrList, PortList, Vars};
+use conf_parser::{Loaded, load};
+use edge_io::{Addr, MemHost, Moment};
+use net_lists::Vars;
 use packet_decode::{Body, IpHead, ItemHead, ItemKind, SessionFacts, TcpHead};
-use rule_parser::{Action, BitNames, Proto, Rule, read_rule};
+use rule_parser::{BitNames, read_rule};
 use std::alloc::Global;
+use std::net::Ipv4Addr;
 use std::test::Fail;
 
-const CLIENT: Addr = Addr::V4(0x0a00_0001);
+/// A row for each line: the options of the rule; the item's moment, protocol, source, destination, body and
+/// ports; and the line. The last rule's class is one that the configuration names.
+const LINES: &str =
+    r#"gid:4294967295; sid:1000001; rev:2; msg:""; priority:2; @ 86400000000000 253 10.0.0.1 255.255.255.255 other 0 0 => 01/02-00:00:00.000000  [**] [4294967295:1000001:2]  [**] [Priority: 2] {PROTO:253} 10.0.0.1 -> 255.255.255.255
+sid:1; msg:"t"; @ 18446744073709551615 17 10.0.0.1 255.255.255.255 udp 1000 0 => 07/21-23:34:33.709551  [**] [1:1:0] t [**] [Priority: 0] {UDP} 10.0.0.1:1000 -> 255.255.255.255:0
+sid:1; msg:"t"; @ 0 17 10.0.0.1 255.255.255.255 fragment 0 0 => 01/01-00:00:00.000000  [**] [1:1:0] t [**] [Priority: 0] {UDP} 10.0.0.1 -> 255.255.255.255
+sid:1; msg:"t"; @ 0 1 10.0.0.1 255.255.255.255 icmp 0 0 => 01/01-00:00:00.000000  [**] [1:1:0] t [**] [Priority: 0] {ICMP} 10.0.0.1 -> 255.255.255.255
+sid:1; msg:"t"; @ 951782400000000999 6 10.0.0.1 255.255.255.255 tcp 1000 80 => 02/29-00:00:00.000000  [**] [1:1:0] t [**] [Priority: 0] {TCP} 10.0.0.1:1000 -> 255.255.255.255:80
+sid:1; msg:"t"; @ 0 6 10.0.0.1 255.255.255.255 stream 80 1000 => 01/01-00:00:00.000000  [**] [1:1:0] t [**] [Priority: 0] {TCP} 10.0.0.1:80 -> 255.255.255.255:1000
+sid:1; msg:"t"; @ 0 58 10.0.0.1 255.255.255.255 other 0 0 => 01/01-00:00:00.000000  [**] [1:1:0] t [**] [Priority: 0] {PROTO:058} 10.0.0.1 -> 255.255.255.255
+sid:1; msg:"t"; classtype:c; @ 0 17 10.0.0.1 10.0.0.1 fragment 0 0 => 01/01-00:00:00.000000  [**] [1:1:0] t [**] [Classification: Some class] [Priority: 2] {UDP} 10.0.0.1 -> 10.0.0.1
+"#;
 
-const SERVER: Addr = Addr::V4(0xffff_ffff);
+fn body(name: &str, sport: u16, dport: u16) -> Body {
+    match name {
+        "fragment" => Body::Fragment,
+        "icmp" => Body::Icmp {
+            kind: 8,
+            code: 0,
+            id: 1,
+            seq: 1,
+        },
+        "tcp" => Body::Tcp(TcpHead {
+            sport,
+            dport,
+            seq: 0,
+            ack: 0,
+            flags: 2,
+            window: 0,
+        }),
+        "udp" => Body::Udp { sport, dport },
+        "stream" => Body::Stream { sport, dport },
+        _ => Body::Other,
+    }
+}
 
-fn item(nanos: u64, protocol: u8, src: Addr, dst: Addr, body: Body) -> ItemHead {
-    ItemHead {
+fn address(text: &str) -> Result<Addr, Fail> {
+    Ok(Addr::V4(text.parse::<Ipv4Addr>()?.to_bits()))
+}
+
+/// The item that the words of a row say.
+fn item(row: &str) -> Result<ItemHead, Fail> {
+    let mut words = row.split(' ');
+    let mut word = || words.next().ok_or("a word");
+    let nanos = word()?.parse::<u64>()?;
+    let protocol = word()?.parse::<u8>()?;
+    let src = address(word()?)?;
+    let dst = address(word()?)?;
+    let body = body(word()?, word()?.parse::<u16>()?, word()?.parse::<u16>()?);
+    Ok(ItemHead {
         kind: ItemKind::Packet,
         moment: Moment { nanos },
         ip: IpHead {
@@ -32,153 +78,76 @@ fn item(nanos: u64, protocol: u8, src: Addr, dst: Addr, body: Body) -> ItemHead 
         },
         body,
         session: SessionFacts::UNTRACKED,
-    }
+    })
 }
 
-fn rule(
+/// A configuration with one class.
+fn with_a_class(alloc: Global) -> Result<Loaded, Fail> {
+    let mut host = MemHost::new(alloc);
+    host.put("r", b"config classification: c,Some class,2\n")?;
+    let mut loaded = Loaded::new(alloc);
+    load(alloc, &mut host, "r", &mut Vars::new(alloc), &mut loaded)?;
+    Ok(loaded)
+}
+
+/// Appends the line of a rule with these options.
+fn append(
     alloc: Global,
-    gid: u32,
-    sid: u32,
-    rev: u32,
-    msg: &[u8],
-    priority: u32,
-) -> Result<Rule, Fail> {
-    Ok(Rule {
-        action: Action::Alert,
-        proto: Proto::Ip,
-        src: AddrList::read(alloc, b"any")?,
-        sports: PortList::read(alloc, b"any")?,
-        dst: AddrList::read(alloc, b"any")?,
-        dports: PortList::read(alloc, b"any")?,
-        both: false,
-        opts: Items::new(alloc),
-        msg: Text::copy(alloc, msg)?,
-        gid,
-        sid,
-        rev,
-        class: None,
-        priority,
-        noalert: false,
-        period: None,
-    })
+    loaded: &Loaded,
+    options: &str,
+    head: &ItemHead,
+    out: &mut Vec<u8>,
+) -> Result<(), Fail> {
+    let text = format!(in alloc; "alert ip any any -> any any ({options})")?;
+    let classes = &loaded.config.classes;
+    let mut bits = BitNames::new(alloc);
+    let rule = read_rule(
+        alloc,
+        text.as_bytes(),
+        &Vars::new(alloc),
+        classes,
+        &mut bits,
+    )?;
+    line(head, &rule, classes, out)?;
+    Ok(())
 }
 
 #[test]
 fn lines_are_fast_alerts(rt: HostRuntime) -> Result<(), Fail> {
-    let classes = Classes::new(rt.alloc());
-    let plain = rule(rt.alloc(), 1, 1, 0, b"t", 0)?;
-    let large = rule(rt.alloc(), 4_294_967_295, 1_000_001, 2, b"", 2)?;
-    let udp = Body::Udp {
-        sport: 1000,
-        dport: 0,
-    };
-    let icmp = Body::Icmp {
-        kind: 8,
-        code: 0,
-        id: 1,
-        seq: 1,
-    };
-    let syn = Body::Tcp(TcpHead {
-        sport: 1000,
-        dport: 80,
-        seq: 0,
-        ack: 0,
-        flags: 2,
-        window: 0,
-    });
-    let stream = Body::Stream {
-        sport: 80,
-        dport: 1000,
-    };
-    let last = 18_446_744_073_709_551_615;
+    let loaded = with_a_class(rt.alloc())?;
     let mut out = Vec::from_slice(rt.alloc(), b"before\n")?;
-    for (rule, nanos, protocol, body) in [
-        (&large, 86_400_000_000_000, 253, Body::Other),
-        (&plain, last, 17, udp),
-        (&plain, 0, 17, Body::Fragment),
-        (&plain, 0, 1, icmp),
-        (&plain, 951_782_400_000_000_999, 6, syn),
-        (&plain, 0, 6, stream),
-        (&plain, 0, 58, Body::Other),
-    ] {
-        let head = item(nanos, protocol, CLIENT, SERVER, body);
-        match rule.class {
-            None => line(&head, rule, &classes, &mut out)?,
-            Some(_) => assert!(rt; false, "no rule has a class"),
-        }
-    }
-    let want = b"before
-01/02-00:00:00.000000  [**] [4294967295:1000001:2]  [**] [Priority: 2] {PROTO:253} 10.0.0.1 -> 255.255.255.255
-07/21-23:34:33.709551  [**] [1:1:0] t [**] [Priority: 0] {UDP} 10.0.0.1:1000 -> 255.255.255.255:0
-01/01-00:00:00.000000  [**] [1:1:0] t [**] [Priority: 0] {UDP} 10.0.0.1 -> 255.255.255.255
-01/01-00:00:00.000000  [**] [1:1:0] t [**] [Priority: 0] {ICMP} 10.0.0.1 -> 255.255.255.255
-02/29-00:00:00.000000  [**] [1:1:0] t [**] [Priority: 0] {TCP} 10.0.0.1:1000 -> 255.255.255.255:80
-01/01-00:00:00.000000  [**] [1:1:0] t [**] [Priority: 0] {TCP} 10.0.0.1:80 -> 255.255.255.255:1000
-01/01-00:00:00.000000  [**] [1:1:0] t [**] [Priority: 0] {PROTO:058} 10.0.0.1 -> 255.255.255.255
-";
-    assert_eq!(rt; out.as_slice(), want.as_slice());
-    Ok(())
-}
-
-/// A class that a configuration names stands in the line with its text, and gives the rule its priority.
-#[test]
-fn a_class_stands_with_its_text(rt: HostRuntime) -> Result<(), Fail> {
-    let mut host = MemHost::new(rt.alloc());
-    host.put("r", b"config classification: c,Some class,2\n")?;
-    let mut vars = Vars::new(rt.alloc());
-    let mut loaded = Loaded::new(rt.alloc());
-    let answer = load(rt.alloc(), &mut host, "r", &mut vars, &mut loaded);
-    assert!(rt; answer.is_ok());
-    let classes = &loaded.config.classes;
-    let mut bits = BitNames::new(rt.alloc());
-    let text = b"alert udp any any -> any any (msg:\"t\"; classtype:c; sid:1;)";
-    match read_rule(rt.alloc(), text, &vars, classes, &mut bits) {
-        Ok(rule) => {
-            let mut out = Vec::new(rt.alloc());
-            line(
-                &item(0, 17, CLIENT, CLIENT, Body::Fragment),
-                &rule,
-                classes,
-                &mut out,
-            )?;
-            let want =
-                b"01/01-00:00:00.000000  [**] [1:1:0] t [**] [Classification: Some class] [Priority: 2] {UDP} 10.0.0.1 -> 10.0.0.1\n";
-            assert_eq!(rt; out.as_slice(), want.as_slice());
-        }
-        Err(_) => assert!(rt; false, "the rule is read"),
+    let mut want = String::from_str(rt.alloc(), "before\n")?;
+    for row in LINES.lines() {
+        let (given, text) = row.split_once(" => ").ok_or("a row")?;
+        let (options, words) = given.split_once(" @ ").ok_or("a row")?;
+        append(rt.alloc(), &loaded, options, &item(words)?, &mut out)?;
+        writeln!(want, "{text}")?;
+        assert_eq!(rt; out.as_slice(), want.as_bytes(), "{row}");
     }
     Ok(())
 }
 
 /// The examples of RFC 5952, sections 1, 2 and 4, the addresses with the longest text and with the
-/// shortest, and one of version 4 in version 6 (section 5 would write its end dotted).
+/// shortest, and one of version 4 in version 6 (section 5 would write its end dotted): the address in
+/// hexadecimal, and its text.
+const ADDRESSES: &str = "20010db8000000000001000000000001 2001:db8::1:0:0:1
+20010db8000000000000000000000001 2001:db8::1
+20010db8000000000000000000020001 2001:db8::2:1
+20010db8000000010001000100010001 2001:db8:0:1:1:1:1:1
+20010000000000010000000000000001 2001:0:0:1::1
+20010db8aaaabbbbccccddddeeee0001 2001:db8:aaaa:bbbb:cccc:dddd:eeee:1
+20010db8ffffffffffffffffffffffff 2001:db8:ffff:ffff:ffff:ffff:ffff:ffff
+00000000000000000000000000000000 ::
+00000000000000000000000000000001 ::1
+fe800000000000000000000000000000 fe80::
+00000000000000000000ffffc0000201 ::ffff:c000:201
+";
+
 #[test]
 fn addresses_of_version_6(rt: HostRuntime) -> Result<(), Fail> {
-    for (address, want) in [
-        (
-            0x2001_0db8_0000_0000_0001_0000_0000_0001,
-            "2001:db8::1:0:0:1",
-        ),
-        (0x2001_0db8_0000_0000_0000_0000_0000_0001, "2001:db8::1"),
-        (0x2001_0db8_0000_0000_0000_0000_0002_0001, "2001:db8::2:1"),
-        (
-            0x2001_0db8_0000_0001_0001_0001_0001_0001,
-            "2001:db8:0:1:1:1:1:1",
-        ),
-        (0x2001_0000_0000_0001_0000_0000_0000_0001, "2001:0:0:1::1"),
-        (
-            0x2001_0db8_aaaa_bbbb_cccc_dddd_eeee_0001,
-            "2001:db8:aaaa:bbbb:cccc:dddd:eeee:1",
-        ),
-        (
-            0x2001_0db8_ffff_ffff_ffff_ffff_ffff_ffff,
-            "2001:db8:ffff:ffff:ffff:ffff:ffff:ffff",
-        ),
-        (0x0000_0000_0000_0000_0000_0000_0000_0000, "::"),
-        (0x0000_0000_0000_0000_0000_0000_0000_0001, "::1"),
-        (0xfe80_0000_0000_0000_0000_0000_0000_0000, "fe80::"),
-        (0x0000_0000_0000_0000_0000_ffff_c000_0201, "::ffff:c000:201"),
-    ] {
+    for row in ADDRESSES.lines() {
+        let (digits, want) = row.split_once(' ').ok_or("a row")?;
+        let address = u128::from_str_radix(digits, 16)?;
         let mut out = Vec::new(rt.alloc());
         push_address(Addr::V6(address), &mut out)?;
         assert_eq!(rt; out.as_slice(), want.as_bytes(), "{want}");
