@@ -1,0 +1,5 @@
+pub mod Table
+pub mod Uses
+pub mod CommandLine
+pub mod Told
+pub mod Clap
