@@ -1,7 +1,6 @@
 //! The words of a command, read.
-ghost use Rattle.std.specs.Prelude.{◌≡◌, IfOk, map, option_map, string_bytes};
+ghost use Rattle.std.specs.Prelude.{◌≡◌, IfOk, map, option_and_then, option_map, string_bytes};
 ghost use Rattle.clap.specs.Words.{first_of, found_of, rows_of};
-ghost use Rattle.edge_io.specs.OnOption.{◌>>=◌};
 ghost use Rattle.command_words.specs.CommandLine.{asked_by, command_line, values_by};
 ghost use Rattle.command_words.specs.Told.{IsAnswered, asked, values_of};
 
@@ -24,7 +23,7 @@ pub enum WordsFault {
 
 /// What the values ask for, if there are any.
 fn asked_by<'a>(fields: Option<Fields<'a>>) -> Option<Command<'a>>
-    ensures { option_map asked result ≡ (option_map values_of fields.entry >>= asked_by) }
+    ensures { option_map asked result ≡ option_and_then asked_by (option_map values_of fields.entry) }
 {
     match fields {
         None => None,
@@ -34,8 +33,9 @@ fn asked_by<'a>(fields: Option<Fields<'a>>) -> Option<Command<'a>>
 
 /// What the matches of the words ask for, if there are any.
 fn asked_in<'a>(matches: Option<ArgMatches<'a>>) -> Option<Command<'a>>
-    ensures { option_map asked result ≡ (option_map (λ m. rows_of (found_of m)) matches.entry
-        >>= (λ rows. values_by (λ label. first_of label rows)) >>= asked_by) }
+    ensures { option_map asked result ≡ option_and_then asked_by
+        (option_and_then (λ rows. values_by (λ label. first_of label rows))
+            (option_map (λ m. rows_of (found_of m)) matches.entry)) }
 {
     match matches {
         None => None,

@@ -32,9 +32,9 @@ returns-in-Ok c =
     let none = sym (ap (λ (a : App). fault_of a words) is) ∙ c.in-Ok.ensures.kinds (ap is_simple_and_free is ∙ free) in
     ap (λ (x : List Row). Some x) rows ∙ sym (ap (λ (kinds : Kinds). where_none kinds (matches_of snort words)) none)
 
-pub returns-in_default : goal.returns-in_default
+pub returns : goal.returns
 unfolding clap_rows
-returns-in_default c =
+returns c =
     let words : List (List ℕ) = map string_bytes c.args.words.now in
     let is : app_of c.in_ok-command.command ≡ snort = c.in_ok-command.ensures in
     refused (fault_of (app_of c.in_ok-command.command) words) c.in-Err.error (matches_of snort words)
