@@ -17,8 +17,7 @@ use Rattle.command_words.proofs.Steps.{after_reading, after_word, flag_step, hel
 module _ {X : Type 0} (known : List Choice) (all : AllFound known known) (out : Held → Outcome → Option X) (next : Option Choice → List Row → Option X)
     (none : (rows : List Row) → out (held rows None) done ≡ next None rows)
     (some : (choice : Choice) → IsFound known choice → choice.takes_value ≡ true → (rows : List Row)
-        → out (held rows (Some (text_of choice.label, []))) (waits (text_of choice.label)) ≡ next (Some choice) rows) where
-
+    → out (held rows (Some (text_of choice.label, []))) (waits (text_of choice.label)) ≡ next (Some choice) rows) where
   abbrev c : List Rule
   c = rules known
 
@@ -39,7 +38,7 @@ module _ {X : Type 0} (known : List Choice) (all : AllFound known known) (out : 
       → ((rows : List Row) → guard (fault (held rows None)) (out_of (met (held rows None))) ≡ (tail >>= λ reading. after_reading next reading rows))
       → (rows : List Row) (pending : Option (Text × List Text)) → IsFound known (record { label = label; takes_value = takes })
       → guard (short_fault c false (Some (rule (record { label = label; takes_value = takes }))) (encode_utf8_all rest) (held rows pending) fault)
-        (out_of (short_met c (Some (rule (record { label = label; takes_value = takes }))) (encode_utf8_all rest) (held rows pending) met))
+      (out_of (short_met c (Some (rule (record { label = label; takes_value = takes }))) (encode_utf8_all rest) (held rows pending) met))
       ≡ after_word next c (held rows pending) (letter_uses (Some (record { label = label; takes_value = takes })) rest tail)
   letter_found label true rest tail fault met behind rows pending found =
       option_step known out next none some label (attached_value (encode_utf8_all rest)) rows pending found
@@ -49,14 +48,14 @@ module _ {X : Type 0} (known : List Choice) (all : AllFound known known) (out : 
       guard-or_else (react_fault c false a [] h) (fault (reacted c a [] h)) (out_of (met (reacted c a [] h)))
       ∙ flag_step known out next none some label rows pending (λ r. guard (fault (held r None)) (out_of (met (held r None))))
       ∙ ap (λ (f : List Row → Option X). settle c h >>= f)
-        (λ i r. (ap (λ (f : List Row → Option X). add (record { label = text_of label; value = codes "true" }) r >>= f) (λ j after. behind after j)
-            ∙ flag_then (record { label = text_of label; value = codes "true" }) (record { label = label; takes_value = false }) tail r refl) i)
+      (λ i r. (ap (λ (f : List Row → Option X). add (record { label = text_of label; value = codes "true" }) r >>= f) (λ j after. behind after j)
+      ∙ flag_then (record { label = text_of label; value = codes "true" }) (record { label = label; takes_value = false }) tail r refl) i)
 
   letter_step : (choice : Option Choice) (rest : List ℕ) (tail : Option Reading) (fault : Held → Kinds) (met : Held → Held × Outcome)
       → ((rows : List Row) → guard (fault (held rows None)) (out_of (met (held rows None))) ≡ (tail >>= λ reading. after_reading next reading rows))
       → (rows : List Row) (pending : Option (Text × List Text)) → ((x : Choice) → choice ≡ Some x → IsFound known x)
       → guard (short_fault c false (option_map rule choice) (encode_utf8_all rest) (held rows pending) fault)
-        (out_of (short_met c (option_map rule choice) (encode_utf8_all rest) (held rows pending) met))
+      (out_of (short_met c (option_map rule choice) (encode_utf8_all rest) (held rows pending) met))
       ≡ after_word next c (held rows pending) (letter_uses choice rest tail)
   letter_step None rest tail fault met behind rows pending found = sym (bind-none (settle c (held rows pending)))
   letter_step (Some choice) rest tail fault met behind rows pending found =
@@ -65,7 +64,7 @@ module _ {X : Type 0} (known : List Choice) (all : AllFound known known) (out : 
   -- the first letter, where those behind it are read as they should be
   pub first_letter : (k x : ℕ) (xs : List ℕ) (so_far : Outcome) (rows : List Row) (pending : Option (Text × List Text)) → all_scalars (x ∷ xs) ≡ true
       → ((after : List Row) → guard (flags_fault c false k (encode_utf8_all xs) 0 (held after None)) (out_of (bundle_met c k (encode_utf8_all xs) 0 done (held after None)))
-          ≡ (letters_uses known xs >>= λ reading. after_reading next reading after))
+      ≡ (letters_uses known xs >>= λ reading. after_reading next reading after))
       → guard (flags_fault c false (suc k) (encode_utf8_all (x ∷ xs)) 0 (held rows pending)) (out_of (bundle_met c (suc k) (encode_utf8_all (x ∷ xs)) 0 so_far (held rows pending)))
       ≡ after_word next c (held rows pending) (letters_uses known (x ∷ xs))
   unfolding flags_fault bundle_met
@@ -77,7 +76,7 @@ module _ {X : Type 0} (known : List Choice) (all : AllFound known known) (out : 
       ap (λ (o : Option ℕ). guard (bundle_step_fault c false o flags 0 h (flags_fault c false k)) (out_of (bundle_step c o flags 0 so_far h (bundle_met c k)))) here
       ∙ ap₂ (λ (a : Option Rule) (rest : Text). guard (short_fault c false a rest h (flags_fault c false k rest 0)) (out_of (short_met c a rest h (bundle_met c k rest 0 done)))) (by_short known x) left
       ∙ letter_step (find (λ choice. is_letter x choice.label) known) xs (letters_uses known xs) (flags_fault c false k (encode_utf8_all xs) 0) (bundle_met c k (encode_utf8_all xs) 0 done) behind rows pending
-        (λ choice e. found_is known (λ choice. is_letter x choice.label) known choice all e)
+      (λ choice e. found_is known (λ choice. is_letter x choice.label) known choice all e)
 
   -- the letters behind a flag
   pub more_letters : (k : ℕ) (xs : List ℕ) → all_scalars xs ≡ true → length xs ≤ k → (rows : List Row)

@@ -25,7 +25,7 @@ rows_used : (uses before : List Use) → add_all uses (map row_for before) ≡ o
 rows_used [] before = refl
 rows_used (use_here ∷ uses) before =
     ap (λ (b : Bool). cond b None (Some (map row_for before ++ row_for use_here ∷ [])) >>= add_all uses)
-      (sym (list_any-map (λ (r : Row). bytes_eq r.id use_here.label) row_for before))
+    (sym (list_any-map (λ (r : Row). bytes_eq r.id use_here.label) row_for before))
     ∙ go (is_used use_here.label before) (rows_used uses (before ++ use_here ∷ []))
   where
     go : (b : Bool) → add_all uses (map row_for (before ++ use_here ∷ [])) ≡ option_map (map row_for) (used_once (before ++ use_here ∷ []) uses)
@@ -80,9 +80,9 @@ level_is known words checked =
     let whole : Option (List Row) = Some (with_defaults known rows) in
     guard-or_else walking (or_else settling behind) whole
     ∙ ap (guard walking) (guard-or_else settling behind whole
-        ∙ ap (λ (kinds : Kinds). guard settling (guard kinds whole)) (ap₂ or_else (defaults_are_valid known rows) (checked (finished (rules known) (last known words)))))
+    ∙ ap (λ (kinds : Kinds). guard settling (guard kinds whole)) (ap₂ or_else (defaults_are_valid known rows) (checked (finished (rules known) (last known words)))))
     ∙ sym (guard_map (with_defaults known) walking (settle (rules known) (last known words))
-        ∙ ap (guard walking) (guard_map (with_defaults known) settling (Some rows)))
+    ∙ ap (guard walking) (guard_map (with_defaults known) settling (Some rows)))
 
 -- ---- the table
 

@@ -65,15 +65,15 @@ parts known b long short waiting word h rest =
 
 as_parts : (known : List Choice) (waiting : Waiting) (word : Text) (h : Held) (rest : List Text)
     → guard (or_else (cond (bytes_eq word (codes "--")) [] (flag_word_fault (rules known) false (long_of word) word h))
-        (step_fault (shape known) 1 (cond (bytes_eq word (codes "--")) (h, trailing 1) (long_or_other (rules known) waiting word (long_of word) h)).0
-        (cond (bytes_eq word (codes "--")) (h, trailing 1) (long_or_other (rules known) waiting word (long_of word) h)).1))
-      (ending known (after_step (rules known) word (at h waiting false) (cond (bytes_eq word (codes "--")) (h, trailing 1) (long_or_other (rules known) waiting word (long_of word) h)).0
-        (cond (bytes_eq word (codes "--")) (h, trailing 1) (long_or_other (rules known) waiting word (long_of word) h)).1) rest)
+    (step_fault (shape known) 1 (cond (bytes_eq word (codes "--")) (h, trailing 1) (long_or_other (rules known) waiting word (long_of word) h)).0
+    (cond (bytes_eq word (codes "--")) (h, trailing 1) (long_or_other (rules known) waiting word (long_of word) h)).1))
+    (ending known (after_step (rules known) word (at h waiting false) (cond (bytes_eq word (codes "--")) (h, trailing 1) (long_or_other (rules known) waiting word (long_of word) h)).0
+    (cond (bytes_eq word (codes "--")) (h, trailing 1) (long_or_other (rules known) waiting word (long_of word) h)).1) rest)
     ≡ parts known (bytes_eq word (codes "--")) (long_of word) (short_of word) waiting word h rest
 as_parts known waiting word h rest =
     guard-or_else (cond (bytes_eq word (codes "--")) [] (flag_word_fault (rules known) false (long_of word) word h)) _ _
     ∙ ap₂ (λ (kinds : Kinds) (met : Held × Step). guard kinds (then_rest known word rest h waiting met))
-      (kinds_are known (bytes_eq word (codes "--")) (long_of word) word h) (step_is known (bytes_eq word (codes "--")) waiting word (long_of word) h)
+    (kinds_are known (bytes_eq word (codes "--")) (long_of word) word h) (step_is known (bytes_eq word (codes "--")) waiting word (long_of word) h)
 
 pub idle_turn : (known : List Choice) (word : Text) (h : Held) (rest : List Text)
     → ending known (at h idle false) (word ∷ rest) ≡ parts known (bytes_eq word (codes "--")) (long_of word) (short_of word) idle word h rest

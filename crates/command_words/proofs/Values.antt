@@ -127,30 +127,30 @@ module _ (uses : List Use) where
 abbrev values_at : (console checks limit lanes flush_point generate seed conf capture defined host_table : Option Text) (quiet test version skip_refused stats help : Bool) → Option Values
 values_at console checks limit lanes flush_point generate seed conf capture defined host_table quiet test version skip_refused stats help =
     cond (is_console console)
-      (maybe mode_named checks >>= λ checks.
-      maybe (number_in 1 4294967295) limit >>= λ limit.
-      number_or 1 1 64 lanes >>= λ lanes.
-      number_or 1024 1 65536 flush_point >>= λ flush_point.
-      maybe (number_in 1 100000) generate >>= λ generate.
-      option_map (λ seed. record {
-        conf = conf;
-        capture = capture;
-        checks = checks;
-        limit = limit;
-        defined = defined;
-        host_table = host_table;
-        lanes = lanes;
-        flush_point = flush_point;
-        generate = generate;
-        seed = seed;
-        quiet = quiet;
-        test = test;
-        version = version;
-        skip_refused = skip_refused;
-        stats = stats;
-        help = help;
-      }) (number_or 1 0 2147483647 seed))
-      None
+    (maybe mode_named checks >>= λ checks.
+    maybe (number_in 1 4294967295) limit >>= λ limit.
+    number_or 1 1 64 lanes >>= λ lanes.
+    number_or 1024 1 65536 flush_point >>= λ flush_point.
+    maybe (number_in 1 100000) generate >>= λ generate.
+    option_map (λ seed. record {
+      conf = conf;
+      capture = capture;
+      checks = checks;
+      limit = limit;
+      defined = defined;
+      host_table = host_table;
+      lanes = lanes;
+      flush_point = flush_point;
+      generate = generate;
+      seed = seed;
+      quiet = quiet;
+      test = test;
+      version = version;
+      skip_refused = skip_refused;
+      stats = stats;
+      help = help;
+    }) (number_or 1 0 2147483647 seed))
+    None
 
 values_are : (uses : List Use) → values_by (in_rows uses) ≡ values_by (value_in uses)
 unfolding values_by

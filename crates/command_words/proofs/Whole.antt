@@ -42,9 +42,8 @@ joined_uses reading (Some uses) rows = append_uses reading.uses uses rows
 module _ (known : List Choice) (all : AllFound known known) (waiting : Waiting) (word : Text) (rest : List Text) (next : Option Choice → List Row → Option (List Row))
     (none : (rows : List Row) → ending known (at (held rows None) idle false) rest ≡ next None rows)
     (some : (choice : Choice) → IsFound known choice → choice.takes_value ≡ true → (rows : List Row)
-        → ending known (at (held rows (Some (text_of choice.label, []))) (option (text_of choice.label)) false) rest ≡ next (Some choice) rows)
+    → ending known (at (held rows (Some (text_of choice.label, []))) (option (text_of choice.label)) false) rest ≡ next (Some choice) rows)
     (rows : List Row) (pending : Option (Text × List Text)) where
-
   abbrev h : Held
   h = held rows pending
 
@@ -55,7 +54,7 @@ module _ (known : List Choice) (all : AllFound known known) (waiting : Waiting) 
   by_name p short =
       ap (λ (a : Option Rule). guard (long_fault (rules known) false a p.1 h) (out (long_met (rules known) a p.1 h).0 (long_met (rules known) a p.1 h).1)) (by_long known p.0)
       ∙ name_step known out next none some (find (λ choice. is_name p.0 choice.label) known) p.1 rows pending
-        (λ choice e. found_is known (λ choice. is_name p.0 choice.label) known choice all e)
+      (λ choice e. found_is known (λ choice. is_name p.0 choice.label) known choice all e)
 
   letters_are : (cs : List ℕ) (flags : Text) (n : ℕ) → Rattle.std.specs.Str.all_scalars cs ≡ true → encode_utf8_all cs ≡ flags → 0 < length cs → length cs ≤ n
       → guard (flags_fault (rules known) false n flags 0 h) (out (bundle_met (rules known) n flags 0 plain h).0 (bundle_met (rules known) n flags 0 plain h).1)
@@ -65,7 +64,7 @@ module _ (known : List Choice) (all : AllFound known known) (waiting : Waiting) 
   letters_are (x ∷ xs) flags (suc k) scalars is nonempty fits =
       ap (λ (text : Text). guard (flags_fault (rules known) false (suc k) text 0 h) (out (bundle_met (rules known) (suc k) text 0 plain h).0 (bundle_met (rules known) (suc k) text 0 plain h).1)) (sym is)
       ∙ first_letter known all out next none some k x xs plain rows pending scalars
-        (more_letters known all out next none some k xs (Rattle.clap.proofs.WalkLemmas.both _ _ scalars).1 (omega arith))
+      (more_letters known all out next none some k xs (Rattle.clap.proofs.WalkLemmas.both _ _ scalars).1 (omega arith))
       ∙ ap (λ (cs : List ℕ). after_word next (rules known) h (letters_uses known cs)) (sym (chars-encodes (x ∷ xs) scalars) ∙ ap chars is)
 
   by_letters : (flags : Text) → IsUtf8 flags → 0 < length flags → parts known false None (Some flags) waiting word h rest ≡ after_word next (rules known) h (word_uses known None (Some flags))
@@ -123,7 +122,7 @@ module _ (known : List Choice) (all : AllFound known known) where
       → short_of word ≡ short
       → ((r : List Row) → ending known (at (held r None) idle false) rest ≡ plain_next rest None r)
       → ((choice : Choice) → IsFound known choice → choice.takes_value ≡ true → (r : List Row)
-          → ending known (at (held r (Some (text_of choice.label, []))) (option (text_of choice.label)) false) rest ≡ plain_next rest (Some choice) r)
+      → ending known (at (held r (Some (text_of choice.label, []))) (option (text_of choice.label)) false) rest ≡ plain_next rest (Some choice) r)
       → parts known b long short idle word (held rows pending) rest
       ≡ (settle (rules known) (held rows pending) >>= λ r. cond b (if_last rest) (word_uses known long short >>= λ reading. option_map (λ uses. reading.uses ++ uses) (uses_in known reading.waiting rest)) >>= λ uses. add_all uses r)
   idle_word word rest true long short rows pending text is none some = trailed known (held rows pending) idle rest
@@ -135,7 +134,7 @@ module _ (known : List Choice) (all : AllFound known known) where
   idle_word word rest false None None rows pending text is none some =
       let h : Held = held rows pending in
       ap (λ (a : Option Rule). guard (option_map_or (λ x. positional_fault (rules known) false x h) a (stray_fault (shape known)))
-          (ending known (after_step (rules known) word (at h idle false) h stray) rest)) (by_index known 1)
+      (ending known (after_step (rules known) word (at h idle false) h stray) rest)) (by_index known 1)
       ∙ sym (bind-none (settle (rules known) h))
 
   -- an option that waits has no value yet, which the end, `--` and a flag word refuse
@@ -164,9 +163,9 @@ module _ (known : List Choice) (all : AllFound known known) where
       ≡ ending known (at (held rows (Some (text_of label, word ∷ []))) idle false) rest
   value_read label word rest rows found =
       ap (λ (o : Option Rule). ending known (after_step (rules known) word (at (held rows (Some (text_of label, []))) (option (text_of label)) false)
-          (option_word o (text_of label) word (held rows (Some (text_of label, [])))).0 (goes_on (option_word o (text_of label) word (held rows (Some (text_of label, [])))).1)) rest) found
+      (option_word o (text_of label) word (held rows (Some (text_of label, [])))).0 (goes_on (option_word o (text_of label) word (held rows (Some (text_of label, [])))).1)) rest) found
       ∙ ap (λ (same : Bool). ending known (at (held rows (Some (text_of label, word ∷ []))) (cond (nat_lt (cond same 1 0) 1) (option (text_of label)) idle) false) rest)
-        ((bytes_eq-Decides (text_of label) (text_of label)).1 refl)
+      ((bytes_eq-Decides (text_of label) (text_of label)).1 refl)
 
   abbrev IdleEnds : List Text → Type 0
   IdleEnds words = (rows : List Row) (pending : Option (Text × List Text))
@@ -181,10 +180,10 @@ module _ (known : List Choice) (all : AllFound known known) where
       → short_of word ≡ short → IsFound known (record { label = label; takes_value = true }) → IdleEnds rest
       → ((r : List Row) → ending known (at (held r None) idle false) rest ≡ plain_next rest None r)
       → ((choice : Choice) → IsFound known choice → choice.takes_value ≡ true → (r : List Row)
-          → ending known (at (held r (Some (text_of choice.label, []))) (option (text_of choice.label)) false) rest ≡ plain_next rest (Some choice) r)
+      → ending known (at (held r (Some (text_of choice.label, []))) (option (text_of choice.label)) false) rest ≡ plain_next rest (Some choice) r)
       → parts known b long short (option (text_of label)) word (held rows (Some (text_of label, []))) rest
       ≡ (cond (not b && (not (is_some long) && not (is_some short)))
-          (option_map (λ uses. use_of (record { label = label; takes_value = true }) word ∷ uses) (uses_in known None rest)) None >>= λ uses. add_all uses rows)
+      (option_map (λ uses. use_of (record { label = label; takes_value = true }) word ∷ uses) (uses_in known None rest)) None >>= λ uses. add_all uses rows)
   option_word_is label word rest true long short rows text is found behind none some =
       trailed known (held rows (Some (text_of label, []))) (option (text_of label)) rest
       ∙ ap (λ (o : Option (List Row)). o >>= λ r. if_last rest >>= λ uses. add_all uses r) (no_value label rows found)

@@ -153,21 +153,21 @@ has_its_capture values =
 abbrev pub run_by : Values → Option (List ℕ) → Option Defined → Option Asked
 run_by values None defined = None
 run_by values (Some conf) defined = if has_its_capture values then Some (run (record {
-      conf = conf;
-      capture = values.capture;
-      checks = values.checks;
-      limit = values.limit;
-      defined = defined;
-      host_table = values.host_table;
-      lanes = values.lanes;
-      flush_point = values.flush_point;
-      generate = values.generate;
-      seed = values.seed;
-      quiet = values.quiet;
-      test = values.test;
-      skip_refused = values.skip_refused;
-      stats = values.stats || is_some values.generate;
-    })) else None
+  conf = conf;
+  capture = values.capture;
+  checks = values.checks;
+  limit = values.limit;
+  defined = defined;
+  host_table = values.host_table;
+  lanes = values.lanes;
+  flush_point = values.flush_point;
+  generate = values.generate;
+  seed = values.seed;
+  quiet = values.quiet;
+  test = values.test;
+  skip_refused = values.skip_refused;
+  stats = values.stats || is_some values.generate;
+})) else None
 
 -- what the values ask for: the first step that holds
 unfoldable pub asked_by : Values → Option Asked

@@ -35,7 +35,7 @@ fn asked_by<'a>(fields: Option<Fields<'a>>) -> Option<Command<'a>>
 fn asked_in<'a>(matches: Option<ArgMatches<'a>>) -> Option<Command<'a>>
     ensures { option_map asked result ≡ option_and_then asked_by
         (option_and_then (λ rows. values_by (λ label. first_of label rows))
-            (option_map (λ m. rows_of (found_of m)) matches.entry)) }
+        (option_map (λ m. rows_of (found_of m)) matches.entry)) }
 {
     match matches {
         None => None,

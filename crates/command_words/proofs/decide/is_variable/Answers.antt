@@ -24,4 +24,4 @@ same false false to from = refl
 pub returns : goal.returns
 returns c =
     same c.is_name.result (is_variable c.args.bytes.now) (λ is. as_variable c.args.bytes.now (c.is_name.ensures.0 is))
-      (λ is. c.is_name.ensures.1 (as_name c.args.bytes.now is))
+    (λ is. c.is_name.ensures.1 (as_name c.args.bytes.now is))

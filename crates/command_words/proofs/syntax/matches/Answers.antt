@@ -20,7 +20,7 @@ unfolding snort clap_on_literals
 free = refl
 
 refused : (kinds : Kinds) (e : Error) (rows : List Row) → HasKind kinds e → (kind_of e ≡ OutOfMemory → ⊥) → None ≡ where_none kinds rows
-refused [] e rows has other = absurd (elim has [ | inl memory ↦ other memory | inr among ↦ among ])
+refused [] e rows has other = absurd (elim has [ inl memory ↦ other memory | inr among ↦ among ])
 refused (k ∷ ks) e rows has other = refl
 
 pub returns-in-Ok : goal.returns-in-Ok
@@ -38,5 +38,5 @@ returns c =
     let words : List (List ℕ) = map string_bytes c.args.words.now in
     let is : app_of c.in_ok-command.command ≡ snort = c.in_ok-command.ensures in
     refused (fault_of (app_of c.in_ok-command.command) words) c.in-Err.error (matches_of snort words)
-      (c.in-Err.ensures.kinds (ap is_simple_and_free is ∙ free)) (λ memory. c.in_default.not-OutOfMemory (c.kind.ensures ∙ memory))
+    (c.in-Err.ensures.kinds (ap is_simple_and_free is ∙ free)) (λ memory. c.in_default.not-OutOfMemory (c.kind.ensures ∙ memory))
     ∙ ap (λ (a : App). where_none (fault_of a words) (matches_of snort words)) is

@@ -19,7 +19,7 @@ unfolding snort
 returns c =
     let app-0 : App = on_top plain_shape (new_app (codes "snort")) in
     let is-0 : app_of c.disable_version_flag-command.result ≡ app-0 = ap app_of_fields (c.disable_version_flag-command.ensures ∙ ap (λ (f : Command-F Command). record f { disable_version_flag = true }) c.disable_help_flag.ensures)
-        ∙ ap (on_top plain_shape) c.new.ensures.app in
+    ∙ ap (on_top plain_shape) c.new.ensures.app in
     let rule-1 : Rule = rule_for (letter_option 99) in
     let app-1 : App = with_rule app-0 rule-1 in
     let is-1 : app_of c.in_ok-command.command ≡ app-1 = step app-0 rule-1 c.in_ok-command.ensures c.letter_option.ensures.local is-0 c.letter_option.ensures.rule in
