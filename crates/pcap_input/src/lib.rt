@@ -11,6 +11,7 @@ mod capture;
 mod fill;
 mod header;
 mod reader;
+mod spares;
 #[cfg(test)]
 mod tests;
 

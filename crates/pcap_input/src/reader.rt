@@ -7,6 +7,7 @@ ghost use Rattle.pcap_input.specs.Pieces.{Reads, TakesFileHeader, GivesOne, Take
 
 use crate::fill::fill;
 use crate::header::{FILE_HEADER, RECORD_HEADER, read_head};
+use crate::spares::{Spares, resized};
 use crate::{CaptureFault, CaptureHead, Record};
 use edge_io::{Host, Text};
 use std::alloc::Global;
@@ -23,6 +24,7 @@ pub struct CaptureReader {
     number: u32,
     at: u64,
     refused: Option<CaptureFault>,
+    spares: Spares,
 }
 
 impl Model for CaptureReader {
@@ -79,11 +81,21 @@ impl CaptureReader {
             number,
             at,
             refused: None,
+            spares: Spares::new(),
         }
     }
 
+    /// Takes back the bytes of a record that is done with: a later record is read into their memory.
+    /// The reader stands where it stood. Where memory is lacking to keep the bytes, they are freed.
+    pub fn take_back(&mut self, alloc: Global, bytes: Text)
+        ensures { self.new ≡ self.old }
+    {
+        self.spares.push(alloc, bytes.into_vec());
+    }
+
     /// Reads the next record, or None where no byte is left. A record's bytes are read into memory
-    /// that is reserved once. After a refusal the reader answers that refusal, without reading.
+    /// that was taken back, or that is reserved once. After a refusal the reader answers that refusal,
+    /// without reading.
     pub fn next<H: Host>(
         &mut self,
         alloc: Global,
@@ -120,7 +132,8 @@ impl CaptureReader {
         if let Some(why) = self.refused {
             return Err(why);
         }
-        match read_record(alloc, host, self.head, self.number, self.at) {
+        let block = self.spares.pop(alloc);
+        match read_record(host, self.head, self.number, self.at, block) {
             Ok(None) => Ok(None),
             Ok(Some(given)) => {
                 self.number += 1;
@@ -138,7 +151,8 @@ impl CaptureReader {
 /// Reads the file header of the capture that was opened.
 fn opened_head<H: Host>(host: &mut H) -> Result<CaptureHead, CaptureFault>
     ensures gives { (bytes : List ℕ) → H.left host.old ≡ Some bytes → Reads result (head_of bytes) }
-    ensures rest { (bytes : List ℕ) → H.left host.old ≡ Some bytes → OnOk result (H.left host.new ≡ Some (drop file_header bytes)) }
+    ensures rest { (bytes : List ℕ) → H.left host.old ≡ Some bytes
+        → OnOk result (H.left host.new ≡ Some (drop file_header bytes)) }
     ensures takes { TakesFileHeader result (H.left host.old) (H.left host.new) }
     ensures kinds { IfErr result IsOfHead }
     ensures failed { IsErrOf result CaptureFault.Failed → Rose (H.faults host.old) (H.faults host.new) }
@@ -156,17 +170,18 @@ fn opened_head<H: Host>(host: &mut H) -> Result<CaptureHead, CaptureFault>
     read_head(&header)
 }
 
-/// Reads the record that stands at `at` behind `number` records.
+/// Reads the record that stands at `at` behind `number` records, into a block of any length.
 fn read_record<H: Host>(
-    alloc: Global,
     host: &mut H,
     head: CaptureHead,
     number: u32,
     at: u64,
+    block: Vec<u8>,
 ) -> Result<Option<Record>, CaptureFault>
     ensures gives { (rest : List ℕ) → H.left host.old ≡ Some rest → Gives result (next_of head number at rest) }
     ensures unopened { IsUnopened (H.contents host.old) (H.left host.old) → Gives result (Ends Clean) }
-    ensures takes { IfOk result (λ given. IfSome given (λ r. TakesRecord (reader_at head number at) r (H.left host.old) (H.left host.new))) }
+    ensures takes { IfOk result (λ given. IfSome given
+        (λ r. TakesRecord (reader_at head number at) r (H.left host.old) (H.left host.new))) }
     ensures ended { IfOk result (λ given. IfNone given (H.left host.new ≡ H.left host.old)) }
     ensures partial { IfErr result (λ why. TakesNone (reader_at head number at) why (H.left host.old) (H.left host.new)) }
     ensures fits { IfOk result (λ given. IfSome given (λ r. (length r.bytes ≤ longest) × (number < most_records))) }
@@ -188,18 +203,18 @@ fn read_record<H: Host>(
     if count < RECORD_HEADER {
         return Err(CaptureFault::Truncated { at });
     }
-    let given = read_behind(alloc, host, head, number, at, &header)?;
+    let given = read_behind(host, head, number, at, &header, block)?;
     Ok(Some(given))
 }
 
 /// Reads the captured bytes behind a record header that stands at `at`.
 fn read_behind<H: Host>(
-    alloc: Global,
     host: &mut H,
     head: CaptureHead,
     number: u32,
     at: u64,
     header: &[u8],
+    block: Vec<u8>,
 ) -> Result<Record, CaptureFault>
     requires { length header.now ≡ record_header }
     ensures gives { (rest : List ℕ) → H.left host.old ≡ Some rest → GivesOne result (next_behind head number at header.now rest) }
@@ -215,7 +230,7 @@ fn read_behind<H: Host>(
     if len > LONGEST {
         return Err(CaptureFault::TooLong { at, len });
     }
-    let bytes = read_bytes(alloc, host, at, len as usize)?;
+    let bytes = read_bytes(host, at, len as usize, block)?;
     Ok(Record {
         number,
         moment: head.moment(header),
@@ -224,13 +239,12 @@ fn read_behind<H: Host>(
     })
 }
 
-/// Reads so many captured bytes of the record that stands at `at`, into memory that is reserved
-/// once.
+/// Reads so many captured bytes of the record that stands at `at`, into a block of any length.
 fn read_bytes<H: Host>(
-    alloc: Global,
     host: &mut H,
     at: u64,
     len: usize,
+    block: Vec<u8>,
 ) -> Result<Vec<u8>, CaptureFault>
     ensures whole { IfOk result (λ bytes. (length bytes.items ≡ len) × (H.left host.old ≡ before bytes.items (H.left host.new))) }
     ensures partial { IfErr result (λ why. TakesLess at len why (H.left host.old) (H.left host.new)) }
@@ -239,8 +253,7 @@ fn read_bytes<H: Host>(
     ensures same_opens { H.opens host.new ≡ H.opens host.old }
     ensures later { H.faults host.old ≤ H.faults host.new }
 {
-    let mut bytes = Vec::with_capacity(alloc, len)?;
-    bytes.resize(len, 0)?;
+    let mut bytes = resized(block, len)?;
     let Ok(count) = fill(host, &mut bytes) else {
         return Err(CaptureFault::Failed);
     };
