@@ -12,6 +12,7 @@ pub mod Occurring
 pub mod Prefixes
 pub mod LinesLaws
 pub mod Showing
+pub mod Batches
 pub mod Watched
 pub mod Finishing
 pub mod Captures

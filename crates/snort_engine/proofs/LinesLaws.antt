@@ -12,7 +12,7 @@ use Rattle.snort_engine.specs.Course.{Plan}
 use Rattle.snort_engine.specs.Records.{LinkedRecord, linked}
 use Rattle.snort_engine.specs.Trace.{CaptureState, Open, Closed, record_alerts, trace}
 use Rattle.snort_engine.specs.Lines.{text_of, lines, LinesJoin, PrefixLaw}
-use Rattle.snort_engine.specs.Watching.{record_lines, lines_of}
+use Rattle.snort_engine.specs.Watching.{record_lines, records_lines, lines_of}
 
 -- the law of joined records
 pub lines_join : LinesJoin
@@ -65,8 +65,17 @@ lines_of-append plan link front back state =
     ap (λ (x : List LinkedRecord). lines plan [] x state) (map-append (linked link) front back)
     ∙ lines_join plan [] (map (linked link) front) (map (linked link) back) state
 
--- one record more
-pub lines_of-more : (plan : Plan) (link : Link) (front : List Record) (last : Record) → lines_of plan link (front ++ last ∷ []) Open ≡ lines_of plan link front Open ++ record_lines plan (linked link last)
-lines_of-more plan link front last =
-    lines_of-append plan link front (last ∷ []) Open
-    ∙ ap (λ (x : List ℕ). lines_of plan link front Open ++ x) (lines-one plan (map (linked link) front) (linked link last) Open)
+-- the lines of records are those of each by itself: none of those before matters yet
+lines-each : (plan : Plan) (before : List LinkedRecord) (link : Link) (records : List Record) → lines plan before (map (linked link) records) Open ≡ records_lines plan link records
+unfolding lines trace records_lines record_lines record_alerts
+lines-each plan before link [] = refl
+lines-each plan before link (captured ∷ records) =
+    let shown = linked link captured in
+    flat_map-append text_of (record_alerts plan before shown) (trail_from (record_alerts plan) (before ++ shown ∷ []) (map (linked link) records))
+    ∙ ap (λ (x : List ℕ). record_lines plan shown ++ x) (lines-each plan (before ++ shown ∷ []) link records)
+
+-- a batch more
+pub lines_of-batch : (plan : Plan) (link : Link) (front batch : List Record) → lines_of plan link (front ++ batch) Open ≡ lines_of plan link front Open ++ records_lines plan link batch
+lines_of-batch plan link front batch =
+    lines_of-append plan link front batch Open
+    ∙ ap (λ (x : List ℕ). lines_of plan link front Open ++ x) (lines-each plan (map (linked link) front) link batch)

@@ -1,8 +1,9 @@
 -- Runs that the headline refuses: one line short, one record too far ahead, a second opening.
 --
--- Each speaks of a capture of two records that alert. They show that the relations say something of
--- such runs by themselves, whatever a body's proof looks like.
-use Rattle.std.proofs.Common.{◌≡◌, ℕ, ◌+◌, ◌≤◌, List, [], ◌∷◌, ◌++◌, Option, Some, None, length, take, refl, sym, ap, subst, ◌∙◌, arith, inl, inr, ⊎_elim}
+-- The first and the last speak of any capture, the second of one whose first record alerts, and behind
+-- which a whole batch was taken. They show that the relations say something of such runs by themselves,
+-- whatever a body's proof looks like.
+use Rattle.std.proofs.Common.{◌≡◌, ℕ, ◌+◌, ◌-◌, ◌≤◌, List, [], ◌∷◌, ◌++◌, Option, Some, None, length, take, refl, sym, ap, subst, ◌∙◌, arith, inl, inr, ⊎_elim}
 use Rattle.std.specs.FinMap.{get}
 use Rattle.std.proofs.lemmas.List.{length-append, take_at}
 use Rattle.edge_io.specs.Told.{behind}
@@ -36,10 +37,15 @@ one_line_short files course before after message old first byte second told answ
     (sym wrote ∙ ends.wrote ∙ ap (λ (b : Option (List ℕ)). behind b ends.alerts) told
     ∙ ap (behind (Some old)) ((ends.ended_as_stated tt).alerts_are ∙ answers))
 
--- the lines due of two records are those of the first
-due_of_two : (plan : Plan) (taken : List ℕ) (first second : LinkedRecord) → (records_of plan taken).records ≡ first ∷ second ∷ [] → lines_due plan taken ≡ record_lines plan first
+-- the lines due of a record and a batch are those of the record
+due_of_first : (plan : Plan) (taken : List ℕ) (first : LinkedRecord) (others : List LinkedRecord) → (records_of plan taken).records ≡ first ∷ others → length others ≡ batch → lines_due plan taken ≡ record_lines plan first
 unfolding lines_due
-due_of_two plan taken first second are = ap (λ (x : List LinkedRecord). lines plan [] (all_but batch x) Open) are ∙ lines-one plan [] first Open
+due_of_first plan taken first others are size =
+    let count : length (first ∷ others) - batch ≡ 1 = omega (arith, size) in
+    ap (λ (x : List LinkedRecord). lines plan [] (all_but batch x) Open) are
+    ∙ ap (λ (n : ℕ). lines plan [] (take n (first ∷ others)) Open) count
+    ∙ ap (λ (x : List LinkedRecord). lines plan [] x Open) (take_at (first ∷ []) others 1 refl)
+    ∙ lines-one plan [] first Open
 
 -- fronts of one text before one rest are the same
 same_front : (front other rest other_rest : List ℕ) → rest ≡ other_rest → front ++ rest ≡ other ++ other_rest → front ≡ other
@@ -49,19 +55,20 @@ same_front front other rest other_rest rests wholes =
     let size : length front ≡ length other = omega (arith, lengths, length-append front rest, length-append other rest) in
     sym (take_at front rest (length front) refl) ∙ ap (take (length front)) one ∙ take_at other rest (length front) (sym size)
 
--- two records were taken, of which the first has a line, and none was written: no run ends so at a write fault
-pub one_record_too_far : (files : Files) (course : Course) (plan : Plan) (before after : Work) (message old taken rest : List ℕ) (first second : LinkedRecord) (byte : ℕ) (line : List ℕ)
+-- a record with a line was taken and a batch behind it, and no line was written: no run ends so at a
+-- write fault
+pub one_record_too_far : (files : Files) (course : Course) (plan : Plan) (before after : Work) (message old taken rest : List ℕ) (first : LinkedRecord) (others : List LinkedRecord) (byte : ℕ) (line : List ℕ)
     → course.way ≡ Goes plan → get files plan.source ≡ Some (taken ++ rest) → after.left ≡ Some rest
-    → (records_of plan taken).records ≡ first ∷ second ∷ [] → record_lines plan first ≡ byte ∷ line
+    → (records_of plan taken).records ≡ first ∷ others → length others ≡ batch → record_lines plan first ≡ byte ∷ line
     → before.alerts ≡ Some old → after.alerts ≡ Some old → Ends files course before after status.WriteFault message → ⊥
 unfolding ReadsAhead behind
-one_record_too_far files course plan before after message old taken rest first second byte line goes held left are alerts told wrote ends =
+one_record_too_far files course plan before after message old taken rest first others byte line goes held left are size alerts told wrote ends =
     ⊎_elim
     (λ (r : IsReadAhead plan (get files plan.source) before after).
     let rests : r.rest ≡ rest = cc in
     let wholes : r.taken ++ r.rest ≡ taken ++ rest = cc in
     let takens : r.taken ≡ taken = same_front r.taken taken r.rest rest rests wholes in
-    let due : lines_due plan r.taken ≡ byte ∷ line = ap (lines_due plan) takens ∙ due_of_two plan taken first second are ∙ alerts in
+    let due : lines_due plan r.taken ≡ byte ∷ line = ap (lines_due plan) takens ∙ due_of_first plan taken first others are size ∙ alerts in
     let joined : Some old ≡ Some (old ++ ((byte ∷ line) ++ r.more)) =
     sym wrote ∙ r.wrote ∙ ap (λ (b : Option (List ℕ)). behind b (lines_due plan r.taken ++ r.more)) told ∙ ap (λ (x : List ℕ). Some (old ++ (x ++ r.more))) due in
     let same : old ≡ old ++ (byte ∷ (line ++ r.more)) = cc in

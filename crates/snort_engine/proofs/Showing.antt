@@ -17,7 +17,7 @@ use Rattle.snort_engine.specs.Outside.{WritesPart}
 use Rattle.snort_engine.specs.Trace.{occurs_in, alert_of, flight_alerts, all_checks, alerts_of_answer, record_alerts}
 use Rattle.snort_engine.specs.Line.{AlertFacts}
 use Rattle.snort_engine.specs.Lines.{text_of}
-use Rattle.snort_engine.specs.Watching.{Gathering, Gathers, flight_lines, record_lines}
+use Rattle.snort_engine.specs.Watching.{Gathering, Gathers, flight_lines, record_lines, records_lines}
 use Rattle.snort_engine.proofs.Prefixes.{WritesPart-none, WritesPart-longer, gathers_none, gathers_both, gathers_part}
 
 -- the lines of rules, and then those of more rules
@@ -105,3 +105,50 @@ no_lines old plan link captured bytes answer is same none =
 -- the lines of no rule came
 pub none_came : (old : Gathering) (flight : Flight) (payload : List ℕ) → Gathers (flight_lines [] flight payload) old old
 none_came old flight payload = subst (λ (x : List ℕ). Gathers x old old) (sym (flight_lines-none flight payload)) (gathers_none old)
+
+-- ---- the lines of a batch
+
+-- the lines of no record came
+pub none_shown : (old : Gathering) (plan : Plan) (link : Link) → Gathers (records_lines plan link []) old old
+unfolding records_lines
+none_shown old plan link = gathers_none old
+
+-- the lines of records, and then those of more records
+records_lines-append : (plan : Plan) (link : Link) (front back : List Record) → records_lines plan link (front ++ back) ≡ records_lines plan link front ++ records_lines plan link back
+unfolding records_lines
+records_lines-append plan link front back = flat_map-append (λ captured. record_lines plan (linked link captured)) front back
+
+-- the lines of one record
+records_lines-one : (plan : Plan) (link : Link) (captured : Record) → records_lines plan link (captured ∷ []) ≡ record_lines plan (linked link captured)
+unfolding records_lines
+records_lines-one plan link captured = append-nil (record_lines plan (linked link captured))
+
+-- the lines of one record more
+one_record_more : (plan : Plan) (link : Link) (records : List Record) (i : ℕ) (captured : Record) → i < length records → captured ≡ get_or records i captured
+    → records_lines plan link (take (i + 1) records) ≡ records_lines plan link (take i records) ++ record_lines plan (linked link captured)
+one_record_more plan link records i captured lt is =
+    ap (records_lines plan link) (take_more records i captured lt) ∙ records_lines-append plan link (take i records) (get_or records i captured ∷ [])
+    ∙ ap (λ (r : Record). records_lines plan link (take i records) ++ records_lines plan link (r ∷ [])) (sym is)
+    ∙ ap (λ (x : List ℕ). records_lines plan link (take i records) ++ x) (records_lines-one plan link captured)
+
+-- the lines so far came, and then those of the next record
+pub record_step : (old middle new : Gathering) (plan : Plan) (link : Link) (records : List Record) (i : ℕ) (captured : Record) → i < length records → captured ≡ get_or records i captured
+    → Gathers (records_lines plan link (take i records)) old middle → Gathers (record_lines plan (linked link captured)) middle new
+    → Gathers (records_lines plan link (take (i + 1) records)) old new
+record_step old middle new plan link records i captured lt is so_far more =
+    subst (λ (x : List ℕ). Gathers x old new) (sym (one_record_more plan link records i captured lt is)) (gathers_both _ _ old middle new so_far more)
+
+-- the lines so far came, and then a part of what waits and of those of the next record was written
+pub record_part : (old middle : Gathering) (new : Option (List ℕ)) (plan : Plan) (link : Link) (records : List Record) (i : ℕ) (captured : Record) → i < length records → captured ≡ get_or records i captured
+    → Gathers (records_lines plan link (take i records)) old middle → WritesPart middle.written (middle.block ++ record_lines plan (linked link captured)) new
+    → WritesPart old.written (old.block ++ records_lines plan link records) new
+record_part old middle new plan link records i captured lt is so_far part =
+    let front = records_lines plan link (take i records) in
+    let own = record_lines plan (linked link captured) in
+    let others = records_lines plan link (drop (i + 1) records) in
+    let whole : (front ++ own) ++ others ≡ records_lines plan link records =
+    ap (λ (x : List ℕ). x ++ others) (sym (one_record_more plan link records i captured lt is))
+    ∙ sym (records_lines-append plan link (take (i + 1) records) (drop (i + 1) records)) ∙ ap (records_lines plan link) (take-append-drop (i + 1) records) in
+    let P : List ℕ → Type 0 = λ x. WritesPart old.written x new in
+    subst P (append_assoc old.block (front ++ own) others ∙ ap (λ (x : List ℕ). old.block ++ x) whole)
+    (WritesPart-longer old.written new (old.block ++ (front ++ own)) others (gathers_part front own old middle new so_far part))

@@ -16,5 +16,6 @@ pub mod ReadAhead
 pub mod Ending
 pub mod Headline
 pub mod Stop
+pub mod Batch
 pub mod Watching
 pub mod Reporting

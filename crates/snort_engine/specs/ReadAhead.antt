@@ -4,7 +4,7 @@
 -- goes on with a plan, the plan's capture is open at the end and has lost some bytes: of the records
 -- that are whole within these the lines of all but the last batch were written, and maybe more. A run
 -- that is cut off before has opened nothing, or has nothing open, and has written no line.
--- To try it on: where 600 records with a line each were taken, at least the lines of the first 599
+-- To try it on: where 600 records with a line each were taken, at least the lines of the first 344
 -- stand in the alerts.
 use Rattle.std.specs.Prelude.{◌≡◌, ℕ, ◌-◌, List, [], ◌++◌, length, take, Option, Some, None, ◌⊎◌}
 use Rattle.std.specs.FinMap.{get}
@@ -20,7 +20,7 @@ use Rattle.snort_engine.specs.Outside.{Work}
 
 -- how many records are read before their lines are offered
 abbrev pub batch : ℕ
-batch = 1
+batch = 256
 
 -- all records but the last ones
 abbrev pub all_but : ℕ → List LinkedRecord → List LinkedRecord

@@ -1,9 +1,9 @@
 -- How the watching of a capture ends, from the reader that was opened to the last line.
 --
 -- What is left for a reader are the records that it has yet to give. To try it on: where a write fails
--- in the line of the second of three records, the lines of the first were written, a part of that line
--- may be, and the bytes of two records were taken.
-use Rattle.std.specs.Prelude.{◌≡◌, ℕ, ◌≤◌, List, [], ◌++◌, length, map, Option, None, Some, Result, Ok, Err, ⊤}
+-- in the lines of the second batch, the lines of the first were written, a part of those of the second
+-- may be, and the bytes of two batches were taken.
+use Rattle.std.specs.Prelude.{◌≡◌, ℕ, ◌≤◌, Bool, true, false, List, [], ◌++◌, length, map, Option, None, Some, Result, Ok, Err, ⊤}
 use Rattle.std.specs.List.{flat_map}
 use Rattle.edge_io.specs.Told.{before, behind}
 use Rattle.edge_io.specs.declared.link.Link.{Link}
@@ -12,7 +12,7 @@ use Rattle.pcap_input.specs.declared.capture.CaptureFault.{CaptureFault}
 use Rattle.pcap_input.specs.declared.capture.CaptureFault.TheVariants.{Failed}
 use Rattle.pcap_input.specs.Savefile.{Ending, Clean, Refused}
 use Rattle.pcap_input.specs.Reader.{Reading}
-use Rattle.pcap_input.specs.Reading.{cut_for}
+use Rattle.pcap_input.specs.Reading.{cut_for, HasRead}
 use Rattle.snort_engine.specs.declared.plan.Plan as code
 use Rattle.snort_engine.specs.declared.stop.Stop.{Stop}
 use Rattle.snort_engine.specs.declared.stop.Stop.TheVariants as stop
@@ -55,6 +55,10 @@ flight_lines rules flight payload = flat_map text_of (flight_alerts rules flight
 -- the lines of a record
 unfoldable pub record_lines : Plan → LinkedRecord → List ℕ
 record_lines plan shown = flat_map text_of (record_alerts plan [] shown)
+
+-- the lines of records of one link layer, each by itself
+unfoldable pub records_lines : Plan → Link → List Record → List ℕ
+records_lines plan link records = flat_map (λ captured. record_lines plan (linked link captured)) records
 
 -- what may stop the showing of lines
 abbrev pub IsShowStop : Stop → Type 0
@@ -118,3 +122,24 @@ Watches plan reader old new (Err stop.CannotWrite) = WritesSome plan reader old 
 Watches plan reader old new (Err stop.NoMemory) = WritesSome plan reader old new
 Watches plan reader old new (Err why) =
     (fault : CaptureFault) × (why ≡ capture_stop fault) × WatchesTo plan reader (Refused fault) old new
+
+-- ---- batch by batch
+
+-- the first reader has become the second: some records were given, and the lines of these were written
+pub record IsUnderWay (plan : Plan) (first reader : Reading) (old now : Streams) : Type 0 where
+  pub given : List Record
+  pub read : HasRead first reader given old.left now.left
+  pub wrote : now.written ≡ behind old.written (lines_of plan first.head.link given Open)
+
+-- the watching is over, with its lines close behind its records
+abbrev pub WatchesOver : Plan → Reading → Streams → Streams → Result (Unit {0}) Stop → Type 0
+WatchesOver plan first start now outcome = Watches plan first start now outcome × IsCloseBehind plan first start now
+
+-- a watching that was under way is so still, behind one more batch, or is over
+abbrev pub GoesOn : Plan → Reading → Reading → Streams → Streams → Result Bool Stop → Type 0
+GoesOn plan reader next old new (Ok true) =
+    (first : Reading) (start : Streams) → IsUnderWay plan first reader start old → IsUnderWay plan first next start new
+GoesOn plan reader next old new (Ok false) =
+    (first : Reading) (start : Streams) → IsUnderWay plan first reader start old → WatchesOver plan first start new (Ok tt)
+GoesOn plan reader next old new (Err why) =
+    (first : Reading) (start : Streams) → IsUnderWay plan first reader start old → WatchesOver plan first start new (Err why)

@@ -12,6 +12,7 @@
 //! reader of `pcap_input`, the decoder of `packet_decode`. The program stands on this crate.
 #![tactic(auto)]
 
+mod batch;
 mod content_rule;
 mod detector;
 mod endpoint;

@@ -81,7 +81,8 @@ fn push_time(moment: Moment, out: &mut Vec<u8>) -> Result<(), NoMemory>
 }
 
 fn push_marked_msg(alert: &Alert<'_>, out: &mut Vec<u8>) -> Result<(), NoMemory>
-    ensures appended { OnOk result (out.new.items ≡ out.old.items ++ marked_msg alert.now.gid alert.now.sid alert.now.rev alert.now.msg.now) }
+    ensures appended { OnOk result (out.new.items
+        ≡ out.old.items ++ marked_msg alert.now.gid alert.now.sid alert.now.rev alert.now.msg.now) }
     ensures unchanged { OnErr result (out.new.items ≡ out.old.items) }
 {
     push_pieces(

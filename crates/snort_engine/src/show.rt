@@ -4,7 +4,7 @@ ghost use Rattle.snort_engine.specs.Outside.{WritesPart};
 ghost use Rattle.snort_engine.specs.Records.{linked};
 ghost use Rattle.snort_engine.specs.Trace.{occurs_in, alert_of};
 ghost use Rattle.snort_engine.specs.Lines.{text_of};
-ghost use Rattle.snort_engine.specs.Watching.{plan_of, Gathers, IsShowStop, flight_lines, record_lines};
+ghost use Rattle.snort_engine.specs.Watching.{plan_of, Gathers, IsShowStop, flight_lines, record_lines, records_lines};
 
 use crate::content_rule::ContentRule;
 use crate::flight::Flight;
@@ -154,25 +154,49 @@ fn show_record<A: Sink>(
     }
 }
 
-/// Writes the lines of a batch, which is one record. `block` is the memory in which they are made.
+/// Makes the lines of records, one behind another.
+#[tactic(auto, using(crate::proofs::Prefixes::rising))]
+fn show_records<A: Sink>(
+    plan: &Plan<'_>,
+    link: Link,
+    records: &[Record],
+    block: &mut Vec<u8>,
+    alerts: &mut A,
+) -> Result<(), Stop>
+    ensures shown { OnOk result (Gathers (records_lines (plan_of plan.now) link records.now)
+        (record { written = A.written alerts.old; block = block.old.items })
+        (record { written = A.written alerts.new; block = block.new.items })) }
+    ensures stopped { OnErr result (WritesPart (A.written alerts.old)
+        (block.old.items ++ records_lines (plan_of plan.now) link records.now) (A.written alerts.new)) }
+    ensures kind { IfErr result IsShowStop }
+    ensures fault { IsErrOf result Stop.CannotWrite → Rose (A.faults alerts.old) (A.faults alerts.new) }
+    ensures later { A.faults alerts.old ≤ A.faults alerts.new }
+{
+    for captured in records {
+        show_record(plan, link, captured, block, alerts)?;
+    }
+    Ok(())
+}
+
+/// Writes the lines of a batch of records, whole. `block` is the memory in which they are made.
 #[tactic(auto, using(crate::proofs::Prefixes::rising))]
 pub(crate) fn show_batch<A: Sink>(
     plan: &Plan<'_>,
     link: Link,
-    record: &Record,
+    records: &[Record],
     block: &mut Vec<u8>,
     alerts: &mut A,
 ) -> Result<(), Stop>
     requires { block.old.items ≡ [] }
     ensures shown { OnOk result (A.written alerts.new
-        ≡ behind (A.written alerts.old) (record_lines (plan_of plan.now) (linked link «record».now))) }
+        ≡ behind (A.written alerts.old) (records_lines (plan_of plan.now) link records.now)) }
     ensures emptied { OnOk result (block.new.items ≡ []) }
     ensures stopped { OnErr result (WritesPart (A.written alerts.old)
-        (record_lines (plan_of plan.now) (linked link «record».now)) (A.written alerts.new)) }
+        (records_lines (plan_of plan.now) link records.now) (A.written alerts.new)) }
     ensures kind { IfErr result IsShowStop }
     ensures fault { IsErrOf result Stop.CannotWrite → Rose (A.faults alerts.old) (A.faults alerts.new) }
     ensures later { A.faults alerts.old ≤ A.faults alerts.new }
 {
-    show_record(plan, link, record, block, alerts)?;
+    show_records(plan, link, records, block, alerts)?;
     offer(block, alerts)
 }

@@ -1,0 +1,22 @@
+-- Reading went on from where the batch began, by as many records as the batch has.
+use Rattle.std.proofs.Common.{◌≡◌, ◌+◌, ◌-◌, ◌<◌, ◌≤◌, [], None, vec_len}
+use Rattle.pcap_input.specs.Savefile.{most_records}
+use Rattle.snort_engine.specs.Batch.{ReadsOn}
+use Rattle.snort_engine.specs.ReadAhead.{batch}
+use Rattle.snort_engine.specs.declared.batch.Reached.TheVariants.{More}
+use Rattle.snort_engine.proofs.batch.read_batch.Given as goal
+
+abbrev pub invariant-batch : goal.invariant-batch
+invariant-batch g l = record {
+  reads : ReadsOn (record { reader = l.fn.reader; records = []; left = g.H.Host.left l.fn.host }) (record { reader = l.reader; records = l.records.items; left = g.H.Host.left l.host }) More;
+  fresh : l.reader.refused ≡ None;
+  few : vec_len l.records ≤ batch;
+  number : l.reader.number ≡ l.fn.reader.number + vec_len l.records;
+  within : 0 < vec_len l.records → l.reader.number ≤ most_records;
+  opens : g.H.Host.opens l.host ≡ g.H.Host.opens l.fn.host;
+  contents : g.H.Host.contents l.host ≡ g.H.Host.contents l.fn.host;
+  later : g.H.Host.faults l.fn.host ≤ g.H.Host.faults l.host;
+}
+
+abbrev pub decreases-batch : goal.decreases-batch
+decreases-batch g l = batch - vec_len l.records

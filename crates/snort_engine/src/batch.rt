@@ -1,0 +1,108 @@
+ghost use Rattle.std.specs.Prelude.{◌≡◌, ◌≢◌, ◌+◌, ◌<◌, ◌≤◌, None, [], vec_len};
+ghost use Rattle.edge_io.specs.Told.{Rose};
+ghost use Rattle.pcap_input.specs.Savefile.{most_records};
+ghost use Rattle.snort_engine.specs.Batch.{IsNext, ReadsOn, more_of};
+ghost use Rattle.snort_engine.specs.ReadAhead.{batch};
+
+use crate::stop::Stop;
+use edge_io::Host;
+use pcap_input::{CaptureFault, CaptureReader, Record};
+use std::alloc::Global;
+
+/// How many records are read before their lines are offered.
+const BATCH: usize = 256;
+
+/// What stands behind the records that were read.
+#[derive(Clone, Copy, Debug)]
+pub(crate) enum Reached {
+    /// More records may stand there.
+    More,
+    /// The capture ends there.
+    End,
+    /// The capture is refused there, or can't be read on.
+    Fault(CaptureFault),
+}
+
+/// Reads one record behind those that were read.
+fn read_one<H: Host>(
+    alloc: Global,
+    host: &mut H,
+    reader: &mut CaptureReader,
+    records: &mut Vec<Record>,
+) -> Reached
+    requires { reader.old.refused ≡ None }
+    ensures reads { ReadsOn
+        (record { reader = reader.old; records = records.old.items; left = H.left host.old })
+        (record { reader = reader.new; records = records.new.items; left = H.left host.new }) result }
+    ensures one { result ≡ Reached.More → vec_len records.new ≡ vec_len records.old + 1 }
+    ensures none { result ≢ Reached.More → vec_len records.new ≡ vec_len records.old }
+    ensures next { result ≡ Reached.More → IsNext reader.old reader.new }
+    ensures failed { result ≡ Reached.Fault CaptureFault.Failed → Rose (H.faults host.old) (H.faults host.new) }
+    ensures same_opens { H.opens host.new ≡ H.opens host.old }
+    ensures same_contents { H.contents host.new ≡ H.contents host.old }
+    ensures later { H.faults host.old ≤ H.faults host.new }
+{
+    // Room comes first, so that no record is lost that was taken.
+    if records.reserve(1).is_err() {
+        return Reached::Fault(CaptureFault::NoMemory);
+    }
+    match reader.next(alloc, host) {
+        Ok(Some(given)) => match records.push(given) {
+            Ok(()) => Reached::More,
+            Err(_full) => Reached::Fault(CaptureFault::NoMemory),
+        },
+        Ok(None) => Reached::End,
+        Err(why) => Reached::Fault(why),
+    }
+}
+
+/// Reads a batch of records: as many as one may have, or fewer where the capture ends, is refused or
+/// can't be read on behind them. These are still to be shown.
+pub(crate) fn read_batch<H: Host>(
+    alloc: Global,
+    host: &mut H,
+    reader: &mut CaptureReader,
+    records: &mut Vec<Record>,
+) -> Reached
+    requires fresh { reader.old.refused ≡ None }
+    requires empty { records.old.items ≡ [] }
+    ensures reads { ReadsOn
+        (record { reader = reader.old; records = []; left = H.left host.old })
+        (record { reader = reader.new; records = records.new.items; left = H.left host.new }) result }
+    ensures few { vec_len records.new ≤ batch }
+    ensures further { result ≡ Reached.More → reader.old.number < reader.new.number }
+    ensures within { result ≡ Reached.More → reader.new.number ≤ most_records }
+    ensures failed { result ≡ Reached.Fault CaptureFault.Failed → Rose (H.faults host.old) (H.faults host.new) }
+    ensures same_opens { H.opens host.new ≡ H.opens host.old }
+    ensures same_contents { H.contents host.new ≡ H.contents host.old }
+    ensures later { H.faults host.old ≤ H.faults host.new }
+{
+    'batch: while records.len() < BATCH {
+        match read_one(alloc, host, reader, records) {
+            Reached::More => {}
+            stop => return stop,
+        }
+    }
+    Reached::More
+}
+
+/// Whether more records may follow, or how what was reached stops a run.
+pub(crate) fn more(reached: Reached) -> Result<bool, Stop>
+    ensures { result ≡ more_of reached }
+{
+    match reached {
+        Reached::More => Ok(true),
+        Reached::End => Ok(false),
+        Reached::Fault(why) => Err(Stop::from(why)),
+    }
+}
+
+/// Gives the memory of the records that were shown back to the reader, for later ones.
+pub(crate) fn give_back(alloc: Global, reader: &mut CaptureReader, records: &mut Vec<Record>)
+    ensures same { reader.new ≡ reader.old }
+    ensures emptied { records.new.items ≡ [] }
+{
+    'batch: while let Some(shown) = records.pop() {
+        reader.take_back(alloc, shown.bytes);
+    }
+}
