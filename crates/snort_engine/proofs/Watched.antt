@@ -1,19 +1,17 @@
 -- The steps of watching a capture.
-use Rattle.std.proofs.Common.{◌≡◌, ℕ, ◌<◌, ◌≤◌, List, [], ◌∷◌, ◌++◌, length, map, Option, Some, None, Result, Ok, Err, refl, sym, ap, subst, ◌∙◌, arith}
-use Rattle.std.specs.Option.{IfNone}
+use Rattle.std.proofs.Common.{◌≡◌, ℕ, ◌≤◌, List, [], ◌++◌, length, map, Option, Some, None, Err, refl, sym, ap, subst, ◌∙◌, arith}
 use Rattle.std.proofs.lemmas.List.{append-nil}
 use Rattle.edge_io.specs.declared.link.Link.{Link}
 use Rattle.edge_io.specs.Told.{behind}
 use Rattle.edge_io.proofs.Told.{behind-nil, behind-behind}
 use Rattle.pcap_input.specs.declared.capture.Record.{Record}
 use Rattle.pcap_input.specs.declared.capture.CaptureFault.{CaptureFault}
-use Rattle.pcap_input.specs.Savefile.{Cut, Ending, Clean, Refused, Next, Ends, next_of}
+use Rattle.pcap_input.specs.Savefile.{Cut, Ending, Clean, Refused}
 use Rattle.pcap_input.specs.declared.capture.CaptureFault.TheVariants as fault
 use Rattle.pcap_input.specs.declared.capture.CaptureHead.{CaptureHead}
-use Rattle.pcap_input.specs.Reader.{Reading, after_next, Gives, TakesRecord, TakesNone}
-use Rattle.pcap_input.specs.Reading.{cut_for, with_front, HasRead, AreWhole, EndsWith, IsRefusedBy}
-use Rattle.pcap_input.proofs.Reading.{reading-start, reading-more, reading-told, reading-whole, reading-stopped, reading-refused, reading-ended}
-use Rattle.pcap_input.proofs.Laws.{next_means}
+use Rattle.pcap_input.specs.Reader.{Reading}
+use Rattle.pcap_input.specs.Reading.{cut_for, HasRead, AreWhole, EndsWith, IsRefusedBy}
+use Rattle.pcap_input.proofs.Reading.{reading-start, reading-told, reading-whole}
 use Rattle.snort_engine.specs.declared.stop.Stop.{Stop}
 use Rattle.snort_engine.specs.declared.stop.Stop.TheVariants as stop
 use Rattle.snort_engine.specs.Course.{Plan}
@@ -26,7 +24,7 @@ use Rattle.snort_engine.specs.Batch.{Place, HasStopped, Reaches, ReadsOn, more_o
 use Rattle.snort_engine.specs.declared.batch.Reached.{Reached}
 use Rattle.snort_engine.specs.declared.batch.Reached.TheVariants.{More, End, Fault}
 use Rattle.snort_engine.specs.ReadAhead.{batch}
-use Rattle.snort_engine.specs.Watching.{Streams, lines_of, lines_left, records_lines, IsUnderWay, IsWatched, IsCutOff, IsCloseBehind, WritesSome, WatchesTo, Watches, GoesOn, IsShowStop}
+use Rattle.snort_engine.specs.Watching.{Streams, lines_of, lines_left, records_lines, IsUnderWay, IsCutOff, IsCloseBehind, WritesSome, WatchesTo, Watches, GoesOn, IsShowStop}
 use Rattle.snort_engine.proofs.Prefixes.{WritesPart-all, WritesPart-behind, WritesPart-longer}
 use Rattle.snort_engine.proofs.LinesLaws.{lines_of-nil, lines_of-closed, lines_of-append, lines_of-batch}
 
@@ -149,9 +147,6 @@ pub batch_shown : (plan : Plan) (link : Link) (reader next : Reading) (records :
     → GoesOn plan reader next old new (more_of reached)
 batch_shown plan link reader next records old new reached is reads wrote = by_case reached reads
   where
-    now : Place
-    now = record { reader = next; records = records; left = new.left }
-
     all_wrote : (first : Reading) (start : Streams) (going : IsUnderWay plan first reader start old) → new.written ≡ behind start.written (lines_of plan first.head.link (going.given ++ records) Open)
     all_wrote first start going =
         more_shown plan first.head.link going.given records start.written old.written new.written going.wrote
@@ -186,8 +181,7 @@ batch_stops plan link reader next records old new reached why is few reads kind 
     subst (λ (x : List ℕ). WritesPart old.written x new.written) (own_lines plan first reader start old link records going is) (part, prefix, wrote) in
     let some : WritesPart start.written (lines_of plan first.head.link given Open) new.written =
     subst (λ (x : List ℕ). WritesPart start.written x new.written) (sym (lines_of-batch plan first.head.link going.given records))
-    (WritesPart-behind start.written old.written new.written _ _ going.wrote own) in
-    (
+    (WritesPart-behind start.written old.written new.written _ _ going.wrote own) in (
       showing_stops plan first start new why kind (part_of_all plan first stopped.behind given start stopped.still new.written stopped.read some),
       record {
         taken = stopped.whole.taken;
