@@ -1,4 +1,6 @@
+pub mod Blocking
 pub mod Choosing
+pub mod Filing
 pub mod Filling
 pub mod Growing
 pub mod Hitting
@@ -10,6 +12,7 @@ pub mod Occurring
 pub mod Ordering
 pub mod Ports
 pub mod Selecting
+pub mod Siding
 pub mod Sizes
 pub mod Tries
 pub mod Walking

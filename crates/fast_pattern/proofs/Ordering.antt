@@ -1,106 +1,86 @@
 -- Lists in ascending order with the same elements are one list.
-use Rattle.std.proofs.Common.{◌≡◌, ℕ, zero, suc, ◌+◌, ◌<◌, ◌≤◌, Bool, true, false, ◌&&◌, ◌||◌, cond, ltb, List, [], ◌∷◌, ◌++◌, length, get_or, sym, refl, ap, subst, ◌∙◌, arith, ⊎_elim}
+use Rattle.std.proofs.Common.{◌≡◌, ℕ, zero, suc, ◌+◌, ◌<◌, ◌≤◌, ◌==◌, Bool, true, false, ◌&&◌, ◌||◌, cond, List, [], ◌∷◌, ◌++◌, length, get_or, sym, refl, ap, subst, ◌∙◌, arith, ⊎_elim}
 use Rattle.std.specs.Bool.{⊤}
-use Rattle.std.specs.List.{filter, sum_by}
-use Rattle.std.specs.List.Sorted.{IsPermutation, IsSorted}
-use Rattle.std.specs.Ordering.{nat_cmp, is_lt}
-use Rattle.std.proofs.lemmas.List.Sorted.{sum_by-IsPermutation, IsPermutation-refl, IsPermutation-cons, IsPermutation-trans, IsPermutation-sym, IsPermutation-middle}
+use Rattle.std.specs.List.{filter, list_any}
+use Rattle.std.specs.List.Sorted.{IsStrictlyIncreasing}
 use Rattle.std.proofs.lemmas.List.{append-nil}
-use Rattle.std.proofs.lemmas.List.Sums.{sum_by-cons}
-use Rattle.std.proofs.lemmas.Bool.{cases_order, lt-ltb, le-ltb, cond-true, cond-false, true≢false}
-use Rattle.std.proofs.lemmas.Bool.Decides.{nat_tests}
+use Rattle.std.proofs.lemmas.Bool.{false≢true, eqb-true, eq-eqb, ne_eqb, or_left, or_right, or_cases, cases_eq, cases_lt, cond-true, cond-false}
 use Rattle.fast_pattern.specs.Finding.{numbers}
+use Rattle.fast_pattern.specs.Blocks.{has}
+use Rattle.fast_pattern.proofs.Hitting.{numbers-same}
 
--- no number is less than this, nor than one before it
-abbrev IsUp : ℕ → List ℕ → Type 0
-IsUp low [] = ⊤
-IsUp low (x ∷ xs) = (low ≤ x) × IsUp x xs
+-- whether a list has a number
+has-cons : (x : ℕ) (xs : List ℕ) (place : ℕ) → has (x ∷ xs) place ≡ ((x == place) || has xs place)
+has-cons x xs place = refl
 
-IsUp-from : (low high : ℕ) (xs : List ℕ) → low ≤ high → IsUp high xs → IsUp low xs
-IsUp-from low high [] h up = tt
-IsUp-from low high (x ∷ xs) h up = (omega (arith, up.0), up.1)
+-- each number of a list is above those before it, and no less than this
+abbrev IsRising : ℕ → List ℕ → Type 0
+IsRising low [] = ⊤
+IsRising low (x ∷ xs) = (low ≤ x) × IsRising (x + 1) xs
 
--- how many are no greater than a number below them all: none
-counted : ℕ → ℕ → ℕ
-counted most x = cond (ltb x (most + 1)) 1 0
+rising-from : (low high : ℕ) (xs : List ℕ) → low ≤ high → IsRising high xs → IsRising low xs
+rising-from low high [] h up = tt
+rising-from low high (x ∷ xs) h up = (omega (arith, up.0), up.1)
 
-counted-above : (most x : ℕ) → most < x → counted most x ≡ 0
-unfolding counted
-counted-above most x h = cond-false {A = ℕ} (ltb x (most + 1)) 1 0 (le-ltb x (most + 1) (omega arith))
+rising-increasing : (low : ℕ) (xs : List ℕ) → (0 < length xs → low ≤ get_or xs 0 0) → IsStrictlyIncreasing xs → IsRising low xs
+rising-increasing low [] least up = tt
+rising-increasing low (x ∷ []) least up = (least (omega arith), tt)
+rising-increasing low (x ∷ (y ∷ ys)) least up =
+    (least (omega arith), rising-increasing (x + 1) (y ∷ ys) (λ h. omega (arith, up 0 (omega arith))) (λ k h. let e : suc k + 1 ≡ suc (k + 1) = omega arith in let P : ℕ → Type 0 = λ i. get_or (y ∷ ys) k 0 < get_or (x ∷ (y ∷ ys)) i 0 in subst P e (up (suc k) (omega arith))))
 
-counted-here : (most : ℕ) → counted most most ≡ 1
-unfolding counted
-counted-here most = cond-true {A = ℕ} (ltb most (most + 1)) 1 0 (lt-ltb most (most + 1) (omega arith))
+has-below : (low place : ℕ) (xs : List ℕ) → IsRising low xs → place < low → has xs place ≡ false
+has-below low place [] up h = refl
+has-below low place (x ∷ xs) up h =
+    ap (λ b. b || has xs place) (ne_eqb x place (λ e. omega (arith, up.0, e))) ∙ has-below (x + 1) place xs up.1 (omega (arith, up.0))
 
-sum-cons : (f : ℕ → ℕ) (x : ℕ) (xs : List ℕ) → sum_by f (x ∷ xs) ≡ f x + sum_by f xs
-sum-cons f x xs = sum_by-cons f x xs
-
-none-counted : (most low : ℕ) (xs : List ℕ) → most < low → IsUp low xs → sum_by (counted most) xs ≡ 0
-none-counted most low [] h up = refl
-none-counted most low (x ∷ xs) h up = omega (arith, sum-cons (counted most) x xs, counted-above most x (omega (arith, up.0)), none-counted most x xs (omega (arith, up.0)) up.1)
-
-abbrev HaveSame : List ℕ → List ℕ → Type 0
-HaveSame xs ys = (f : ℕ → ℕ) → sum_by f xs ≡ sum_by f ys
-
-one : ℕ → ℕ
-one x = 1
-
-one-is : (x : ℕ) → one x ≡ 1
-unfolding one
-one-is x = refl
-
-same-up : (low other : ℕ) (xs ys : List ℕ) → IsUp low xs → IsUp other ys → HaveSame xs ys → xs ≡ ys
-same-up low other [] [] up on same = refl
-same-up low other [] (y ∷ ys) up on same = absurd (omega (arith, same one, one-is y, sum-cons one y ys))
-same-up low other (x ∷ xs) [] up on same = absurd (omega (arith, same one, one-is x, sum-cons one x xs))
-same-up low other (x ∷ xs) (y ∷ ys) up on same = ⊎_elim
-    (λ e.
-    let rest = same-up x y xs ys up.1 on.1 (λ f. omega (arith, same f, ap f e, sum-cons f x xs, sum-cons f y ys)) in
-    ap (λ z. z ∷ xs) e ∙ ap (λ zs. y ∷ zs) rest)
-    (λ ne. ⊎_elim
-    (λ less. absurd (omega (arith, same (counted x), sum-cons (counted x) x xs, sum-cons (counted x) y ys, counted-here x, counted-above x y less, none-counted x y ys less on.1)))
-    (λ more. absurd (omega (arith, same (counted y), sum-cons (counted y) x xs, sum-cons (counted y) y ys, counted-here y, counted-above y x more, none-counted y x xs more up.1)))
-    ne)
-    (cases_order x y)
-
-numbers-up : (test : ℕ → Bool) (from count : ℕ) → IsUp from (numbers test from count)
+rising-numbers : (low count : ℕ) (xs : List ℕ) → IsRising low xs → ((place : ℕ) → has xs place ≡ true → place < low + count) → xs ≡ numbers (has xs) low count
 unfolding numbers
-numbers-up test from zero = tt
-numbers-up test from (suc count) = go (test from) (IsUp-from from (from + 1) (numbers test (from + 1) count) (omega arith) (numbers-up test (from + 1) count))
+rising-numbers low zero [] up within = refl
+rising-numbers low zero (x ∷ xs) up within = absurd (omega (arith, up.0, within x (or_left (x == x) (has xs x) (eq-eqb x x refl))))
+rising-numbers low (suc count) [] up within =
+    rising-numbers (low + 1) count [] tt (λ place e. absurd (false≢true e))
+rising-numbers low (suc count) (x ∷ xs) up within = ⊎_elim
+    (λ same.
+    let rest = rising-numbers (low + 1) count xs (rising-from (low + 1) (x + 1) xs (omega (arith, same)) up.1) (λ place e. let w = within place (or_right (x == place) (has xs place) e) in omega (arith, w)) in
+    let tail = numbers-alike (has xs) (has (x ∷ xs)) (low + 1) count (λ place from to. sym (ap (λ b. b || has xs place) (ne_eqb x place (λ e. omega (arith, e, same, from))))) in
+    ap (λ z. z ∷ xs) (sym same) ∙ ap (λ zs. low ∷ zs) (rest ∙ tail) ∙ sym (cond-true (has (x ∷ xs) low) (low ∷ numbers (has (x ∷ xs)) (low + 1) count) (numbers (has (x ∷ xs)) (low + 1) count) (or_left (x == low) (has xs low) (eq-eqb x low (sym same)))))
+    (λ ne.
+    let above : low < x = ⊎_elim (λ lt. lt) (λ ge. absurd (ne (omega (arith, ge, up.0)))) (cases_lt low x) in
+    let rest = rising-numbers (low + 1) count (x ∷ xs) (omega (arith, above), up.1) (λ place e. let w = within place e in omega (arith, w)) in
+    rest ∙ sym (cond-false (has (x ∷ xs) low) (low ∷ numbers (has (x ∷ xs)) (low + 1) count) (numbers (has (x ∷ xs)) (low + 1) count) (has-below x low (x ∷ xs) (omega arith, up.1) above)))
+    (cases_eq low x)
   where
-    go : (b : Bool) → IsUp from (numbers test (from + 1) count) → IsUp from (cond b (from ∷ numbers test (from + 1) count) (numbers test (from + 1) count))
-    go true rest = (omega arith, rest)
+    numbers-alike : (one other : ℕ → Bool) (from n : ℕ) → ((place : ℕ) → from ≤ place → place < from + n → one place ≡ other place) → numbers one from n ≡ numbers other from n
+    numbers-alike one other from n same = numbers-same one other from n same
+
+-- a list without repeats, in ascending order, is the list of the numbers that it has
+pub increasing-is : (count : ℕ) (xs : List ℕ) → IsStrictlyIncreasing xs → ((place : ℕ) → has xs place ≡ true → place < count) → xs ≡ numbers (has xs) 0 count
+increasing-is count xs up within = rising-numbers 0 count xs (rising-increasing 0 xs (λ h. omega arith) up) (λ place e. omega (arith, within place e))
+
+-- which numbers a list of numbers has
+pub numbers-tell : (test : ℕ → Bool) (from count place : ℕ) → has (numbers test from count) place ≡ true → (from ≤ place) × (place < from + count) × (test place ≡ true)
+unfolding numbers
+numbers-tell test from zero place e = absurd (false≢true e)
+numbers-tell test from (suc count) place e = go (test from) refl (λ f. let t = numbers-tell test (from + 1) count place f in (omega (arith, t.0), omega (arith, t.1), t.2)) e
+  where
+    go : (b : Bool) → test from ≡ b → (has (numbers test (from + 1) count) place ≡ true → (from ≤ place) × (place < from + suc count) × (test place ≡ true)) → has (cond b (from ∷ numbers test (from + 1) count) (numbers test (from + 1) count)) place ≡ true → (from ≤ place) × (place < from + suc count) × (test place ≡ true)
+    go true is later f = ⊎_elim (λ here. let same = eqb-true from place here in (omega (arith, same), omega (arith, same), sym (ap test same) ∙ is)) later (or_cases (from == place) (has (numbers test (from + 1) count) place) f)
+    go false is later f = later f
+
+pub numbers-have : (test : ℕ → Bool) (from count place : ℕ) → from ≤ place → place < from + count → test place ≡ true → has (numbers test from count) place ≡ true
+unfolding numbers
+numbers-have test from zero place low high is = absurd (omega arith)
+numbers-have test from (suc count) place low high is = ⊎_elim
+    (λ same. ap (λ ns. has ns place) (cond-true (test from) (from ∷ numbers test (from + 1) count) (numbers test (from + 1) count) (ap test same ∙ is)) ∙ or_left (from == place) (has (numbers test (from + 1) count) place) (eq-eqb from place same))
+    (λ ne.
+    let above : from < place = ⊎_elim (λ lt. lt) (λ ge. absurd (ne (omega (arith, ge, low)))) (cases_lt from place) in
+    let rest = numbers-have test (from + 1) count place (omega (arith, above)) (omega arith) is in
+    go (test from) rest)
+    (cases_eq from place)
+  where
+    go : (b : Bool) → has (numbers test (from + 1) count) place ≡ true → has (cond b (from ∷ numbers test (from + 1) count) (numbers test (from + 1) count)) place ≡ true
+    go true rest = or_right (from == place) (has (numbers test (from + 1) count) place) rest
     go false rest = rest
-
-sorted-up : (low : ℕ) (xs : List ℕ) → ((d : ℕ) → 0 < length xs → low ≤ get_or xs 0 d) → IsSorted nat_cmp xs → IsUp low xs
-sorted-up low [] least sorted = tt
-sorted-up low (x ∷ []) least sorted = (least 0 (omega arith), tt)
-sorted-up low (x ∷ (y ∷ ys)) least sorted =
-    (least 0 (omega arith), sorted-up x (y ∷ ys) (λ d h. le y x (sorted 0 d (omega arith) (omega arith))) (λ k d h j. let e : suc k + 1 ≡ suc (k + 1) = omega arith in let P : ℕ → Type 0 = λ i. is_lt (nat_cmp (get_or (x ∷ (y ∷ ys)) i d) (get_or (y ∷ ys) k d)) ≡ false in subst P e (sorted (suc k) d (omega arith) (omega arith))))
-  where
-    le : (y x : ℕ) → is_lt (nat_cmp y x) ≡ false → x ≤ y
-    le y x e = grind (arith, nat_tests)
-
-pub sorted-is : (test : ℕ → Bool) (count : ℕ) (xs : List ℕ) → IsPermutation (numbers test 0 count) xs → IsSorted nat_cmp xs → xs ≡ numbers test 0 count
-sorted-is test count xs permutation sorted =
-    same-up 0 0 xs (numbers test 0 count) (sorted-up 0 xs (λ d h. omega arith) sorted) (numbers-up test 0 count) (λ f. sum_by-IsPermutation f (numbers test 0 count) xs permutation)
-
--- numbers that pass one of two tests, which no number passes both
-pub numbers-either : (a b : ℕ → Bool) (from count : ℕ) → ((place : ℕ) → a place ≡ true → b place ≡ false) → IsPermutation (numbers (λ place. a place || b place) from count) (numbers a from count ++ numbers b from count)
-unfolding numbers
-numbers-either a b from zero apart = IsPermutation-refl []
-numbers-either a b from (suc count) apart = go (a from) (b from) (apart from) (numbers-either a b (from + 1) count apart)
-  where
-    go : (x y : Bool) → (x ≡ true → y ≡ false) → IsPermutation (numbers (λ place. a place || b place) (from + 1) count) (numbers a (from + 1) count ++ numbers b (from + 1) count) → IsPermutation (cond (x || y) (from ∷ numbers (λ place. a place || b place) (from + 1) count) (numbers (λ place. a place || b place) (from + 1) count)) (cond x (from ∷ numbers a (from + 1) count) (numbers a (from + 1) count) ++ cond y (from ∷ numbers b (from + 1) count) (numbers b (from + 1) count))
-    go true true f rest = absurd (true≢false (f refl))
-    go true false f rest = IsPermutation-cons from (numbers (λ place. a place || b place) (from + 1) count) (numbers a (from + 1) count ++ numbers b (from + 1) count) rest
-    go false true f rest =
-        let ns = numbers a (from + 1) count in
-        let ms = numbers b (from + 1) count in
-        IsPermutation-trans (from ∷ numbers (λ place. a place || b place) (from + 1) count) (from ∷ (ns ++ ms)) (ns ++ from ∷ ms)
-        (IsPermutation-cons from (numbers (λ place. a place || b place) (from + 1) count) (ns ++ ms) rest)
-        (IsPermutation-sym (ns ++ from ∷ ms) (from ∷ (ns ++ ms)) (IsPermutation-middle ns from ms))
-    go false false f rest = rest
 
 -- a further test
 pub filter-numbers : (more test : ℕ → Bool) (from count : ℕ) → filter more (numbers test from count) ≡ numbers (λ place. test place && more place) from count

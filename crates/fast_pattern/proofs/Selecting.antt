@@ -1,12 +1,15 @@
 -- The hits and the rules without a pattern, in order, as far as their headers fit: the candidates.
-use Rattle.std.proofs.Common.{◌≡◌, ℕ, suc, ◌+◌, ◌<◌, Bool, true, false, ◌&&◌, ◌||◌, cond, ltb, Option, Some, None, List, [], ◌∷◌, ◌++◌, length, map, get_or, slice_get, All, sym, refl, ap, subst, ◌∙◌, arith, ⊎_elim}
-use Rattle.std.specs.List.{filter}
-use Rattle.std.specs.List.Sorted.{IsPermutation, IsSorted}
+use Rattle.std.proofs.Common.{◌≡◌, ℕ, suc, ◌+◌, ◌<◌, Bool, true, false, ◌&&◌, ◌||◌, cond, ltb, eqb, ◌==◌, Option, Some, None, List, [], ◌∷◌, ◌++◌, length, map, get_or, slice_get, All, sym, refl, ap, subst, ◌∙◌, arith, ⊎_elim}
+use Rattle.std.specs.List.{filter, dedup, list_any, Contains}
+use Rattle.std.specs.List.Sorted.{IsPermutation, IsSorted, IsStrictlyIncreasing}
 use Rattle.std.specs.Ordering.{nat_cmp}
 use Rattle.std.proofs.lemmas.Option.{slice_get-get_or}
-use Rattle.std.proofs.lemmas.List.{length-map, get_or-map, get_or_past}
-use Rattle.std.proofs.lemmas.List.Sorted.{IsPermutation-trans, IsPermutation-append, IsPermutation-refl}
-use Rattle.std.proofs.lemmas.Bool.{cases_lt, cases_Bool, ltb-true, lt-ltb, le-ltb, and_parts, and_left}
+use Rattle.std.proofs.lemmas.List.{length-map, get_or-map, get_or_past, get_or_default}
+use Rattle.std.proofs.lemmas.List.Sorted.{list_any-IsPermutation}
+use Rattle.std.proofs.lemmas.List.Folds.{Any-from_list_any, list_any_at, list_any-append}
+use Rattle.std.proofs.lemmas.List.Kept.{Contains-dedup_nat, Contains-from_dedup}
+use Rattle.std.proofs.lemmas.Map.Keys.{IsStrictlyIncreasing-dedup}
+use Rattle.std.proofs.lemmas.Bool.{false≢true, eqb-true, eq-eqb, or_cases, cases_lt, cases_Bool, ltb-true, lt-ltb, le-ltb, and_parts, and_left}
 use Rattle.packet_decode.specs.declared.packet.Body.{Body}
 use Rattle.packet_decode.specs.declared.packet.Body.TheVariants as body
 use Rattle.rule_parser.specs.declared.rule.Proto.{Proto}
@@ -18,11 +21,18 @@ use Rattle.fast_pattern.specs.FastPattern.{pattern_of}
 use Rattle.fast_pattern.specs.Candidates.{header_fits, fits, occurs, occurs_if_any, is_candidate, places_from, candidates}
 use Rattle.fast_pattern.specs.Words.{word_of, word_at, has_ended}
 use Rattle.fast_pattern.specs.Finding.{numbers, is_ended, words_in, AreHits}
-use Rattle.fast_pattern.specs.Grouping.{asked_of, kind_of, is_for, is_for_some, fits_some, fits_at, is_plain, text_of, texts_of, plain_of, StandFor}
+use Rattle.fast_pattern.specs.Kinds.{kind_of, is_for, is_for_some, is_plain}
+use Rattle.fast_pattern.specs.Blocks.{has}
+use Rattle.fast_pattern.specs.declared.sides.Side.TheVariants as side
+use Rattle.fast_pattern.specs.declared.sides.Sides.{Sides}
+use Rattle.fast_pattern.specs.Sides.{is_due, is_asked, AreSides, AddSought}
+use Rattle.fast_pattern.specs.Grouping.{asked_of, fits_some, fits_at, is_due_at, text_of, texts_of, StandFor}
 use Rattle.fast_pattern.proofs.Growing.{word_of-length}
 use Rattle.fast_pattern.proofs.Making.{word-in}
 use Rattle.fast_pattern.proofs.Occurring.{ended-occurs, empty-occurs}
-use Rattle.fast_pattern.proofs.Ordering.{sorted-is, numbers-either, filter-numbers}
+use Rattle.fast_pattern.proofs.Ordering.{increasing-is, numbers-tell, numbers-have, filter-numbers}
+use Rattle.fast_pattern.proofs.Siding.{fits-due, plain-past}
+use Rattle.fast_pattern.proofs.Words.{same_bools}
 
 -- places and numbers
 places-numbers : {X : Type 0} (test : X → Bool) (number : ℕ → Bool) (from : ℕ) (xs : List X) → ((k : ℕ) (d : X) → k < length xs → test (get_or xs k d) ≡ number (from + k)) → places_from from test xs ≡ numbers number from (length xs)
@@ -73,6 +83,18 @@ chosen-by (Some (x ∷ xs)) payload =
     or-none true = refl
     or-none false = refl
 
+-- a list without its repeats has what it had
+has-tells : (xs : List ℕ) (place : ℕ) → has xs place ≡ true → Contains xs place
+has-tells xs place e = let a = Any-from_list_any (λ x. x == place) xs e in (a.0, a.2, get_or_default xs a.0 place a.1 a.2 ∙ a.3 ∙ eqb-true a.1 place a.4)
+
+has-from : (xs : List ℕ) (place : ℕ) → Contains xs place → has xs place ≡ true
+has-from xs place c = list_any_at (λ x. x == place) xs c.0 place c.1 (eq-eqb (get_or xs c.0 place) place c.2)
+
+has-dedup : (xs : List ℕ) (place : ℕ) → has (dedup eqb xs) place ≡ has xs place
+has-dedup xs place = same_bools (has (dedup eqb xs) place) (has xs place)
+    (λ e. has-from xs place (Contains-from_dedup eqb xs place (has-tells (dedup eqb xs) place e)))
+    (λ e. has-from (dedup eqb xs) place (Contains-dedup_nat xs place (has-tells xs place e)))
+
 module _ (groups : Groups) (rules : List Rule) (carried : Body) (payload : List ℕ) (stand : StandFor groups rules) (short : All (λ byte. byte < 256) payload) where
   abbrev letters : List ℕ
   letters = groups.automaton.letters
@@ -89,6 +111,9 @@ module _ (groups : Groups) (rules : List Rule) (carried : Body) (payload : List 
   abbrev plain : ℕ → Bool
   plain = is_plain groups.rules.items texts (kind_of carried)
 
+  abbrev due : ℕ → Bool
+  due = is_due_at groups.rules.items texts carried
+
   count : length texts ≡ length rules
   count = length-map rules (λ rule. text_of (pattern_of rule.opts))
 
@@ -100,14 +125,6 @@ module _ (groups : Groups) (rules : List Rule) (carried : Body) (payload : List 
       (λ h. ap length (word-in letters texts place h) ∙ word_of-length letters (word_at texts place))
       (λ h. ap length (get_or_past pats place [] (omega (arith, pats-count, count))) ∙ sym (ap length (get_or_past texts place [] h)))
       (cases_lt place (length texts))
-
-  ended-nonempty : (place : ℕ) → ended place ≡ true → 0 < length (word_at texts place)
-  unfolding is_ended
-  ended-nonempty place e = omega (arith, ltb-true 0 (length (word_at pats place)) (and_parts (ltb 0 (length (word_at pats place))) (has_ended (word_at pats place) (word_of letters payload)) e).0, word-length place)
-
-  apart : (place : ℕ) → ended place ≡ true → plain place ≡ false
-  unfolding is_plain
-  apart place e = and_left (ltb (length (word_at texts place)) 1) (is_for_some (kind_of carried) (slice_get groups.rules.items place)) (le-ltb (length (word_at texts place)) 1 (omega (arith, ended-nonempty place e)))
 
   module _ (place : ℕ) (d : Rule) (h : place < length rules) where
     abbrev rule : Rule
@@ -136,7 +153,19 @@ module _ (groups : Groups) (rules : List Rule) (carried : Body) (payload : List 
     unfolding is_plain
     plain-is = ap (λ (t : List ℕ). ltb (length t) 1 && is_for_some (kind_of carried) (slice_get groups.rules.items place)) text-is ∙ ap (λ o. ltb (length (text_of (pattern_of rule.opts))) 1 && is_for_some (kind_of carried) o) asked-is
 
-    one : is_candidate carried payload rule ≡ ((ended place || plain place) && fits_at groups.rules.items carried place)
+    due-is : is_due carried (Some (asked_of rule)) ≡ true → due place ≡ plain place
+    unfolding is_due_at
+    due-is so = ap (λ o. plain place && is_due carried o) asked-is ∙ ap (λ b. plain place && b) so ∙ and-one (plain place)
+      where
+        and-one : (b : Bool) → (b && true) ≡ b
+        and-one true = refl
+        and-one false = refl
+
+    fits-is-due : fits rule carried ≡ true → is_due carried (Some (asked_of rule)) ≡ true
+    unfolding fits
+    fits-is-due so = fits-due rule.sports rule.dports rule.both rule.proto carried so
+
+    one : is_candidate carried payload rule ≡ ((ended place || due place) && fits_at groups.rules.items carried place)
     unfolding is_candidate
     one =
         let p = pattern_of rule.opts in
@@ -144,8 +173,8 @@ module _ (groups : Groups) (rules : List Rule) (carried : Body) (payload : List 
         (λ so.
         let kind = fits-for rule carried so in
         ap (λ b. b && occurs_if_any p payload) so ∙ chosen-by p payload
-        ∙ sym (ap (λ b. (ended place || plain place) && b) (fits-is ∙ so) ∙ and-true (ended place || plain place) ∙ ap (λ b. b || plain place) ended-is ∙ ap (λ b. (ltb 0 (length (text_of p)) && occurs (text_of p) payload) || b) (plain-is ∙ ap (λ b. ltb (length (text_of p)) 1 && b) kind ∙ and-true (ltb (length (text_of p)) 1))))
-        (λ never. ap (λ b. b && occurs_if_any p payload) never ∙ sym (ap (λ b. (ended place || plain place) && b) (fits-is ∙ never) ∙ and-false (ended place || plain place)))
+        ∙ sym (ap (λ b. (ended place || due place) && b) (fits-is ∙ so) ∙ and-true (ended place || due place) ∙ ap (λ b. ended place || b) (due-is (fits-is-due so)) ∙ ap (λ b. b || plain place) ended-is ∙ ap (λ b. (ltb 0 (length (text_of p)) && occurs (text_of p) payload) || b) (plain-is ∙ ap (λ b. ltb (length (text_of p)) 1 && b) kind ∙ and-true (ltb (length (text_of p)) 1))))
+        (λ never. ap (λ b. b && occurs_if_any p payload) never ∙ sym (ap (λ b. (ended place || due place) && b) (fits-is ∙ never) ∙ and-false (ended place || due place)))
         (cases_Bool (fits rule carried))
       where
         and-true : (b : Bool) → (b && true) ≡ b
@@ -156,16 +185,81 @@ module _ (groups : Groups) (rules : List Rule) (carried : Body) (payload : List 
         and-false true = refl
         and-false false = refl
 
-  pub candidates-are : (hits places : List ℕ) → AreHits groups.automaton payload hits → IsPermutation (hits ++ plain_of groups (kind_of carried)) places → IsSorted nat_cmp places → filter (fits_at groups.rules.items carried) places ≡ candidates rules carried payload
+  asked-count : length groups.rules.items ≡ length rules
+  asked-count = ap length stand.asked ∙ length-map rules asked_of
+
+  due-within : (place : ℕ) → due place ≡ true → place < length rules
+  unfolding is_due_at
+  due-within place e = ⊎_elim
+      (λ low. low)
+      (λ high. absurd (false≢true (sym (plain-past groups.rules.items texts (kind_of carried) place (omega (arith, high, asked-count))) ∙ (and_parts (plain place) (is_due carried (slice_get groups.rules.items place)) e).0)))
+      (cases_lt place (length rules))
+
+  -- the places that were found, each once and in order, and of these those whose headers fit
+  pub candidates-are : (hits found sorted places : List ℕ) → AreHits groups.automaton payload hits → ((place : ℕ) → has found place ≡ (has hits place || due place)) → IsPermutation found sorted → IsSorted nat_cmp sorted → places ≡ dedup eqb sorted → filter (fits_at groups.rules.items carried) places ≡ candidates rules carried payload
   unfolding candidates
-  candidates-are hits places are permutation sorted =
+  candidates-are hits found sorted places are joined permutation order once =
       let n = length rules in
-      let P : ℕ → Type 0 = λ m. IsPermutation (numbers ended 0 m) hits in
-      let Q : List ℕ → Type 0 = λ ns. IsPermutation (numbers plain 0 n) ns in
-      let hits_are = subst P count (are.found texts stand.finds) in
-      let plain_are : IsPermutation (numbers plain 0 n) (plain_of groups (kind_of carried)) = subst Q (sym (stand.plain (kind_of carried))) (IsPermutation-refl (numbers plain 0 n)) in
-      let both = IsPermutation-trans (numbers (λ place. ended place || plain place) 0 n) (numbers ended 0 n ++ numbers plain 0 n) (hits ++ plain_of groups (kind_of carried)) (numbers-either ended plain 0 n apart) (IsPermutation-append (numbers ended 0 n) hits (numbers plain 0 n) (plain_of groups (kind_of carried)) hits_are plain_are) in
-      let all = IsPermutation-trans (numbers (λ place. ended place || plain place) 0 n) (hits ++ plain_of groups (kind_of carried)) places both permutation in
-      ap (filter (fits_at groups.rules.items carried)) (sorted-is (λ place. ended place || plain place) n places all sorted)
-      ∙ filter-numbers (fits_at groups.rules.items carried) (λ place. ended place || plain place) 0 n
-      ∙ sym (places-numbers (is_candidate carried payload) (λ place. (ended place || plain place) && fits_at groups.rules.items carried place) 0 rules (λ k d h. let e : k ≡ 0 + k = omega arith in one k d h ∙ ap (λ (a : ℕ). (ended a || plain a) && fits_at groups.rules.items carried a) e))
+      let test : ℕ → Bool = fits_at groups.rules.items carried in
+      ap (filter test) (increasing-is n places increasing within)
+      ∙ filter-numbers test (has places) 0 n
+      ∙ sym (places-numbers (is_candidate carried payload) (λ place. has places place && test place) 0 rules (λ k d h. let e : k ≡ 0 + k = omega arith in one k d h ∙ ap (λ b. b && test k) (sym (same k h)) ∙ ap (λ (a : ℕ). has places a && test a) e))
+    where
+      ended-are : IsPermutation (numbers ended 0 (length rules)) hits
+      ended-are = let P : ℕ → Type 0 = λ m. IsPermutation (numbers ended 0 m) hits in subst P count (are.found texts stand.finds)
+
+      increasing : IsStrictlyIncreasing places
+      increasing = let P : List ℕ → Type 0 = λ ps. IsStrictlyIncreasing ps in subst P (sym once) (IsStrictlyIncreasing-dedup sorted order)
+
+      all : (place : ℕ) → has places place ≡ (has (numbers ended 0 (length rules)) place || due place)
+      all place =
+          ap (λ ps. has ps place) once
+          ∙ has-dedup sorted place
+          ∙ sym (list_any-IsPermutation (λ x. x == place) found sorted permutation)
+          ∙ joined place
+          ∙ ap (λ b. b || due place) (sym (list_any-IsPermutation (λ x. x == place) (numbers ended 0 (length rules)) hits ended-are))
+
+      within : (place : ℕ) → has places place ≡ true → place < length rules
+      within place e = ⊎_elim
+          (λ a. omega (arith, (numbers-tell ended 0 (length rules) place a).1))
+          (λ b. due-within place b)
+          (or_cases (has (numbers ended 0 (length rules)) place) (due place) (sym (all place) ∙ e))
+
+      same : (place : ℕ) → place < length rules → has places place ≡ (ended place || due place)
+      same place h =
+          all place
+          ∙ ap (λ b. b || due place) (same_bools (has (numbers ended 0 (length rules)) place) (ended place)
+          (λ e. (numbers-tell ended 0 (length rules) place e).2)
+          (λ e. numbers-have ended 0 (length rules) place (omega arith) (omega arith) e))
+
+-- the rules of a kind without ports
+pub list-due : (groups : Groups) (rules : List Rule) (carried : Body) (listed old new : List ℕ) → StandFor groups rules → listed ≡ numbers (is_plain groups.rules.items (texts_of rules) (kind_of carried)) 0 (length rules) → ((asked : Option Asked) → is_due carried asked ≡ true) → new ≡ old ++ listed → (place : ℕ) → has new place ≡ (has old place || is_due_at groups.rules.items (texts_of rules) carried place)
+unfolding is_due_at
+list-due groups rules carried listed old new stand is due pushed place =
+    let plain = is_plain groups.rules.items (texts_of rules) (kind_of carried) in
+    let n = length rules in
+    ap (λ (xs : List ℕ). has xs place) pushed
+    ∙ list_any-append (λ x. x == place) old listed
+    ∙ ap (λ (xs : List ℕ). has old place || has xs place) is
+    ∙ ap (λ b. has old place || b) (same_bools (has (numbers plain 0 n) place) (plain place)
+    (λ e. (numbers-tell plain 0 n place e).2)
+    (λ e. ⊎_elim
+    (λ low. numbers-have plain 0 n place (omega arith) (omega (arith, low)) e)
+    (λ high. absurd (false≢true (sym (plain-past groups.rules.items (texts_of rules) (kind_of carried) place (omega (arith, high, ap length stand.asked, length-map rules asked_of))) ∙ e)))
+    (cases_lt place n))
+    ∙ sym (ap (λ b. plain place && b) (due (slice_get groups.rules.items place)) ∙ and-one (plain place)))
+  where
+    and-one : (b : Bool) → (b && true) ≡ b
+    and-one true = refl
+    and-one false = refl
+
+-- the rules of a kind with ports
+pub sides-due : (asked : List Asked) (texts : List (List ℕ)) (carried : Body) (sport dport : ℕ) (old new : List ℕ) (sides : Sides) → AreSides asked texts (kind_of carried) sides → AddSought sides sport dport old new → ((one : Option Asked) → is_due carried one ≡ (is_asked side.Source sport one || is_asked side.Destination dport one)) → (place : ℕ) → has new place ≡ (has old place || is_due_at asked texts carried place)
+unfolding is_due_at
+sides-due asked texts carried sport dport old new sides are adds due place =
+    adds.added asked texts (kind_of carried) are place
+    ∙ ap (λ b. has old place || b) (and-or (is_plain asked texts (kind_of carried) place) (is_asked side.Source sport (slice_get asked place)) (is_asked side.Destination dport (slice_get asked place)) ∙ ap (λ b. is_plain asked texts (kind_of carried) place && b) (sym (due (slice_get asked place))))
+  where
+    and-or : (a b c : Bool) → ((a && b) || (a && c)) ≡ (a && (b || c))
+    and-or true b c = refl
+    and-or false b c = refl

@@ -1,8 +1,11 @@
+pub mod Blocks
 pub mod Candidates
 pub mod FastPattern
 pub mod Finding
 pub mod Grouping
 pub mod Growing
+pub mod Kinds
 pub mod Letters
 pub mod Outputs
+pub mod Sides
 pub mod Words

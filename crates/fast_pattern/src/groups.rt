@@ -1,26 +1,30 @@
 //! The rules in groups, and the candidates among them for an item.
 
-ghost use Rattle.std.specs.Prelude.{◌≡◌, ℕ, ◌≤◌, ◌<◌, List, true, length, map, filter, take, drop, slice_get, IfOk, OnOk, OnErr};
+ghost use Rattle.std.specs.Prelude.{◌≡◌, ℕ, ◌≤◌, ◌<◌, List, true, length, map, filter, take, drop, slice_get, IfOk, OnOk, OnErr, IsTrue, ◌↔◌};
 ghost use Rattle.rule_parser.specs.declared.rule.Rule.{Rule};
 ghost use Rattle.fast_pattern.specs.FastPattern.{bytes_of, pattern_of};
-ghost use Rattle.fast_pattern.specs.Candidates.{occurs_if_any, ContentsOccur};
+ghost use Rattle.net_lists.specs.declared.part.Bounds.{Bounds};
+ghost use Rattle.net_lists.specs.declared.part.Part.{Part};
+ghost use Rattle.net_lists.specs.Membership.{IsListed, Has};
+ghost use Rattle.fast_pattern.specs.Candidates.{occurs_if_any, has_port, ContentsOccur};
 
 use crate::automaton::Automaton;
 use crate::choice::chosen;
 use crate::header::{Asked, Kind};
+use crate::sides::{Sides, is_plain};
 use edge_io::{NoMemory, Text};
 use packet_decode::{Body, ItemHead};
 use rule_parser::{Opt, Rule};
-use std::alloc::Global;
+use std::alloc::{AllocError, Global};
 
 /// Rules by what a packet must have to be worth a try: one automaton has the fast patterns of them all, and
-/// those that have none stand in a list a kind of packet.
+/// those that have none stand in indexes by port, or in a list where an item has no ports.
 #[derive(Drop)]
 pub struct Groups {
     rules: Vec<Asked>,
     automaton: Automaton,
-    tcp: Vec<u32>,
-    udp: Vec<u32>,
+    tcp: Sides,
+    udp: Sides,
     icmp: Vec<u32>,
     other: Vec<u32>,
 }
@@ -48,7 +52,8 @@ fn content_bytes(options: &[Opt], place: usize) -> &[u8]
 }
 
 impl Groups {
-    ghost use Rattle.fast_pattern.specs.Grouping.{asked_of, is_plain, fits_at, text_of, texts_of, plain_of, StandFor, AppendCandidates};
+    ghost use Rattle.fast_pattern.specs.Grouping.{asked_of, fits_at, text_of, texts_of, StandFor, AddDue, AppendCandidates};
+    ghost use Rattle.fast_pattern.specs.Kinds.{is_plain};
     ghost use Rattle.fast_pattern.specs.Finding.{numbers};
 
     /// The bytes of the fast pattern; none where there is none.
@@ -87,18 +92,6 @@ impl Groups {
         Ok(headers)
     }
 
-    /// Whether the rule at a place has no pattern, and may fit the kind.
-    #[tactic(auto, unfolding(crate::specs::Grouping::is_plain))]
-    fn is_plain(rules: &[Asked], patterns: &[Text], kind: Kind, place: usize) -> bool
-        requires { length rules.now ≡ length patterns.now }
-        ensures { result ≡ is_plain rules.now patterns.now kind place }
-    {
-        if rules.len() <= place {
-            return false;
-        }
-        patterns[place].bytes().is_empty() && kind.has(rules[place].proto)
-    }
-
     /// The rules without a pattern that may fit the kind.
     fn plain(
         alloc: Global,
@@ -112,7 +105,7 @@ impl Groups {
     {
         let mut plain = Vec::new(alloc);
         for place in 0..rules.len() {
-            if Groups::is_plain(rules, patterns, kind, place) {
+            if is_plain(rules, patterns, kind, place) {
                 plain.push(place as u32)?;
             }
         }
@@ -128,24 +121,27 @@ impl Groups {
         let headers = Groups::headers(alloc, rules)?;
         Ok(Groups {
             automaton: Automaton::of(alloc, &patterns)?,
-            tcp: Groups::plain(alloc, &headers, &patterns, Kind::Tcp)?,
-            udp: Groups::plain(alloc, &headers, &patterns, Kind::Udp)?,
+            tcp: Sides::of(alloc, &headers, &patterns, Kind::Tcp)?,
+            udp: Sides::of(alloc, &headers, &patterns, Kind::Udp)?,
             icmp: Groups::plain(alloc, &headers, &patterns, Kind::Icmp)?,
             other: Groups::plain(alloc, &headers, &patterns, Kind::Other)?,
             rules: headers,
         })
     }
 
-    /// The rules without a pattern that may fit the kind.
-    fn plain_of(&self, kind: Kind) -> &[u32]
-        ensures { result.now ≡ plain_of self.now kind }
+    /// Adds the rules without a pattern that are asked for by an item that carries this; one that fits either
+    /// way may come twice.
+    fn push_due(&self, body: &Body, places: &mut Vec<u32>) -> Result<(), AllocError>
+        ensures { OnOk result (AddDue self.now body.now places.old.items places.new.items) }
     {
-        match kind {
-            Kind::Tcp => &self.tcp,
-            Kind::Udp => &self.udp,
-            Kind::Icmp => &self.icmp,
-            Kind::Other => &self.other,
+        match body {
+            Body::Tcp(head) => self.tcp.push_places(head.sport, head.dport, places)?,
+            Body::Stream { sport, dport } => self.tcp.push_places(*sport, *dport, places)?,
+            Body::Udp { sport, dport } => self.udp.push_places(*sport, *dport, places)?,
+            Body::Icmp { .. } => places.extend_from_slice(&self.icmp)?,
+            Body::Other | Body::Fragment => places.extend_from_slice(&self.other)?,
         }
+        Ok(())
     }
 
     /// Whether the header of the rule at a place fits.
@@ -190,8 +186,9 @@ impl Groups {
         ensures unchanged { OnErr result (out.new.items ≡ out.old.items) }
     {
         let mut places = self.automaton.hits(alloc, payload)?;
-        places.extend_from_slice(self.plain_of(Kind::of(&head.body)))?;
+        self.push_due(&head.body, &mut places)?;
         places.sort_unstable();
+        places.dedup();
         let found = Groups::fitting(alloc, &self.rules, &places, &head.body)?;
         out.extend_from_slice(&found)?;
         Ok(())
@@ -203,4 +200,10 @@ impl Groups {
 pub fn matching_needs_the_fast_pattern()
     ensures { (rule : Rule) (payload : List ℕ) → ContentsOccur rule.opts payload
         → occurs_if_any (pattern_of rule.opts) payload ≡ true }
+{}
+
+/// A law for callers: a port is in a list, in the words of candidates, just where it is listed in those of the
+/// lists (`net_lists`).
+pub fn ports_are_as_listed()
+    ensures { (ports : List (Part (Bounds ℕ))) (port : ℕ) → IsTrue (has_port ports port) ↔ IsListed (Has port) ports }
 {}

@@ -42,19 +42,7 @@ fn copied(alloc: Global, ports: &PortList) -> Result<PortList, NoMemory>
 }
 
 impl Kind {
-    ghost use Rattle.fast_pattern.specs.Grouping.{kind_of, is_for};
-
-    /// The kind of what an item carries.
-    pub fn of(body: &Body) -> Kind
-        ensures { result ≡ kind_of body.now }
-    {
-        match body {
-            Body::Tcp(_) | Body::Stream { .. } => Kind::Tcp,
-            Body::Udp { .. } => Kind::Udp,
-            Body::Icmp { .. } => Kind::Icmp,
-            Body::Other | Body::Fragment => Kind::Other,
-        }
-    }
+    ghost use Rattle.fast_pattern.specs.Kinds.{is_for};
 
     /// Whether rules of the protocol may fit the kind.
     pub fn has(self, proto: Proto) -> bool

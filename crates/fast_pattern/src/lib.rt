@@ -3,24 +3,28 @@
 //!
 //! `choose` gives the fast pattern of a rule (specs/FastPattern.antt). `Groups::build` puts the fast
 //! patterns of all rules, ASCII case folded, into one automaton of Aho and Corasick (Communications of the
-//! ACM 18, 1975) and the rules that have none into a list a kind of packet; `Groups::candidates` walks a
+//! ACM 18, 1975) and the rules that have none into indexes by port; `Groups::candidates` walks a
 //! payload once and appends exactly the candidates of specs/Candidates.antt, which looks for each pattern
 //! in the whole payload. A byte costs two look-ups, whatever the rules are; nothing is allocated before
 //! the first pattern has ended. What tries rules on items stands on this crate.
 //!
-//! A state takes four bytes a letter (a byte of some pattern, case folded) and four more.
+//! A state takes four bytes a letter (a byte of some pattern, case folded) and four more. The four indexes take
+//! half a megabyte each, and twelve bytes for each block of ports of a rule.
 #![tactic(auto)]
 
 mod automaton;
+mod blocks;
 mod choice;
 mod ends;
 mod groups;
 mod header;
+mod index;
 mod letters;
 mod links;
+mod sides;
 #[cfg(test)]
 mod tests;
 mod trie;
 
 pub use choice::{Fast, choose};
-pub use groups::{Groups, matching_needs_the_fast_pattern};
+pub use groups::{Groups, matching_needs_the_fast_pattern, ports_are_as_listed};

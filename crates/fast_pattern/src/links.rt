@@ -28,7 +28,7 @@ fn own(firsts: &mut [u32], end: u32, owner: u32)
 impl Owned {
     /// The patterns of so many states, by the states at which they end.
     pub fn of(alloc: Global, states: usize, ends: &[u32]) -> Result<Owned, NoMemory>
-        requires few { length ends.now ≤ 65536 }
+        requires few { length ends.now < 4294967295 }
         requires within { All (λ end. end < states) ends.now }
         ensures { IfOk result (λ owned. AreOwned ends.now states owned.firsts.items owned.sames.items (length ends.now)) }
     {

@@ -1,81 +1,51 @@
+//! Choices of fast patterns, and candidates. Each row was worked out by hand from the manual's sections 3.2 and
+//! 3.5.
+
 use crate::Groups;
 use crate::choice::chosen;
+use conf_parser::Classes;
 use edge_io::crossing::{sendable, shareable};
-use edge_io::{Addr, Items, Moment, NoMemory, Text};
-use net_lists::{AddrList, PortList};
+use edge_io::{Addr, Moment};
+use net_lists::Vars;
 use packet_decode::{Body, IpHead, ItemHead, ItemKind, SessionFacts};
-use rule_parser::{Action, Content, FastMode, Opt, Proto, Rule};
+use rule_parser::{BitNames, Rule, read_rule};
 use std::alloc::Global;
 use std::process::Abort;
 use std::test::Fail;
 
-/// The header of a rule under test.
-#[derive(Clone, Copy)]
-struct Header {
-    proto: Proto,
-    sports: &'static [u8],
-    dports: &'static [u8],
-    both: bool,
-}
-
-const UDP: Header = Header {
-    proto: Proto::Udp,
-    sports: b"any",
-    dports: b"any",
-    both: false,
-};
-
-/// A content with this text and mark.
-fn content(
+/// Adds the rule that the line is.
+fn push_rule(
+    rt: &impl Abort,
     alloc: Global,
-    bytes: &[u8],
-    negated: bool,
-    fast: FastMode,
-) -> Result<Content, NoMemory> {
-    Ok(Content {
-        bytes: Text::copy(alloc, bytes)?,
-        negated,
-        nocase: false,
-        relative: false,
-        from: None,
-        room: None,
-        fast,
-    })
-}
-
-/// A rule with this header and these options.
-fn rule(alloc: Global, header: Header, sid: u32, options: Vec<Opt>) -> Result<Rule, Fail> {
-    Ok(Rule {
-        action: Action::Alert,
-        proto: header.proto,
-        src: AddrList::read(alloc, b"any")?,
-        sports: PortList::read(alloc, header.sports)?,
-        dst: AddrList::read(alloc, b"any")?,
-        dports: PortList::read(alloc, header.dports)?,
-        both: header.both,
-        opts: Items::from_vec(options),
-        msg: Text::copy(alloc, b"")?,
-        gid: 1,
-        sid,
-        rev: 0,
-        class: None,
-        priority: 0,
-        noalert: false,
-        period: None,
-    })
-}
-
-/// A rule with this header that looks for this text; for nothing where it is empty.
-fn seeking(alloc: Global, header: Header, sid: u32, text: &[u8]) -> Result<Rule, Fail> {
-    let mut options = Vec::new(alloc);
-    if !text.is_empty() {
-        options.push(Opt::Content(content(alloc, text, false, FastMode::No)?))?;
+    line: &str,
+    rules: &mut Vec<Rule>,
+) -> Result<(), Fail> {
+    let mut bits = BitNames::new(alloc);
+    let vars = Vars::new(alloc);
+    let classes = Classes::new(alloc);
+    match read_rule(alloc, line.as_bytes(), &vars, &classes, &mut bits) {
+        Ok(rule) => rules.push(rule)?,
+        Err(_) => assert!(rt; false, "{line}"),
     }
-    rule(alloc, header, sid, options)
+    Ok(())
 }
 
-/// A packet that carries this.
-fn carrying(body: Body) -> ItemHead {
+/// An item that carries what the word says.
+fn item(kind: &str, sport: u16, dport: u16) -> ItemHead {
+    let body = if kind == "udp" {
+        Body::Udp { sport, dport }
+    } else if kind == "stream" {
+        Body::Stream { sport, dport }
+    } else if kind == "icmp" {
+        Body::Icmp {
+            kind: 8,
+            code: 0,
+            id: 1,
+            seq: 1,
+        }
+    } else {
+        Body::Fragment
+    };
     ItemHead {
         kind: ItemKind::Packet,
         moment: Moment { nanos: 0 },
@@ -96,211 +66,130 @@ fn carrying(body: Body) -> ItemHead {
     }
 }
 
-/// Compares the candidates of the groups with the wanted ones, behind a number that stands already.
-fn check(
-    rt: &impl Abort,
-    alloc: Global,
-    groups: &Groups,
-    label: &str,
-    body: Body,
-    payload: &[u8],
-    want: &[u32],
-) -> Result<(), Fail> {
-    let mut out = Vec::new(alloc);
-    out.push(77)?;
-    groups.candidates(alloc, &carrying(body), payload, &mut out)?;
-    assert_eq!(rt; out.len(), want.len() + 1, "{label}");
-    assert_eq!(rt; out[0], 77, "{label}");
-    for (place, number) in want.iter().enumerate() {
-        assert!(rt; out.get(place + 1) == Some(number), "{label}");
+/// The candidates behind a number that stands already, as a row has them.
+fn found(alloc: Global, groups: &Groups, head: &ItemHead, payload: &str) -> Result<String, Fail> {
+    let mut places = Vec::new(alloc);
+    places.push(77)?;
+    groups.candidates(alloc, head, payload.as_bytes(), &mut places)?;
+    let mut text = String::new(alloc);
+    for place in &places {
+        text = format!(in alloc; "{text}{place} ")?;
+    }
+    Ok(text)
+}
+
+/// Compares the candidates of the rules with those of each row.
+fn check_rows(rt: &impl Abort, alloc: Global, lines: &str, rows: &str) -> Result<(), Fail> {
+    let mut rules = Vec::new(alloc);
+    for line in lines.lines() {
+        push_rule(rt, alloc, line, &mut rules)?;
+    }
+    assert!(rt; rules.len() <= 65536);
+    let groups = Groups::build(alloc, &rules)?;
+    for row in rows.lines() {
+        let mut cells = row.split('|');
+        let kind = cells.next().unwrap_or("");
+        let sport = cells.next().unwrap_or("").parse::<u16>().unwrap_or(0);
+        let dport = cells.next().unwrap_or("").parse::<u16>().unwrap_or(0);
+        let payload = cells.next().unwrap_or("");
+        let wanted = cells.next().unwrap_or("");
+        let text = found(alloc, &groups, &item(kind, sport, dport), payload)?;
+        assert!(rt; text.as_str() == wanted, "{row}");
     }
     Ok(())
 }
-
-const PACKET: Body = Body::Udp {
-    sport: 1000,
-    dport: 80,
-};
 
 /// Patterns that end in one another, that are parts of one another, in either case.
+const WITHIN: &str = r#"alert udp any any -> any any (content:"abcd"; sid:1;)
+alert udp any any -> any any (content:"bcd"; sid:1;)
+alert udp any any -> any any (content:"cd"; sid:1;)
+alert udp any any -> any any (content:"bc"; sid:1;)
+alert udp any any -> any any (content:"cd"; sid:1;)
+alert udp any any -> any any (sid:1;)
+alert udp any any -> any any (content:"|BF|Z"; sid:1;)
+alert udp any any -> any any (content:"xy"; sid:1;)
+alert udp any any -> any any (content:"D"; sid:1;)"#;
+
+/// What an item carries, its ports, its payload and the candidates: all suffixes, twice the same, nothing, a
+/// word that breaks off, a byte that differs as cases do, another protocol.
+const WITHIN_ROWS: &str = "udp|1|80|xABcDx|77 0 1 2 3 4 5 8 
+udp|1|80|cdcd|77 2 4 5 8 
+udp|1|80||77 5 
+udp|1|80|abcabc|77 3 5 
+udp|1|80|ÿz|77 5 6 
+udp|1|80|ßz|77 5 
+fragment|0|0|abcd|77 ";
+
 #[test]
 fn patterns_within_patterns(rt: HostRuntime) -> Result<(), Fail> {
-    let alloc = rt.alloc();
-    let mut rules = Vec::new(alloc);
-    let texts: [&[u8]; 9] = [
-        b"abcd", b"bcd", b"cd", b"bc", b"cd", b"", b"\xffZ", b"xy", b"D",
-    ];
-    for (place, text) in texts.iter().enumerate() {
-        rules.push(seeking(alloc, UDP, place as u32 + 1, text)?)?;
-    }
-    assert!(rt; rules.len() <= 65536);
-    let groups = Groups::build(alloc, &rules)?;
-    check(
-        &rt,
-        alloc,
-        &groups,
-        "all suffixes",
-        PACKET,
-        b"xABcDx",
-        &[0, 1, 2, 3, 4, 5, 8],
-    )?;
-    check(&rt, alloc, &groups, "twice", PACKET, b"cdcd", &[2, 4, 5, 8])?;
-    check(&rt, alloc, &groups, "none", PACKET, b"", &[5])?;
-    check(
-        &rt,
-        alloc,
-        &groups,
-        "broken off",
-        PACKET,
-        b"abcabc",
-        &[3, 5],
-    )?;
-    check(
-        &rt,
-        alloc,
-        &groups,
-        "high bytes",
-        PACKET,
-        b"\xffz\xdfz",
-        &[5, 6],
-    )?;
-    check(
-        &rt,
-        alloc,
-        &groups,
-        "another protocol",
-        Body::Other,
-        b"abcd",
-        &[],
-    )?;
-    Ok(())
+    check_rows(&rt, rt.alloc(), WITHIN, WITHIN_ROWS)
 }
 
-/// Protocols, ports and directions.
+/// Protocols, ports and directions, with a pattern and without one.
+const HEADERS: &str = r#"alert tcp any any -> any 80 (content:"a"; sid:1;)
+alert tcp any any -> any 80 (sid:1;)
+alert tcp any any <> any 80 (content:"a"; sid:1;)
+alert tcp any any <> any 80 (sid:1;)
+alert ip any any -> any any (content:"a"; sid:1;)
+alert ip any any -> any any (sid:1;)
+alert udp any any -> any any (content:"a"; sid:1;)
+alert udp any any -> any any (sid:1;)
+alert icmp any any -> any any (content:"a"; sid:1;)
+alert icmp any any -> any any (sid:1;)
+alert tcp any any -> any [1:100,!80] (content:"a"; sid:1;)
+alert tcp any any -> any [1:100,!80] (sid:1;)
+alert tcp any 80 -> any any (sid:1;)
+alert tcp any 80 <> any any (sid:1;)
+alert tcp any 80 -> any 9 (sid:1;)
+alert tcp any 80:90 <> any 80:90 (sid:1;)
+alert tcp any !1024: -> any any (sid:1;)
+alert udp any any -> any [0,65535] (sid:1;)"#;
+
+const HEADER_ROWS: &str = "stream|9|80|a|77 0 1 2 3 4 5 13 16 
+stream|80|9|b|77 3 5 11 12 13 14 16 
+stream|80|80|a|77 0 1 2 3 4 5 12 13 15 16 
+stream|2000|81|b|77 5 11 
+udp|1|80|a|77 4 5 6 7 
+udp|1|65535|b|77 5 7 17 
+udp|1|0|b|77 5 7 17 
+icmp|0|0|A|77 4 5 8 9 
+fragment|0|0|a|77 4 5 ";
+
 #[test]
 fn headers_that_fit(rt: HostRuntime) -> Result<(), Fail> {
-    let alloc = rt.alloc();
-    let web = Header {
-        proto: Proto::Tcp,
-        sports: b"any",
-        dports: b"80",
-        both: false,
-    };
-    let headers = [
-        web,
-        Header { both: true, ..web },
-        Header {
-            proto: Proto::Ip,
-            ..web
-        },
-        UDP,
-        Header {
-            proto: Proto::Icmp,
-            ..UDP
-        },
-        Header {
-            dports: b"[1:100,!80]",
-            ..web
-        },
-    ];
-    let mut rules = Vec::new(alloc);
-    for header in headers.iter() {
-        rules.push(seeking(alloc, *header, 1, b"a")?)?;
-        rules.push(seeking(alloc, *header, 1, b"")?)?;
-    }
-    assert!(rt; rules.len() <= 65536);
-    let groups = Groups::build(alloc, &rules)?;
-    let forth = Body::Stream {
-        sport: 9,
-        dport: 80,
-    };
-    let back = Body::Stream {
-        sport: 80,
-        dport: 9,
-    };
-    let echo = Body::Icmp {
-        kind: 8,
-        code: 0,
-        id: 1,
-        seq: 1,
-    };
-    check(
-        &rt,
-        alloc,
-        &groups,
-        "forth",
-        forth,
-        b"a",
-        &[0, 1, 2, 3, 4, 5],
-    )?;
-    check(&rt, alloc, &groups, "back", back, b"b", &[3, 5, 11])?;
-    check(&rt, alloc, &groups, "udp", PACKET, b"a", &[4, 5, 6, 7])?;
-    check(&rt, alloc, &groups, "icmp", echo, b"A", &[4, 5, 8, 9])?;
-    check(
-        &rt,
-        alloc,
-        &groups,
-        "a fragment",
-        Body::Fragment,
-        b"a",
-        &[4, 5],
-    )?;
-    Ok(())
+    check_rows(&rt, rt.alloc(), HEADERS, HEADER_ROWS)
 }
 
-/// Which content is chosen, and which part of it.
+/// Options, and behind an `@` which of them is chosen, from where and how much.
+const CHOICES: &str = r#"@none
+content:!"abc"; fast_pattern;@none
+content:"ab"; content:!"abcd"; content:"xyz";@2 0 3
+content:"abc"; content:"xyz";@0 0 3
+content:"abcd"; content:"x"; fast_pattern:only;@1 0 1
+content:"abcdef"; content:"wxyz"; fast_pattern:1,2;@1 1 2"#;
+
 #[test]
 fn choices(rt: HostRuntime) -> Result<(), Fail> {
     let alloc = rt.alloc();
-    let part = FastMode::Part { from: 1, len: 2 };
-    let (no, marked, only) = (FastMode::No, FastMode::Yes, FastMode::Only);
-    let rows: [(
-        &str,
-        &[(&[u8], bool, FastMode)],
-        Option<(usize, usize, usize)>,
-    ); 6] = [
-        ("none", &[], None),
-        ("negated alone", &[(b"abc", true, marked)], None),
-        (
-            "longest",
-            &[(b"ab", false, no), (b"abcd", true, no), (b"xyz", false, no)],
-            Some((2, 0, 3)),
-        ),
-        (
-            "first of equals",
-            &[(b"abc", false, no), (b"xyz", false, no)],
-            Some((0, 0, 3)),
-        ),
-        (
-            "marked",
-            &[(b"abcd", false, no), (b"x", false, only)],
-            Some((1, 0, 1)),
-        ),
-        (
-            "a part",
-            &[(b"abcdef", false, no), (b"wxyz", false, part)],
-            Some((1, 1, 2)),
-        ),
-    ];
-    for (label, contents, want) in rows.iter() {
-        let mut options = Vec::new(alloc);
-        for (bytes, negated, fast) in contents.iter() {
-            options.push(Opt::Content(content(alloc, bytes, *negated, *fast)?))?;
+    for row in CHOICES.lines() {
+        let mut cells = row.split('@');
+        let options = cells.next().unwrap_or("");
+        let wanted = cells.next().unwrap_or("");
+        let line = format!(in alloc; "alert udp any any -> any any ({options} sid:1;)")?;
+        let mut rules = Vec::new(alloc);
+        push_rule(&rt, alloc, &line, &mut rules)?;
+        for rule in &rules {
+            let text = match chosen(rule.opts.as_slice()) {
+                Some(sought) => {
+                    let (place, from, len) = (sought.place, sought.from, sought.len);
+                    format!(in alloc; "{place} {from} {len}")?
+                }
+                None => String::from_str(alloc, "none")?,
+            };
+            assert!(rt; text.as_str() == wanted, "{row}");
         }
-        let found = chosen(&options).map(|sought| (sought.place, sought.from, sought.len));
-        assert!(rt; found == *want, "{label}");
     }
     Ok(())
-}
-
-/// The content of the rule with this number: eight letters a, and the number in five digits.
-fn numbered_text(alloc: Global, number: u32) -> Result<Vec<u8>, Fail> {
-    let mut text = Vec::new(alloc);
-    text.extend_from_slice(b"aaaaaaaa")?;
-    for scale in [10000u32, 1000, 100, 10, 1] {
-        text.push(b'0' + (number / scale % 10) as u8)?;
-    }
-    Ok(text)
 }
 
 /// 60000 rules and 2000 long payloads that begin many of their patterns: one walk a payload.
@@ -308,16 +197,40 @@ fn numbered_text(alloc: Global, number: u32) -> Result<Vec<u8>, Fail> {
 fn many_rules(rt: HostRuntime) -> Result<(), Fail> {
     let alloc = rt.alloc();
     let mut rules = Vec::new(alloc);
-    for number in 1..60001u32 {
-        let text = numbered_text(alloc, number)?;
-        rules.push(seeking(alloc, UDP, number, &text)?)?;
+    for number in 100000..160000u32 {
+        let line = format!(in alloc;
+            "alert udp any any -> any any (content:\"aaaaaaaa{number}\"; sid:1;)"
+        )?;
+        push_rule(&rt, alloc, &line, &mut rules)?;
     }
     assert!(rt; rules.len() <= 65536);
     let groups = Groups::build(alloc, &rules)?;
-    let mut payload = vec![in alloc; b'a'; 65000]?;
-    payload.extend_from_slice(b"00007")?;
+    let mut payload = String::new(alloc);
+    for _letter in 0..65000u32 {
+        payload.push_str("a")?;
+    }
+    payload.push_str("100006")?;
     for _turn in 0..2000u32 {
-        check(&rt, alloc, &groups, "one walk", PACKET, &payload, &[6])?;
+        let text = found(alloc, &groups, &item("udp", 1, 80), &payload)?;
+        assert!(rt; text.as_str() == "77 6 ", "one walk");
+    }
+    Ok(())
+}
+
+/// 60000 rules without a pattern, for a port each, and 500000 items: no rule of another port is asked.
+#[test]
+fn many_ports(rt: HostRuntime) -> Result<(), Fail> {
+    let alloc = rt.alloc();
+    let mut rules = Vec::new(alloc);
+    for port in 1..60001u32 {
+        let line = format!(in alloc; "alert udp any {port} <> any any (sid:1;)")?;
+        push_rule(&rt, alloc, &line, &mut rules)?;
+    }
+    assert!(rt; rules.len() <= 65536);
+    let groups = Groups::build(alloc, &rules)?;
+    for _turn in 0..500000u32 {
+        let text = found(alloc, &groups, &item("udp", 7, 3), "a")?;
+        assert!(rt; text.as_str() == "77 2 6 ", "one look at the ports");
     }
     Ok(())
 }

@@ -1,5 +1,5 @@
 use Rattle.std.proofs.Common.{◌≡◌}
-use Rattle.fast_pattern.specs.Grouping.{is_plain}
+use Rattle.fast_pattern.specs.Kinds.{is_plain}
 use Rattle.fast_pattern.specs.Finding.{numbers}
 use Rattle.fast_pattern.proofs.groups.Groups.plain.Given as goal
 

@@ -1,0 +1,8 @@
+use Rattle.fast_pattern.specs.Blocks.{IsFollowed}
+use Rattle.fast_pattern.proofs.index.PortIndex.push_block.Given as goal
+
+abbrev pub invariant-loop-at : goal.invariant-loop-at
+invariant-loop-at l = IsFollowed l.self l.block l.fn.places.items l.at l.places.items
+
+abbrev pub decreases-loop-at : goal.decreases-loop-at
+decreases-loop-at l = l.at

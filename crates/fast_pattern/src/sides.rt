@@ -1,0 +1,175 @@
+//! The rules without a pattern, by the ports that they are asked for at.
+
+ghost use Rattle.std.specs.Prelude.{◌≡◌, ◌<◌, ◌≤◌, length, IfOk, OnOk};
+ghost use Rattle.fast_pattern.specs.Kinds.{is_plain};
+ghost use Rattle.fast_pattern.specs.Sides.{is_ip, key_of, stands_in, stands_at, AreSoughtAt, AreFiled, IsSide};
+
+use crate::blocks::push_blocks;
+use crate::header::{Asked, Kind};
+use crate::index::{Entry, PortIndex, push_entries};
+use edge_io::{NoMemory, Text};
+use net_lists::PortPart;
+use rule_parser::Proto;
+use std::alloc::{AllocError, Global};
+
+/// The side of a packet whose port is looked at.
+#[derive(Clone, Copy)]
+pub enum Side {
+    Source,
+    Destination,
+}
+
+/// The indexes of the two sides.
+#[derive(Drop)]
+pub struct Sides {
+    pub source: PortIndex,
+    pub destination: PortIndex,
+}
+
+fn is_ip(proto: Proto) -> bool
+    ensures { result ≡ is_ip proto }
+{
+    matches!(proto, Proto::Ip)
+}
+
+/// The list of ports that tells.
+#[tactic(auto, unfolding(crate::specs::Sides::key_of))]
+fn key_of(asked: &Asked) -> &[PortPart]
+    ensures { result.now ≡ key_of asked.now }
+{
+    if is_ip(asked.proto) {
+        &[]
+    } else if asked.dports.parts().is_empty() {
+        asked.sports.parts()
+    } else {
+        asked.dports.parts()
+    }
+}
+
+/// Whether the rule stands in the index of a side.
+#[tactic(auto, unfolding(crate::specs::Sides::stands_in))]
+fn stands_in(side: Side, asked: &Asked) -> bool
+    ensures { result ≡ stands_in side asked.now }
+{
+    let ip = is_ip(asked.proto);
+    let from_any = asked.sports.parts().is_empty();
+    let to_any = asked.dports.parts().is_empty();
+    match side {
+        Side::Destination => ip || asked.both || !to_any || from_any,
+        Side::Source => !ip && if to_any { !from_any } else { asked.both },
+    }
+}
+
+/// Whether the rule at a place has no pattern, and may fit the kind.
+#[tactic(auto, unfolding(crate::specs::Kinds::is_plain))]
+pub fn is_plain(rules: &[Asked], patterns: &[Text], kind: Kind, place: usize) -> bool
+    requires { length rules.now ≡ length patterns.now }
+    ensures { result ≡ is_plain rules.now patterns.now kind place }
+{
+    if rules.len() <= place {
+        return false;
+    }
+    patterns[place].bytes().is_empty() && kind.has(rules[place].proto)
+}
+
+/// Whether the rule at a place has no pattern, may fit the kind, and stands in the index of a side.
+fn stands_at(rules: &[Asked], patterns: &[Text], kind: Kind, side: Side, place: usize) -> bool
+    requires same { length rules.now ≡ length patterns.now }
+    requires within { place < length rules.now }
+    ensures { result ≡ stands_at rules.now patterns.now kind side place }
+{
+    is_plain(rules, patterns, kind, place) && stands_in(side, &rules[place])
+}
+
+/// The blocks at which a rule without a pattern stands in the index of a side; none where it doesn't.
+fn blocks_at(
+    alloc: Global,
+    rules: &[Asked],
+    patterns: &[Text],
+    kind: Kind,
+    side: Side,
+    place: usize,
+) -> Result<Vec<u32>, AllocError>
+    requires same { length rules.now ≡ length patterns.now }
+    requires within { place < length rules.now }
+    ensures { IfOk result (λ blocks. AreSoughtAt rules.now patterns.now kind side place blocks.items) }
+{
+    let mut blocks = Vec::new(alloc);
+    if !stands_at(rules, patterns, kind, side, place) {
+        return Ok(blocks);
+    }
+    push_blocks(key_of(&rules[place]), 16, 0, &mut blocks)?;
+    Ok(blocks)
+}
+
+/// The entries of the rules without a pattern that may fit the kind, for the index of a side.
+fn entries_by(
+    alloc: Global,
+    rules: &[Asked],
+    patterns: &[Text],
+    kind: Kind,
+    side: Side,
+) -> Result<Vec<Entry>, AllocError>
+    requires same { length rules.now ≡ length patterns.now }
+    requires few { length rules.now ≤ 65536 }
+    ensures { IfOk result (λ entries. AreFiled rules.now patterns.now kind side entries.items (length rules.now)) }
+{
+    let mut entries = Vec::new(alloc);
+    for place in 0..rules.len() {
+        let blocks = blocks_at(alloc, rules, patterns, kind, side, place)?;
+        push_entries(&mut entries, &blocks, place as u32)?;
+    }
+    Ok(entries)
+}
+
+/// The index of a side.
+fn index_by(
+    alloc: Global,
+    rules: &[Asked],
+    patterns: &[Text],
+    kind: Kind,
+    side: Side,
+) -> Result<PortIndex, NoMemory>
+    requires same { length rules.now ≡ length patterns.now }
+    requires few { length rules.now ≤ 65536 }
+    ensures { IfOk result (λ index. IsSide rules.now patterns.now kind side index) }
+{
+    let entries = entries_by(alloc, rules, patterns, kind, side)?;
+    let index = PortIndex::of(alloc, entries)?;
+    Ok(index)
+}
+
+impl Sides {
+    ghost use Rattle.fast_pattern.specs.Sides.{AreSides, AddSought};
+
+    /// The rules without a pattern that may fit the kind.
+    pub fn of(
+        alloc: Global,
+        rules: &[Asked],
+        patterns: &[Text],
+        kind: Kind,
+    ) -> Result<Sides, NoMemory>
+        requires same { length rules.now ≡ length patterns.now }
+        requires few { length rules.now ≤ 65536 }
+        ensures { IfOk result (λ sides. AreSides rules.now patterns.now kind sides) }
+    {
+        Ok(Sides {
+            source: index_by(alloc, rules, patterns, kind, Side::Source)?,
+            destination: index_by(alloc, rules, patterns, kind, Side::Destination)?,
+        })
+    }
+
+    /// Adds those that are asked for at the two ports; one that is asked for at both may come twice.
+    pub fn push_places(
+        &self,
+        sport: u16,
+        dport: u16,
+        places: &mut Vec<u32>,
+    ) -> Result<(), AllocError>
+        ensures { OnOk result (AddSought self.now sport dport places.old.items places.new.items) }
+    {
+        self.source.push_places(sport, places)?;
+        self.destination.push_places(dport, places)?;
+        Ok(())
+    }
+}
