@@ -1,16 +1,16 @@
 -- The letters of one word: clap's walk over its characters is the plain reading.
-use Rattle.std.proofs.Common.{◌≡◌, ◌∙◌, ◌≤◌, ◌&&◌, ℕ, zero, suc, Bool, cond, true, false, not, refl, sym, ap, ap₂, subst, List, [], ◌∷◌, ◌++◌, map, length, drop, Option, Some, None, codes, arith, le_of_suc-le-suc}
-use Rattle.std.specs.Prelude.{option_and_then, option_map, find, is_some, encode_utf8, encode_utf8_all, slice_get}
+use Rattle.std.proofs.Common.{◌≡◌, ◌∙◌, ◌≤◌, ℕ, zero, suc, Bool, true, false, refl, sym, ap, ap₂, List, [], ◌∷◌, length, drop, Option, Some, None, codes, arith}
+use Rattle.std.specs.Prelude.{option_map, find, encode_utf8, encode_utf8_all, slice_get}
 use Rattle.std.specs.Str.{all_scalars, chars}
 use Rattle.std.proofs.lemmas.Str.{chars-encodes}
 use Rattle.std.proofs.lemmas.List.{drop_at}
-use Rattle.clap.specs.Walk.{Held, Outcome, Row, Rule, Text, arg_by_short, attached_value, bundle_met, bundle_step, done, waits, reacted, settled, short_met}
-use Rattle.clap.specs.Faults.{bundle_step_fault, flags_fault, react_fault, settle_fault, short_fault}
-use Rattle.clap.specs.Kinds.{Kinds, or_else}
+use Rattle.clap.specs.Walk.{Held, Outcome, Row, Rule, Text, attached_value, bundle_met, bundle_step, done, waits, reacted, short_met}
+use Rattle.clap.specs.Faults.{bundle_step_fault, flags_fault, react_fault, short_fault}
+use Rattle.clap.specs.Kinds.{Kinds}
 use Rattle.clap.proofs.WalkLemmas.{both}
 use Rattle.edge_io.specs.OnOption.{◌>>=◌}
 use Rattle.command_words.specs.Table.{Choice, Label, is_letter, text_of}
-use Rattle.command_words.specs.Uses.{Reading, Use, letter_uses, letters_uses, option_uses, then_letters, use_of}
+use Rattle.command_words.specs.Uses.{Reading, Use, letter_uses, letters_uses, then_letters, use_of}
 use Rattle.command_words.proofs.Rules.{AllFound, IsFound, add, add_all, bind-none, by_short, found_is, guard, guard-or_else, rule, rules, settle}
 use Rattle.command_words.proofs.Steps.{after_reading, after_word, flag_step, held, option_step}
 

@@ -1,10 +1,10 @@
 -- The rows that clap has at the end are those of the uses, with the defaults of the flags.
-use Rattle.std.proofs.Common.{◌≡◌, ◌∙◌, ◌&&◌, ◌||◌, ℕ, Bool, cond, true, false, not, refl, sym, ap, ap₂, List, [], ◌∷◌, ◌++◌, map, length, drop, Option, Some, None, fold}
-use Rattle.std.specs.Prelude.{IsUtf8, String, option_and_then, option_map, string_bytes}
+use Rattle.std.proofs.Common.{◌≡◌, ◌∙◌, ◌||◌, Bool, cond, true, false, refl, sym, ap, ap₂, List, [], ◌∷◌, ◌++◌, map, drop, Option, Some, None, fold}
+use Rattle.std.specs.Prelude.{String, option_map, string_bytes}
 use Rattle.std.specs.Str.{bytes_eq}
 use Rattle.std.proofs.lemmas.Str.{IsUtf8-had}
 use mathlib.Core.List.{map-append}
-use Rattle.clap.specs.Walk.{Held, Row, Rule, Text, finished, has_row, idle, nothing_held, rows_after, settled, walked, with_default}
+use Rattle.clap.specs.Walk.{Held, Row, Text, finished, has_row, idle, nothing_held, rows_after, settled, walked, with_default}
 use Rattle.clap.specs.Simple.{Shape, built, matches_of}
 use Rattle.clap.specs.Faults.{check_fault, default_fault, defaults_fault, fault_of, level_fault, settle_fault, walk_fault}
 use Rattle.clap.specs.Kinds.{Kinds, or_else}
@@ -14,7 +14,7 @@ use Rattle.edge_io.specs.OnOption.{◌>>=◌}
 use Rattle.command_words.specs.Table.{Choice, Label, table, text_of}
 use Rattle.command_words.specs.Uses.{Use, is_used, used_once, uses_in, uses_of}
 use Rattle.command_words.specs.Clap.{clap_rows, snort, where_none}
-use Rattle.command_words.proofs.Rules.{AllFound, add, add_all, guard, guard-or_else, row_for, rule, rules, settle}
+use Rattle.command_words.proofs.Rules.{AllFound, add_all, guard, guard-or_else, row_for, rule, rules, settle}
 use Rattle.command_words.proofs.Steps.{held}
 use Rattle.command_words.proofs.Turns.{at, ending, shape}
 use Rattle.command_words.proofs.Whole.{AllText, ends}

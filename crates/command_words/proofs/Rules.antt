@@ -1,18 +1,17 @@
 -- The arguments of the command, found by letter, name and id; one use of an argument.
-use Rattle.std.proofs.Common.{◌≡◌, ◌∙◌, ◌&&◌, ◌||◌, ℕ, Bool, cond, true, false, not, refl, sym, ap, ap₂, subst, List, [], ◌∷◌, ◌++◌, map, length, Option, Some, None, codes, append-nil, true≢false}
+use Rattle.std.proofs.Common.{◌≡◌, ◌∙◌, ◌&&◌, ◌||◌, ℕ, Bool, cond, true, false, not, refl, sym, ap, subst, List, [], ◌∷◌, ◌++◌, map, Option, Some, None, codes, append-nil, true≢false}
 use Rattle.std.specs.Prelude.{option_and_then, option_map, find, is_some, unwrap_or}
 use Rattle.std.specs.Str.{bytes_eq}
-use Rattle.std.specs.List.{list_any}
-use Rattle.clap.specs.Walk.{Held, Row, Rule, Text, action_of, arg_by_id, arg_by_index, arg_by_long, arg_by_short, at_row, has_long, has_row, has_short, more_values, reacted, settled, used, without}
+use Rattle.clap.specs.Walk.{Held, Row, Rule, Text, arg_by_id, arg_by_index, arg_by_long, arg_by_short, at_row, has_long, has_row, has_short, more_values, settled, used, without}
 use Rattle.clap.specs.Simple.{filled}
-use Rattle.clap.specs.Faults.{react_fault, repeat_fault, settle_fault, use_fault}
+use Rattle.clap.specs.Faults.{react_fault, settle_fault, use_fault}
 use Rattle.clap.specs.Kinds.{Kinds, or_else}
 use Rattle.clap.specs.declared.builder.value_parser.Reading.TheVariants.{AsWritten}
 use Rattle.clap.specs.declared.parser.matches.ValueSource.TheVariants.{CommandLine}
 use Rattle.clap.proofs.WalkLemmas.{find-map}
 use Rattle.edge_io.specs.OnOption.{◌>>=◌}
 use Rattle.command_words.specs.Table.{Choice, Label, letter, name, is_letter, is_name, text_of}
-use Rattle.command_words.specs.Uses.{Use, use_of}
+use Rattle.command_words.specs.Uses.{Use}
 use Rattle.command_words.specs.Clap.{rule_for}
 
 -- nothing where a kind of error comes before it

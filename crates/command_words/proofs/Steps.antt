@@ -1,13 +1,12 @@
 -- One option or flag in a word, by a name or a letter: clap's step is the plain one.
-use Rattle.std.proofs.Common.{◌≡◌, ◌∙◌, ◌&&◌, ◌||◌, ℕ, Bool, cond, true, false, not, refl, sym, ap, ap₂, subst, List, [], ◌∷◌, ◌++◌, map, length, Option, Some, None, codes}
-use Rattle.std.specs.Prelude.{option_and_then, option_map, find, is_some}
-use Rattle.clap.specs.Walk.{Held, Outcome, Row, Rule, Text, done, waits, refused, long_met, option_met, reacted, settled, short_met, takes_values, used}
-use Rattle.clap.specs.Faults.{long_fault, option_fault, react_fault, settle_fault, short_fault, use_fault}
-use Rattle.clap.specs.Kinds.{Kinds, or_else}
+use Rattle.std.proofs.Common.{◌≡◌, ◌∙◌, Bool, true, false, refl, sym, ap, List, [], ◌∷◌, Option, Some, None, codes}
+use Rattle.std.specs.Prelude.{option_map}
+use Rattle.clap.specs.Walk.{Held, Outcome, Row, Rule, Text, done, waits, long_met, option_met, settled, used}
+use Rattle.clap.specs.Faults.{long_fault, option_fault, react_fault, settle_fault}
 use Rattle.edge_io.specs.OnOption.{◌>>=◌}
-use Rattle.command_words.specs.Table.{Choice, Label, letter, name, is_letter, is_name, text_of}
-use Rattle.command_words.specs.Uses.{Reading, Use, flag_uses, letter_uses, name_uses, one, option_uses, then_letters, use_of}
-use Rattle.command_words.proofs.Rules.{IsFound, add, add_all, bind-none, flag_used, guard, guard-bind, guard-or_else, option_used, reacted_is, rule, rules, settle}
+use Rattle.command_words.specs.Table.{Choice, Label, text_of}
+use Rattle.command_words.specs.Uses.{Reading, Use, name_uses, option_uses}
+use Rattle.command_words.proofs.Rules.{IsFound, add, add_all, bind-none, flag_used, guard, guard-bind, option_used, reacted_is, rule, rules, settle}
 
 -- what is held between two words
 abbrev pub held : List Row → Option (Text × List Text) → Held

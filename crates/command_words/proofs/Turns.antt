@@ -1,20 +1,16 @@
 -- The walk over the words: clap's, which settles an option one word late, ends as the plain reading does.
-use Rattle.std.proofs.Common.{◌≡◌, ◌∙◌, ◌≤◌, ◌<◌, ◌&&◌, ℕ, zero, suc, pred, Bool, cond, true, false, not, refl, sym, ap, ap₂, subst, List, [], ◌∷◌, ◌++◌, map, length, Option, Some, None, codes, arith, fold}
-use Rattle.std.specs.Prelude.{IsUtf8, chars, option_and_then, option_map, find, is_some, encode_utf8_all, nat_lt}
+use Rattle.std.proofs.Common.{◌≡◌, ◌∙◌, Bool, cond, true, false, refl, sym, ap, ap₂, List, [], ◌∷◌, Option, Some, None, codes, fold}
 use Rattle.std.specs.Option.{option_map_or}
 use Rattle.std.specs.Str.{bytes_eq}
-use Rattle.std.proofs.lemmas.Str.{chars-encodes, length-le-encodes}
 use Rattle.clap.specs.Lexer.{long_of, short_of}
-use Rattle.clap.specs.Walk.{Held, Outcome, Row, Rule, Step, Text, Waiting, Walk, after_flag, after_step, arg_by_id, arg_by_index, arg_by_long, bundle, done, idle, long_met, long_or_other, long_word, option, short_or_plain, trailing, waits, walked, settled}
+use Rattle.clap.specs.Walk.{Held, Row, Rule, Step, Text, Waiting, Walk, after_step, arg_by_long, idle, long_or_other, long_word, option, short_or_plain, trailing, walked}
 use Rattle.clap.specs.Simple.{Shape, new_shape}
 use Rattle.clap.specs.Faults.{bundle_fault, flag_word_fault, flags_fault, long_fault, settle_fault, step_fault, turn_fault, walk_fault}
 use Rattle.clap.specs.Kinds.{Kinds, or_else}
 use Rattle.edge_io.specs.OnOption.{◌>>=◌}
-use Rattle.command_words.specs.Table.{Choice, Label, is_letter, is_name, text_of}
-use Rattle.command_words.specs.Uses.{Reading, Use, if_last, is_value, letters_uses, name_uses, use_of, uses_in, word_uses}
-use Rattle.command_words.proofs.Rules.{AllFound, IsFound, add, add_all, bind-none, by_index, by_long, found_is, guard, guard-or_else, option_used, rule, rules, settle}
-use Rattle.command_words.proofs.Steps.{after_reading, after_word, held, name_step}
-use Rattle.command_words.proofs.Letters.{first_letter, more_letters}
+use Rattle.command_words.specs.Table.{Choice}
+use Rattle.command_words.specs.Uses.{if_last}
+use Rattle.command_words.proofs.Rules.{add_all, bind-none, by_index, guard, guard-or_else, rules, settle}
 
 -- the command as built, with these options and flags
 abbrev pub shape : List Choice → Shape

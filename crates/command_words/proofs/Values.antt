@@ -1,5 +1,5 @@
 -- A value is found in clap's rows as in the uses: a default stands for a flag that is not there.
-use Rattle.std.proofs.Common.{◌≡◌, ◌∙◌, ◌&&◌, ◌||◌, ℕ, Bool, cond, true, false, not, refl, sym, ap, ap₂, List, [], ◌∷◌, ◌++◌, map, drop, Option, Some, None, codes, fold, true≢false}
+use Rattle.std.proofs.Common.{◌≡◌, ◌∙◌, ◌||◌, Bool, cond, true, false, not, refl, sym, ap, List, [], ◌∷◌, ◌++◌, map, drop, Option, Some, None, codes}
 use Rattle.std.specs.Prelude.{option_and_then, option_map, find, slice_get}
 use Rattle.std.specs.Str.{bytes_eq}
 use Rattle.std.specs.List.{list_all}
@@ -11,8 +11,8 @@ use Rattle.net_lists.specs.Numbers.{number_in}
 use Rattle.command_words.specs.Table.{Choice, Label, table, text_of}
 use Rattle.command_words.specs.Uses.{Use, uses_of, value_in}
 use Rattle.command_words.specs.Clap.{clap_rows}
-use Rattle.command_words.specs.CommandLine.{Asked, Values, asked_by, command_line, is_console, is_on, maybe, mode_named, number_or, values_by}
-use Rattle.command_words.proofs.Rules.{at_end, row_for, rule, rules}
+use Rattle.command_words.specs.CommandLine.{Values, asked_by, command_line, is_console, is_on, maybe, mode_named, number_or, values_by}
+use Rattle.command_words.proofs.Rules.{at_end, row_for, rule}
 use Rattle.command_words.proofs.Rows.{rows_are, with_defaults}
 use Rattle.command_words.proofs.Whole.{AllText}
 

@@ -1,18 +1,17 @@
 -- The uses in the words, as clap's walk ends.
-use Rattle.std.proofs.Common.{◌≡◌, ◌∙◌, ◌≤◌, ◌<◌, ◌&&◌, ℕ, zero, suc, pred, Bool, cond, true, false, not, refl, sym, ap, ap₂, subst, List, [], ◌∷◌, ◌++◌, map, length, Option, Some, None, codes, arith, fold, true≢false, eqb-true, ◌==◌}
+use Rattle.std.proofs.Common.{◌≡◌, ◌∙◌, ◌≤◌, ◌<◌, ◌&&◌, ℕ, zero, suc, Bool, cond, true, false, not, refl, sym, ap, subst, List, [], ◌∷◌, ◌++◌, length, Option, Some, None, codes, arith, true≢false, eqb-true, ◌==◌}
 use Rattle.std.specs.Prelude.{IsUtf8, chars, option_and_then, option_map, find, is_some, encode_utf8_all, nat_lt, unwrap_or}
 use Rattle.std.specs.Option.{option_map_or}
 use Rattle.std.specs.Str.{bytes_eq}
 use Rattle.std.proofs.lemmas.Slice.Eq.{bytes_eq-Decides}
 use Rattle.std.proofs.lemmas.Str.{IsCharBoundary-after_ascii, IsUtf8-drop, chars-encodes, length-le-encodes}
 use Rattle.clap.specs.Lexer.{long_of, short_of, short_of_rest}
-use Rattle.clap.specs.Walk.{Held, Outcome, Row, Rule, Step, Text, Waiting, Walk, after_flag, after_step, arg_by_id, arg_by_long, bundle_met, done, idle, long_met, next as goes_on, option, option_word, plain, used, used_by_id, value as stray, waits}
+use Rattle.clap.specs.Walk.{Held, Outcome, Row, Rule, Text, Waiting, after_flag, after_step, bundle_met, idle, long_met, next as goes_on, option, option_word, plain, used, used_by_id, value as stray}
 use Rattle.clap.specs.Faults.{flags_fault, long_fault, positional_fault, stray_fault, use_fault, walk_fault}
-use Rattle.clap.specs.Kinds.{Kinds, or_else}
 use Rattle.edge_io.specs.OnOption.{◌>>=◌}
-use Rattle.command_words.specs.Table.{Choice, Label, is_letter, is_name, text_of}
-use Rattle.command_words.specs.Uses.{Reading, Use, if_last, is_value, letters_uses, name_uses, use_of, uses_in, word_uses}
-use Rattle.command_words.proofs.Rules.{AllFound, IsFound, add, add_all, bind-none, by_index, by_long, found_is, guard, guard-or_else, option_used, rule, rules, settle}
+use Rattle.command_words.specs.Table.{Choice, Label, is_name, text_of}
+use Rattle.command_words.specs.Uses.{Reading, Use, if_last, letters_uses, use_of, uses_in, word_uses}
+use Rattle.command_words.proofs.Rules.{AllFound, IsFound, add, add_all, bind-none, by_index, by_long, found_is, guard, option_used, rule, rules, settle}
 use Rattle.command_words.proofs.Steps.{after_reading, after_word, held, name_step}
 use Rattle.command_words.proofs.Letters.{first_letter, more_letters}
 use Rattle.command_words.proofs.Turns.{at, ending, idle_turn, option_turn, parts, shape, then_rest, trailed}

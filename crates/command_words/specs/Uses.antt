@@ -7,7 +7,7 @@
 -- (POSIX.1-2017, Base Definitions, 12.2, "Utility Syntax Guidelines", and the manual of GNU getopt_long, in
 -- the form that clap 4 gives them.)
 -- To try it on: `-qc=a.conf --lanes 2` uses q, c with `a.conf` and lanes with `2`; `-c -q` is refused.
-use Rattle.std.specs.Prelude.{ℕ, ◌&&◌, ◌||◌, Bool, true, false, not, List, [], ◌∷◌, ◌++◌, Option, Some, None, find, is_some, codes, chars, encode_utf8_all, if◌then◌else◌, option_map}
+use Rattle.std.specs.Prelude.{ℕ, ◌&&◌, Bool, not, List, [], ◌∷◌, ◌++◌, Option, Some, None, find, is_some, codes, chars, encode_utf8_all, if◌then◌else◌, option_map}
 use Rattle.std.specs.List.{list_any}
 use Rattle.std.specs.Str.{bytes_eq}
 use Rattle.clap.specs.Lexer.{long_of, short_of}

@@ -1,4 +1,4 @@
-use Rattle.std.proofs.Common.{◌≡◌, ◌∙◌, ap, map, List, Option}
+use Rattle.std.proofs.Common.{◌∙◌, ap, map, List, Option}
 use Rattle.std.specs.Prelude.{string_bytes}
 use Rattle.clap.specs.Walk.{Row}
 use Rattle.edge_io.specs.OnOption.{◌>>=◌}
