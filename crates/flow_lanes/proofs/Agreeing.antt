@@ -1,0 +1,45 @@
+-- There is one list of the rules that match an item, and one answer to a job: whichever test tells which
+-- rules match.
+use Rattle.std.proofs.Common.{◌≡◌, ℕ, ◌+◌, Bool, true, false, cond, List, [], ◌∷◌, Option, refl, sym, ap, ◌∙◌, inl, inr}
+use Rattle.std.proofs.lemmas.Bool.{false≢true}
+use Rattle.rule_parser.specs.declared.rule.Rule.{Rule}
+use Rattle.option_eval.specs.Places.{Means}
+use Rattle.flow_lanes.specs.Hits.{AreMatches, Bits, Item, Tells, Test, bits_after, bits_seen, places_from}
+
+-- there is at most one list of all rules that match
+pub AreMatches-unique : (means : Means) (item : Item) (place : ℕ) (rules : List Rule) (bits : Option Bits) (xs ys : List ℕ)
+    → AreMatches means item place rules bits xs → AreMatches means item place rules bits ys → xs ≡ ys
+AreMatches-unique means item place [] bits xs ys of_xs of_ys = of_xs ∙ sym of_ys
+AreMatches-unique means item place (rule ∷ rules) bits xs ys (inl p) (inl q) =
+    p.1.1 ∙ ap (λ later. place ∷ later) (AreMatches-unique means item (place + 1) rules (bits_after bits rule) p.1.0 q.1.0 p.1.2 q.1.2) ∙ sym q.1.1
+AreMatches-unique means item place (rule ∷ rules) bits xs ys (inl p) (inr q) = absurd (q.0 p.0)
+AreMatches-unique means item place (rule ∷ rules) bits xs ys (inr p) (inl q) = absurd (p.0 q.0)
+AreMatches-unique means item place (rule ∷ rules) bits xs ys (inr p) (inr q) = AreMatches-unique means item (place + 1) rules bits xs ys p.1 q.1
+
+-- a test that tells which rules match finds that list
+pub places_from-are : (means : Means) (test : Test) → Tells means test → (item : Item) (place : ℕ) (rules : List Rule) (bits : Option Bits)
+    → AreMatches means item place rules bits (places_from test item place rules bits)
+unfolding places_from
+places_from-are means test tells item place [] bits = refl
+places_from-are means test tells item place (rule ∷ rules) bits =
+    by_case (test rule item (bits_seen bits)) refl (places_from-are means test tells item (place + 1) rules (bits_after bits rule)) (places_from-are means test tells item (place + 1) rules bits)
+  where
+    by_case : (b : Bool) → test rule item (bits_seen bits) ≡ b
+        → AreMatches means item (place + 1) rules (bits_after bits rule) (places_from test item (place + 1) rules (bits_after bits rule))
+        → AreMatches means item (place + 1) rules bits (places_from test item (place + 1) rules bits)
+        → AreMatches means item place (rule ∷ rules) bits (cond b (place ∷ places_from test item (place + 1) rules (bits_after bits rule)) (places_from test item (place + 1) rules bits))
+    by_case true is matched missed = inl ((tells rule item (bits_seen bits)).0 is, (places_from test item (place + 1) rules (bits_after bits rule), refl, matched))
+    by_case false is matched missed = inr ((λ matches. false≢true (sym is ∙ (tells rule item (bits_seen bits)).1 matches)), missed)
+
+-- two truths of one fact are one
+agree : (a b : Bool) → (a ≡ true → b ≡ true) → (b ≡ true → a ≡ true) → a ≡ b
+agree true b there back = sym (there refl)
+agree false true there back = absurd (false≢true (back refl))
+agree false false there back = refl
+
+-- two tests that tell which rules match are one
+pub Tells-unique : (means : Means) (s t : Test) → Tells means s → Tells means t → s ≡ t
+Tells-unique means s t of_s of_t =
+    λ i rule item bits. agree (s rule item bits) (t rule item bits)
+        (λ is. (of_t rule item bits).1 ((of_s rule item bits).0 is))
+        (λ is. (of_s rule item bits).1 ((of_t rule item bits).0 is)) i

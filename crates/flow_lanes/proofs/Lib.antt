@@ -1,0 +1,7 @@
+pub mod Agreeing
+pub mod Candidates
+pub mod Deciding
+pub mod Picking
+pub mod Telling
+pub mod Trying
+pub mod Ways
