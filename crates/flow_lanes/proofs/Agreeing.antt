@@ -41,5 +41,5 @@ agree false false there back = refl
 pub Tells-unique : (means : Means) (s t : Test) → Tells means s → Tells means t → s ≡ t
 Tells-unique means s t of_s of_t =
     λ i rule item bits. agree (s rule item bits) (t rule item bits)
-        (λ is. (of_t rule item bits).1 ((of_s rule item bits).0 is))
-        (λ is. (of_s rule item bits).1 ((of_t rule item bits).0 is)) i
+    (λ is. (of_t rule item bits).1 ((of_s rule item bits).0 is))
+    (λ is. (of_s rule item bits).1 ((of_t rule item bits).0 is)) i

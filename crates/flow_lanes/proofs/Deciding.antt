@@ -78,11 +78,14 @@ decided_below P each (suc n) =
     there : P n ⊎ ((k : ℕ) × (k < n) × P k) → (k : ℕ) × (k < suc n) × P k
     there (inl here) = (n, omega arith, here)
     there (inr h) = let below = h.1 in (h.0, omega arith, h.2)
+
     at_cases : (k : ℕ) → k < suc n → P k → (k ≡ n) ⊎ (k < n) → P n ⊎ ((k : ℕ) × (k < n) × P k)
     at_cases k below here (inl is) = inl (subst P is here)
     at_cases k below here (inr under) = inr (k, under, here)
+
     order : (k : ℕ) → k < suc n → (k ≡ n) ⊎ (k < n)
     order k below = ⊎_elim (λ (under : k < n). inr under) (λ (over : n ≤ k). let is : k ≡ n = omega arith in inl is) (cases_lt k n)
+
     back : (k : ℕ) × (k < suc n) × P k → P n ⊎ ((k : ℕ) × (k < n) × P k)
     back h = at_cases h.0 h.1 h.2 (order h.0 h.1)
 
@@ -108,8 +111,10 @@ decided_any {X = X} P each (x ∷ xs) = decided_like there back (decided_either 
     there : P x ⊎ Any P xs → Any P (x ∷ xs)
     there (inl here) = (0, x, omega arith, refl, here)
     there (inr h) = let below = h.2 in (suc h.0, h.1, omega arith, h.3, h.4)
+
     at_place : (k : ℕ) (y : X) → k < suc (length xs) → get_or (x ∷ xs) k y ≡ y → P y → P x ⊎ Any P xs
     at_place zero y below is here = inl (subst P (sym is) here)
     at_place (suc k) y below is here = inr (k, y, omega arith, is, here)
+
     back : Any P (x ∷ xs) → P x ⊎ Any P xs
     back h = at_place h.0 h.1 h.2 h.3 h.4

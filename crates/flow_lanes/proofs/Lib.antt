@@ -1,5 +1,6 @@
 pub mod Agreeing
 pub mod Candidates
+pub mod Changing
 pub mod Deciding
 pub mod Picking
 pub mod Telling

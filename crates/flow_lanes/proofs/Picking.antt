@@ -49,8 +49,10 @@ module _ (test : Test) (all : List Rule) (item : Item) where
     where
       tried : List ℕ
       tried = candidates_from (place + 1) candidate rules
+
       step : Option Rule → List ℕ
       step found = cond (option_map_or (λ (r : Rule). test r item (bits_seen bits)) found false) (place ∷ picked test all item (option_map_or (λ (r : Rule). bits_after bits r) found bits) tried) (picked test all item bits tried)
+
       by_case : (c t : Bool) → slice_get all place ≡ Some rule → (test rule item (bits_seen bits) ≡ true → candidate rule ≡ true)
           → candidate rule ≡ c → test rule item (bits_seen bits) ≡ t
           → places_from test item (place + 1) rules (bits_after bits rule) ≡ picked test all item (bits_after bits rule) tried
@@ -87,6 +89,7 @@ picked-more test rules item bits (x ∷ xs) place =
   where
     behind : Option Bits
     behind = bits_behind_at rules bits x
+
     by_case : (m : Bool)
         → picked test rules item behind (xs ++ place ∷ []) ≡ picked test rules item behind xs ++ cond (matches_at test rules item (bits_after_all rules behind (picked test rules item behind xs)) place) (place ∷ []) []
         → picked test rules item bits (xs ++ place ∷ []) ≡ picked test rules item bits xs ++ cond (matches_at test rules item (bits_after_all rules bits (picked test rules item bits xs)) place) (place ∷ []) []

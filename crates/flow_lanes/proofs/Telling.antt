@@ -30,6 +30,7 @@ decided_listed {B = B} has each parts =
     by_sign : (negated : Bool) (b : B) → Decided (negated ≡ true → ¬ has b)
     by_sign true b = decided_like (λ none is. none) (λ none. none refl) (decided_not (each b))
     by_sign false b = decided_yes (λ is h. false≢true is)
+
     decided_lacks : (part : Part B) → Decided (IsNegated part → ¬ has part.bounds)
     decided_lacks part = by_sign part.negated part.bounds
 
@@ -77,8 +78,9 @@ decided_rule means rule item bits =
     (decided_both (decided_all (λ option. IsTrue (bit_holds bits option)) (λ option. decided_true (bit_holds bits option)) rule.opts) (decided_payload means rule item.payload)))
 
 -- the test of each rule
-abbrev pub test_of : Means → Test
+pub test_of : Means → Test
 test_of means rule item bits = (decided_rule means rule item bits).0
 
 pub test_of-tells : (means : Means) → Tells means (test_of means)
+unfolding test_of
 test_of-tells means rule item bits = (decided_rule means rule item bits).1

@@ -96,10 +96,10 @@ module _ (Q : Standing → Type 0) (each : (s : Standing) → Decided (Q s)) whe
       decided_like
       (λ q. (at_place before (from + span.end), (span, refl, refl), q))
       (λ h.
-          let led = h.1 in
-          let e = led.1 in
-          let same : led.0 ≡ span = cc in
-          subst Q (led.2 ∙ ap (λ (s : Span). at_place before (from + s.end)) same) h.2)
+      let led = h.1 in
+      let e = led.1 in
+      let same : led.0 ≡ span = cc in
+      subst Q (led.2 ∙ ap (λ (s : Span). at_place before (from + s.end)) same) h.2)
       (each (at_place before (from + span.end)))
 
   test_led : (got : Option Fetched) (C : Fetched → Type 0) → ((read : Fetched) → Decided (C read)) → (before : Standing)
@@ -109,10 +109,10 @@ module _ (Q : Standing → Type 0) (each : (s : Standing) → Decided (Q s)) whe
       decided_like
       (λ h. (h.0, (read, refl, h.1.0, h.1.1), h.2))
       (λ h.
-          let led = h.1 in
-          let e = led.1 in
-          let same : led.0 ≡ read = cc in
-          (h.0, (subst C same led.2, led.3), h.2))
+      let led = h.1 in
+      let e = led.1 in
+      let same : led.0 ≡ read = cc in
+      (h.0, (subst C same led.2, led.3), h.2))
       (to_one (C read) before (c read))
 
   extract_led : (got : Option Fetched) (behind : Fetched → Standing)
@@ -122,10 +122,10 @@ module _ (Q : Standing → Type 0) (each : (s : Standing) → Decided (Q s)) whe
       decided_like
       (λ q. (behind read, (read, refl, refl), q))
       (λ h.
-          let led = h.1 in
-          let e = led.1 in
-          let same : led.0 ≡ read = cc in
-          subst Q (led.2 ∙ ap behind same) h.2)
+      let led = h.1 in
+      let e = led.1 in
+      let same : led.0 ≡ read = cc in
+      subst Q (led.2 ∙ ap behind same) h.2)
       (each (behind read))
 
   -- to the place of a whole number, if it lies in the payload
@@ -135,10 +135,10 @@ module _ (Q : Standing → Type 0) (each : (s : Standing) → Decided (Q s)) whe
       decided_like
       (λ h. (record { place = place; values = values }, (refl, h.0, sym is), h.1))
       (λ h.
-          let led = h.1 in
-          let there : pos h.0.place ≡ pos place = led.2 ∙ is in
-          let at : h.0.place ≡ place = cc in
-          (subst (λ (p : ℕ). p ≤ size) at led.1, subst Q (same_standing h.0 place values at led.0) h.2))
+      let led = h.1 in
+      let there : pos h.0.place ≡ pos place = led.2 ∙ is in
+      let at : h.0.place ≡ place = cc in
+      (subst (λ (p : ℕ). p ≤ size) at led.1, subst Q (same_standing h.0 place values at led.0) h.2))
       (decided_both (decided_le place size) (each (record { place = place; values = values })))
   jump_to target (negsuc below) size values is =
       decided_no (λ h. let there : pos h.0.place ≡ negsuc below = h.1.2 ∙ is in cc)
@@ -150,10 +150,10 @@ module _ (Q : Standing → Type 0) (each : (s : Standing) → Decided (Q s)) whe
       decided_like
       (λ h. (h.0, (read, refl, h.1.0, h.1.1, h.1.2), h.2))
       (λ h.
-          let led = h.1 in
-          let e = led.1 in
-          let same : led.0 ≡ read = cc in
-          (h.0, (led.2, led.3, led.4 ∙ ap target same), h.2))
+      let led = h.1 in
+      let e = led.1 in
+      let same : led.0 ≡ read = cc in
+      (h.0, (led.2, led.3, led.4 ∙ ap target same), h.2))
       (jump_to (target read) (target read) size values refl)
 
   stays_led : (before : Standing) → Decided ((after : Standing) × (after ≡ before) × Q after)
@@ -184,6 +184,7 @@ decided_from means payload (option ∷ options) before =
   where
     there : (after : Standing) × Leads means payload option before after × MatchesFrom means payload options after → MatchesFrom means payload (option ∷ options) before
     there h = (h.0 ∷ h.2.0, (h.1, h.2.1))
+
     back : (way : List Standing) → IsWay means payload (option ∷ options) before way → (after : Standing) × Leads means payload option before after × MatchesFrom means payload options after
     back [] h = absurd h
     back (after ∷ later) h = (after, h.0, (later, h.1))

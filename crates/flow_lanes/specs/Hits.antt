@@ -62,7 +62,7 @@ abbrev pub AreMatches : Means → Item → ℕ → List Rule → Option Bits →
 AreMatches means item place [] bits places = places ≡ []
 AreMatches means item place (rule ∷ rules) bits places =
     (RuleMatches means rule item (bits_seen bits)
-        × ((later : List ℕ) × (places ≡ place ∷ later) × AreMatches means item (place + 1) rules (bits_after bits rule) later))
+    × ((later : List ℕ) × (places ≡ place ∷ later) × AreMatches means item (place + 1) rules (bits_after bits rule) later))
     ⊎ ((¬ RuleMatches means rule item (bits_seen bits)) × AreMatches means item (place + 1) rules bits places)
 
 -- these are the places of all rules that match an item of these bits

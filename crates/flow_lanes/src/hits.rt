@@ -2,6 +2,7 @@
 
 ghost use Rattle.std.specs.Prelude.{◌≡◌, ℕ, ◌<◌, List, Option, fold, length, All, IfOk, OnOk};
 ghost use Rattle.std.specs.FinSet.{empty};
+ghost use Rattle.rule_parser.specs.Sound.{IsTriable};
 ghost use Rattle.fast_pattern.specs.Candidates.{candidates};
 ghost use Rattle.fast_pattern.specs.Grouping.{StandFor};
 ghost use Rattle.option_eval.specs.Places.{Means};
@@ -132,7 +133,7 @@ pub fn matching_rules<P: Pattern>(
     bits: &mut Option<Bits>,
 ) -> Result<Found, NoMemory>
     requires groups { StandFor groups.now set.now.rules }
-    requires known { All ChangesKnownBits set.now.rules }
+    requires triable { All IsTriable set.now.rules }
     ensures hits { (means : Means) → FindWhatIsMeant P.finds means set.now
         → IfOk result (λ found. AreHits means set.now.rules (record { head = head.now; payload = payload.now })
         bits.old found.rules) }

@@ -1,0 +1,20 @@
+-- A sound rule changes no bits but those that a session has.
+use Rattle.std.proofs.Common.{ℕ, List, [], ◌∷◌}
+use Rattle.std.specs.Prelude.{All}
+use Rattle.std.proofs.lemmas.List.Elements.{All-cons, All-nil, All-weaker}
+use Rattle.rule_parser.specs.declared.option.Opt.{Opt}
+use Rattle.rule_parser.specs.declared.option.Opt.TheVariants as opt
+use Rattle.rule_parser.specs.declared.rule.Rule.{Rule}
+use Rattle.rule_parser.specs.Sound.{AreOptions, IsOption, IsTriable, names_behind}
+use Rattle.flow_lanes.specs.Picking.{ChangesKnownBits, IsKnownChange}
+
+known_change : (names : List ℕ) (option : Opt) → IsOption names option → IsKnownChange option
+known_change names (opt.BitDo change bit) h = h
+known_change names _ h = tt
+
+known_changes : (names : List ℕ) (options : List Opt) → AreOptions names options → All IsKnownChange options
+known_changes names [] h = All-nil IsKnownChange
+known_changes names (option ∷ options) h = All-cons IsKnownChange option options (known_change names option h.0) (known_changes (names_behind names option) options h.1)
+
+pub all_known : (rules : List Rule) → All IsTriable rules → All ChangesKnownBits rules
+all_known rules h = All-weaker IsTriable ChangesKnownBits (λ rule triable. known_changes [] rule.opts triable.options) rules h
