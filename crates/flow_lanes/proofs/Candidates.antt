@@ -1,5 +1,5 @@
 -- A rule that matches an item is a candidate for it: so no other rule needs to be tried.
-use Rattle.std.proofs.Common.{◌≡◌, ℕ, zero, suc, ◌+◌, ◌⊎◌, ⊎_elim, inl, inr, Bool, true, false, ◌&&◌, ◌||◌, List, [], ◌∷◌, Option, Some, None, MatchBool, refl, subst, slice_get}
+use Rattle.std.proofs.Common.{◌≡◌, ℕ, zero, suc, ◌⊎◌, ⊎_elim, inl, inr, Bool, true, false, ◌&&◌, List, [], ◌∷◌, Some, refl, subst, slice_get}
 use Rattle.std.proofs.lemmas.Bool.{false≢true, MatchBool-at_false, and_from, or_left, or_right}
 use Rattle.memchr.specs.Find.{OccursAt}
 use Rattle.edge_io.specs.Matching.{folded}
@@ -17,8 +17,8 @@ use Rattle.rule_parser.specs.declared.rule.Proto.TheVariants as proto
 use Rattle.rule_parser.specs.declared.rule.Rule.{Rule}
 use Rattle.header_eval.specs.Fields.{HeaderHolds, IsWay, PortHolds, destination_port, is_of, source_port}
 use Rattle.option_eval.specs.Numbers.{Standing}
-use Rattle.option_eval.specs.Places.{IsWay as IsWayThrough, Leads, Means, StandsAt, at_place, is_only, sought, start}
-use Rattle.fast_pattern.specs.Candidates.{ContentsOccur, fits, has_port, header_fits, is_candidate, occurs_if_any, ports_fit}
+use Rattle.option_eval.specs.Places.{IsWay as IsWayThrough, Leads, Means, sought, start}
+use Rattle.fast_pattern.specs.Candidates.{fits, has_port, header_fits, is_candidate, occurs_if_any, ports_fit}
 use Rattle.fast_pattern.specs.FastPattern.{pattern_of}
 use Rattle.fast_pattern.proofs.Needing.{needs-pattern}
 use Rattle.fast_pattern.proofs.Ports.{has_port-from}

@@ -1,6 +1,5 @@
 -- It is decided whether a rule matches an item, so a test says which rules match.
-use Rattle.std.proofs.Common.{◌≡◌, ℕ, ◌≤◌, ◌⊎◌, Bool, true, false, List, length, Option, Some, None, refl, IsTrue}
-use Rattle.std.specs.Prelude.{All, Any}
+use Rattle.std.proofs.Common.{◌≡◌, ℕ, Bool, true, false, List, length, Option, Some, None, refl, IsTrue}
 use Rattle.std.proofs.lemmas.Bool.{false≢true}
 use Rattle.edge_io.specs.declared.address.Addr.{Addr}
 use Rattle.edge_io.specs.declared.address.Addr.TheVariants as addr
@@ -16,7 +15,7 @@ use Rattle.rule_parser.specs.declared.rule.Rule.{Rule}
 use Rattle.header_eval.specs.Fields.{HasPort, HeaderHolds, IsEnd, IsWay, PortHolds, destination_port, field_holds, is_of, source_port}
 use Rattle.option_eval.specs.Places.{Means}
 use Rattle.flow_lanes.specs.Hits.{Bits, Item, RuleMatches, Tells, Test, bit_holds}
-use Rattle.flow_lanes.proofs.Deciding.{Decided, decided_yes, decided_no, decided_like, decided_both, decided_either, decided_not, decided_true, decided_false, decided_le, decided_if, decided_all, decided_any}
+use Rattle.flow_lanes.proofs.Deciding.{Decided, decided_yes, decided_no, decided_like, decided_both, decided_either, decided_not, decided_true, decided_false, decided_le, decided_all, decided_any}
 use Rattle.flow_lanes.proofs.Ways.{decided_payload}
 
 decided_listed : {B : Type 0} (has : B → Type 0) → ((b : B) → Decided (has b)) → (parts : List (Part B)) → Decided (IsListed has parts)

@@ -1,11 +1,10 @@
 -- It is decided whether some way leads through a rule's options: from a standing an option leads to few.
-use Rattle.std.proofs.Common.{◌≡◌, ◌≢◌, ℕ, suc, ◌+◌, ◌*◌, ◌<◌, ◌≤◌, ℤ, pos, negsuc, ◌+ℤ◌, ◌<ℤ◌, ◌≤ℤ◌, Bool, true, false, cond, List, [], ◌∷◌, length, drop, Option, Some, None, refl, sym, ap, subst, ◌∙◌, arith, MatchBool, IfSome, bit_and, slice_index, slice_set}
+use Rattle.std.proofs.Common.{◌≡◌, ℕ, suc, ◌+◌, ◌*◌, ◌<◌, ◌≤◌, ℤ, pos, negsuc, ◌+ℤ◌, ◌<ℤ◌, ◌≤ℤ◌, Bool, true, false, cond, List, [], ◌∷◌, length, drop, Option, Some, None, refl, sym, ap, subst, ◌∙◌, arith, MatchBool, bit_and, slice_index, slice_set}
 use Rattle.memchr.specs.Find.{OccursAt}
 use Rattle.edge_io.specs.declared.pattern.Span.{Span}
 use Rattle.edge_io.specs.Matching.{folded}
 use Rattle.rule_parser.specs.declared.option.Cmp.{Cmp}
 use Rattle.rule_parser.specs.declared.option.Cmp.TheVariants as cmp
-use Rattle.rule_parser.specs.declared.option.Content.{Content}
 use Rattle.rule_parser.specs.declared.option.Opt.{Opt}
 use Rattle.rule_parser.specs.declared.option.Opt.TheVariants as opt
 use Rattle.rule_parser.specs.declared.rule.Rule.{Rule}
