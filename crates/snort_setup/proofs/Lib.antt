@@ -1,0 +1,8 @@
+pub mod Told
+pub mod Numbered
+pub mod Judging
+pub mod Stepping
+pub mod Standing
+pub mod One
+pub mod Wholes
+pub mod Configuring

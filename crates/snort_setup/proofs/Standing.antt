@@ -1,0 +1,261 @@
+-- The rule lines that were read, and those that are left: what the lines before lead to, with the lines whose
+-- patterns were refused.
+use Rattle.std.proofs.Common.{◌≡◌, ℕ, zero, suc, ◌+◌, ◌<◌, ◌≤◌, ◌==◌, Bool, true, false, cond, ◌||◌, Option, Some, None, Result, Ok, Err, List, [], ◌∷◌, ◌++◌, length, drop, refl, sym, ap, subst, ◌∙◌, append_assoc, arith, eqb, add-one, length-append, append-nil}
+use Rattle.std.specs.Prelude.{All, Contains, is_some}
+use Rattle.std.specs.List.{list_any, slice_get}
+use Rattle.std.specs.Bool.{OnTrue}
+use Rattle.std.specs.Result.{MatchResult}
+use Rattle.std.proofs.Math.Seq.{drop-append_seam}
+use Rattle.std.proofs.lemmas.Bool.{false≢true, ltb-true, ltb-false}
+use Rattle.std.proofs.lemmas.Bool.Decides.{nat_tests}
+use Rattle.std.proofs.lemmas.List.Elements.{All-nil, All-cons, All-push, All-append, All-weaker, All-head, All-tail, Contains-append_left, Contains-append_right, Contains-push}
+use Rattle.std.proofs.lemmas.List.Folds.{list_any-append, list_any_none}
+use Rattle.edge_io.specs.declared.pattern.Refusal.{Refusal}
+use Rattle.conf_parser.specs.declared.line.Line.{Line}
+use Rattle.option_eval.specs.RuleSet.{RefusesText, RefusesOneOf}
+use Rattle.rule_parser.specs.declared.option.Opt.{Opt}
+use Rattle.rule_parser.specs.declared.option.Opt.TheVariants as opt
+use Rattle.rule_parser.specs.declared.rule.Rule.{Rule}
+use Rattle.snort_setup.specs.Rules.{Frame, Standing, Verdict, RulesEnd, end_at, nothing_stands, is_among, IsRule, LineGives, RulesGive, behind_line}
+use Rattle.snort_setup.specs.Answers.{IsPattern, HasPatternOf, IsRefusedLine, AreRefused}
+use Rattle.snort_setup.specs.Steps.{refused_one, grown_by, Grows}
+use Rattle.snort_setup.specs.Lines.{AsksOf, IsStep, StepGives, RulesAnswer}
+
+-- ---- the lines so far
+
+pub record SoFar (frame : Frame) (lines : List Line) (warnings : List (List ℕ)) (standing : Standing) (rest : List Line) (grown : List Refusal) : Type 0 where
+  pub place : ℕ
+  pub refused : List ℕ
+  pub below : All (λ p. p < place) refused
+  pub left : drop place lines ≡ rest
+  pub goes : (later : List ℕ) → All (λ p. place ≤ p) later → (end : RulesEnd)
+      → RulesGive frame (refused ++ later) place standing rest end → RulesGive frame (refused ++ later) 0 (nothing_stands warnings) lines end
+  pub are_refused : AreRefused frame lines refused grown
+
+-- no line
+pub sofar-none : (frame : Frame) (lines : List Line) (warnings : List (List ℕ)) (standing : Standing) (grown : List Refusal) → standing ≡ nothing_stands warnings
+    → SoFar frame lines warnings standing lines grown
+sofar-none frame lines warnings standing grown same = record {
+  place = 0;
+  refused = [];
+  below = All-nil (λ p. p < 0);
+  left = refl;
+  goes = λ later above end given. subst (λ s. RulesGive frame later 0 s lines end) same given;
+  are_refused = record { asked = All-nil (IsRefusedLine frame lines grown); few = omega arith };
+}
+
+-- ---- the refused places
+
+-- none of these is the place
+not-below : (place : ℕ) (refused : List ℕ) → All (λ p. p < place) refused → is_among refused place ≡ false
+not-below place refused below = list_any_none (λ p. eqb p place) refused (All-weaker (λ p. p < place) (λ p. eqb p place ≡ false) (λ p h. grind (arith, nat_tests)) refused below)
+
+not-above : (place : ℕ) (later : List ℕ) → All (λ p. place + 1 ≤ p) later → is_among later place ≡ false
+not-above place later above = list_any_none (λ p. eqb p place) later (All-weaker (λ p. place + 1 ≤ p) (λ p. eqb p place ≡ false) (λ p h. grind (arith, nat_tests)) later above)
+
+-- among none of the two
+pub among-no : (place : ℕ) (refused later : List ℕ) → All (λ p. p < place) refused → All (λ p. place + 1 ≤ p) later → is_among (refused ++ later) place ≡ false
+among-no place refused later below above =
+    list_any-append (λ p. eqb p place) refused later ∙ ap (λ b. b || is_among later place) (not-below place refused below) ∙ not-above place later above
+
+or-true : (b : Bool) → (b || true) ≡ true
+or-true true = refl
+or-true false = refl
+
+or-front : (b c : Bool) → b ≡ true → (b || c) ≡ true
+or-front b c is = ap (λ x. x || c) is
+
+-- among the two and itself
+pub among-yes : (place : ℕ) (refused later : List ℕ) → is_among (refused ++ place ∷ later) place ≡ true
+among-yes place refused later =
+    let here : (eqb place place || is_among later place) ≡ true = or-front (eqb place place) (is_among later place) (grind (arith, nat_tests)) in
+    list_any-append (λ p. eqb p place) refused (place ∷ later) ∙ ap (λ b. is_among refused place || b) here ∙ or-true (is_among refused place)
+
+-- ---- the line at a place
+
+pub at-place : {X : Type 0} (place : ℕ) (lines : List X) (line : X) (rest : List X) → drop place lines ≡ line ∷ rest → (slice_get lines place ≡ Some line) × (drop (place + 1) lines ≡ rest)
+at-place {X} zero [] line rest left = let never : [] ≡ line ∷ rest = left in cc
+at-place {X} zero (x ∷ xs) line rest left = let same : x ∷ xs ≡ line ∷ rest = left in (cc, cc)
+at-place {X} (suc n) [] line rest left = let never : [] ≡ line ∷ rest = left in cc
+at-place {X} (suc n) (x ∷ xs) line rest left = let (at, behind) = at-place n xs line rest left in (at, rw add-one (rw add-one at behind))
+
+-- ---- what the maker refused
+
+-- more refusals serve as well
+more-refused : (frame : Frame) (lines : List Line) (refused : List ℕ) (grown more : List Refusal) → All (IsRefusedLine frame lines grown) refused → All (IsRefusedLine frame lines (grown ++ more)) refused
+more-refused frame lines refused grown more asked =
+    All-weaker (IsRefusedLine frame lines grown) (IsRefusedLine frame lines (grown ++ more))
+    (λ place (line, names, rule, later, at, is, (refusal, option, among, has, asks)). (line, names, rule, later, at, is, (refusal, option, Contains-append_left grown more refusal among, has, asks)))
+    refused asked
+
+-- the maker refused one more
+abbrev pub AsksIn : Frame → List (List ℕ) → List ℕ → List Refusal → Type 0
+AsksIn frame names text more = (rule : Rule) × (later : List (List ℕ)) × IsRule frame names text rule later × HasPatternOf more rule
+
+pattern-in : (option : Opt) (old new : List Refusal) → RefusesText option old new → (refusal : Refusal) × (new ≡ old ++ refusal ∷ []) × IsPattern refusal option
+pattern-in (opt.Pcre text flags relative negated) old new refused = (record { text = text; flags = flags }, refused, refl)
+pattern-in (opt.Content content) old new refused = absurd refused
+pattern-in (opt.ByteTest fetch not cmp value) old new refused = absurd refused
+pattern-in _ old new refused = absurd refused
+
+grown-one : (old new : List Refusal) (refusal : Refusal) → new ≡ old ++ refusal ∷ [] → grown_by old new ≡ refusal ∷ []
+grown-one old new refusal same = ap (drop (length old)) same ∙ drop-append_seam old (refusal ∷ [])
+
+asks-in : (frame : Frame) (names : List (List ℕ)) (text : List ℕ) (old new : List Refusal) → AsksOf frame names text old new → refused_one old new ≡ true → AsksIn frame names text (grown_by old new)
+asks-in frame names text old new asks one =
+    let (rule, later, is, (option, has, refuses)) = subst (λ b. OnTrue b ((rule : Rule) × (later : List (List ℕ)) × IsRule frame names text rule later × RefusesOneOf rule.opts old new)) one asks in
+    let (refusal, grew, asked) = pattern-in option old new refuses in
+    (rule, later, is, (refusal, option, subst (λ xs. Contains xs refusal) (sym (grown-one old new refusal grew)) (Contains-push [] refusal), has, asked))
+
+-- and so there is one more
+asks-length : (frame : Frame) (names : List (List ℕ)) (text : List ℕ) (old new : List Refusal) → Grows old new → refused_one old new ≡ true → 1 ≤ length (grown_by old new)
+asks-length frame names text old new grew one = omega (arith, ltb-true (length old) (length new) one, ap length grew, length-append old (grown_by old new))
+
+pub grown-grown : (first old new : List Refusal) → Grows first old → Grows old new → grown_by first new ≡ grown_by first old ++ grown_by old new
+grown-grown first old new a b =
+    ap (drop (length first)) (b ∙ ap (λ xs. xs ++ grown_by old new) a ∙ append_assoc first (grown_by first old) (grown_by old new))
+    ∙ drop-append_seam first (grown_by first old ++ grown_by old new)
+
+pub grows-grows : (first old new : List Refusal) → Grows first old → Grows old new → Grows first new
+grows-grows first old new a b =
+    b ∙ ap (λ xs. xs ++ grown_by old new) a ∙ append_assoc first (grown_by first old) (grown_by old new) ∙ ap (λ xs. first ++ xs) (sym (grown-grown first old new a b))
+
+-- ---- one line
+
+go-on : (before : Standing) (r : Result Standing (List ℕ)) (behind : Standing) (P : Standing → Type 0) (Q : List ℕ → Type 0) → IsStep before r behind None → P behind → MatchResult r P Q
+go-on before (Ok next) behind P Q (same, none) p = subst P same p
+go-on before (Err message) behind P Q (rules, warnings, some) p = let never : None ≡ Some message = some in cc
+
+stop-at : (before : Standing) (r : Result Standing (List ℕ)) (behind : Standing) (message : List ℕ) (P : Standing → Type 0) → IsStep before r behind (Some message)
+    → MatchResult r P (λ error. end_at behind (Some message) ≡ end_at before (Some error))
+stop-at before (Ok next) behind message P (same, some) = let never : Some message ≡ None = some in cc
+stop-at before (Err error) behind message P (rules, warnings, some) = cc
+
+given-on : (frame : Frame) (all : List ℕ) (place : ℕ) (b : Bool) (before behind : Standing) (line : Line) (rest : List Line) (end : RulesEnd) → is_among all place ≡ b
+    → StepGives frame line before b behind None → RulesGive frame all (place + 1) behind rest end → RulesGive frame all place before (line ∷ rest) end
+unfolding RulesGive
+given-on frame all place b before behind line rest end same (verdict, gives, step) given =
+    (verdict, subst (λ c. LineGives frame before c line.text verdict) (sym same) gives, go-on before (behind_line frame line before verdict) behind (λ next. RulesGive frame all (place + 1) next rest end) _ step given)
+
+given-stop : (frame : Frame) (all : List ℕ) (place : ℕ) (b : Bool) (before behind : Standing) (line : Line) (rest : List Line) (message : List ℕ) → is_among all place ≡ b
+    → StepGives frame line before b behind (Some message) → RulesGive frame all place before (line ∷ rest) (end_at behind (Some message))
+unfolding RulesGive
+given-stop frame all place b before behind line rest message same (verdict, gives, step) =
+    (verdict, subst (λ c. LineGives frame before c line.text verdict) (sym same) gives, stop-at before (behind_line frame line before verdict) behind message _ step)
+
+given-none : (frame : Frame) (all : List ℕ) (place : ℕ) (standing : Standing) → RulesGive frame all place standing [] (end_at standing None)
+unfolding RulesGive
+given-none frame all place standing = refl
+
+-- ---- the lines so far and one more
+
+module _ (frame : Frame) (lines : List Line) (warnings : List (List ℕ)) (first old new : List Refusal) (before behind : Standing) (line : Line) (rest : List Line) (grew_before : Grows first old) (grew : Grows old new)
+         (so : SoFar frame lines warnings before (line ∷ rest) (grown_by first old)) (asks : AsksOf frame before.names line.text old new) where
+  at : (slice_get lines so.place ≡ Some line) × (drop (so.place + 1) lines ≡ rest)
+  at = at-place so.place lines line rest so.left
+
+  higher : (later : List ℕ) → All (λ p. so.place + 1 ≤ p) later → All (λ p. so.place ≤ p) later
+  higher later above = All-weaker (λ p. so.place + 1 ≤ p) (λ p. so.place ≤ p) (λ p h. omega arith) later above
+
+  lower : All (λ p. p < so.place + 1) so.refused
+  lower = All-weaker (λ p. p < so.place) (λ p. p < so.place + 1) (λ p h. omega arith) so.refused so.below
+
+  same-all : (later : List ℕ) → (so.refused ++ so.place ∷ []) ++ later ≡ so.refused ++ so.place ∷ later
+  same-all later = append_assoc so.refused (so.place ∷ []) later
+
+  -- where the maker refused nothing, the refused lines stay; where it did, this line is one
+  kept : AreRefused frame lines so.refused (grown_by first new)
+  kept = record {
+    asked = subst (λ g. All (IsRefusedLine frame lines g) so.refused) (sym (grown-grown first old new grew_before grew)) (more-refused frame lines so.refused (grown_by first old) (grown_by old new) so.are_refused.asked);
+    few = omega (arith, so.are_refused.few, ap length (grown-grown first old new grew_before grew), length-append (grown_by first old) (grown_by old new));
+  }
+
+  one-more : refused_one old new ≡ true → AreRefused frame lines (so.refused ++ so.place ∷ []) (grown_by first new)
+  one-more one =
+      let (rule, later, is, (refusal, option, among, has, asked)) = asks-in frame before.names line.text old new asks one in
+      let there : IsRefusedLine frame lines (grown_by first old ++ grown_by old new) so.place =
+      (line, before.names, rule, later, at.0, is, (refusal, option, Contains-append_right (grown_by first old) (grown_by old new) refusal among, has, asked)) in
+      record {
+        asked = All-push (IsRefusedLine frame lines (grown_by first new)) so.refused so.place kept.asked (subst (λ g. IsRefusedLine frame lines g so.place) (sym (grown-grown first old new grew_before grew)) there);
+        few = omega (arith, so.are_refused.few, ap length (grown-grown first old new grew_before grew), length-append (grown_by first old) (grown_by old new), length-append so.refused (so.place ∷ []), asks-length frame before.names line.text old new grew one);
+      }
+
+  onward-no : refused_one old new ≡ false → StepGives frame line before false behind None → SoFar frame lines warnings behind rest (grown_by first new)
+  onward-no none step = record {
+    place = so.place + 1;
+    refused = so.refused;
+    below = lower;
+    left = at.1;
+    goes = λ later above end given. so.goes later (higher later above) end
+        (given-on frame (so.refused ++ later) so.place false before behind line rest end (among-no so.place so.refused later so.below above) step given);
+    are_refused = kept;
+  }
+
+  onward-yes : refused_one old new ≡ true → StepGives frame line before true behind None → SoFar frame lines warnings behind rest (grown_by first new)
+  onward-yes some step = record {
+    place = so.place + 1;
+    refused = so.refused ++ so.place ∷ [];
+    below = All-push (λ p. p < so.place + 1) so.refused so.place lower (omega arith);
+    left = at.1;
+    goes = λ later above end given.
+        let whole : RulesGive frame (so.refused ++ so.place ∷ later) (so.place + 1) behind rest end = subst (λ all. RulesGive frame all (so.place + 1) behind rest end) (same-all later) given in
+        let on = given-on frame (so.refused ++ so.place ∷ later) so.place true before behind line rest end (among-yes so.place so.refused later) step whole in
+        let from = so.goes (so.place ∷ later) (All-cons (λ p. so.place ≤ p) so.place later (omega arith) (higher later above)) end on in
+        subst (λ all. RulesGive frame all 0 (nothing_stands warnings) lines end) (sym (same-all later)) from;
+    are_refused = one-more some;
+  }
+
+  pub onward : StepGives frame line before (refused_one old new) behind None → SoFar frame lines warnings behind rest (grown_by first new)
+  onward step = go (refused_one old new) refl step where
+    go : (b : Bool) → refused_one old new ≡ b → StepGives frame line before b behind None → SoFar frame lines warnings behind rest (grown_by first new)
+    go false is s = onward-no is s
+    go true is s = onward-yes is s
+
+  stopped-no : (message : List ℕ) → refused_one old new ≡ false → StepGives frame line before false behind (Some message) → RulesAnswer frame lines warnings (grown_by first new) (end_at behind (Some message))
+  stopped-no message none step = record {
+    refused = so.refused;
+    are_refused = kept;
+    gives =
+        let all = so.refused ++ [] in
+        let last = given-stop frame all so.place false before behind line rest message (among-no so.place so.refused [] so.below (All-nil (λ p. so.place + 1 ≤ p))) step in
+        let from = so.goes [] (All-nil (λ p. so.place ≤ p)) (end_at behind (Some message)) last in
+        subst (λ all. RulesGive frame all 0 (nothing_stands warnings) lines (end_at behind (Some message))) (append-nil so.refused) from;
+  }
+
+  stopped-yes : (message : List ℕ) → refused_one old new ≡ true → StepGives frame line before true behind (Some message) → RulesAnswer frame lines warnings (grown_by first new) (end_at behind (Some message))
+  stopped-yes message some step = record {
+    refused = so.refused ++ so.place ∷ [];
+    are_refused = one-more some;
+    gives =
+        let last = given-stop frame (so.refused ++ so.place ∷ []) so.place true before behind line rest message (among-yes so.place so.refused []) step in
+        so.goes (so.place ∷ []) (All-cons (λ p. so.place ≤ p) so.place [] (omega arith) (All-nil (λ p. so.place ≤ p))) (end_at behind (Some message)) last;
+  }
+
+  pub stopped : (message : List ℕ) → StepGives frame line before (refused_one old new) behind (Some message) → RulesAnswer frame lines warnings (grown_by first new) (end_at behind (Some message))
+  stopped message step = go (refused_one old new) refl step where
+    go : (b : Bool) → refused_one old new ≡ b → StepGives frame line before b behind (Some message) → RulesAnswer frame lines warnings (grown_by first new) (end_at behind (Some message))
+    go false is s = stopped-no message is s
+    go true is s = stopped-yes message is s
+
+  -- by the error that there is, if there is one
+  pub onward-at : (refusal : Option (List ℕ)) → is_some refusal ≡ false → StepGives frame line before (refused_one old new) behind refusal → SoFar frame lines warnings behind rest (grown_by first new)
+  onward-at None none step = onward step
+  onward-at (Some message) none step = absurd (false≢true (sym none))
+
+  pub stopped-at : (refusal : Option (List ℕ)) → is_some refusal ≡ true → StepGives frame line before (refused_one old new) behind refusal → RulesAnswer frame lines warnings (grown_by first new) (end_at behind refusal)
+  stopped-at None is step = absurd (false≢true is)
+  stopped-at (Some message) is step = stopped message step
+
+-- all lines
+pub finished : (frame : Frame) (lines : List Line) (warnings : List (List ℕ)) (standing : Standing) (grown : List Refusal) → SoFar frame lines warnings standing [] grown → RulesAnswer frame lines warnings grown (end_at standing None)
+finished frame lines warnings standing grown so = record {
+  refused = so.refused;
+  are_refused = so.are_refused;
+  gives = subst (λ all. RulesGive frame all 0 (nothing_stands warnings) lines (end_at standing None)) (append-nil so.refused)
+      (so.goes [] (All-nil (λ p. so.place ≤ p)) (end_at standing None) (given-none frame (so.refused ++ []) so.place standing));
+}
+
+pub finished-at : (frame : Frame) (lines : List Line) (warnings : List (List ℕ)) (standing : Standing) (rest : List Line) (grown : List Refusal) → length rest ≡ 0 → SoFar frame lines warnings standing rest grown
+    → RulesAnswer frame lines warnings grown (end_at standing None)
+finished-at frame lines warnings standing [] grown none so = finished frame lines warnings standing grown so
+finished-at frame lines warnings standing (line ∷ rest) grown none so = absurd (omega arith)

@@ -1,0 +1,7 @@
+use Rattle.snort_setup.proofs.rules.line_end.Goals as goal
+
+pub returns-in-None-clause-asks : goal.returns-in-None-clause-asks
+returns-in-None-clause-asks g c = rw c.bytes.ensures at c.in_ok-progress.ensures.asks
+
+pub returns-in_ok-refused_line-in-Some-clause-asks : goal.returns-in_ok-refused_line-in-Some-clause-asks
+returns-in_ok-refused_line-in-Some-clause-asks g c = rw c.bytes.ensures at c.in_ok-progress.ensures.asks

@@ -1,0 +1,22 @@
+use Rattle.std.proofs.Common.{refl, sym}
+use Rattle.snort_setup.specs.Rules.{Standing}
+use Rattle.snort_setup.specs.Lines.{lines_frame, standing_of}
+use Rattle.snort_setup.specs.Steps.{refused_one}
+use Rattle.snort_setup.proofs.Stepping.{read-judged, read-faulty, sound-judged, not-memory}
+use Rattle.snort_setup.proofs.rules.read_line.Goals as goal
+
+pub returns-in_ok-accepted-in-Ok-clause-read : goal.returns-in_ok-accepted-in-Ok-clause-read
+returns-in_ok-accepted-in-Ok-clause-read g c =
+    let behind : Standing = record { names = c.read_rule.new.bits; rules = c.in_ok-accepted.accepted.rules; warnings = c.args.progress.warnings } in
+    read-judged (lines_frame c.args.lines.now) (standing_of c.args.progress) c.args.text.now (refused_one (g.M.PatternMaker.refusals c.args.maker.now) (g.M.PatternMaker.refusals c.judge.new.maker))
+    c.in-Ok.rule behind c.in_ok-accepted.fault c.in-Ok.ensures.meant refl c.in_ok-accepted.ensures.judged
+
+pub returns-in_ok-accepted-in-Ok-clause-sound : goal.returns-in_ok-accepted-in-Ok-clause-sound
+returns-in_ok-accepted-in-Ok-clause-sound g c = λ all.
+    sound-judged c.args.lines.now.classes.now c.args.progress.accepted.rules c.in_ok-accepted.accepted.rules (refused_one (g.M.PatternMaker.refusals c.args.maker.now) (g.M.PatternMaker.refusals c.judge.new.maker))
+    c.in-Ok.rule c.in_ok-accepted.fault c.in-Ok.ensures.sound all c.in_ok-accepted.ensures.judged
+
+pub returns-else-is_memory-clause-read : goal.returns-else-is_memory-clause-read
+returns-else-is_memory-clause-read g c =
+    read-faulty (lines_frame c.args.lines.now) (standing_of c.args.progress) c.args.text.now (refused_one (g.M.PatternMaker.refusals c.args.maker.now) (g.M.PatternMaker.refusals c.args.maker.now))
+    c.read_rule.new.bits c.in-Err.fault (c.in-Err.ensures.meant, not-memory c.in-Err.fault (sym c.if-is_memory.ensures)) c.in-Err.ensures.refused

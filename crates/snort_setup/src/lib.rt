@@ -1,0 +1,19 @@
+//! The setup of a run: from its words and files to a detector that is ready, or to the first refusal.
+#![tactic(auto)]
+
+mod accepted;
+mod conf;
+mod message;
+mod number;
+mod rules;
+mod setup;
+mod stop;
+mod table;
+#[cfg(test)]
+mod tests;
+mod words;
+
+pub use setup::{Setup, read_setup};
+pub use stop::SetupStop;
+pub use words::SetupWords;
+
