@@ -4,7 +4,6 @@ use Rattle.std.specs.Result.{MatchResult}
 use Rattle.conf_parser.specs.declared.line.Line.{Line}
 use Rattle.conf_parser.specs.Loaded.{loaded_of}
 use Rattle.conf_parser.specs.Reading.{Ended, Whole, Refused as RefusedAt, Asks, told}
-use Rattle.rule_parser.specs.declared.fault.Fault.{Fault}
 use Rattle.rule_parser.specs.declared.fault.RuleFault.{RuleFault}
 use Rattle.rule_parser.specs.declared.fault.RuleKind.TheVariants as kind
 use Rattle.rule_parser.specs.declared.rule.Rule.{Rule}
@@ -15,17 +14,17 @@ use Rattle.snort_setup.specs.Rules.{Frame, Standing, Verdict, RulesEnd, end_at, 
 use Rattle.snort_setup.specs.Setup.{Ruled, Ready, Warned, warned, ruled_by, conf_read, conf_warnings, IsRuledBy, IsRuled, IsSetup, with_table}
 use Rattle.snort_setup.specs.Answers.{HasOneSetup}
 
--- the meanings of a line
-abbrev meant_ok : Rule × List (List ℕ) → Result (Rule × List (List ℕ)) Fault
+-- the meanings of a line, whatever its faults are
+abbrev meant_ok : {F : Type 0} → Rule × List (List ℕ) → Result (Rule × List (List ℕ)) F
 meant_ok rule = Ok rule
 
-abbrev meant_err : Fault → Result (Rule × List (List ℕ)) Fault
+abbrev meant_err : {F : Type 0} → F → Result (Rule × List (List ℕ)) F
 meant_err why = Err why
 
-ok-same : (a b : Rule × List (List ℕ)) → meant_ok a ≡ meant_ok b → a ≡ b
+ok-same : {F : Type 0} (a b : Rule × List (List ℕ)) → meant_ok {F = F} a ≡ meant_ok {F = F} b → a ≡ b
 ok-same a b same = cc
 
-err-ok : (why : Fault) (a : Rule × List (List ℕ)) → meant_err why ≡ meant_ok a → ⊥
+err-ok : {F : Type 0} (why : F) (a : Rule × List (List ℕ)) → meant_err {F = F} why ≡ meant_ok {F = F} a → ⊥
 err-ok why a never = cc
 
 module _ (frame : Frame) (names : List (List ℕ)) (text : List ℕ) where

@@ -7,14 +7,14 @@ use Rattle.snort_setup.proofs.rules.read_line.Goals as goal
 
 pub returns-in_ok-accepted-in-Ok-clause-read : goal.returns-in_ok-accepted-in-Ok-clause-read
 returns-in_ok-accepted-in-Ok-clause-read g c =
-    let behind : Standing = record { names = c.read_rule.new.bits; rules = c.in_ok-accepted.accepted.rules; warnings = c.args.progress.warnings } in
+    let behind : Standing = record { names = c.read_rule.new.bits; rules = c.in_ok-accepted-in-Ok.accepted.rules; warnings = c.args.progress.warnings } in
     read-judged (lines_frame c.args.lines.now) (standing_of c.args.progress) c.args.text.now (refused_one (g.M.PatternMaker.refusals c.args.maker.now) (g.M.PatternMaker.refusals c.judge.new.maker))
-    c.in-Ok.rule behind c.in_ok-accepted.fault c.in-Ok.ensures.meant refl c.in_ok-accepted.ensures.judged
+    c.in-Ok.rule behind c.in_ok-accepted-in-Ok.fault c.in-Ok.ensures.meant refl c.in_ok-accepted-in-Ok.ensures.judged
 
 pub returns-in_ok-accepted-in-Ok-clause-sound : goal.returns-in_ok-accepted-in-Ok-clause-sound
 returns-in_ok-accepted-in-Ok-clause-sound g c = λ all.
-    sound-judged c.args.lines.now.classes.now c.args.progress.accepted.rules c.in_ok-accepted.accepted.rules (refused_one (g.M.PatternMaker.refusals c.args.maker.now) (g.M.PatternMaker.refusals c.judge.new.maker))
-    c.in-Ok.rule c.in_ok-accepted.fault c.in-Ok.ensures.sound all c.in_ok-accepted.ensures.judged
+    sound-judged c.args.lines.now.classes.now c.args.progress.accepted.rules c.in_ok-accepted-in-Ok.accepted.rules (refused_one (g.M.PatternMaker.refusals c.args.maker.now) (g.M.PatternMaker.refusals c.judge.new.maker))
+    c.in-Ok.rule c.in_ok-accepted-in-Ok.fault c.in-Ok.ensures.sound all c.in_ok-accepted-in-Ok.ensures.judged
 
 pub returns-else-is_memory-clause-read : goal.returns-else-is_memory-clause-read
 returns-else-is_memory-clause-read g c =
