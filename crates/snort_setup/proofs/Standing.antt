@@ -150,7 +150,7 @@ given-none frame all place standing = refl
 -- ---- the lines so far and one more
 
 module _ (frame : Frame) (lines : List Line) (warnings : List (List ℕ)) (first old new : List Refusal) (before behind : Standing) (line : Line) (rest : List Line) (grew_before : Grows first old) (grew : Grows old new)
-         (so : SoFar frame lines warnings before (line ∷ rest) (grown_by first old)) (asks : AsksOf frame before.names line.text old new) where
+    (so : SoFar frame lines warnings before (line ∷ rest) (grown_by first old)) (asks : AsksOf frame before.names line.text old new) where
   at : (slice_get lines so.place ≡ Some line) × (drop (so.place + 1) lines ≡ rest)
   at = at-place so.place lines line rest so.left
 

@@ -69,7 +69,7 @@ frame_of skips variables loaded = record { variables = variables; classes = load
 
 -- what the end of the rule lines gives, behind these settings
 abbrev pub ruled : Config → RulesEnd → Result Ruled Halt
-ruled config end = elim end.refusal [ | None ↦ Ok (record { config = config; rules = end.rules }) | Some message ↦ Err (Refused message) ]
+ruled config end = elim end.refusal [ None ↦ Ok (record { config = config; rules = end.rules }) | Some message ↦ Err (Refused message) ]
 
 -- the same with all warnings
 abbrev pub ruled_by : Loaded → RulesEnd → Warned Ruled

@@ -76,7 +76,7 @@ pub(crate) fn read_conf<H: Host>(
     requires { HasName (words_of words.now).definition }
     ensures ends { (files : Files) → H.contents host.old ≡ Some files
         → ConfEnds (words_of words.now) files (Rose (H.faults host.old) (H.faults host.new)) result warnings.new
-            (conf_read (words_of words.now) (told files)) }
+        (conf_read (words_of words.now) (told files)) }
     ensures cause { IfErr result (HasCause (Rose (H.faults host.old) (H.faults host.new)) (H.contents host.old)) }
     ensures sound { IfOk result (λ configured. IsSound configured.loaded.config) }
     ensures same { (H.contents host.new ≡ H.contents host.old)

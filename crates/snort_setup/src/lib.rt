@@ -16,4 +16,3 @@ mod words;
 pub use setup::{Setup, read_setup};
 pub use stop::SetupStop;
 pub use words::SetupWords;
-

@@ -141,11 +141,7 @@ pub(crate) fn file_at(files: &[Text], place: u32) -> &[u8]
 }
 
 /// The refusal of a line of the configuration.
-pub(crate) fn conf_error(
-    alloc: Global,
-    files: &[Text],
-    fault: &ConfFault,
-) -> Result<Text, NoMemory>
+pub(crate) fn conf_error(alloc: Global, files: &[Text], fault: &ConfFault) -> Result<Text, NoMemory>
     ensures { IfOk result (λ text. text ≡ conf_error files.now fault.now) }
 {
     error_line(

@@ -95,7 +95,7 @@ pub fn read_setup<H: Host, M: PatternMaker>(
     // Where the host tells its files, the answer is their setup, and words and files have one.
     ensures setup { (files : Files) → H.contents host.old ≡ Some files
         → SetsUp ready_of (words_of words.now) files (Rose (H.faults host.old) (H.faults host.new))
-            (grown_by (M.refusals maker.old) (M.refusals maker.new)) result warnings.new }
+        (grown_by (M.refusals maker.old) (M.refusals maker.new)) result warnings.new }
     ensures one { HasOneSetup }
     ensures cause { IfErr result (HasCause (Rose (H.faults host.old) (H.faults host.new)) (H.contents host.old)) }
 

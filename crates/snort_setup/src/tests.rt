@@ -174,10 +174,7 @@ fn text_of(bytes: &[u8]) -> Result<&str, Fail> {
 }
 
 /// What a setup answers, in one line.
-fn answer_line(
-    alloc: Global,
-    answer: Result<Setup<Literal>, SetupStop>,
-) -> Result<String, Fail> {
+fn answer_line(alloc: Global, answer: Result<Setup<Literal>, SetupStop>) -> Result<String, Fail> {
     match answer {
         Ok(setup) => {
             let (rules, hosts) = (setup.set.rules().len(), setup.hosts.entries().len());
