@@ -1,8 +1,14 @@
 pub mod Agreeing
+pub mod Batches
 pub mod Candidates
 pub mod Changing
 pub mod Deciding
+pub mod Joined
+pub mod Lanes
+pub mod Orders
 pub mod Picking
+pub mod Runs
+pub mod Short
 pub mod Telling
 pub mod Trying
 pub mod Ways

@@ -79,11 +79,6 @@ Test = Rule → Item → Bits → Bool
 abbrev pub Tells : Means → Test → Type 0
 Tells means test = (rule : Rule) (item : Item) (bits : Bits) → (IsTrue (test rule item bits) ↔ RuleMatches means rule item bits)
 
--- the rules that are tried, and which of them match
-pub record Trying : Type 0 where
-  pub rules : List Rule
-  pub matches : Test
-
 -- the places, from this one on, of the rules that match
 unfoldable pub places_from : Test → Item → ℕ → List Rule → Option Bits → List ℕ
 places_from matches item place [] bits = []
@@ -91,7 +86,3 @@ places_from matches item place (rule ∷ rules) bits =
     if matches rule item (bits_seen bits)
     then place ∷ places_from matches item (place + 1) rules (bits_after bits rule)
     else places_from matches item (place + 1) rules bits
-
--- the places of all rules that match an item
-unfoldable pub matching : Trying → Item → Option Bits → List ℕ
-matching trying item bits = places_from trying.matches item 0 trying.rules bits

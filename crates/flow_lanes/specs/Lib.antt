@@ -1,2 +1,11 @@
+pub mod Streams
+pub mod Sides
+pub mod Engines
+pub mod Sessions
 pub mod Hits
+pub mod Items
 pub mod Picking
+pub mod ItemHits
+pub mod Flows
+pub mod Sound
+pub mod Standing

@@ -6,8 +6,14 @@
 //! answers of a whole run stands on it.
 #![tactic(auto)]
 
+mod answer;
 mod hits;
+mod job;
+mod laws;
 mod matching;
 
+pub use answer::{BatchFault, BatchOut, Hits, JobHits};
 pub use hits::{Found, matching_rules};
+pub use job::{Job, Toward, Work};
+pub use laws::{lanes_change_nothing, other_flows_change_nothing, stream_items_are_short};
 pub use matching::{hits_are_one, matching_is_decided, rule_matches};

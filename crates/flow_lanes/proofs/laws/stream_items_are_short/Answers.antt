@@ -1,0 +1,5 @@
+use Rattle.flow_lanes.proofs.Short.{job_short}
+use Rattle.flow_lanes.proofs.laws.stream_items_are_short.Goals as goal
+
+pub returns : goal.returns
+returns c = λ d engines facts before job sound. job_short d engines facts before job sound

@@ -1,0 +1,32 @@
+//! Laws about the answers to jobs, for callers.
+
+ghost use Rattle.std.specs.Prelude.{◌≡◌, ℕ, ◌<◌, List, Option, filter, length};
+ghost use Rattle.std.specs.List.{flat_map};
+ghost use Rattle.std.specs.List.Sorted.{IsPermutation};
+ghost use Rattle.edge_io.specs.Along.{AscendsBy, along_from, within};
+ghost use Rattle.flow_lanes.specs.declared.answer.JobHits.{JobHits};
+ghost use Rattle.flow_lanes.specs.declared.job.Job.{Job};
+ghost use Rattle.flow_lanes.specs.Flows.{Detection, answer, items, same_flow};
+ghost use Rattle.flow_lanes.specs.Sound.{FlowFacts, IsSoundFor};
+ghost use Rattle.flow_lanes.specs.Standing.{AreLaneAnswers, AreShort, answers_of_flow, is_of_flow};
+
+/// The stream items of a sound job of a flow have at most 16384 bytes, whatever jobs stand before it.
+pub fn stream_items_are_short()
+    ensures { (d : Detection) (engines : ℕ) (facts : Option FlowFacts) (before : List Job) (job : Job)
+        → IsSoundFor engines facts job → AreShort job (within same_flow (items d) before job) }
+{}
+
+/// In every order of the jobs that keeps the order within a flow, the flow's jobs have the same answers.
+pub fn other_flows_change_nothing()
+    ensures { (d : Detection) (flow : ℕ) (xs ys : List Job) → filter (is_of_flow flow) xs ≡ filter (is_of_flow flow) ys
+        → answers_of_flow d flow xs ≡ answers_of_flow d flow ys }
+{}
+
+/// The answers of any number of lanes, put in the order of the jobs, are those to the one list of jobs
+/// taken one by one.
+pub fn lanes_change_nothing()
+    ensures { (d : Detection) (before jobs : List Job) (parts : List (List JobHits)) (merged : List JobHits)
+        → 0 < length parts → AreLaneAnswers d before jobs parts → AscendsBy (λ job. job.number) jobs
+        → IsPermutation (flat_map (λ part. part) parts) merged → AscendsBy (λ entry. entry.number) merged
+        → merged ≡ along_from (answer d) before jobs }
+{}
