@@ -1,5 +1,5 @@
 -- The steps of reading a batch, one lemma for each answer of `next`.
-use Rattle.std.proofs.Common.{◌≡◌, ℕ, ◌<◌, List, [], ◌∷◌, ◌++◌, Option, Some, None, Ok, Err, sym, ap, subst, append_assoc, ◌∙◌}
+use Rattle.std.proofs.Common.{◌≡◌, ℕ, ◌<◌, List, [], ◌∷◌, ◌++◌, Option, Some, None, Ok, Err, refl, sym, ap, subst, append_assoc, ◌∙◌}
 use Rattle.pcap_input.specs.declared.capture.Record.{Record}
 use Rattle.pcap_input.specs.declared.capture.CaptureFault.{CaptureFault}
 use Rattle.pcap_input.specs.declared.capture.CaptureFault.TheVariants as fault
@@ -10,7 +10,12 @@ use Rattle.pcap_input.proofs.Reading.{reading-more, reading-whole, reading-stopp
 use Rattle.pcap_input.proofs.Laws.{next_means}
 use Rattle.snort_engine.specs.declared.batch.Reached.{Reached}
 use Rattle.snort_engine.specs.declared.batch.Reached.TheVariants.{More, End, Fault}
-use Rattle.snort_engine.specs.Batch.{Place, HasStopped, Reaches, ReadsOn}
+use Rattle.snort_engine.specs.Batch.{Place, HasStopped, Reaches, ReadsOn, more_of}
+use Rattle.snort_engine.specs.declared.status.Status.TheVariants as status
+use Rattle.snort_engine.specs.declared.stop.Stop.{Stop}
+use Rattle.snort_engine.specs.declared.stop.Stop.TheVariants as stop
+use Rattle.snort_engine.specs.Stop.{stop_status, outcome_status}
+use Rattle.snort_engine.specs.Watching.{IsShowStop}
 
 -- reading went no record further than what was read so far
 still_there : (first : Reading) (given : List Record) (left_first : Option (List ℕ)) (reader : Reading) (left : Option (List ℕ)) → HasRead first reader given left_first left → HasStopped first given left_first left
@@ -66,3 +71,23 @@ reads_lacking old new same still = λ first shown left_first read.
 -- a record that stands next has a number below 4294967295
 pub number_below : (reader : Reading) (given : Record) (left left_next : Option (List ℕ)) → TakesRecord reader given left left_next → reader.number < 4294967295
 number_below reader given left left_next takes = (next_means reader.head reader.number reader.at (takes.taken ++ []) given [] (takes.goes [])).few
+
+-- ---- what was reached, as an answer
+
+-- a fault of the host is answered only where the host failed
+pub failed_reached : (reached : Reached) → outcome_status (more_of reached) ≡ status.HostFault → reached ≡ Fault fault.Failed
+failed_reached More is = absurd cc
+failed_reached End is = absurd cc
+failed_reached (Fault fault.NotPcap) is = absurd cc
+failed_reached (Fault (fault.LinkType link_type)) is = absurd cc
+failed_reached (Fault (fault.Truncated place)) is = absurd cc
+failed_reached (Fault (fault.TooLong place len)) is = absurd cc
+failed_reached (Fault fault.TooMany) is = absurd cc
+failed_reached (Fault fault.Failed) is = refl
+failed_reached (Fault fault.NoMemory) is = absurd cc
+
+-- showing lines is never a fault of the host
+pub showing_reads_nothing : (why : Stop) → IsShowStop why → stop_status why ≡ status.HostFault → ⊥
+showing_reads_nothing stop.CannotWrite kind is = cc
+showing_reads_nothing stop.NoMemory kind is = cc
+showing_reads_nothing why kind is = absurd kind

@@ -18,14 +18,13 @@ use Rattle.pcap_input.specs.Reader.{Reading, new_reader, reader_of, Opens, Takes
 use Rattle.pcap_input.specs.Reading.{cut_for}
 use Rattle.pcap_input.proofs.Records.{records_left-ends}
 use Rattle.pcap_input.proofs.Laws.{head_of-append, next_of_nothing}
-use Rattle.pcap_input.proofs.Endings.{savefile-ok, savefile-err, first_records-none}
+use Rattle.pcap_input.proofs.Endings.{savefile-ok, savefile-err}
 use Rattle.pcap_input.proofs.Heads.{head_of_truncated}
 use Rattle.pcap_input.proofs.Told.{split_told}
 use Rattle.snort_engine.specs.declared.status.Status.{Status}
 use Rattle.snort_engine.specs.declared.status.Status.TheVariants as status
 use Rattle.snort_engine.specs.declared.stop.Stop.{Stop}
 use Rattle.snort_engine.specs.declared.stop.Stop.TheVariants as stop
-use Rattle.snort_engine.specs.CommandLine.{Options}
 use Rattle.snort_engine.specs.Course.{Plan, Goes, Course}
 use Rattle.snort_engine.specs.Records.{LinkedRecord, Recording, linked, recording_of, recording_in, records_of}
 use Rattle.snort_engine.specs.Trace.{CaptureState, Open, Closed}
@@ -36,8 +35,9 @@ use Rattle.snort_engine.specs.Outside.{Work, WritesPart}
 use Rattle.snort_engine.specs.ReadAhead.{batch, all_but, lines_due, IsShut, IsReadAhead, ReadsAhead}
 use Rattle.snort_engine.specs.Ending.{IsAnswered, IsTakenOf, lines_within, IsCutShort, Ends}
 use Rattle.snort_engine.specs.Stop.{capture_stop, stop_status, stop_text, outcome_status, outcome_text}
-use Rattle.snort_engine.specs.Watching.{Streams, lines_of, lines_left, IsWatched, IsCutOff, IsCloseBehind, WatchesTo, WritesSome, Watches}
+use Rattle.snort_engine.specs.Watching.{Streams, cut_by, lines_of, lines_left, IsWatched, IsCutOff, IsCloseBehind, WatchesTo, WritesSome, Watches}
 use Rattle.snort_engine.proofs.Prefixes.{IsPrefix-nil, WritesPart-none}
+use Rattle.snort_engine.proofs.Limits.{within_limit, room_first}
 use Rattle.snort_engine.proofs.LinesLaws.{lines_join, lines-nil}
 use Rattle.snort_engine.proofs.Finishing.{IsPlain, ends_met, ends_unread, ends_unwritten, ends_lacking, ahead_goes, ahead_cut}
 
@@ -48,31 +48,29 @@ recording-err : (plan : Plan) (bytes : List ℕ) (why : CaptureFault) → head_o
 unfolding records_of
 recording-err plan bytes why is = ap recording_in (savefile-err bytes plan.limit why is)
 
--- bytes whose head is accepted, without a limit
-recording-ok : (plan : Plan) (bytes : List ℕ) (head : CaptureHead) → plan.limit ≡ None → head_of bytes ≡ Ok head → records_of plan bytes ≡ recording_of head.link (records_left head 0 24 (drop 24 bytes))
+-- bytes whose head is accepted
+recording-ok : (plan : Plan) (bytes : List ℕ) (head : CaptureHead) → head_of bytes ≡ Ok head → records_of plan bytes ≡ recording_of head.link (cut_by plan (new_reader head) (drop 24 bytes))
 unfolding records_of
-recording-ok plan bytes head none is =
-    ap (λ (limit : Option ℕ). recording_in (savefile bytes limit)) none
-    ∙ ap recording_in (savefile-ok bytes None head is ∙ ap (λ (cut : Cut). Ok (record { head = head; cut = cut })) (first_records-none (records_left head 0 24 (drop 24 bytes))))
+recording-ok plan bytes head is = ap recording_in (savefile-ok bytes plan.limit head is)
 
 -- at most 24 bytes hold no record
-none_by : (plan : Plan) (bytes : List ℕ) (read : Result CaptureHead CaptureFault) → plan.limit ≡ None → head_of bytes ≡ read → drop 24 bytes ≡ [] → (records_of plan bytes).records ≡ []
-none_by plan bytes (Err why) none is few = ap (λ (r : Recording). r.records) (recording-err plan bytes why is)
-none_by plan bytes (Ok head) none is few =
-    ap (λ (r : Recording). r.records) (recording-ok plan bytes head none is)
-    ∙ ap (λ (rest : List ℕ). map (linked head.link) (records_left head 0 24 rest).records) few
-    ∙ ap (λ (cut : Cut). map (linked head.link) cut.records) (records_left-ends head 0 24 [] Clean (next_of_nothing head 0 24))
+none_by : (plan : Plan) (bytes : List ℕ) (read : Result CaptureHead CaptureFault) → head_of bytes ≡ read → drop 24 bytes ≡ [] → (records_of plan bytes).records ≡ []
+none_by plan bytes (Err why) is few = ap (λ (r : Recording). r.records) (recording-err plan bytes why is)
+none_by plan bytes (Ok head) is few =
+    ap (λ (r : Recording). r.records) (recording-ok plan bytes head is)
+    ∙ ap (λ (rest : List ℕ). map (linked head.link) (cut_by plan (new_reader head) rest).records) few
+    ∙ ap (map (linked head.link)) (within_limit plan.limit plan.limit [] (cut_for (new_reader head) []) (room_first plan.limit) (ap (λ (cut : Cut). cut.records) (records_left-ends head 0 24 [] Clean (next_of_nothing head 0 24))))
 
-no_records : (plan : Plan) (bytes : List ℕ) → plan.limit ≡ None → length bytes ≤ 24 → (records_of plan bytes).records ≡ []
-no_records plan bytes none few = none_by plan bytes (head_of bytes) none refl (drop_of_length-le bytes few)
+no_records : (plan : Plan) (bytes : List ℕ) → length bytes ≤ 24 → (records_of plan bytes).records ≡ []
+no_records plan bytes few = none_by plan bytes (head_of bytes) refl (drop_of_length-le bytes few)
 
-none_within : (plan : Plan) (bytes : List ℕ) → plan.limit ≡ None → length bytes ≤ 24 → lines_within plan bytes ≡ []
+none_within : (plan : Plan) (bytes : List ℕ) → length bytes ≤ 24 → lines_within plan bytes ≡ []
 unfolding lines_within
-none_within plan bytes none few = ap (λ (x : List LinkedRecord). lines plan [] x Open) (no_records plan bytes none few) ∙ lines-nil plan [] Open
+none_within plan bytes few = ap (λ (x : List LinkedRecord). lines plan [] x Open) (no_records plan bytes few) ∙ lines-nil plan [] Open
 
-none_due : (plan : Plan) (bytes : List ℕ) → plan.limit ≡ None → length bytes ≤ 24 → lines_due plan bytes ≡ []
+none_due : (plan : Plan) (bytes : List ℕ) → length bytes ≤ 24 → lines_due plan bytes ≡ []
 unfolding lines_due
-none_due plan bytes none few = ap (λ (x : List LinkedRecord). lines plan [] (all_but batch x) Open) (no_records plan bytes none few) ∙ lines-nil plan [] Open
+none_due plan bytes few = ap (λ (x : List LinkedRecord). lines plan [] (all_but batch x) Open) (no_records plan bytes few) ∙ lines-nil plan [] Open
 
 -- ---- the head
 
@@ -114,12 +112,12 @@ head_of_front bytes taken head is =
     (whole, head_of-append (take 24 bytes) taken front ∙ of_front)
 
 -- the records within the head and some more bytes
-records_behind_head : (plan : Plan) (bytes taken : List ℕ) (head : CaptureHead) → plan.limit ≡ None → head_of bytes ≡ Ok head
-    → (records_of plan (take 24 bytes ++ taken)).records ≡ map (linked head.link) (cut_for (new_reader head) taken).records
-records_behind_head plan bytes taken head none is =
+records_behind_head : (plan : Plan) (bytes taken : List ℕ) (head : CaptureHead) → head_of bytes ≡ Ok head
+    → (records_of plan (take 24 bytes ++ taken)).records ≡ map (linked head.link) (cut_by plan (new_reader head) taken).records
+records_behind_head plan bytes taken head is =
     let front = head_of_front bytes taken head is in
-    ap (λ (r : Recording). r.records) (recording-ok plan (take 24 bytes ++ taken) head none front.1)
-    ∙ ap (λ (rest : List ℕ). map (linked head.link) (records_left head 0 24 rest).records) (drop_at (take 24 bytes) taken 24 front.0)
+    ap (λ (r : Recording). r.records) (recording-ok plan (take 24 bytes ++ taken) head front.1)
+    ∙ ap (λ (rest : List ℕ). map (linked head.link) (cut_by plan (new_reader head) rest).records) (drop_at (take 24 bytes) taken 24 front.0)
 
 -- the head and what was taken behind it, and the rest
 joined_behind_head : (bytes taken rest : List ℕ) → drop 24 bytes ≡ taken ++ rest → (take 24 bytes ++ taken) ++ rest ≡ bytes
@@ -127,23 +125,28 @@ joined_behind_head bytes taken rest joined = append_assoc (take 24 bytes) taken 
 
 -- ---- the answer
 
--- a course that goes on with a plan, without a warning, answers as its capture
-pub answer_goes : (files : Files) (course : Course) (plan : Plan) → course.way ≡ Goes plan → course.warnings ≡ [] → answer_of files course ≡ capture_answer plan [] (get files plan.source)
-answer_goes files course plan goes none = cc
+-- all warnings of a course
+abbrev pub warned : Course → List ℕ
+warned course = concat course.warnings
+
+-- a course that goes on with a plan answers as its capture
+pub answer_goes : (files : Files) (course : Course) (plan : Plan) → course.way ≡ Goes plan → answer_of files course ≡ capture_answer plan (warned course) (get files plan.source)
+answer_goes files course plan goes = ap (way_answer files (warned course)) goes
 
 -- the answer for a head that is refused, and for one that is accepted
-answer-err : (plan : Plan) (bytes : List ℕ) (why : CaptureFault) (held : Option (List ℕ)) → held ≡ Some bytes → head_of bytes ≡ Err why → capture_answer plan [] held ≡ recording_answer plan [] (record { records = []; ending = Refused why })
+answer-err : (plan : Plan) (warnings bytes : List ℕ) (why : CaptureFault) (held : Option (List ℕ)) → held ≡ Some bytes → head_of bytes ≡ Err why
+    → capture_answer plan warnings held ≡ recording_answer plan warnings (record { records = []; ending = Refused why })
 unfolding capture_answer
-answer-err plan bytes why held holds is = ap (capture_answer plan []) holds ∙ ap (recording_answer plan []) (recording-err plan bytes why is)
+answer-err plan warnings bytes why held holds is = ap (capture_answer plan warnings) holds ∙ ap (recording_answer plan warnings) (recording-err plan bytes why is)
 
-answer-ok : (plan : Plan) (bytes : List ℕ) (head : CaptureHead) (held : Option (List ℕ)) → plan.limit ≡ None → held ≡ Some bytes → head_of bytes ≡ Ok head
-    → capture_answer plan [] held ≡ recording_answer plan [] (recording_of head.link (cut_for (new_reader head) (drop 24 bytes)))
+answer-ok : (plan : Plan) (warnings bytes : List ℕ) (head : CaptureHead) (held : Option (List ℕ)) → held ≡ Some bytes → head_of bytes ≡ Ok head
+    → capture_answer plan warnings held ≡ recording_answer plan warnings (recording_of head.link (cut_by plan (new_reader head) (drop 24 bytes)))
 unfolding capture_answer
-answer-ok plan bytes head held none holds is = ap (capture_answer plan []) holds ∙ ap (recording_answer plan []) (recording-ok plan bytes head none is)
+answer-ok plan warnings bytes head held holds is = ap (capture_answer plan warnings) holds ∙ ap (recording_answer plan warnings) (recording-ok plan bytes head is)
 
-answer-lacking : (plan : Plan) (held : Option (List ℕ)) → held ≡ None → capture_answer plan [] held ≡ record { alerts = []; errors = cannot_read_text plan.source; status = status.HostFault }
+answer-lacking : (plan : Plan) (warnings : List ℕ) (held : Option (List ℕ)) → held ≡ None → capture_answer plan warnings held ≡ record { alerts = []; errors = warnings ++ cannot_read_text plan.source; status = status.HostFault }
 unfolding capture_answer
-answer-lacking plan held lacks = ap (capture_answer plan []) lacks
+answer-lacking plan warnings held lacks = ap (capture_answer plan warnings) lacks
 
 -- the parts of an answer that is known
 answered : (answer meant : Answer) → answer ≡ meant → IsAnswered answer meant.status meant.alerts meant.errors
@@ -154,15 +157,15 @@ answered answer meant is = record {
 }
 
 -- the message and the status of a stop at a capture
-pub text_of_stop : (names : Options) (why : CaptureFault) → stop_text names (capture_stop why) ≡ fault_text names.capture why
+pub text_of_stop : (source : List ℕ) (why : CaptureFault) → stop_text source (capture_stop why) ≡ fault_text source why
 unfolding stop_text
-text_of_stop names fault.NotPcap = refl
-text_of_stop names (fault.LinkType link_type) = refl
-text_of_stop names (fault.Truncated at) = refl
-text_of_stop names (fault.TooLong at len) = refl
-text_of_stop names fault.TooMany = refl
-text_of_stop names fault.Failed = refl
-text_of_stop names fault.NoMemory = refl
+text_of_stop source fault.NotPcap = refl
+text_of_stop source (fault.LinkType link_type) = refl
+text_of_stop source (fault.Truncated at) = refl
+text_of_stop source (fault.TooLong at len) = refl
+text_of_stop source fault.TooMany = refl
+text_of_stop source fault.Failed = refl
+text_of_stop source fault.NoMemory = refl
 
 status_of_stop : (why : CaptureFault) → stop_status (capture_stop why) ≡ fault_status why
 status_of_stop fault.NotPcap = refl
@@ -173,12 +176,22 @@ status_of_stop fault.TooMany = refl
 status_of_stop fault.Failed = refl
 status_of_stop fault.NoMemory = refl
 
+-- no fault of a capture speaks of another file
+no_other_file : (why : CaptureFault) (name : List ℕ) → stop.CannotReadFile name ≡ capture_stop why → ⊥
+no_other_file fault.NotPcap name is = cc
+no_other_file (fault.LinkType link_type) name is = cc
+no_other_file (fault.Truncated at) name is = cc
+no_other_file (fault.TooLong at len) name is = cc
+no_other_file fault.TooMany name is = cc
+no_other_file fault.Failed name is = cc
+no_other_file fault.NoMemory name is = cc
+
 -- ---- a head that was refused or not read
 
 -- nothing was written, and the head of a capture that is open is known
-head_ahead : (plan : Plan) (files : Files) (answer : Result Reading CaptureFault) (before after : Work) → plan.limit ≡ None → after.alerts ≡ before.alerts → TakesHead (Some files) plan.source answer after.left
+head_ahead : (plan : Plan) (files : Files) (answer : Result Reading CaptureFault) (before after : Work) → after.alerts ≡ before.alerts → TakesHead (Some files) plan.source answer after.left
     → IsReadAhead plan (get files plan.source) before after
-head_ahead plan files answer before after none same head =
+head_ahead plan files answer before after same head =
     let held = held_opened files plan.source head.whole head.opened in
     let split = split_told head.whole after.left head.taken held.0 head.took held.2 in
     record {
@@ -187,13 +200,13 @@ head_ahead plan files answer before after none same head =
       of = held.1 ∙ ap Some split.joined;
       still = split.still;
       more = [];
-      wrote = same ∙ sym (behind-nil before.alerts) ∙ ap (behind before.alerts) (sym (append-nil (lines_due plan head.taken) ∙ none_due plan head.taken none head.few));
+      wrote = same ∙ sym (behind-nil before.alerts) ∙ ap (behind before.alerts) (sym (append-nil (lines_due plan head.taken) ∙ none_due plan head.taken head.few));
     }
 
 -- the reading of the head was cut off
-open_cut : (plan : Plan) (files : Files) (course : Course) (answer : Result Reading CaptureFault) (before after : Work) → plan.limit ≡ None → course.way ≡ Goes plan → course.warnings ≡ [] → after.alerts ≡ before.alerts
-    → TakesOr files plan.source answer after.left → IsCutShort files course before after (cannot_read_text plan.source)
-open_cut plan files course answer before after none goes calm same takes =
+open_cut : (plan : Plan) (files : Files) (course : Course) (answer : Result Reading CaptureFault) (before after : Work) → course.way ≡ Goes plan → after.alerts ≡ before.alerts
+    → TakesOr files plan.source answer after.left → IsCutShort files course before after (warned course ++ cannot_read_text plan.source)
+open_cut plan files course answer before after goes same takes =
     ⊎_elim
     (λ (head : TakesHead (Some files) plan.source answer after.left).
     let held = held_opened files plan.source head.whole head.opened in
@@ -203,66 +216,67 @@ open_cut plan files course answer before after none goes calm same takes =
     cut [] (omega arith) (subst (IsTakenOf (get files plan.source) []) (sym nothing.1) refl))
     takes
   where
-    cut : (taken : List ℕ) → length taken ≤ 24 → IsTakenOf (get files plan.source) taken after.left → IsCutShort files course before after (cannot_read_text plan.source)
+    cut : (taken : List ℕ) → length taken ≤ 24 → IsTakenOf (get files plan.source) taken after.left → IsCutShort files course before after (warned course ++ cannot_read_text plan.source)
     cut taken few of = record {
       plan = plan;
       goes = goes;
       taken = taken;
       of = of;
-      wrote = same ∙ sym (behind-nil before.alerts) ∙ ap (behind before.alerts) (sym (none_within plan taken none few));
-      says = says;
+      wrote = same ∙ sym (behind-nil before.alerts) ∙ ap (behind before.alerts) (sym (none_within plan taken few));
+      says = refl;
     }
-      where
-        says : cannot_read_text plan.source ≡ concat course.warnings ++ cannot_read_text plan.source
-        says = ap (λ (x : List (List ℕ)). concat x ++ cannot_read_text plan.source) (sym calm)
 
 -- how far was read ahead of a head
-open_ahead : (plan : Plan) (files : Files) (course : Course) (before after : Work) → plan.limit ≡ None → course.way ≡ Goes plan → after.alerts ≡ before.alerts
+open_ahead : (plan : Plan) (files : Files) (course : Course) (before after : Work) → course.way ≡ Goes plan → after.alerts ≡ before.alerts
     → (answer : Result Reading CaptureFault) → TakesOr files plan.source answer after.left → ReadsAhead files course before after status.HostFault
-open_ahead plan files course before after none goes same answer takes =
+open_ahead plan files course before after goes same answer takes =
     ⊎_elim
-    (λ (head : TakesHead (Some files) plan.source answer after.left). ahead_goes files course plan before after status.HostFault goes (head_ahead plan files answer before after none same head))
+    (λ (head : TakesHead (Some files) plan.source answer after.left). ahead_goes files course plan before after status.HostFault goes (head_ahead plan files answer before after same head))
     (λ (nothing : (answer ≡ Err fault.Failed) × (after.left ≡ None)). ahead_cut files course plan before after status.HostFault goes (inl refl) (inr (record { left = nothing.1; alerts = same })))
     takes
 
 -- a head that is refused
-refused_ends : (plan : Plan) (names : Options) (files : Files) (course : Course) (why : CaptureFault) (before after : Work) → names.capture ≡ plan.source → plan.limit ≡ None → course.way ≡ Goes plan → course.warnings ≡ [] → after.alerts ≡ before.alerts
+refused_ends : (plan : Plan) (files : Files) (course : Course) (why : CaptureFault) (before after : Work) → course.way ≡ Goes plan → after.alerts ≡ before.alerts
     → IsPlain (fault_status why) → TakesHead (Some files) plan.source (Err why) after.left → ((bytes : List ℕ) → get files plan.source ≡ Some bytes → head_of bytes ≡ Err why)
-    → Ends files course before after (fault_status why) (fault_text plan.source why)
-refused_ends plan names files course why before after named none goes calm same plain takes gives =
+    → Ends files course before after (fault_status why) (warned course ++ fault_text plan.source why)
+refused_ends plan files course why before after goes same plain takes gives =
     let held = held_opened files plan.source takes.whole takes.opened in
-    let is = answer_goes files course plan goes calm ∙ answer-err plan held.0 why (get files plan.source) held.1 (gives held.0 held.1) in
-    ends_met files course before after (fault_status why) (lines plan [] [] Closed) (fault_text plan.source why) plain
+    let is = answer_goes files course plan goes ∙ answer-err plan (warned course) held.0 why (get files plan.source) held.1 (gives held.0 held.1) in
+    ends_met files course before after (fault_status why) (lines plan [] [] Closed) (warned course ++ fault_text plan.source why) plain
     (same ∙ sym (behind-nil before.alerts) ∙ ap (behind before.alerts) (sym (lines-nil plan [] Closed)))
     (answered (answer_of files course) _ is)
-    (ahead_goes files course plan before after (fault_status why) goes (head_ahead plan files (Err why) before after none same takes))
+    (ahead_goes files course plan before after (fault_status why) goes (head_ahead plan files (Err why) before after same takes))
 
 -- a refusal of an opening
 abbrev pub refusing_open : CaptureFault → Result Reading CaptureFault
 refusing_open why = Err why
 
+-- a capture that is lacking
+lacking_answered : (plan : Plan) (files : Files) (course : Course) → course.way ≡ Goes plan → get files plan.source ≡ None → IsAnswered (answer_of files course) status.HostFault [] (warned course ++ cannot_read_text plan.source)
+lacking_answered plan files course goes lacks = answered (answer_of files course) _ (answer_goes files course plan goes ∙ answer-lacking plan (warned course) (get files plan.source) lacks)
+
 -- the head was refused or not read
-pub open_ends : (plan : Plan) (names : Options) (files : Files) (course : Course) (why : CaptureFault) (before after : Work) → names.capture ≡ plan.source → plan.limit ≡ None → course.way ≡ Goes plan → course.warnings ≡ [] → after.alerts ≡ before.alerts
+pub open_ends : (plan : Plan) (files : Files) (course : Course) (why : CaptureFault) (before after : Work) → course.way ≡ Goes plan → after.alerts ≡ before.alerts
     → ((bytes : List ℕ) → get files plan.source ≡ Some bytes → Opens (Err why) (head_of bytes))
     → TakesOr files plan.source (refusing_open why) after.left
     → IsOfHead why → (refusing_open why ≡ Err fault.Failed → Rose before.host_faults after.host_faults ⊎ (get files plan.source ≡ None))
-    → Ends files course before after (fault_status why) (fault_text plan.source why)
-open_ends plan names files course fault.NotPcap before after named none goes calm same gives takes kind failed =
-    refused_ends plan names files course fault.NotPcap before after named none goes calm same tt (head_taken files plan.source (Err fault.NotPcap) after.left (λ e. cc) takes) gives
-open_ends plan names files course (fault.LinkType link_type) before after named none goes calm same gives takes kind failed =
-    refused_ends plan names files course (fault.LinkType link_type) before after named none goes calm same tt (head_taken files plan.source (Err (fault.LinkType link_type)) after.left (λ e. cc) takes) gives
-open_ends plan names files course (fault.Truncated at) before after named none goes calm same gives takes kind failed =
-    refused_ends plan names files course (fault.Truncated at) before after named none goes calm same tt (head_taken files plan.source (Err (fault.Truncated at)) after.left (λ e. cc) takes) gives
-open_ends plan names files course (fault.TooLong at len) before after named none goes calm same gives takes kind failed = absurd kind
-open_ends plan names files course fault.TooMany before after named none goes calm same gives takes kind failed = absurd kind
-open_ends plan names files course fault.NoMemory before after named none goes calm same gives takes kind failed = absurd kind
-open_ends plan names files course fault.Failed before after named none goes calm same gives takes kind failed =
-    ends_unread files course before after [] (cannot_read_text plan.source)
+    → Ends files course before after (fault_status why) (warned course ++ fault_text plan.source why)
+open_ends plan files course fault.NotPcap before after goes same gives takes kind failed =
+    refused_ends plan files course fault.NotPcap before after goes same tt (head_taken files plan.source (Err fault.NotPcap) after.left (λ e. cc) takes) gives
+open_ends plan files course (fault.LinkType link_type) before after goes same gives takes kind failed =
+    refused_ends plan files course (fault.LinkType link_type) before after goes same tt (head_taken files plan.source (Err (fault.LinkType link_type)) after.left (λ e. cc) takes) gives
+open_ends plan files course (fault.Truncated at) before after goes same gives takes kind failed =
+    refused_ends plan files course (fault.Truncated at) before after goes same tt (head_taken files plan.source (Err (fault.Truncated at)) after.left (λ e. cc) takes) gives
+open_ends plan files course (fault.TooLong at len) before after goes same gives takes kind failed = absurd kind
+open_ends plan files course fault.TooMany before after goes same gives takes kind failed = absurd kind
+open_ends plan files course fault.NoMemory before after goes same gives takes kind failed = absurd kind
+open_ends plan files course fault.Failed before after goes same gives takes kind failed =
+    ends_unread files course before after [] (warned course ++ cannot_read_text plan.source)
     (same ∙ sym (behind-nil before.alerts))
     (IsPrefix-nil (answer_of files course).alerts)
-    (λ still. ⊎_elim (λ risen. absurd (still risen)) (λ lacks. answered (answer_of files course) _ (answer_goes files course plan goes calm ∙ answer-lacking plan (get files plan.source) lacks)) (failed refl))
-    (inr (open_cut plan files course (refusing_open fault.Failed) before after none goes calm same takes))
-    (open_ahead plan files course before after none goes same (refusing_open fault.Failed) takes)
+    (λ still. ⊎_elim (λ risen. absurd (still risen)) (λ lacks. lacking_answered plan files course goes lacks) (failed refl))
+    (inr (open_cut plan files course (refusing_open fault.Failed) before after goes same takes))
+    (open_ahead plan files course before after goes same (refusing_open fault.Failed) takes)
 
 -- ---- a capture that was opened and watched
 
@@ -283,18 +297,18 @@ front_first plan given last few =
     ∙ ap (λ (x : List LinkedRecord). lines plan [] x Open ++ lines plan (take count given) (drop count given) Open) (sym (all_but-front given last few))
 
 -- the lines are close behind the records of a capture that was opened
-ahead_behind_head : (plan : Plan) (held : Option (List ℕ)) (bytes : List ℕ) (head : CaptureHead) (left_first : Option (List ℕ)) (before after : Work) → plan.limit ≡ None → held ≡ Some bytes → head_of bytes ≡ Ok head
+ahead_behind_head : (plan : Plan) (held : Option (List ℕ)) (bytes : List ℕ) (head : CaptureHead) (left_first : Option (List ℕ)) (before after : Work) → held ≡ Some bytes → head_of bytes ≡ Ok head
     → left_first ≡ Some (drop 24 bytes) → IsCloseBehind plan (new_reader head) (record { left = left_first; written = before.alerts }) (record { left = after.left; written = after.alerts })
     → IsReadAhead plan held before after
 unfolding lines_of lines_due
-ahead_behind_head plan held bytes head left_first before after none holds is told close =
+ahead_behind_head plan held bytes head left_first before after holds is told close =
     let split = split_told left_first after.left close.taken (drop 24 bytes) close.took told in
     let given = map (linked head.link) close.given in
     let last = map (linked head.link) close.last in
     let few : length last ≤ batch = omega (arith, close.few, length-map close.last (linked head.link)) in
     let others = lines plan (take (length (given ++ last) - batch) given) (drop (length (given ++ last) - batch) given) Open in
     let records : (records_of plan (take 24 bytes ++ close.taken)).records ≡ given ++ last =
-    records_behind_head plan bytes close.taken head none is ∙ ap (map (linked head.link)) close.are ∙ map-append (linked head.link) close.given close.last in
+    records_behind_head plan bytes close.taken head is ∙ ap (map (linked head.link)) close.are ∙ map-append (linked head.link) close.given close.last in
     let shown : lines plan [] given Open ≡ lines_due plan (take 24 bytes ++ close.taken) ++ others =
     front_first plan given last few ∙ ap (λ (x : List LinkedRecord). lines plan [] (all_but batch x) Open ++ others) (sym records) in
     record {
@@ -307,50 +321,48 @@ ahead_behind_head plan held bytes head left_first before after none holds is tol
     }
 
 -- the reading was cut off behind the head
-cut_behind_head : (plan : Plan) (files : Files) (course : Course) (bytes : List ℕ) (head : CaptureHead) (left_first : Option (List ℕ)) (before after : Work) → plan.limit ≡ None → course.way ≡ Goes plan → course.warnings ≡ []
+cut_behind_head : (plan : Plan) (files : Files) (course : Course) (bytes : List ℕ) (head : CaptureHead) (left_first : Option (List ℕ)) (before after : Work) → course.way ≡ Goes plan
     → get files plan.source ≡ Some bytes → head_of bytes ≡ Ok head
     → left_first ≡ Some (drop 24 bytes) → IsCutOff plan (new_reader head) (record { left = left_first; written = before.alerts }) (record { left = after.left; written = after.alerts })
-    → IsCutShort files course before after (cannot_read_text plan.source)
+    → IsCutShort files course before after (warned course ++ cannot_read_text plan.source)
 unfolding lines_of lines_within
-cut_behind_head plan files course bytes head left_first before after none goes calm held is told cut =
+cut_behind_head plan files course bytes head left_first before after goes held is told cut =
     let split = split_told left_first after.left cut.taken (drop 24 bytes) cut.took told in
     record {
       plan = plan;
       goes = goes;
       taken = take 24 bytes ++ cut.taken;
       of = subst (IsTakenOf (get files plan.source) (take 24 bytes ++ cut.taken)) (sym split.still) (held ∙ ap Some (sym (joined_behind_head bytes cut.taken split.rest split.joined)));
-      wrote = cut.wrote ∙ ap (λ (x : List LinkedRecord). behind before.alerts (lines plan [] x Open)) (sym (records_behind_head plan bytes cut.taken head none is));
-      says = ap (λ (x : List (List ℕ)). concat x ++ cannot_read_text plan.source) (sym calm);
+      wrote = cut.wrote ∙ ap (λ (x : List LinkedRecord). behind before.alerts (lines plan [] x Open)) (sym (records_behind_head plan bytes cut.taken head is));
+      says = refl;
     }
 
 -- what is known of a capture that was opened: its course, its bytes and their head
 pub record IsOpenCapture (plan : Plan) (files : Files) (course : Course) (left_first : Option (List ℕ)) (bytes : List ℕ) (head : CaptureHead) : Type 0 where
-  pub none : plan.limit ≡ None
   pub goes : course.way ≡ Goes plan
-  pub calm : course.warnings ≡ []
   pub held : get files plan.source ≡ Some bytes
   pub is : head_of bytes ≡ Ok head
   pub told : left_first ≡ Some (drop 24 bytes)
 
 -- its answer
 answer_open : (plan : Plan) (files : Files) (course : Course) (left_first : Option (List ℕ)) (bytes : List ℕ) (head : CaptureHead) → IsOpenCapture plan files course left_first bytes head
-    → answer_of files course ≡ recording_answer plan [] (recording_of head.link (cut_for (new_reader head) (drop 24 bytes)))
-answer_open plan files course left_first bytes head o = answer_goes files course plan o.goes o.calm ∙ answer-ok plan bytes head (get files plan.source) o.none o.held o.is
+    → answer_of files course ≡ recording_answer plan (warned course) (recording_of head.link (cut_by plan (new_reader head) (drop 24 bytes)))
+answer_open plan files course left_first bytes head o = answer_goes files course plan o.goes ∙ answer-ok plan (warned course) bytes head (get files plan.source) o.held o.is
 
 -- watched to an ending
 watched_ends : (plan : Plan) (files : Files) (course : Course) (left_first : Option (List ℕ)) (bytes : List ℕ) (head : CaptureHead) (ending : Ending) (before after : Work) → IsOpenCapture plan files course left_first bytes head
     → IsPlain (ending_status ending)
     → WatchesTo plan (new_reader head) ending (record { left = left_first; written = before.alerts }) (record { left = after.left; written = after.alerts })
     → ReadsAhead files course before after (ending_status ending)
-    → Ends files course before after (ending_status ending) (ending_text plan.source ending)
+    → Ends files course before after (ending_status ending) (warned course ++ ending_text plan.source ending)
 unfolding lines_of
 watched_ends plan files course left_first bytes head ending before after o plain watches ahead =
     let watched = watches (drop 24 bytes) o.told in
     let link = head.link in
-    let meant : answer_of files course ≡ recording_answer plan [] (record { records = map (linked link) (cut_for (new_reader head) (drop 24 bytes)).records; ending = ending }) =
+    let meant : answer_of files course ≡ recording_answer plan (warned course) (record { records = map (linked link) (cut_by plan (new_reader head) (drop 24 bytes)).records; ending = ending }) =
     answer_open plan files course left_first bytes head o
-    ∙ ap (λ (e : Ending). recording_answer plan [] (record { records = map (linked link) (cut_for (new_reader head) (drop 24 bytes)).records; ending = e })) watched.ends in
-    ends_met files course before after (ending_status ending) _ (ending_text plan.source ending) plain watched.wrote (answered (answer_of files course) _ meant) ahead
+    ∙ ap (λ (e : Ending). recording_answer plan (warned course) (record { records = map (linked link) (cut_by plan (new_reader head) (drop 24 bytes)).records; ending = e })) watched.ends in
+    ends_met files course before after (ending_status ending) _ (warned course ++ ending_text plan.source ending) plain watched.wrote (answered (answer_of files course) _ meant) ahead
 
 -- a part of its lines
 part_of_watch : (plan : Plan) (files : Files) (course : Course) (left_first : Option (List ℕ)) (bytes : List ℕ) (head : CaptureHead) (before after : Work) → IsOpenCapture plan files course left_first bytes head
@@ -361,75 +373,69 @@ part_of_watch plan files course left_first bytes head before after o some =
     subst (λ (a : Answer). WritesPart before.alerts a.alerts after.alerts) (sym (answer_open plan files course left_first bytes head o)) (some (drop 24 bytes) o.told)
 
 -- the watching of a capture that was opened
-watched_by : (plan : Plan) (names : Options) (files : Files) (course : Course) (left_first : Option (List ℕ)) (bytes : List ℕ) (head : CaptureHead) (before after : Work) (outcome : Result (Unit {0}) Stop) → names.capture ≡ plan.source
+watched_by : (plan : Plan) (files : Files) (course : Course) (left_first : Option (List ℕ)) (bytes : List ℕ) (head : CaptureHead) (before after : Work) (outcome : Result (Unit {0}) Stop)
     → IsOpenCapture plan files course left_first bytes head
     → Watches plan (new_reader head) (record { left = left_first; written = before.alerts }) (record { left = after.left; written = after.alerts }) outcome
     → (outcome_status outcome ≡ status.HostFault → Rose before.host_faults after.host_faults)
     → IsReadAhead plan (get files plan.source) before after
-    → Ends files course before after (outcome_status outcome) (outcome_text names outcome)
+    → Ends files course before after (outcome_status outcome) (warned course ++ outcome_text plan.source outcome)
 unfolding WritesPart stop_text
-watched_by plan names files course left_first bytes head before after (Ok done) named o watches risen read =
+watched_by plan files course left_first bytes head before after (Ok done) o watches risen read =
     watched_ends plan files course left_first bytes head Clean before after o tt watches (ahead_goes files course plan before after status.Done o.goes read)
-watched_by plan names files course left_first bytes head before after (Err (stop.CannotRead file)) named o (is, cut, some) risen read =
+watched_by plan files course left_first bytes head before after (Err stop.CannotRead) o (cut, some) risen read =
     let part = part_of_watch plan files course left_first bytes head before after o some in
-    let says : cannot_read_text plan.source ≡ stop_text names (stop.CannotRead file) = ap cannot_read_text (sym named) ∙ sym (ap (stop_text names) is) in
-    subst (λ (text : List ℕ). Ends files course before after status.HostFault text) says
-    (ends_unread files course before after part.0 (cannot_read_text plan.source) part.2 part.1
+    ends_unread files course before after part.0 (warned course ++ cannot_read_text plan.source) part.2 part.1
     (λ still. absurd (still (risen refl)))
-    (inr (cut_behind_head plan files course bytes head left_first before after o.none o.goes o.calm o.held o.is o.told cut))
-    (ahead_goes files course plan before after status.HostFault o.goes read))
-watched_by plan names files course left_first bytes head before after (Err stop.CannotWrite) named o some risen read =
-    ends_unwritten files course before after o.calm (part_of_watch plan files course left_first bytes head before after o some) (ahead_goes files course plan before after status.WriteFault o.goes read)
-watched_by plan names files course left_first bytes head before after (Err stop.NoMemory) named o some risen read =
+    (inr (cut_behind_head plan files course bytes head left_first before after o.goes o.held o.is o.told cut))
+    (ahead_goes files course plan before after status.HostFault o.goes read)
+watched_by plan files course left_first bytes head before after (Err stop.CannotWrite) o some risen read =
+    ends_unwritten files course before after (part_of_watch plan files course left_first bytes head before after o some) (ahead_goes files course plan before after status.WriteFault o.goes read)
+watched_by plan files course left_first bytes head before after (Err stop.NoMemory) o some risen read =
     ends_lacking files course before after (part_of_watch plan files course left_first bytes head before after o some) (ahead_goes files course plan before after status.NoMemory o.goes read)
-watched_by plan names files course left_first bytes head before after (Err why) named o (fault_then, is, watches) risen read =
+watched_by plan files course left_first bytes head before after (Err (stop.CannotReadFile name)) o (fault_then, is, watches) risen read = absurd (no_other_file fault_then name is)
+watched_by plan files course left_first bytes head before after (Err why) o seen risen read =
+    let fault_then = seen.0 in
+    let is = seen.1 in
     let state : fault_status fault_then ≡ stop_status why = sym (ap stop_status is ∙ status_of_stop fault_then) in
-    let says : fault_text plan.source fault_then ≡ stop_text names why = ap (λ (n : List ℕ). fault_text n fault_then) (sym named) ∙ sym (text_of_stop names fault_then) ∙ sym (ap (stop_text names) is) in
+    let says : fault_text plan.source fault_then ≡ stop_text plan.source why = sym (text_of_stop plan.source fault_then) ∙ sym (ap (stop_text plan.source) is) in
     let plain : IsPlain (fault_status fault_then) = subst IsPlain (sym state) tt in
-    subst (λ (s : Status). Ends files course before after s (stop_text names why)) state
-    (subst (λ (text : List ℕ). Ends files course before after (fault_status fault_then) text) says
-    (watched_ends plan files course left_first bytes head (Refused fault_then) before after o plain watches (ahead_goes files course plan before after (fault_status fault_then) o.goes read)))
+    subst (λ (s : Status). Ends files course before after s (warned course ++ stop_text plan.source why)) state
+    (subst (λ (text : List ℕ). Ends files course before after (fault_status fault_then) (warned course ++ text)) says
+    (watched_ends plan files course left_first bytes head (Refused fault_then) before after o plain seen.2 (ahead_goes files course plan before after (fault_status fault_then) o.goes read)))
 
 -- a capture that was opened and watched
-pub capture_ends : (plan : Plan) (names : Options) (files : Files) (course : Course) (reader : Reading) (left_first : Option (List ℕ)) (before after : Work) (outcome : Result (Unit {0}) Stop) → names.capture ≡ plan.source
-    → plan.limit ≡ None → course.way ≡ Goes plan → course.warnings ≡ []
+pub capture_ends : (plan : Plan) (files : Files) (course : Course) (reader : Reading) (left_first : Option (List ℕ)) (before after : Work) (outcome : Result (Unit {0}) Stop)
+    → course.way ≡ Goes plan
     → TakesOr files plan.source (Ok reader) left_first
     → ((bytes : List ℕ) → get files plan.source ≡ Some bytes → Opens (Ok reader) (head_of bytes))
     → ((bytes : List ℕ) → get files plan.source ≡ Some bytes → left_first ≡ Some (drop 24 bytes))
     → Watches plan reader (record { left = left_first; written = before.alerts }) (record { left = after.left; written = after.alerts }) outcome
     → IsCloseBehind plan reader (record { left = left_first; written = before.alerts }) (record { left = after.left; written = after.alerts })
     → (outcome_status outcome ≡ status.HostFault → Rose before.host_faults after.host_faults)
-    → Ends files course before after (outcome_status outcome) (outcome_text names outcome)
-capture_ends plan names files course reader left_first before after outcome named none goes calm takes gives rest watches close risen =
+    → Ends files course before after (outcome_status outcome) (warned course ++ outcome_text plan.source outcome)
+capture_ends plan files course reader left_first before after outcome goes takes gives rest watches close risen =
     let head_of_it = head_taken files plan.source (Ok reader) left_first (λ e. cc) takes in
     let held = held_opened files plan.source head_of_it.whole head_of_it.opened in
     let opened = opened_by held.0 reader (head_of held.0) refl (gives held.0 held.1) in
     let told = rest held.0 held.1 in
-    let o : IsOpenCapture plan files course left_first held.0 opened.0 = record { none = none; goes = goes; calm = calm; held = held.1; is = opened.1; told = told } in
-    watched_by plan names files course left_first held.0 opened.0 before after outcome named o
+    let o : IsOpenCapture plan files course left_first held.0 opened.0 = record { goes = goes; held = held.1; is = opened.1; told = told } in
+    watched_by plan files course left_first held.0 opened.0 before after outcome o
     (subst (λ (r : Reading). Watches plan r (record { left = left_first; written = before.alerts }) (record { left = after.left; written = after.alerts }) outcome) opened.2 watches)
     risen
-    (ahead_behind_head plan (get files plan.source) held.0 opened.0 left_first before after none held.1 opened.1 told
+    (ahead_behind_head plan (get files plan.source) held.0 opened.0 left_first before after held.1 opened.1 told
     (subst (λ (r : Reading). IsCloseBehind plan r (record { left = left_first; written = before.alerts }) (record { left = after.left; written = after.alerts })) opened.2 close))
 
 -- the head was refused or not read, and a run is stopped by that
-pub open_stops : (plan : Plan) (names : Options) (files : Files) (course : Course) (why : CaptureFault) (before after : Work) (outcome : Result (Unit {0}) Stop) (stopped : Stop)
+pub open_stops : (plan : Plan) (files : Files) (course : Course) (why : CaptureFault) (before after : Work) (outcome : Result (Unit {0}) Stop) (stopped : Stop)
     → outcome ≡ Err stopped → stopped ≡ capture_stop why
-    → names.capture ≡ plan.source → plan.limit ≡ None → course.way ≡ Goes plan → course.warnings ≡ [] → after.alerts ≡ before.alerts
+    → course.way ≡ Goes plan → after.alerts ≡ before.alerts
     → ((bytes : List ℕ) → get files plan.source ≡ Some bytes → Opens (Err why) (head_of bytes))
     → TakesOr files plan.source (refusing_open why) after.left
     → IsOfHead why → (refusing_open why ≡ Err fault.Failed → Rose before.host_faults after.host_faults ⊎ (get files plan.source ≡ None))
-    → Ends files course before after (outcome_status outcome) (outcome_text names outcome)
-open_stops plan names files course why before after outcome stopped is from named none goes calm same gives takes kind failed =
+    → Ends files course before after (outcome_status outcome) (warned course ++ outcome_text plan.source outcome)
+open_stops plan files course why before after outcome stopped is from goes same gives takes kind failed =
     let by : outcome ≡ Err (capture_stop why) = is ∙ ap Err from in
-    let says : fault_text plan.source why ≡ stop_text names (capture_stop why) = ap (λ (n : List ℕ). fault_text n why) (sym named) ∙ sym (text_of_stop names why) in
-    subst (λ (o : Result (Unit {0}) Stop). Ends files course before after (outcome_status o) (outcome_text names o)) (sym by)
-    (subst (λ (s : Status). Ends files course before after s (stop_text names (capture_stop why))) (sym (status_of_stop why))
-    (subst (λ (text : List ℕ). Ends files course before after (fault_status why) text) says
-    (open_ends plan names files course why before after named none goes calm same gives takes kind failed)))
-
--- where the watching ends at a fault of the host, the capture is what couldn't be read
-pub fault_is_read : (plan : Plan) (reader : Reading) (old new : Streams) (outcome : Result (Unit {0}) Stop) → Watches plan reader old new outcome → outcome_status outcome ≡ status.HostFault → outcome ≡ Err (capture_stop fault.Failed)
-fault_is_read plan reader old new (Ok done) watches is = absurd cc
-fault_is_read plan reader old new (Err (stop.CannotRead file)) watches is = ap Err watches.0
-fault_is_read plan reader old new (Err why) watches is = absurd cc
+    subst (λ (o : Result (Unit {0}) Stop). Ends files course before after (outcome_status o) (warned course ++ outcome_text plan.source o)) (sym by)
+    (subst (λ (s : Status). Ends files course before after s (warned course ++ stop_text plan.source (capture_stop why))) (sym (status_of_stop why))
+    (subst (λ (text : List ℕ). Ends files course before after (fault_status why) (warned course ++ text)) (sym (text_of_stop plan.source why))
+    (open_ends plan files course why before after goes same gives takes kind failed)))

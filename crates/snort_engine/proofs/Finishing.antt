@@ -3,18 +3,19 @@ use Rattle.std.proofs.Common.{◌≡◌, ℕ, ◌+◌, ◌≤◌, List, [], ◌+
 use Rattle.std.specs.Prelude.{⊤}
 use Rattle.std.specs.FinMap.{get}
 use Rattle.std.specs.List.{concat}
+use Rattle.std.proofs.lemmas.List.{append-nil}
 use mathlib.Core.List.{IsPrefix}
 use Rattle.edge_io.specs.Told.{behind, Rose}
 use Rattle.edge_io.specs.Files.{Files}
 use Rattle.edge_io.proofs.Told.{behind-nil}
 use Rattle.snort_engine.specs.declared.status.Status.{Status}
 use Rattle.snort_engine.specs.declared.status.Status.TheVariants as status
-use Rattle.snort_engine.specs.Course.{Plan, Way, Stops, Goes, Course, FileReading}
+use Rattle.snort_engine.specs.Course.{Plan, Way, Stops, Goes, Course}
 use Rattle.snort_engine.specs.Answer.{Answer, answer_of}
 use Rattle.snort_engine.specs.Messages.{cannot_write_text, no_memory_text}
 use Rattle.snort_engine.specs.Outside.{Work, WritesPart}
 use Rattle.snort_engine.specs.ReadAhead.{IsUnopened, IsShut, IsReadAhead, IsCutOff, ReadsAhead, ReadsAheadOn}
-use Rattle.snort_engine.specs.Ending.{IsStated, IsAnswered, IsUnread, IsCutShort, IsNoMemoryMessage, Ends}
+use Rattle.snort_engine.specs.Ending.{IsStated, IsAnswered, IsCutShort, IsNoMemoryMessage, Ends}
 use Rattle.snort_engine.proofs.Prefixes.{IsPrefix-same, IsPrefix-nil, rose_since}
 
 -- the statuses of a run that nothing cut short
@@ -45,7 +46,7 @@ ends_met files course before after ended alerts message plain wrote answered ahe
 pub ends_unread : (files : Files) (course : Course) (before after : Work) (alerts message : List ℕ)
     → after.alerts ≡ behind before.alerts alerts → IsPrefix alerts (answer_of files course).alerts
     → ((¬ Rose before.host_faults after.host_faults) → IsAnswered (answer_of files course) status.HostFault alerts message)
-    → IsUnread course before after message ⊎ IsCutShort files course before after message
+    → IsAnswered (answer_of files course) status.HostFault alerts message ⊎ IsCutShort files course before after message
     → ReadsAhead files course before after status.HostFault
     → Ends files course before after status.HostFault message
 ends_unread files course before after alerts message wrote prefix stated how ahead = record {
@@ -59,39 +60,59 @@ ends_unread files course before after alerts message wrote prefix stated how ahe
   read_ahead = ahead;
 }
 
--- writing failed; nothing was to be warned of
-pub ends_unwritten : (files : Files) (course : Course) (before after : Work) → course.warnings ≡ [] → WritesPart before.alerts (answer_of files course).alerts after.alerts
-    → ReadsAhead files course before after status.WriteFault → Ends files course before after status.WriteFault cannot_write_text
+-- it ended at a file that is lacking
+pub ends_answered : (files : Files) (course : Course) (before after : Work) (alerts message : List ℕ)
+    → after.alerts ≡ behind before.alerts alerts → IsAnswered (answer_of files course) status.HostFault alerts message
+    → ReadsAhead files course before after status.HostFault
+    → Ends files course before after status.HostFault message
+ends_answered files course before after alerts message wrote answered ahead =
+    ends_unread files course before after alerts message wrote (subst (λ (x : List ℕ). IsPrefix alerts x) answered.alerts_are (IsPrefix-same alerts)) (λ still. answered) (inl answered) ahead
+
+-- writing failed
+pub ends_unwritten : (files : Files) (course : Course) (before after : Work) → WritesPart before.alerts (answer_of files course).alerts after.alerts
+    → ReadsAhead files course before after status.WriteFault → Ends files course before after status.WriteFault (concat course.warnings ++ cannot_write_text)
 unfolding WritesPart
-ends_unwritten files course before after none (part, prefix, wrote) ahead = record {
+ends_unwritten files course before after (part, prefix, wrote) ahead = record {
   alerts = part;
   wrote = wrote;
   leaves_a_prefix = prefix;
   ended_as_stated = λ stated. absurd stated;
   read_fault = λ is. absurd cc;
-  write_fault = λ is. ap (λ (x : List (List ℕ)). concat x ++ cannot_write_text) (sym none);
+  write_fault = λ is. refl;
   no_memory = λ is. absurd cc;
   read_ahead = ahead;
 }
 
--- the message of want of memory, without a warning
-memory_message : (course : Course) → IsNoMemoryMessage course no_memory_text
-memory_message course = ([], (course.warnings, refl), refl)
+-- all of a list is a beginning of it
+all_of : (xs : List (List ℕ)) → IsPrefix xs xs
+all_of xs = ([], append-nil xs)
 
--- memory was lacking
-pub ends_lacking : (files : Files) (course : Course) (before after : Work) → WritesPart before.alerts (answer_of files course).alerts after.alerts
-    → ReadsAhead files course before after status.NoMemory → Ends files course before after status.NoMemory no_memory_text
+-- the message of want of memory, behind all warnings or behind none
+memory_message : (course : Course) → IsNoMemoryMessage course (concat course.warnings ++ no_memory_text)
+memory_message course = (course.warnings, all_of course.warnings, refl)
+
+lone_memory_message : (course : Course) → IsNoMemoryMessage course no_memory_text
+lone_memory_message course = ([], (course.warnings, refl), refl)
+
+-- memory was lacking, with this message
+ends_lacking_so : (files : Files) (course : Course) (before after : Work) (message : List ℕ) → IsNoMemoryMessage course message → WritesPart before.alerts (answer_of files course).alerts after.alerts
+    → ReadsAhead files course before after status.NoMemory → Ends files course before after status.NoMemory message
 unfolding WritesPart
-ends_lacking files course before after (part, prefix, wrote) ahead = record {
+ends_lacking_so files course before after message says (part, prefix, wrote) ahead = record {
   alerts = part;
   wrote = wrote;
   leaves_a_prefix = prefix;
   ended_as_stated = λ stated. absurd stated;
   read_fault = λ is. absurd cc;
   write_fault = λ is. absurd cc;
-  no_memory = λ is. memory_message course;
+  no_memory = λ is. says;
   read_ahead = ahead;
 }
+
+-- memory was lacking, behind all warnings
+pub ends_lacking : (files : Files) (course : Course) (before after : Work) → WritesPart before.alerts (answer_of files course).alerts after.alerts
+    → ReadsAhead files course before after status.NoMemory → Ends files course before after status.NoMemory (concat course.warnings ++ no_memory_text)
+ends_lacking files course before after part ahead = ends_lacking_so files course before after (concat course.warnings ++ no_memory_text) (memory_message course) part ahead
 
 -- ---- reading ahead
 
@@ -135,7 +156,8 @@ ahead_lacking files course before after ended read = by_way course.way read
 -- ---- the whole run
 
 -- memory was lacking for the message
-pub ends_untold : (files : Files) (course : Course) (before after : Work) (ended : Status) (message : List ℕ) → Ends files course before after ended message → Ends files course before after status.NoMemory no_memory_text
+pub ends_untold : (files : Files) (course : Course) (before after : Work) (ended : Status) (message : List ℕ) → Ends files course before after ended message
+    → Ends files course before after status.NoMemory (concat course.warnings ++ no_memory_text)
 unfolding WritesPart
 ends_untold files course before after ended message ends =
     ends_lacking files course before after (ends.alerts, ends.leaves_a_prefix, ends.wrote) (ahead_lacking files course before after ended ends.read_ahead)
@@ -169,7 +191,7 @@ ends_counted files course before after faults ended message since ends = record 
   wrote = ends.wrote;
   leaves_a_prefix = ends.leaves_a_prefix;
   ended_as_stated = λ stated. ends.ended_as_stated (stated_since faults before.host_faults after.host_faults ended since stated);
-  read_fault = λ is. ⊎_elim (λ unread. inl (unread_on unread)) (λ cut. inr (cut_on cut)) (ends.read_fault is);
+  read_fault = λ is. ⊎_elim (λ answered. inl answered) (λ cut. inr (cut_on cut)) (ends.read_fault is);
   write_fault = ends.write_fault;
   no_memory = ends.no_memory;
   read_ahead = by_way course.way ends.read_ahead;
@@ -177,9 +199,6 @@ ends_counted files course before after faults ended message since ends = record 
   where
     unopened_on : IsUnopened before after → IsUnopened (counted before faults) after
     unopened_on u = record { left = u.left; opens = u.opens; alerts = u.alerts }
-
-    unread_on : IsUnread course before after message → IsUnread course (counted before faults) after message
-    unread_on u = record { reading = u.reading; is = u.is; unopened = unopened_on u.unopened; says = u.says }
 
     cut_on : IsCutShort files course before after message → IsCutShort files course (counted before faults) after message
     cut_on c = record { plan = c.plan; goes = c.goes; taken = c.taken; of = c.of; wrote = c.wrote; says = c.says }

@@ -18,8 +18,8 @@ use Rattle.snort_engine.specs.Watching.{record_lines, records_lines, lines_of}
 pub lines_join : LinesJoin
 unfolding lines trace
 lines_join plan before first others state =
-    ap (flat_map text_of) (trail_from-append (record_alerts plan) before first others)
-    ∙ flat_map-append text_of (trail_from (record_alerts plan) before first) (trail_from (record_alerts plan) (before ++ first) others)
+    ap (flat_map (text_of plan.classes)) (trail_from-append (record_alerts plan) before first others)
+    ∙ flat_map-append (text_of plan.classes) (trail_from (record_alerts plan) before first) (trail_from (record_alerts plan) (before ++ first) others)
 
 -- no records have no lines
 pub lines-nil : (plan : Plan) (before : List LinkedRecord) (state : CaptureState) → lines plan before [] state ≡ []
@@ -34,7 +34,7 @@ lines-closed plan before records = refl
 -- the lines of one record
 pub lines-one : (plan : Plan) (before : List LinkedRecord) (shown : LinkedRecord) (state : CaptureState) → lines plan before (shown ∷ []) state ≡ record_lines plan shown
 unfolding lines trace record_lines record_alerts
-lines-one plan before shown state = ap (flat_map text_of) (append-nil (record_alerts plan before shown))
+lines-one plan before shown state = ap (flat_map (text_of plan.classes)) (append-nil (record_alerts plan before shown))
 
 -- the first records, and then more of them
 take_split : (records : List LinkedRecord) (r s : ℕ) → r ≤ s → take s records ≡ take r records ++ drop r (take s records)
@@ -71,7 +71,7 @@ unfolding lines trace records_lines record_lines record_alerts
 lines-each plan before link [] = refl
 lines-each plan before link (captured ∷ records) =
     let shown = linked link captured in
-    flat_map-append text_of (record_alerts plan before shown) (trail_from (record_alerts plan) (before ++ shown ∷ []) (map (linked link) records))
+    flat_map-append (text_of plan.classes) (record_alerts plan before shown) (trail_from (record_alerts plan) (before ++ shown ∷ []) (map (linked link) records))
     ∙ ap (λ (x : List ℕ). record_lines plan shown ++ x) (lines-each plan (before ++ shown ∷ []) link records)
 
 -- a batch more

@@ -8,6 +8,7 @@ use Rattle.std.specs.FinMap.{get}
 use Rattle.std.proofs.lemmas.List.{length-append, take_at}
 use Rattle.edge_io.specs.Told.{behind}
 use Rattle.edge_io.specs.Files.{Files}
+use Rattle.option_eval.specs.Places.{Means}
 use Rattle.snort_engine.specs.declared.status.Status.TheVariants as status
 use Rattle.snort_engine.specs.Course.{Plan, Way, Stops, Goes, Course}
 use Rattle.snort_engine.specs.Records.{LinkedRecord, records_of}
@@ -78,5 +79,5 @@ one_record_too_far files course plan before after message old taken rest first o
     (subst (λ (way : Way). ReadsAheadOn files way before after status.WriteFault) goes ends.read_ahead)
 
 -- a capture that was opened a second time
-pub opened_twice : (words : List (List ℕ)) (before after : Outside) → before.opens + 2 ≤ after.opens → Headline words before after status.Done → ⊥
-opened_twice words before after twice run = absurd (omega (arith, run.opened_once))
+pub opened_twice : (words : List (List ℕ)) (means : Means) (before after : Outside) → before.opens + 2 ≤ after.opens → Headline words means before after status.Done → ⊥
+opened_twice words means before after twice run = absurd (omega (arith, run.opened_once))

@@ -1,214 +1,398 @@
 -- How a run follows its course, and the headline.
-use Rattle.std.proofs.Common.{◌≡◌, ℕ, ◌+◌, ◌≤◌, List, [], ◌∷◌, ◌++◌, Option, Some, None, Result, Ok, Err, refl, sym, ap, subst, ◌∙◌, arith, inl, inr, ◌⊎◌, ⊎_elim}
+use Rattle.std.proofs.lemmas.Bool.Decides.{nat_tests}
+use Rattle.std.proofs.Common.{◌≡◌, ℕ, ◌+◌, ◌≤◌, Bool, true, List, [], ◌++◌, Option, Some, None, Result, Ok, Err, refl, sym, ap, subst, ◌∙◌, arith, inl, inr, ◌⊎◌, ⊎_elim}
 use Rattle.std.specs.FinMap.{get}
 use Rattle.std.specs.List.{concat}
-use Rattle.std.specs.Option.{option_map}
-use mathlib.Core.List.{IsPrefix}
-use Rattle.edge_io.specs.Told.{behind, Rose}
+use Rattle.edge_io.specs.Told.{behind, Rose, one_more}
 use Rattle.edge_io.specs.Files.{Files, Lacks}
 use Rattle.edge_io.proofs.Told.{behind-nil}
-use Rattle.snort_engine.specs.declared.content_rule.ContentRule.{ContentRule}
+use Rattle.option_eval.specs.Places.{Means}
+use Rattle.command_words.specs.CommandLine.{Asked, command_line}
+use Rattle.flow_lanes.specs.Hits.{Test, Tells}
 use Rattle.snort_engine.specs.declared.status.Status.{Status}
 use Rattle.snort_engine.specs.declared.status.Status.TheVariants as status
 use Rattle.snort_engine.specs.declared.stop.Stop.{Stop}
 use Rattle.snort_engine.specs.declared.stop.Stop.TheVariants as stop
-use Rattle.snort_engine.specs.declared.stop.InputFile.TheVariants as input
-use Rattle.snort_engine.specs.CommandLine.{Options, command_line}
-use Rattle.snort_engine.specs.Setup.{Setup, Rules, RefusedAt, Lacking, setup, setup_at, StopsSetup, IsSetupStop}
-use Rattle.snort_engine.specs.Course.{Plan, Way, Goes, Course, course, course_of, names_of, way_of, reading}
-use Rattle.snort_engine.specs.Answer.{Answer, answer, answer_of, capture_answer, LacksOne}
-use Rattle.snort_engine.specs.Messages.{command_line_text, outside_profile_text, cannot_read_text, no_memory_text}
+use Rattle.snort_engine.specs.Course.{Plan, Way, Stops, Goes, Course, Given, given, IsCourse, Reads, AreRefused}
+use Rattle.snort_engine.specs.Answer.{Answer, answer_of, way_answer, capture_answer}
+use Rattle.snort_engine.specs.Messages.{cannot_read_text, no_memory_text}
 use Rattle.snort_engine.specs.Outside.{Outside, Work, work_of, WritesPart, NoFault, NoCountFell}
-use Rattle.snort_engine.specs.ReadAhead.{IsUnopened, IsCutOff}
-use Rattle.snort_engine.specs.Ending.{IsStated, IsAnswered, IsUnread, IsCutShort, Ends}
+use Rattle.snort_engine.specs.ReadAhead.{IsUnopened, ReadsAhead}
+use Rattle.snort_engine.specs.Ending.{IsStated, IsAnswered, IsUnread, IsLacking, Ends, EndsEarly, EndsOnCourse, EndsRun}
 use Rattle.snort_engine.specs.Stop.{stop_status, stop_text, outcome_status, outcome_text}
-use Rattle.snort_engine.specs.Reporting.{Tells, Reports}
-use Rattle.snort_engine.specs.Watching.{plan_by}
-use Rattle.snort_engine.specs.Headline.{OfTold, EndsOn, Headline}
+use Rattle.snort_engine.specs.Reporting.{Tells as TellsMessage, TellsOn, TellsLast, Reports}
+use Rattle.snort_engine.specs.Preparing.{HasWay, stops, Prepares, IsPrepared, HasCause, IsForFaultyWords}
+use Rattle.snort_engine.specs.Headline.{OfTold, refused_since, EndsSo, HasAnswer, LacksOne, Headline}
 use Rattle.snort_engine.proofs.Prefixes.{IsPrefix-nil, WritesPart-none, rose_since}
 use Rattle.snort_engine.proofs.LinesLaws.{lines_join, prefix_law}
-use Rattle.snort_engine.proofs.Finishing.{ends_met, ends_unread, ends_lacking, ends_untold, ends_since, IsLater, ahead_stops, ahead_unopened}
+use Rattle.snort_engine.proofs.Prepared.{one_course}
+use Rattle.snort_engine.proofs.Reported.{ReportsOn, tells_message}
+use Rattle.snort_engine.proofs.Finishing.{IsPlain, ends_met, ends_answered, ends_untold, ends_since, IsLater, ahead_stops}
 
--- what maps to nothing is nothing
-pub none_by : {W O : Type 0} (f : W → O) (found : Option W) → ((w : W) → found ≡ Some w → ⊥) → option_map f found ≡ None
-none_by f None absent = refl
-none_by f (Some w) absent = absurd (absent w refl)
+-- ---- a course that stops
 
--- ---- words that are no command
+-- the answer of a course that stops
+stops_answered : (files : Files) (course : Course) (message : List ℕ) (ended : Status) → course.way ≡ Stops message ended → answer_of files course ≡ record { alerts = []; errors = concat course.warnings ++ message; status = ended }
+stops_answered files course message ended is = ap (way_answer files (concat course.warnings)) is
 
-none_ends : (files : Files) (w : Work) → Ends files (course_of files None) w w status.Refused (stop_text (names_of None) stop.CommandLine)
-unfolding stop_text
-none_ends files w =
-    ends_met files (course_of files None) w w status.Refused [] command_line_text tt (sym (behind-nil w.alerts))
-    (record { status = refl; alerts_are = refl; message_is = refl })
-    (ahead_stops files (course_of files None) command_line_text status.Refused w w status.Refused refl refl (record { left = refl; opens = refl; alerts = refl }))
+-- what stops a course before its capture: a status that is plain, or that of a file that is lacking
+abbrev pub IsEarlyStatus : Status → Type 0
+IsEarlyStatus ended = IsPlain ended ⊎ (ended ≡ status.HostFault)
 
-pub words_end : (files : Files) (options : Option Options) (w : Work) → options ≡ None → Ends files (course_of files options) w w status.Refused (stop_text (names_of options) stop.CommandLine)
-words_end files options w is = subst (λ (o : Option Options). Ends files (course_of files o) w w status.Refused (stop_text (names_of o) stop.CommandLine)) (sym is) (none_ends files w)
-
--- ---- a configuration without a setup
-
--- the course of a command, by the setup of its configuration
-course_by : (files : Files) (names : Options) (meant : Setup) → setup files names.conf ≡ meant → course_of files (Some names) ≡ reading names.conf (way_of names meant)
-course_by files names meant is = ap (λ (s : Setup). reading names.conf (way_of names s)) is
-
--- the configuration is lacking
-lacking_answered : (files : Files) (names : Options) → setup files names.conf ≡ Lacking → IsAnswered (answer_of files (course_of files (Some names))) status.HostFault [] (cannot_read_text names.conf)
-lacking_answered files names is =
-    subst (λ (c : Course). IsAnswered (answer_of files c) status.HostFault [] (cannot_read_text names.conf)) (sym (course_by files names Lacking is))
-    (record { status = refl; alerts_are = refl; message_is = refl })
-
--- what stopped the setup, and what is seen afterwards
-unset_ends : (files : Files) (names : Options) (why : Stop) (before after : Work) → IsUnopened before after → IsSetupStop why
-    → StopsSetup (Rose before.host_faults after.host_faults) why (setup files names.conf)
-    → Ends files (course_of files (Some names)) before after (stop_status why) (stop_text names why)
-unfolding stop_text
-unset_ends files names (stop.OutsideProfile line) before after unopened kind meant =
-    let is = course_by files names (RefusedAt line) meant in
-    ends_met files (course_of files (Some names)) before after status.Refused [] (outside_profile_text names.conf line) tt (unopened.alerts ∙ sym (behind-nil before.alerts))
-    (subst (λ (c : Course). IsAnswered (answer_of files c) status.Refused [] (outside_profile_text names.conf line)) (sym is) (record { status = refl; alerts_are = refl; message_is = refl }))
-    (ahead_stops files (course_of files (Some names)) (outside_profile_text names.conf line) status.Refused before after status.Refused (ap (λ (c : Course). c.way) is) refl unopened)
-unset_ends files names (stop.CannotRead input.Configuration) before after unopened kind meant =
-    let one : IsUnread (course_of files (Some names)) before after (cannot_read_text names.conf) = record { reading = record { name = names.conf; warnings = [] }; is = (0, omega arith, refl); unopened = unopened; says = refl } in
-    ends_unread files (course_of files (Some names)) before after [] (cannot_read_text names.conf) (unopened.alerts ∙ sym (behind-nil before.alerts)) (IsPrefix-nil _)
-    (λ still. ⊎_elim (λ risen. absurd (still risen)) (λ lacks. lacking_answered files names lacks) meant)
-    (inl one)
-    (ahead_unopened files (course_of files (Some names)) before after status.HostFault (inl refl) unopened)
-unset_ends files names stop.NoMemory before after unopened kind meant =
-    ends_lacking files (course_of files (Some names)) before after
-    (subst (λ (w : Option (List ℕ)). WritesPart before.alerts (answer_of files (course_of files (Some names))).alerts w) (sym unopened.alerts) (WritesPart-none before.alerts _))
-    (ahead_unopened files (course_of files (Some names)) before after status.NoMemory (inr refl) unopened)
-unset_ends files names why before after unopened kind meant = absurd kind
-
--- the same for words that are a command, and the outcome that the stop gives
-pub setup_ends : (files : Files) (options : Option Options) (names : Options) (why stopped : Stop) (outcome : Result (Unit {0}) Stop) (before after : Work) → options ≡ Some names
-    → outcome ≡ Err stopped → stopped ≡ why → IsUnopened before after → IsSetupStop why
-    → StopsSetup (Rose before.host_faults after.host_faults) why (setup files names.conf)
-    → Ends files (course_of files options) before after (outcome_status outcome) (outcome_text (names_of options) outcome)
-setup_ends files options names why stopped outcome before after are is from unopened kind meant =
-    let by : outcome ≡ Err why = is ∙ ap Err from in
-    subst (λ (o : Option Options). Ends files (course_of files o) before after (outcome_status outcome) (outcome_text (names_of o) outcome)) (sym are)
-    (subst (λ (o : Result (Unit {0}) Stop). Ends files (course_of files (Some names)) before after (outcome_status o) (outcome_text names o)) (sym by)
-    (unset_ends files names why before after unopened kind meant))
-
--- the answer of a configuration that is lacking
-lacks_conf_by : (told : Option Files) (names : Options) → Lacks told names.conf → LacksOne told (λ files. course_of files (Some names))
-unfolding setup
-lacks_conf_by None names lacks = absurd lacks
-lacks_conf_by (Some files) names lacks = (files, refl, sym (lacking_answered files names (ap setup_at lacks)).status)
-
-pub lacks_conf : (told : Option Files) (options : Option Options) (names : Options) (why stopped : Stop) (outcome : Result (Unit {0}) Stop) (rose : Type 0) → options ≡ Some names → outcome ≡ Err stopped → stopped ≡ why → IsSetupStop why
-    → (why ≡ stop.CannotRead input.Configuration → rose ⊎ Lacks told names.conf) → outcome_status outcome ≡ status.HostFault → rose ⊎ LacksOne told (λ files. course_of files options)
-lacks_conf told options names why stopped outcome rose are is from kind failed state =
-    subst (λ (o : Option Options). rose ⊎ LacksOne told (λ files. course_of files o)) (sym are)
-    (by_stop why kind failed (ap outcome_status (sym (is ∙ ap Err from)) ∙ state))
+-- a run of a course that stops, where nothing was opened and no line was written
+stops_ends : (files : Files) (course : Course) (message : List ℕ) (ended : Status) (before after : Work) → course.way ≡ Stops message ended → IsEarlyStatus ended → IsUnopened before after
+    → Ends files course before after ended (concat course.warnings ++ message)
+stops_ends files course message ended before after is early unopened =
+    ⊎_elim
+    (λ (plain : IsPlain ended). ends_met files course before after ended [] text plain wrote answered ahead)
+    (λ (lacks : ended ≡ status.HostFault).
+    subst (λ (s : Status). Ends files course before after s text) (sym lacks)
+    (ends_answered files course before after [] text wrote (subst (λ (s : Status). IsAnswered (answer_of files course) s [] text) lacks answered) (subst (λ (s : Status). ReadsAhead files course before after s) lacks ahead)))
+    early
   where
-    by_stop : (s : Stop) → IsSetupStop s → (s ≡ stop.CannotRead input.Configuration → rose ⊎ Lacks told names.conf) → stop_status s ≡ status.HostFault → rose ⊎ LacksOne told (λ files. course_of files (Some names))
-    by_stop (stop.CannotRead input.Configuration) kind_here failed_here state_here = ⊎_elim (λ (r : rose). inl r) (λ (l : Lacks told names.conf). inr (lacks_conf_by told names l)) (failed_here refl)
-    by_stop (stop.OutsideProfile line) kind_here failed_here state_here = absurd cc
-    by_stop stop.NoMemory kind_here failed_here state_here = absurd cc
-    by_stop s kind_here failed_here state_here = absurd kind_here
+    text : List ℕ
+    text = concat course.warnings ++ message
 
--- ---- a configuration with a setup
+    wrote : after.alerts ≡ behind before.alerts []
+    wrote = unopened.alerts ∙ sym (behind-nil before.alerts)
 
--- the course goes on with its plan
-goes_by : (files : Files) (names : Options) (rules : List ContentRule) → setup files names.conf ≡ Rules rules → (course_of files (Some names)).way ≡ Goes (plan_by names rules)
-goes_by files names rules is = ap (way_of names) is
+    meant : answer_of files course ≡ record { alerts = []; errors = concat course.warnings ++ message; status = ended }
+    meant = stops_answered files course message ended is
 
-pub watch_ends : (files : Files) (options : Option Options) (names : Options) (rules : List ContentRule) (outcome : Result (Unit {0}) Stop) (earlier before after : Work) → options ≡ Some names → setup files names.conf ≡ Rules rules → IsLater earlier before
-    → ((c : Course) → c.way ≡ Goes (plan_by names rules) → c.warnings ≡ [] → Ends files c before after (outcome_status outcome) (outcome_text names outcome))
-    → Ends files (course_of files options) earlier after (outcome_status outcome) (outcome_text (names_of options) outcome)
-watch_ends files options names rules outcome earlier before after are is since ends =
-    subst (λ (o : Option Options). Ends files (course_of files o) earlier after (outcome_status outcome) (outcome_text (names_of o) outcome)) (sym are)
-    (ends_since files (course_of files (Some names)) earlier before after (outcome_status outcome) (outcome_text names outcome) since (ends (course_of files (Some names)) (goes_by files names rules is) refl))
+    answered : IsAnswered (answer_of files course) ended [] (concat course.warnings ++ message)
+    answered = record {
+      status = ap (λ (a : Answer). a.status) (sym meant);
+      alerts_are = ap (λ (a : Answer). a.alerts) (sym meant);
+      message_is = ap (λ (a : Answer). a.errors) (sym meant);
+    }
 
--- the answer of a capture that is lacking
-lacking_capture : (files : Files) (names : Options) (rules : List ContentRule) → setup files names.conf ≡ Rules rules → get files names.capture ≡ None → (answer_of files (course_of files (Some names))).status ≡ status.HostFault
-unfolding capture_answer
-lacking_capture files names rules is lacks =
-    ap (λ (c : Course). (answer_of files c).status) (course_by files names (Rules rules) is)
-    ∙ ap (λ (held : Option (List ℕ)). (capture_answer (plan_by names rules) [] held).status) lacks
+    ahead : ReadsAhead files course before after ended
+    ahead = ahead_stops files course message ended before after ended is refl unopened
 
-pub lacks_capture : (told : Option Files) (options : Option Options) (names : Options) (rules : List ContentRule) → options ≡ Some names → ((files : Files) → told ≡ Some files → setup files names.conf ≡ Rules rules)
-    → Lacks told names.capture → LacksOne told (λ files. course_of files options)
-lacks_capture told options names rules are means lacks =
-    subst (λ (o : Option Options). LacksOne told (λ files. course_of files o)) (sym are) (by_told told means lacks)
-  where
-    by_told : (t : Option Files) → ((files : Files) → t ≡ Some files → setup files names.conf ≡ Rules rules) → Lacks t names.capture → LacksOne t (λ files. course_of files (Some names))
-    by_told None means_here lacks_here = absurd lacks_here
-    by_told (Some files) means_here lacks_here = (files, refl, lacking_capture files names rules (means_here files refl) lacks_here)
+-- ---- a run that was stopped before its capture
+
+-- a course of this way, over these files
+on_course : (asked : Option Asked) (here : Given) (warnings : List (List ℕ)) (message : List ℕ) (ended : Status) (before after : Work) → HasWay asked here warnings (Stops message ended) → IsEarlyStatus ended → IsUnopened before after
+    → EndsOnCourse asked here before after ended (concat warnings ++ message)
+on_course asked here warnings message ended before after has early unopened = record {
+  course = has.course;
+  is = has.is;
+  ends = subst (λ (w : List (List ℕ)). Ends here.files has.course before after ended (concat w ++ message)) has.warnings_are (stops_ends here.files has.course message ended before after has.way_is early unopened);
+}
+
+-- the same, where memory was lacking for the message
+on_course_untold : (asked : Option Asked) (here : Given) (warnings : List (List ℕ)) (message : List ℕ) (ended : Status) (before after : Work) → HasWay asked here warnings (Stops message ended) → IsEarlyStatus ended → IsUnopened before after
+    → EndsOnCourse asked here before after status.NoMemory (concat warnings ++ no_memory_text)
+on_course_untold asked here warnings message ended before after has early unopened = record {
+  course = has.course;
+  is = has.is;
+  ends = subst (λ (w : List (List ℕ)). Ends here.files has.course before after status.NoMemory (concat w ++ no_memory_text)) has.warnings_are
+      (ends_untold here.files has.course before after ended (concat has.course.warnings ++ message) (stops_ends here.files has.course message ended before after has.way_is early unopened));
+}
+
+module _ {A : Type 0} (view : A → Plan) (asked : Option Asked) (here : Given) (before after : Work) (warnings : List (List ℕ)) (unopened : IsUnopened before after) where
+  -- how a stop ends a run
+  stop_ends : (host : Option Files) (why : Stop) → HasCause (Rose before.host_faults after.host_faults) host why → Prepares view asked here (Rose before.host_faults after.host_faults) (Err why) warnings
+      → EndsRun asked here before after (stop_status why) (concat warnings ++ stop_text [] why)
+  unfolding stop_text
+  stop_ends host stop.Usage cause has = inl (on_course asked here warnings _ _ before after has (inl tt) unopened)
+  stop_ends host stop.Version cause has = inl (on_course asked here warnings _ _ before after has (inl tt) unopened)
+  stop_ends host (stop.Accepted rules) cause has = inl (on_course asked here warnings _ _ before after has (inl tt) unopened)
+  stop_ends host stop.CommandLine cause has = inl (on_course asked here warnings _ _ before after has (inl tt) unopened)
+  stop_ends host (stop.Refused message) cause has = inl (on_course asked here warnings _ _ before after has (inl tt) unopened)
+  stop_ends host (stop.CannotReadFile name) cause has =
+      ⊎_elim
+      (λ lacks. inl (on_course asked here warnings _ _ before after lacks (inr refl) unopened))
+      (λ read. inr (record { unopened = unopened; why = inl (refl, read.0, record { name = name; warnings = warnings; is = read.1; says = refl }) }))
+      has
+  stop_ends host stop.NoMemory cause has = inr (record { unopened = unopened; why = inr (refl, record { warnings = warnings; before_one = inl has; says = refl }) })
+  stop_ends host why cause has = absurd cause
+
+  -- and where memory was lacking for its message
+  stop_untold : (host : Option Files) (why : Stop) → HasCause (Rose before.host_faults after.host_faults) host why → Prepares view asked here (Rose before.host_faults after.host_faults) (Err why) warnings
+      → EndsRun asked here before after status.NoMemory (concat warnings ++ no_memory_text)
+  stop_untold host stop.Usage cause has = inl (on_course_untold asked here warnings _ _ before after has (inl tt) unopened)
+  stop_untold host stop.Version cause has = inl (on_course_untold asked here warnings _ _ before after has (inl tt) unopened)
+  stop_untold host (stop.Accepted rules) cause has = inl (on_course_untold asked here warnings _ _ before after has (inl tt) unopened)
+  stop_untold host stop.CommandLine cause has = inl (on_course_untold asked here warnings _ _ before after has (inl tt) unopened)
+  stop_untold host (stop.Refused message) cause has = inl (on_course_untold asked here warnings _ _ before after has (inl tt) unopened)
+  stop_untold host (stop.CannotReadFile name) cause has =
+      ⊎_elim
+      (λ lacks. inl (on_course_untold asked here warnings _ _ before after lacks (inr refl) unopened))
+      (λ read. inr (record { unopened = unopened; why = inr (refl, record { warnings = warnings; before_one = inr (name, read.1); says = refl }) }))
+      has
+  stop_untold host stop.NoMemory cause has = inr (record { unopened = unopened; why = inr (refl, record { warnings = warnings; before_one = inl has; says = refl }) })
+  stop_untold host why cause has = absurd cause
 
 -- ---- the headline
 
--- what is known of the work of a run and of its message
-pub record IsRun (options : Option Options) (before after : Outside) (outcome : Result (Unit {0}) Stop) (ended : Status) : Type 0 where
-  pub ends : (files : Files) → before.files ≡ Some files → Ends files (course_of files options) (work_of before) (work_of after) (outcome_status outcome) (outcome_text (names_of options) outcome)
-  pub faulty_words : options ≡ None → outcome ≡ Err stop.CommandLine
-  pub write_fault : outcome_status outcome ≡ status.WriteFault → Rose before.alert_faults after.alert_faults
-  pub host_fault : outcome_status outcome ≡ status.HostFault → Rose before.host_faults after.host_faults ⊎ LacksOne before.files (λ files. course_of files options)
-  pub reports : Reports (names_of options) outcome ended before.errors after.errors (Rose before.error_faults after.error_faults)
+-- what holds of told files and one list of refused lines
+abbrev pub HoldsOf : Option Asked → Test → Outside → Outside → Status → Files → List ℕ → Type 0
+HoldsOf asked matches before after ended files refused =
+    AreRefused asked files refused (refused_since before after)
+    × EndsSo asked (given files matches refused) before after ended
+    × (ended ≡ status.HostFault → Rose before.host_faults after.host_faults ⊎ HasAnswer asked (given files matches refused) status.HostFault)
+
+-- the list, and what holds of told files
+pub record OfOne (seen : Option Files) (P : Files → List ℕ → Type 0) : Type 0 where
+  pub refused : List ℕ
+  pub holds : (files : Files) → seen ≡ Some files → P files refused
+
+of_one : (seen : Option Files) (P : Files → List ℕ → Type 0) → ((files : Files) → seen ≡ Some files → (refused : List ℕ) × P files refused) → OfOne seen P
+of_one None P has = record { refused = []; holds = λ files is. absurd cc }
+of_one (Some known) P has =
+    let one = has known refl in
+    record { refused = one.0; holds = λ files is. let same : known ≡ files = cc in subst (λ (f : Files). P f one.0) same one.1 }
+
+-- what is known of a run, whatever ended it
+pub record IsRun (asked : Option Asked) (means : Means) (before after : Outside) (ended : Status) : Type 0 where
+  pub matches : Test
+  pub tells : Tells means matches
+  pub told : (files : Files) → before.files ≡ Some files → (refused : List ℕ) × HoldsOf asked matches before after ended files refused
+  pub untold : ended ≡ status.HostFault → before.files ≡ None → Rose before.host_faults after.host_faults
+  pub write_fault : ended ≡ status.WriteFault → Rose before.alert_faults after.alert_faults
+  pub faulty_words : asked ≡ None → (ended ≡ status.Refused) ⊎ (ended ≡ status.NoMemory)
   pub opened_once : after.opens ≤ before.opens + 1
   pub same_files : after.files ≡ before.files
   pub counts : NoCountFell before after
 
-ends_on : (options : Option Options) (before after : Outside) (outcome : Result (Unit {0}) Stop) (ended : Status) → IsRun options before after outcome ended → (files : Files) → before.files ≡ Some files
-    → EndsOn files (course_of files options) before after ended
-ends_on options before after outcome ended run files told =
-    ⊎_elim
-    (λ (said : (ended ≡ outcome_status outcome) × Tells (outcome_text (names_of options) outcome) before.errors after.errors (Rose before.error_faults after.error_faults)).
-    record {
-      message = outcome_text (names_of options) outcome;
-      tells = said.1;
-      ends = subst (λ (s : Status). Ends files (course_of files options) (work_of before) (work_of after) s (outcome_text (names_of options) outcome)) (sym said.0) (run.ends files told);
-    })
-    (λ (untold : (ended ≡ status.NoMemory) × Tells no_memory_text before.errors after.errors (Rose before.error_faults after.error_faults)).
-    record {
-      message = no_memory_text;
-      tells = untold.1;
-      ends = subst (λ (s : Status). Ends files (course_of files options) (work_of before) (work_of after) s no_memory_text) (sym untold.0) (ends_untold files (course_of files options) (work_of before) (work_of after) _ _ (run.ends files told));
-    })
-    run.reports
-
--- a status other than NoMemory is that of the outcome
-by_outcome : (options : Option Options) (before after : Outside) (outcome : Result (Unit {0}) Stop) (ended : Status) (other : Status) → IsRun options before after outcome ended → (status.NoMemory ≡ other → ⊥) → ended ≡ other → outcome_status outcome ≡ other
-by_outcome options before after outcome ended other run apart is =
-    ⊎_elim (λ said. sym said.0 ∙ is) (λ untold. absurd (apart (sym untold.0 ∙ is))) run.reports
-
 -- where no count rose, the status is the answer's, unless memory is lacking
-complete_by : (files : Files) (course_here : Course) (before after : Outside) (ended : Status) (s : Status) → ended ≡ s → (s ≡ status.WriteFault → Rose before.alert_faults after.alert_faults)
-    → EndsOn files course_here before after ended → NoFault before after → (ended ≡ (answer_of files course_here).status) ⊎ (ended ≡ status.NoMemory)
-complete_by files course_here before after ended status.NoMemory is write on calm = inr is
-complete_by files course_here before after ended status.WriteFault is write on calm = absurd (calm.alerts (write refl))
-complete_by files course_here before after ended status.HostFault is write on calm =
-    inl (on.ends.ended_as_stated (subst (λ (x : Status). IsStated x (Rose before.host_faults after.host_faults)) (sym is) calm.host)).status
-complete_by files course_here before after ended status.Done is write on calm =
-    inl (on.ends.ended_as_stated (subst (λ (x : Status). IsStated x (Rose before.host_faults after.host_faults)) (sym is) tt)).status
-complete_by files course_here before after ended status.Refused is write on calm =
-    inl (on.ends.ended_as_stated (subst (λ (x : Status). IsStated x (Rose before.host_faults after.host_faults)) (sym is) tt)).status
-complete_by files course_here before after ended status.BadCapture is write on calm =
-    inl (on.ends.ended_as_stated (subst (λ (x : Status). IsStated x (Rose before.host_faults after.host_faults)) (sym is) tt)).status
+complete_on : (files : Files) (course : Course) (before after : Outside) (ended : Status) (message : List ℕ) (s : Status) → ended ≡ s → (s ≡ status.WriteFault → Rose before.alert_faults after.alert_faults)
+    → Ends files course (work_of before) (work_of after) ended message → NoFault before after → (ended ≡ (answer_of files course).status) ⊎ (ended ≡ status.NoMemory)
+complete_on files course before after ended message status.NoMemory is write ends calm = inr is
+complete_on files course before after ended message status.WriteFault is write ends calm = absurd (calm.alerts (write refl))
+complete_on files course before after ended message status.HostFault is write ends calm =
+    inl (ends.ended_as_stated (subst (λ (x : Status). IsStated x (Rose before.host_faults after.host_faults)) (sym is) calm.host)).status
+complete_on files course before after ended message status.Done is write ends calm =
+    inl (ends.ended_as_stated (subst (λ (x : Status). IsStated x (Rose before.host_faults after.host_faults)) (sym is) tt)).status
+complete_on files course before after ended message status.Refused is write ends calm =
+    inl (ends.ended_as_stated (subst (λ (x : Status). IsStated x (Rose before.host_faults after.host_faults)) (sym is) tt)).status
+complete_on files course before after ended message status.BadCapture is write ends calm =
+    inl (ends.ended_as_stated (subst (λ (x : Status). IsStated x (Rose before.host_faults after.host_faults)) (sym is) tt)).status
 
-write_fault_by : (options : Option Options) (before after : Outside) (outcome : Result (Unit {0}) Stop) (ended : Status) → IsRun options before after outcome ended → ended ≡ status.WriteFault → Rose before.alert_faults after.alert_faults
-write_fault_by options before after outcome ended run is = run.write_fault (by_outcome options before after outcome ended status.WriteFault run (λ e. cc) is)
+complete_by : (asked : Option Asked) (here : Given) (before after : Outside) (ended : Status) → (ended ≡ status.WriteFault → Rose before.alert_faults after.alert_faults) → EndsSo asked here before after ended → NoFault before after
+    → HasAnswer asked here ended ⊎ (ended ≡ status.NoMemory)
+complete_by asked here before after ended write so calm =
+    ⊎_elim
+    (λ (on : EndsOnCourse asked here (work_of before) (work_of after) ended so.message).
+    ⊎_elim (λ (is : ended ≡ (answer_of here.files on.course).status). inl (record { course = on.course; is = on.is; status = is })) (λ (lacking : ended ≡ status.NoMemory). inr lacking)
+    (complete_on here.files on.course before after ended so.message ended refl write on.ends calm))
+    (λ (early : EndsEarly asked here (work_of before) (work_of after) ended so.message).
+    ⊎_elim (λ unread. absurd (calm.host unread.1)) (λ lacking. inr lacking.0) early.why)
+    so.ends
 
 -- the headline of a run
-pub headline : (words : List (List ℕ)) (before after : Outside) (outcome : Result (Unit {0}) Stop) (ended : Status) → IsRun (command_line words) before after outcome ended → Headline words before after ended
-unfolding course answer
-headline words before after outcome ended run = record {
-  refused = [];
-  refused_patterns = λ files told. record { asked = λ k d within. absurd (omega arith); few = omega arith };
-  ends = λ files told. ends_on (command_line words) before after outcome ended run files told;
-  complete = λ files told calm. complete_by files (course_of files (command_line words)) before after ended ended refl (write_fault_by (command_line words) before after outcome ended run) (ends_on (command_line words) before after outcome ended run files told) calm;
+pub headline : (words : List (List ℕ)) (means : Means) (before after : Outside) (ended : Status) → IsRun (command_line words) means before after ended → Headline words means before after ended
+headline words means before after ended run = record {
+  matches = run.matches;
+  tells = run.tells;
+  refused = (of_one before.files (HoldsOf (command_line words) run.matches before after ended) run.told).refused;
+  refused_patterns = λ files is. ((of_one before.files (HoldsOf (command_line words) run.matches before after ended) run.told).holds files is).0;
+  ends = λ files is. ((of_one before.files (HoldsOf (command_line words) run.matches before after ended) run.told).holds files is).1;
+  complete = λ files is calm.
+      complete_by (command_line words) _ before after ended run.write_fault ((of_one before.files (HoldsOf (command_line words) run.matches before after ended) run.told).holds files is).1 calm;
   opened_once = run.opened_once;
-  write_fault = write_fault_by (command_line words) before after outcome ended run;
-  host_fault = λ is. run.host_fault (by_outcome (command_line words) before after outcome ended status.HostFault run (λ e. cc) is);
-  faulty_words = λ none. ⊎_elim (λ said. inl (said.0 ∙ ap outcome_status (run.faulty_words none))) (λ untold. inr untold.0) run.reports;
+  write_fault = run.write_fault;
+  host_fault = λ failed. by_files before.files refl failed;
+  faulty_words = run.faulty_words;
   same_files = run.same_files;
   counts = run.counts;
+  one_course = one_course;
   lines_join = lines_join;
   prefix_law = prefix_law;
 }
+  where
+    by_files : (seen : Option Files) → before.files ≡ seen → ended ≡ status.HostFault
+        → Rose before.host_faults after.host_faults
+        ⊎ LacksOne before.files (λ files. given files run.matches (of_one before.files (HoldsOf (command_line words) run.matches before after ended) run.told).refused) (command_line words)
+    by_files None is failed = inl (run.untold failed is)
+    by_files (Some files) is failed =
+        ⊎_elim (λ (rose : Rose before.host_faults after.host_faults). inl rose) (λ answered. inr (files, is, answered))
+        (((of_one before.files (HoldsOf (command_line words) run.matches before after ended) run.told).holds files is).2 failed)
 
--- the same, where the words were read
-pub headline_of : (words : List (List ℕ)) (options : Option Options) (before after : Outside) (outcome : Result (Unit {0}) Stop) (ended : Status) → options ≡ command_line words → IsRun options before after outcome ended → Headline words before after ended
-headline_of words options before after outcome ended is run = headline words before after outcome ended (subst (λ (o : Option Options). IsRun o before after outcome ended) is run)
+-- ---- a run that was stopped before its capture
+
+-- a stop at a file that couldn't be read has its answer, or the host's count rose
+stop_answered : {A : Type 0} (view : A → Plan) (asked : Option Asked) (here : Given) (rose : Type 0) (host : Option Files) (why : Stop) (warnings : List (List ℕ)) → HasCause rose host why → Prepares view asked here rose (Err why) warnings
+    → stop_status why ≡ status.HostFault → rose ⊎ HasAnswer asked here status.HostFault
+stop_answered view asked here rose host (stop.CannotReadFile name) warnings cause has failed =
+    ⊎_elim
+    (λ (way : HasWay asked here warnings (stops (stop.CannotReadFile name))).
+    inr (record { course = way.course; is = way.is; status = sym (ap (λ (a : Answer). a.status) (stops_answered here.files way.course _ _ way.way_is)) }))
+    (λ read. inl read.0)
+    has
+stop_answered view asked here rose host stop.CannotRead warnings cause has failed = absurd cause
+stop_answered view asked here rose host why warnings cause has failed = absurd cc
+
+-- without told files the host's count rose
+stop_untold_rose : (rose : Type 0) (host : Option Files) (why : Stop) → HasCause rose host why → stop_status why ≡ status.HostFault → host ≡ None → rose
+stop_untold_rose rose host (stop.CannotReadFile name) cause failed none = ⊎_elim (λ (r : rose). r) (λ (lacks : Lacks host name). absurd (subst (λ (h : Option Files). Lacks h name) none lacks)) cause
+stop_untold_rose rose host stop.CannotRead cause failed none = absurd cause
+stop_untold_rose rose host why cause failed none = absurd cc
+
+-- no stop before the capture is a fault of writing
+no_write_stop : (rose : Type 0) (host : Option Files) (why : Stop) → HasCause rose host why → stop_status why ≡ status.WriteFault → ⊥
+no_write_stop rose host stop.CannotWrite cause failed = cause
+no_write_stop rose host why cause failed = absurd cc
+
+-- faulty words are refused
+faulty_status : {A : Type 0} (answer : Result A Stop) → IsForFaultyWords answer → (outcome_status answer ≡ status.Refused) ⊎ (outcome_status answer ≡ status.NoMemory)
+faulty_status (Ok ready) faulty = absurd faulty
+faulty_status (Err stop.CommandLine) faulty = inl refl
+faulty_status (Err stop.NoMemory) faulty = inr refl
+faulty_status (Err why) faulty = absurd faulty
+
+-- what is told of a run: its warnings, and then what is reported of its outcome
+pub record IsTold (warnings : List (List ℕ)) (source : List ℕ) (outcome : Result (Unit {0}) Stop) (before after : Outside) (ended : Status) : Type 0 where
+  pub middle : Option (List ℕ)
+  pub at_middle : ℕ
+  pub well : Bool
+  pub later : before.error_faults ≤ at_middle
+  pub on : at_middle ≤ after.error_faults
+  pub warned : TellsOn (concat warnings) true before.errors middle (Rose before.error_faults at_middle) well
+  pub reports : ReportsOn source outcome ended well middle after.errors (Rose at_middle after.error_faults)
+
+-- a status other than NoMemory is that of the outcome
+by_outcome : (warnings : List (List ℕ)) (source : List ℕ) (outcome : Result (Unit {0}) Stop) (before after : Outside) (ended other : Status) → IsTold warnings source outcome before after ended → (status.NoMemory ≡ other → ⊥) → ended ≡ other → outcome_status outcome ≡ other
+by_outcome warnings source outcome before after ended other told apart is =
+    ⊎_elim (λ said. sym said.0 ∙ is) (λ untold. absurd (apart (sym untold.0 ∙ is))) told.reports
+
+-- a run that ends so by its outcome, and so where memory is lacking for the message
+ends_told : (asked : Option Asked) (here : Given) (warnings : List (List ℕ)) (source : List ℕ) (outcome : Result (Unit {0}) Stop) (before after : Outside) (ended : Status) → IsTold warnings source outcome before after ended
+    → EndsRun asked here (work_of before) (work_of after) (outcome_status outcome) (concat warnings ++ outcome_text source outcome)
+    → EndsRun asked here (work_of before) (work_of after) status.NoMemory (concat warnings ++ no_memory_text)
+    → EndsSo asked here before after ended
+ends_told asked here warnings source outcome before after ended told ends untold =
+    ⊎_elim
+    (λ (said : (ended ≡ outcome_status outcome) × TellsLast (outcome_text source outcome) told.well told.middle after.errors (Rose told.at_middle after.error_faults)).
+    record {
+      message = concat warnings ++ outcome_text source outcome;
+      tells = tells_message (concat warnings) (outcome_text source outcome) before.errors told.middle after.errors before.error_faults told.at_middle after.error_faults told.well told.later told.on told.warned said.1;
+      ends = subst (λ (s : Status). EndsRun asked here (work_of before) (work_of after) s (concat warnings ++ outcome_text source outcome)) (sym said.0) ends;
+    })
+    (λ (lacking : (ended ≡ status.NoMemory) × TellsLast no_memory_text told.well told.middle after.errors (Rose told.at_middle after.error_faults)).
+    record {
+      message = concat warnings ++ no_memory_text;
+      tells = tells_message (concat warnings) no_memory_text before.errors told.middle after.errors before.error_faults told.at_middle after.error_faults told.well told.later told.on told.warned lacking.1;
+      ends = subst (λ (s : Status). EndsRun asked here (work_of before) (work_of after) s (concat warnings ++ no_memory_text)) (sym lacking.0) untold;
+    })
+    told.reports
+
+-- what is known of a run that was stopped
+pub record IsStopped {A : Type 0} (plans : Test → A → Plan) (asked : Option Asked) (before after : Outside) (why : Stop) (warnings : List (List ℕ)) : Type 0 where
+  pub prepared : (files : Files) → before.files ≡ Some files → IsPrepared plans asked files (Rose before.host_faults after.host_faults) (refused_since before after) (Err why) warnings
+  pub cause : HasCause (Rose before.host_faults after.host_faults) before.files why
+  pub faulty_words : asked ≡ None → IsForFaultyWords {A = A} (Err why)
+  pub unopened : IsUnopened (work_of before) (work_of after)
+  pub same_files : after.files ≡ before.files
+  pub counts : NoCountFell before after
+
+pub stopped_run : {A : Type 0} (plans : Test → A → Plan) (asked : Option Asked) (means : Means) (before after : Outside) (why : Stop) (warnings : List (List ℕ)) (ended : Status) → (test : Test) × Tells means test
+    → IsStopped plans asked before after why warnings → IsTold warnings [] (Err why) before after ended → IsRun asked means before after ended
+stopped_run {A} plans asked means before after why warnings ended decided run told = record {
+  matches = decided.0;
+  tells = decided.1;
+  told = λ files is.
+      let p = run.prepared files is in
+      let here = given files decided.0 p.refused in
+      let has = p.prepares decided.0 in (
+        p.refused,
+        (
+          p.are_refused,
+          ends_told asked here warnings [] (Err why) before after ended told
+              (stop_ends (plans decided.0) asked here (work_of before) (work_of after) warnings run.unopened before.files why run.cause has)
+              (stop_untold (plans decided.0) asked here (work_of before) (work_of after) warnings run.unopened before.files why run.cause has),
+          λ failed. stop_answered (plans decided.0) asked here (Rose before.host_faults after.host_faults) before.files why warnings run.cause has (by_outcome warnings [] (Err why) before after ended status.HostFault told (λ e. cc) failed),
+        ),
+      );
+  untold = λ failed none. stop_untold_rose (Rose before.host_faults after.host_faults) before.files why run.cause (by_outcome warnings [] (Err why) before after ended status.HostFault told (λ e. cc) failed) none;
+  write_fault = λ failed. absurd (no_write_stop (Rose before.host_faults after.host_faults) before.files why run.cause (by_outcome warnings [] (Err why) before after ended status.WriteFault told (λ e. cc) failed));
+  faulty_words = λ none.
+      ⊎_elim
+      (λ said. ⊎_elim (λ refused. inl (said.0 ∙ refused)) (λ lacking. inr (said.0 ∙ lacking)) (faulty_status {A = A} (Err why) (run.faulty_words none)))
+      (λ lacking. inr lacking.0) told.reports;
+  opened_once = let same = run.unopened.opens in omega (arith, same);
+  same_files = run.same_files;
+  counts = run.counts;
+}
+
+-- ---- a run that went on to its capture
+
+-- one more is at most one more
+one_more_most : (count : ℕ) → one_more count ≤ count + 1
+one_more_most count = grind (arith, nat_tests)
+
+-- what is known of a run that watched its capture
+pub record IsWatching {A : Type 0} (plans : Test → A → Plan) (asked : Option Asked) (means : Means) (before after : Outside) (ready : A) (source : List ℕ) (outcome : Result (Unit {0}) Stop) (warnings : List (List ℕ)) : Type 0 where
+  pub middle : Work
+  pub prepared : (files : Files) → before.files ≡ Some files → IsPrepared plans asked files (Rose before.host_faults middle.host_faults) (refused_since before after) (Ok ready) warnings
+  pub faulty_words : asked ≡ None → ⊥
+  pub since : IsLater (work_of before) middle
+  pub ends : (matches : Test) → Tells means matches → (files : Files) (course : Course) → before.files ≡ Some files → course.way ≡ Goes (plans matches ready)
+      → Ends files course middle (work_of after) (outcome_status outcome) (concat course.warnings ++ outcome_text source outcome)
+  pub source_is : (matches : Test) → (plans matches ready).source ≡ source
+  pub write_fault : outcome_status outcome ≡ status.WriteFault → Rose before.alert_faults after.alert_faults
+  pub read_fault : outcome_status outcome ≡ status.HostFault → Rose middle.host_faults after.host_faults ⊎ Lacks before.files source
+  pub opened : after.opens ≡ one_more before.opens
+  pub same_files : after.files ≡ before.files
+  pub counts : NoCountFell before after
+
+-- the run on its course
+watching_on : {A : Type 0} (plans : Test → A → Plan) (asked : Option Asked) (means : Means) (before after : Outside) (ready : A) (source : List ℕ) (outcome : Result (Unit {0}) Stop) (warnings : List (List ℕ)) (matches : Test) (files : Files) (here : Given)
+    → here.files ≡ files → IsWatching plans asked means before after ready source outcome warnings → Tells means matches → before.files ≡ Some files → HasWay asked here warnings (Goes (plans matches ready))
+    → (course : Course) × IsCourse asked here course × (course.warnings ≡ warnings) × (course.way ≡ Goes (plans matches ready)) × Ends files course (work_of before) (work_of after) (outcome_status outcome) (concat warnings ++ outcome_text source outcome)
+watching_on plans asked means before after ready source outcome warnings matches files here over run tells is has = (
+  has.course,
+  has.is,
+  has.warnings_are,
+  has.way_is,
+  subst (λ (w : List (List ℕ)). Ends files has.course (work_of before) (work_of after) (outcome_status outcome) (concat w ++ outcome_text source outcome)) has.warnings_are
+      (ends_since files has.course (work_of before) run.middle (work_of after) (outcome_status outcome) (concat has.course.warnings ++ outcome_text source outcome) run.since (run.ends matches tells files has.course is has.way_is)),
+)
+
+-- the answer of a capture that is lacking
+lacking_capture : (asked : Option Asked) (here : Given) (plan : Plan) (warnings : List (List ℕ)) → HasWay asked here warnings (Goes plan) → get here.files plan.source ≡ None → HasAnswer asked here status.HostFault
+unfolding capture_answer
+lacking_capture asked here plan warnings has lacks = record {
+  course = has.course;
+  is = has.is;
+  status = sym (ap (λ (way : Way). (way_answer here.files (concat has.course.warnings) way).status) has.way_is
+      ∙ ap (λ (held : Option (List ℕ)). (capture_answer plan (concat has.course.warnings) held).status) lacks);
+}
+
+pub watched_run : {A : Type 0} (plans : Test → A → Plan) (asked : Option Asked) (means : Means) (before after : Outside) (ready : A) (source : List ℕ) (outcome : Result (Unit {0}) Stop) (warnings : List (List ℕ)) (ended : Status) → (test : Test) × Tells means test
+    → IsWatching plans asked means before after ready source outcome warnings → IsTold warnings source outcome before after ended → IsRun asked means before after ended
+watched_run plans asked means before after ready source outcome warnings ended decided run told = record {
+  matches = decided.0;
+  tells = decided.1;
+  told = λ files is.
+      let p = run.prepared files is in
+      let here = given files decided.0 p.refused in
+      let has = p.prepares decided.0 in
+      let on = watching_on plans asked means before after ready source outcome warnings decided.0 files here refl run decided.1 is has in
+      let on_untold : Ends files on.0 (work_of before) (work_of after) status.NoMemory (concat warnings ++ no_memory_text) =
+      subst (λ (w : List (List ℕ)). Ends files on.0 (work_of before) (work_of after) status.NoMemory (concat w ++ no_memory_text)) on.2
+      (ends_untold files on.0 (work_of before) (work_of after) (outcome_status outcome) (concat warnings ++ outcome_text source outcome) on.4) in (
+        p.refused,
+        (
+          p.are_refused,
+          ends_told asked here warnings source outcome before after ended told
+              (inl (record { course = on.0; is = on.1; ends = on.4 }))
+              (inl (record { course = on.0; is = on.1; ends = on_untold })),
+          λ failed. ⊎_elim
+              (λ (rose : Rose run.middle.host_faults after.host_faults). inl (rose_since before.host_faults run.middle.host_faults after.host_faults run.since.later rose))
+              (λ (lacks : Lacks before.files source).
+              inr (lacking_capture asked here (plans decided.0 ready) warnings has (ap (get files) (run.source_is decided.0) ∙ subst (λ (t : Option Files). Lacks t source) is lacks)))
+              (run.read_fault (by_outcome warnings source outcome before after ended status.HostFault told (λ e. cc) failed)),
+        ),
+      );
+  untold = λ failed none. ⊎_elim
+      (λ (rose : Rose run.middle.host_faults after.host_faults). rose_since before.host_faults run.middle.host_faults after.host_faults run.since.later rose)
+      (λ (lacks : Lacks before.files source). absurd (subst (λ (t : Option Files). Lacks t source) none lacks))
+      (run.read_fault (by_outcome warnings source outcome before after ended status.HostFault told (λ e. cc) failed));
+  write_fault = λ failed. run.write_fault (by_outcome warnings source outcome before after ended status.WriteFault told (λ e. cc) failed);
+  faulty_words = λ none. absurd (run.faulty_words none);
+  opened_once = let is = run.opened in omega (arith, is, one_more_most before.opens);
+  same_files = run.same_files;
+  counts = run.counts;
+}

@@ -1,85 +1,110 @@
 -- Lines that are made one behind another.
-use Rattle.std.proofs.Common.{◌≡◌, ℕ, ◌+◌, ◌<◌, true, false, cond, List, [], ◌∷◌, ◌++◌, Option, length, get_or, take, drop, map, refl, sym, ap, subst, append_assoc, ◌∙◌}
-use Rattle.std.specs.Prelude.{filter, Result}
+use Rattle.std.proofs.Common.{◌≡◌, ℕ, ◌+◌, ◌<◌, Bool, true, false, not, ◌&&◌, cond, List, [], ◌∷◌, ◌++◌, Option, Result, Ok, Err, length, get_or, take, drop, map, refl, sym, ap, subst, append_assoc, ◌∙◌, ◌↔◌}
+use Rattle.std.specs.Prelude.{filter, IsTrue, All, IfOk, ⊤}
+use Rattle.std.specs.Option.{ForSome}
 use Rattle.std.specs.List.{flat_map}
+use Rattle.std.specs.FinSet.{empty}
 use Rattle.std.proofs.lemmas.List.{append-nil, map-append, take-append-drop, take_more}
 use Rattle.std.proofs.lemmas.List.Concat.{flat_map-append}
 use Rattle.std.proofs.lemmas.List.Elements.{filter-append}
+use Rattle.std.proofs.lemmas.Option.{MatchOption-at_some}
 use Rattle.edge_io.specs.declared.link.Link.{Link}
+use Rattle.edge_io.specs.declared.moment.Moment.{Moment}
+use Rattle.packet_decode.specs.declared.item.ItemHead.{ItemHead}
 use Rattle.packet_decode.specs.declared.skip.Skip.{Skip}
 use Rattle.packet_decode.specs.Decoding.{Fields, decoded}
 use Rattle.pcap_input.specs.declared.capture.Record.{Record}
-use Rattle.snort_engine.specs.declared.content_rule.ContentRule.{ContentRule}
-use Rattle.snort_engine.specs.declared.flight.Flight.{Flight}
+use Rattle.conf_parser.specs.declared.classes.Class.{Class}
+use Rattle.rule_parser.specs.declared.rule.Rule.{Rule}
+use Rattle.rule_parser.specs.Sound.{IsSound}
+use Rattle.flow_lanes.specs.Hits.{Item}
+use Rattle.flow_lanes.specs.Hits.{Test, Tells, Bits, RuleMatches}
+use Rattle.option_eval.specs.Places.{Means}
 use Rattle.snort_engine.specs.Course.{Plan}
 use Rattle.snort_engine.specs.Records.{linked}
 use Rattle.snort_engine.specs.Outside.{WritesPart}
-use Rattle.snort_engine.specs.Trace.{occurs_in, alert_of, flight_alerts, all_checks, alerts_of_answer, record_alerts}
-use Rattle.snort_engine.specs.Line.{AlertFacts}
+use Rattle.snort_engine.specs.Trace.{Alert, alert_of, is_told, is_shown, item_alerts, item_of, alerts_on, head_of, record_alerts}
 use Rattle.snort_engine.specs.Lines.{text_of}
-use Rattle.snort_engine.specs.Watching.{Gathering, Gathers, flight_lines, record_lines, records_lines}
+use Rattle.snort_engine.specs.Watching.{Gathering, Gathers, item_lines, record_lines, records_lines}
 use Rattle.snort_engine.proofs.Prefixes.{WritesPart-none, WritesPart-longer, gathers_none, gathers_both, gathers_part}
 
 -- the lines of rules, and then those of more rules
-flight_lines-append : (front back : List ContentRule) (flight : Flight) (payload : List ℕ) → flight_lines (front ++ back) flight payload ≡ flight_lines front flight payload ++ flight_lines back flight payload
-unfolding flight_lines flight_alerts
-flight_lines-append front back flight payload =
-    ap (λ (x : List ContentRule). flat_map text_of (map (alert_of flight) x)) (filter-append (λ rule. occurs_in payload rule.content) front back)
-    ∙ ap (flat_map text_of) (map-append (alert_of flight) (filter (λ rule. occurs_in payload rule.content) front) (filter (λ rule. occurs_in payload rule.content) back))
-    ∙ flat_map-append text_of (map (alert_of flight) (filter (λ rule. occurs_in payload rule.content) front)) (map (alert_of flight) (filter (λ rule. occurs_in payload rule.content) back))
+item_lines-append : (plan : Plan) (front back : List Rule) (item : Item) → item_lines plan (front ++ back) item ≡ item_lines plan front item ++ item_lines plan back item
+unfolding item_lines item_alerts
+item_lines-append plan front back item =
+    ap (λ (x : List Rule). flat_map (text_of plan.classes) (map (alert_of item.head) x)) (filter-append (is_shown plan.matches item) front back)
+    ∙ ap (flat_map (text_of plan.classes)) (map-append (alert_of item.head) (filter (is_shown plan.matches item) front) (filter (is_shown plan.matches item) back))
+    ∙ flat_map-append (text_of plan.classes) (map (alert_of item.head) (filter (is_shown plan.matches item) front)) (map (alert_of item.head) (filter (is_shown plan.matches item) back))
 
 -- one rule
-flight_lines-yes : (rule : ContentRule) (flight : Flight) (payload : List ℕ) → occurs_in payload rule.content ≡ true → flight_lines (rule ∷ []) flight payload ≡ text_of (alert_of flight rule)
-unfolding flight_lines flight_alerts
-flight_lines-yes rule flight payload hit = ap (λ b. flat_map text_of (map (alert_of flight) (cond b (rule ∷ []) []))) hit ∙ append-nil (text_of (alert_of flight rule))
+item_lines-yes : (plan : Plan) (rule : Rule) (item : Item) → is_shown plan.matches item rule ≡ true → item_lines plan (rule ∷ []) item ≡ text_of plan.classes (alert_of item.head rule)
+unfolding item_lines item_alerts
+item_lines-yes plan rule item hit =
+    ap (λ (b : Bool). flat_map (text_of plan.classes) (map (alert_of item.head) (cond b (rule ∷ []) []))) hit ∙ append-nil (text_of plan.classes (alert_of item.head rule))
 
-flight_lines-no : (rule : ContentRule) (flight : Flight) (payload : List ℕ) → occurs_in payload rule.content ≡ false → flight_lines (rule ∷ []) flight payload ≡ []
-unfolding flight_lines flight_alerts
-flight_lines-no rule flight payload miss = ap (λ b. flat_map text_of (map (alert_of flight) (cond b (rule ∷ []) []))) miss
+item_lines-no : (plan : Plan) (rule : Rule) (item : Item) → is_shown plan.matches item rule ≡ false → item_lines plan (rule ∷ []) item ≡ []
+unfolding item_lines item_alerts
+item_lines-no plan rule item miss = ap (λ (b : Bool). flat_map (text_of plan.classes) (map (alert_of item.head) (cond b (rule ∷ []) []))) miss
 
-pub flight_lines-none : (flight : Flight) (payload : List ℕ) → flight_lines [] flight payload ≡ []
-unfolding flight_lines flight_alerts
-flight_lines-none flight payload = refl
+pub item_lines-none : (plan : Plan) (item : Item) → item_lines plan [] item ≡ []
+unfolding item_lines item_alerts
+item_lines-none plan item = refl
 
 -- the lines of one rule more
-one_rule_more : (rules : List ContentRule) (i : ℕ) (rule : ContentRule) (flight : Flight) (payload : List ℕ) → i < length rules → rule ≡ get_or rules i rule → flight_lines (take (i + 1) rules) flight payload ≡ flight_lines (take i rules) flight payload ++ flight_lines (rule ∷ []) flight payload
-one_rule_more rules i rule flight payload lt is =
-    ap (λ some. flight_lines some flight payload) (take_more rules i rule lt) ∙ flight_lines-append (take i rules) (get_or rules i rule ∷ []) flight payload
-    ∙ ap (λ (r : ContentRule). flight_lines (take i rules) flight payload ++ flight_lines (r ∷ []) flight payload) (sym is)
+one_rule_more : (plan : Plan) (rules : List Rule) (i : ℕ) (rule : Rule) (item : Item) → i < length rules → rule ≡ get_or rules i rule
+    → item_lines plan (take (i + 1) rules) item ≡ item_lines plan (take i rules) item ++ item_lines plan (rule ∷ []) item
+one_rule_more plan rules i rule item lt is =
+    ap (λ (some : List Rule). item_lines plan some item) (take_more rules i rule lt) ∙ item_lines-append plan (take i rules) (get_or rules i rule ∷ []) item
+    ∙ ap (λ (r : Rule). item_lines plan (take i rules) item ++ item_lines plan (r ∷ []) item) (sym is)
 
--- the lines so far came, and then that of the next rule, which matches
-pub shown_step : (old middle new : Gathering) (rules : List ContentRule) (i : ℕ) (rule : ContentRule) (flight : Flight) (payload : List ℕ) → i < length rules → rule ≡ get_or rules i rule
-    → Gathers (flight_lines (take i rules) flight payload) old middle → occurs_in payload rule.content ≡ true → Gathers (text_of (alert_of flight rule)) middle new
-    → Gathers (flight_lines (take (i + 1) rules) flight payload) old new
-shown_step old middle new rules i rule flight payload lt is so_far hit more =
+-- the lines so far came, and then that of the next rule, which alerts
+pub shown_step : (old middle new : Gathering) (plan : Plan) (rules : List Rule) (i : ℕ) (rule : Rule) (item : Item) → i < length rules → rule ≡ get_or rules i rule
+    → Gathers (item_lines plan (take i rules) item) old middle → is_shown plan.matches item rule ≡ true → Gathers (text_of plan.classes (alert_of item.head rule)) middle new
+    → Gathers (item_lines plan (take (i + 1) rules) item) old new
+shown_step old middle new plan rules i rule item lt is so_far hit more =
     subst (λ (x : List ℕ). Gathers x old new)
-    (ap (λ (x : List ℕ). flight_lines (take i rules) flight payload ++ x) (sym (flight_lines-yes rule flight payload hit)) ∙ sym (one_rule_more rules i rule flight payload lt is))
+    (ap (λ (x : List ℕ). item_lines plan (take i rules) item ++ x) (sym (item_lines-yes plan rule item hit)) ∙ sym (one_rule_more plan rules i rule item lt is))
     (gathers_both _ _ old middle new so_far more)
 
--- the lines so far came, and the next rule doesn't match
-pub passed_step : (old middle : Gathering) (rules : List ContentRule) (i : ℕ) (rule : ContentRule) (flight : Flight) (payload : List ℕ) → i < length rules → rule ≡ get_or rules i rule
-    → Gathers (flight_lines (take i rules) flight payload) old middle → occurs_in payload rule.content ≡ false
-    → Gathers (flight_lines (take (i + 1) rules) flight payload) old middle
-passed_step old middle rules i rule flight payload lt is so_far miss =
+-- the lines so far came, and the next rule doesn't alert
+pub passed_step : (old middle : Gathering) (plan : Plan) (rules : List Rule) (i : ℕ) (rule : Rule) (item : Item) → i < length rules → rule ≡ get_or rules i rule
+    → Gathers (item_lines plan (take i rules) item) old middle → is_shown plan.matches item rule ≡ false
+    → Gathers (item_lines plan (take (i + 1) rules) item) old middle
+passed_step old middle plan rules i rule item lt is so_far miss =
     subst (λ (x : List ℕ). Gathers x old middle)
-    (sym (append-nil (flight_lines (take i rules) flight payload))
-    ∙ ap (λ (x : List ℕ). flight_lines (take i rules) flight payload ++ x) (sym (flight_lines-no rule flight payload miss))
-    ∙ sym (one_rule_more rules i rule flight payload lt is))
+    (sym (append-nil (item_lines plan (take i rules) item))
+    ∙ ap (λ (x : List ℕ). item_lines plan (take i rules) item ++ x) (sym (item_lines-no plan rule item miss))
+    ∙ sym (one_rule_more plan rules i rule item lt is))
     so_far
 
+-- the lines so far came, and then a part of what waits was written
+pub part_so_far : (old middle : Gathering) (new : Option (List ℕ)) (plan : Plan) (rules : List Rule) (i : ℕ) (item : Item)
+    → Gathers (item_lines plan (take i rules) item) old middle → WritesPart middle.written middle.block new
+    → WritesPart old.written (old.block ++ item_lines plan rules item) new
+part_so_far old middle new plan rules i item so_far part =
+    let front = item_lines plan (take i rules) item in
+    let others = item_lines plan (drop i rules) item in
+    let whole : front ++ others ≡ item_lines plan rules item =
+    sym (item_lines-append plan (take i rules) (drop i rules) item) ∙ ap (λ (some : List Rule). item_lines plan some item) (take-append-drop i rules) in
+    let P : List ℕ → Type 0 = λ x. WritesPart old.written x new in
+    let none : WritesPart old.written (old.block ++ (front ++ [])) new =
+    gathers_part front [] old middle new so_far (subst (λ (x : List ℕ). WritesPart middle.written x new) (sym (append-nil middle.block)) part) in
+    let own : WritesPart old.written (old.block ++ front) new = subst (λ (x : List ℕ). WritesPart old.written (old.block ++ x) new) (append-nil front) none in
+    subst P (append_assoc old.block front others ∙ ap (λ (x : List ℕ). old.block ++ x) whole) (WritesPart-longer old.written new (old.block ++ front) others own)
+
 -- the lines so far came, and then a part of what waits and of that of the next rule was written
-pub part_step : (old middle : Gathering) (new : Option (List ℕ)) (rules : List ContentRule) (i : ℕ) (rule : ContentRule) (flight : Flight) (payload : List ℕ) → i < length rules → rule ≡ get_or rules i rule
-    → Gathers (flight_lines (take i rules) flight payload) old middle → occurs_in payload rule.content ≡ true → WritesPart middle.written (middle.block ++ text_of (alert_of flight rule)) new
-    → WritesPart old.written (old.block ++ flight_lines rules flight payload) new
-part_step old middle new rules i rule flight payload lt is so_far hit part =
-    let front = flight_lines (take i rules) flight payload in
-    let own = text_of (alert_of flight rule) in
-    let others = flight_lines (drop (i + 1) rules) flight payload in
-    let to_next : front ++ own ≡ flight_lines (take (i + 1) rules) flight payload =
-    ap (λ (x : List ℕ). front ++ x) (sym (flight_lines-yes rule flight payload hit)) ∙ sym (one_rule_more rules i rule flight payload lt is) in
-    let whole : (front ++ own) ++ others ≡ flight_lines rules flight payload =
+pub part_step : (old middle : Gathering) (new : Option (List ℕ)) (plan : Plan) (rules : List Rule) (i : ℕ) (rule : Rule) (item : Item) → i < length rules → rule ≡ get_or rules i rule
+    → Gathers (item_lines plan (take i rules) item) old middle → is_shown plan.matches item rule ≡ true → WritesPart middle.written (middle.block ++ text_of plan.classes (alert_of item.head rule)) new
+    → WritesPart old.written (old.block ++ item_lines plan rules item) new
+part_step old middle new plan rules i rule item lt is so_far hit part =
+    let front = item_lines plan (take i rules) item in
+    let own = text_of plan.classes (alert_of item.head rule) in
+    let others = item_lines plan (drop (i + 1) rules) item in
+    let to_next : front ++ own ≡ item_lines plan (take (i + 1) rules) item =
+    ap (λ (x : List ℕ). front ++ x) (sym (item_lines-yes plan rule item hit)) ∙ sym (one_rule_more plan rules i rule item lt is) in
+    let whole : (front ++ own) ++ others ≡ item_lines plan rules item =
     ap (λ (x : List ℕ). x ++ others) to_next
-    ∙ sym (flight_lines-append (take (i + 1) rules) (drop (i + 1) rules) flight payload) ∙ ap (λ some. flight_lines some flight payload) (take-append-drop (i + 1) rules) in
+    ∙ sym (item_lines-append plan (take (i + 1) rules) (drop (i + 1) rules) item) ∙ ap (λ (some : List Rule). item_lines plan some item) (take-append-drop (i + 1) rules) in
     let P : List ℕ → Type 0 = λ x. WritesPart old.written x new in
     subst P (append_assoc old.block (front ++ own) others ∙ ap (λ (x : List ℕ). old.block ++ x) whole)
     (WritesPart-longer old.written new (old.block ++ (front ++ own)) others (gathers_part front own old middle new so_far part))
@@ -88,23 +113,65 @@ part_step old middle new rules i rule flight payload lt is so_far hit part =
 pub part_before : (old : Option (List ℕ)) (block text : List ℕ) (new : Option (List ℕ)) → WritesPart old block new → WritesPart old (block ++ text) new
 part_before old block text new part = WritesPart-longer old new block text part
 
+-- the lines of no rule came
+pub none_came : (old : Gathering) (plan : Plan) (item : Item) → Gathers (item_lines plan [] item) old old
+none_came old plan item = subst (λ (x : List ℕ). Gathers x old old) (sym (item_lines-none plan item)) (gathers_none old)
+
+-- ---- whether a rule alerts
+
+-- two tests of one fact agree
+tests_agree : (a b : Bool) (P : Type 0) → (IsTrue a ↔ P) → (IsTrue b ↔ P) → a ≡ b
+tests_agree true true P one two = refl
+tests_agree true false P one two = sym (two.1 (one.0 refl))
+tests_agree false true P one two = one.1 (two.0 refl)
+tests_agree false false P one two = refl
+
+-- a rule that alerts where it matches, by its match
+pub shown_by : (told answer test : Bool) (P : Type 0) → told ≡ true → (IsTrue answer ↔ P) → (IsTrue test ↔ P) → answer ≡ (told && test)
+shown_by told answer test P is one two = tests_agree answer test P one two ∙ ap (λ (b : Bool). b && test) (sym is)
+
+-- the answer of one try, as the test has it
+pub shown_answer : {E : Type 0} (answer : Result Bool E) (matches : Test) (means : Means) (rule : Rule) (item : Item) (bits : Bits) → bits ≡ empty → is_told rule ≡ true → Tells means matches
+    → IfOk answer (λ hit. IsTrue hit ↔ RuleMatches means rule item bits) → IfOk answer (λ shown. shown ≡ is_shown matches item rule)
+shown_answer (Ok hit) matches means rule item bits none told tells tried =
+    shown_by (is_told rule) hit (matches rule item empty) (RuleMatches means rule item empty) told (subst (λ (b : Bits). IsTrue hit ↔ RuleMatches means rule item b) none tried) (tells rule item empty)
+shown_answer (Err why) matches means rule item bits none told tells tried = tt
+
+-- a rule's class is one of the classes
+pub class_there : (classes : List Class) (rules : List Rule) (i : ℕ) (rule : Rule) → i < length rules → rule ≡ get_or rules i rule → All (IsSound classes) rules
+    → ForSome rule.class (λ class. class < length classes)
+class_there classes rules i rule lt is sound = λ place named.
+    let own : IsSound classes rule = subst (λ (r : Rule). IsSound classes r) (sym is) (sound i rule lt) in
+    MatchOption-at_some ⊤ (λ (p : ℕ). p < length classes) place named own.class
+
+-- ---- the lines of a record
+
 -- the lines of a record by what the decoder found in it
-pub record_lines-by : (plan : Plan) (link : Link) (captured : Record) (bytes : List ℕ) (answer : Result Fields Skip) → answer ≡ decoded link bytes all_checks → bytes ≡ captured.bytes
-    → record_lines plan (linked link captured) ≡ flat_map text_of (alerts_of_answer plan.rules captured.moment answer)
+pub record_lines-by : (plan : Plan) (link : Link) (captured : Record) (bytes : List ℕ) (answer : Result Fields Skip) → answer ≡ decoded link bytes plan.checks → bytes ≡ captured.bytes
+    → record_lines plan (linked link captured) ≡ flat_map (text_of plan.classes) (alerts_on plan.matches plan.rules (item_of captured.moment answer))
 unfolding record_lines record_alerts
 record_lines-by plan link captured bytes answer is same =
-    sym (ap (λ d. flat_map text_of (alerts_of_answer plan.rules captured.moment d)) is
-    ∙ ap (λ (b : List ℕ). flat_map text_of (alerts_of_answer plan.rules captured.moment (decoded link b all_checks))) same)
+    sym (ap (λ (d : Result Fields Skip). flat_map (text_of plan.classes) (alerts_on plan.matches plan.rules (item_of captured.moment d))) is
+    ∙ ap (λ (b : List ℕ). flat_map (text_of plan.classes) (alerts_on plan.matches plan.rules (item_of captured.moment (decoded link b plan.checks)))) same)
+
+-- a record that is skipped has no lines
+pub skipped_lines : (plan : Plan) (link : Link) (captured : Record) (bytes : List ℕ) (skip : Skip) → Err skip ≡ decoded link bytes plan.checks → bytes ≡ captured.bytes
+    → record_lines plan (linked link captured) ≡ []
+skipped_lines plan link captured bytes skip is same = record_lines-by plan link captured bytes (Err skip) is same
+
+-- the lines of a packet or fragment are those of its item
+pub record_lines-item : (plan : Plan) (link : Link) (captured : Record) (bytes : List ℕ) (fields : Fields) (head : ItemHead) → Ok fields ≡ decoded link bytes plan.checks → bytes ≡ captured.bytes → head ≡ head_of captured.moment fields
+    → record_lines plan (linked link captured) ≡ item_lines plan plan.rules (record { head = head; payload = fields.payload })
+unfolding item_lines
+record_lines-item plan link captured bytes fields head is same made =
+    record_lines-by plan link captured bytes (Ok fields) is same
+    ∙ ap (λ (h : ItemHead). flat_map (text_of plan.classes) (item_alerts plan.matches plan.rules (record { head = h; payload = fields.payload }))) (sym made)
 
 -- a record without lines leaves all as it was
-pub no_lines : (old : Gathering) (plan : Plan) (link : Link) (captured : Record) (bytes : List ℕ) (answer : Result Fields Skip) → answer ≡ decoded link bytes all_checks → bytes ≡ captured.bytes
-    → alerts_of_answer plan.rules captured.moment answer ≡ [] → Gathers (record_lines plan (linked link captured)) old old
-no_lines old plan link captured bytes answer is same none =
-    subst (λ (x : List ℕ). Gathers x old old) (sym (record_lines-by plan link captured bytes answer is same ∙ ap (flat_map text_of) none)) (gathers_none old)
-
--- the lines of no rule came
-pub none_came : (old : Gathering) (flight : Flight) (payload : List ℕ) → Gathers (flight_lines [] flight payload) old old
-none_came old flight payload = subst (λ (x : List ℕ). Gathers x old old) (sym (flight_lines-none flight payload)) (gathers_none old)
+pub no_lines : (old : Gathering) (plan : Plan) (link : Link) (captured : Record) (bytes : List ℕ) (skip : Skip) → Err skip ≡ decoded link bytes plan.checks → bytes ≡ captured.bytes
+    → Gathers (record_lines plan (linked link captured)) old old
+no_lines old plan link captured bytes skip is same =
+    subst (λ (x : List ℕ). Gathers x old old) (sym (skipped_lines plan link captured bytes skip is same)) (gathers_none old)
 
 -- ---- the lines of a batch
 

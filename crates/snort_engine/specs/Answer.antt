@@ -5,7 +5,7 @@
 -- records. To try it on: where the configuration has one rule and the capture is the 24 bytes of its
 -- head alone, the answer is no line, no error and Done; without the last of these bytes it is
 -- `ERROR: capture is truncated at byte 0` and BadCapture.
-use Rattle.std.specs.Prelude.{◌≡◌, ℕ, List, [], ◌++◌, Option, Some, None, ◌⊎◌}
+use Rattle.std.specs.Prelude.{◌≡◌, ℕ, List, [], ◌++◌, Option, Some, None}
 use Rattle.std.specs.FinMap.{get}
 use Rattle.std.specs.List.{concat}
 use Rattle.edge_io.specs.Files.{Files}
@@ -14,7 +14,7 @@ use Rattle.pcap_input.specs.declared.capture.CaptureFault.TheVariants as fault
 use Rattle.pcap_input.specs.Savefile.{Ending, Clean, Refused}
 use Rattle.snort_engine.specs.declared.status.Status.{Status}
 use Rattle.snort_engine.specs.declared.status.Status.TheVariants as status
-use Rattle.snort_engine.specs.Course.{Plan, Way, Stops, Goes, Course, RuleLine, course}
+use Rattle.snort_engine.specs.Course.{Plan, Way, Stops, Goes, Course}
 use Rattle.snort_engine.specs.Records.{Recording, records_of}
 use Rattle.snort_engine.specs.Trace.{Closed}
 use Rattle.snort_engine.specs.Lines.{lines}
@@ -71,16 +71,6 @@ abbrev pub way_answer : Files → List ℕ → Way → Answer
 way_answer files warnings (Stops message ended) = record { alerts = []; errors = warnings ++ message; status = ended }
 way_answer files warnings (Goes plan) = capture_answer plan warnings (get files plan.source)
 
--- the answer for a course
+-- the answer for a course over these files
 abbrev pub answer_of : Files → Course → Answer
-answer_of files course_here = way_answer files (concat course_here.warnings) course_here.way
-
--- the answer of a run with these words over these files, where the maker refused the patterns of
--- these lines
-unfoldable pub answer : List (List ℕ) → Files → List RuleLine → Answer
-answer words files refused = answer_of files (course words files refused)
-
--- files are told, and the answer is that one of those that are read is lacking
-abbrev pub LacksOne : Option Files → (Files → Course) → Type 0
-LacksOne told course_over =
-    (files : Files) × (told ≡ Some files) × ((answer_of files (course_over files)).status ≡ status.HostFault)
+answer_of files course = way_answer files (concat course.warnings) course.way

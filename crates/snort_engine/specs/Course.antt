@@ -1,75 +1,161 @@
 -- The course of a run: what its words and files say is to be done.
 --
--- A run reads the configuration that its words name, and then either stops with a message and a
--- status, or goes on with a plan: which capture is read, and by which rules. Warnings stand before
--- either. What a run does with a capture is said by `Records`, `Trace` and `Lines`.
+-- A run reads its words, and the configuration, the rules and the host table that they name, and then
+-- either stops with a message and a status, or goes on with a plan: which capture is read, how, and by
+-- which rules. Warnings stand before either. What a run does with a capture is said by `Records`,
+-- `Trace` and `Lines`. A rule line's meaning is a relation, and so a course is one, too: the words,
+-- the files and the refused patterns have one course.
+-- (Snort Users Manual 2.9, section 1.6, for the options; the messages are our own.)
 -- To try it on: `snort -c r -r p` where `r` has one rule goes on with the capture `p` and that rule;
--- where `r` is lacking it stops with `ERROR: cannot read r` and HostFault.
-use Rattle.std.specs.Prelude.{ℕ, List, [], ◌∷◌, Option, Some, None}
+-- where `r` is lacking it stops with `ERROR: cannot read r` and HostFault; `snort -c r -T` stops with
+-- `configuration accepted: 1 rules` and Done.
+use Rattle.std.specs.Prelude.{◌≡◌, ℕ, ◌==◌, ◌||◌, Bool, true, false, not, List, [], Option, Some, None, Result, Ok, Err, MatchBool, is_some, length, if◌then◌else◌}
+use Rattle.std.specs.Option.{option_map, option_map_or}
 use Rattle.edge_io.specs.Files.{Files}
+use Rattle.packet_decode.specs.declared.checks.Checks.{Checks}
+use Rattle.conf_parser.specs.declared.classes.Class.{Class}
+use Rattle.rule_parser.specs.declared.rule.Rule.{Rule}
+use Rattle.command_words.specs.declared.asked.ChecksumMode.{ChecksumMode}
+use Rattle.command_words.specs.declared.asked.ChecksumMode.TheVariants as mode
+use Rattle.command_words.specs.CommandLine.{Asked, help, version, run, Run, Defined}
+use Rattle.flow_lanes.specs.Hits.{Test}
+use Rattle.snort_setup.specs.Words.{Words, Definition}
+use Rattle.conf_parser.specs.Reading.{told}
 use Rattle.edge_io.specs.declared.pattern.Refusal.{Refusal}
-use Rattle.snort_engine.specs.declared.content_rule.ContentRule.{ContentRule}
+use Rattle.snort_setup.specs.Answers.{AreRefusedBy}
+use Rattle.snort_setup.specs.Setup.{Halt, Refused, Lacks, Ready, Warned, IsSetup, IsReading, conf_read}
 use Rattle.snort_engine.specs.declared.status.Status.{Status}
 use Rattle.snort_engine.specs.declared.status.Status.TheVariants as status
-use Rattle.snort_engine.specs.CommandLine.{Options, command_line}
-use Rattle.snort_engine.specs.Setup.{Setup, Rules, RefusedAt, Lacking, setup}
-use Rattle.snort_engine.specs.Messages.{command_line_text, outside_profile_text, cannot_read_text}
+use Rattle.snort_engine.specs.Messages.{usage_text, version_text, accepted_text, command_line_text, cannot_read_text}
 
--- what is done with a capture: the name of its file, how many records are read at most, and the rules
+-- what is done with a capture: the name of its file, how many records are read at most, which checksums
+-- are verified, the rules that are tried, the test that says which of them match, and the classes that
+-- they name
 pub record Plan : Type 0 where
   pub source : List ℕ
   pub limit : Option ℕ
-  pub rules : List ContentRule
+  pub checks : Checks
+  pub rules : List Rule
+  pub matches : Test
+  pub classes : List Class
 
 -- a run stops with a message and a status, or goes on with a plan
 pub data Way : Type 0 where
   Stops : (message : List ℕ) (ended : Status) → Way
   Goes : (plan : Plan) → Way
 
--- a file that is read before the capture, and the warnings that stand before it
-pub record FileReading : Type 0 where
-  pub name : List ℕ
-  pub warnings : List (List ℕ)
-
--- the files that are read before the capture, in order; all warnings, each a line; and then
+-- all warnings, each a line; and then
 pub record Course : Type 0 where
-  pub readings : List FileReading
   pub warnings : List (List ℕ)
   pub way : Way
 
--- a line of a file of rules
-pub record RuleLine : Type 0 where
-  pub file : List ℕ
-  pub line : ℕ
+-- ---- what the words say of the setup and of the capture
 
--- the patterns that a rule line asks the maker for: rules have none yet
-abbrev pub patterns_at : Files → RuleLine → List Refusal
-patterns_at files line = []
+-- a variable that the words define
+abbrev pub definition_of : Defined → Definition
+definition_of defined = record { name = defined.name; value = defined.value }
+
+-- what is read before the capture
+abbrev pub setup_words : Run → Words
+setup_words wanted = record {
+  conf = wanted.conf;
+  definition = option_map definition_of wanted.defined;
+  host_table = wanted.host_table;
+  skips = wanted.skip_refused;
+}
+
+-- the checksums of a mode: all of them, none, or all but one kind (Snort Users Manual 2.9, section 1.6, `-k`)
+abbrev pub checks_of : ChecksumMode → Checks
+checks_of mode.All = record { ip = true; tcp = true; udp = true; icmp = true }
+checks_of mode.Nothing = record { ip = false; tcp = false; udp = false; icmp = false }
+checks_of mode.NoIp = record { ip = false; tcp = true; udp = true; icmp = true }
+checks_of mode.NoTcp = record { ip = true; tcp = false; udp = true; icmp = true }
+checks_of mode.NoUdp = record { ip = true; tcp = true; udp = false; icmp = true }
+checks_of mode.NoIcmp = record { ip = true; tcp = true; udp = true; icmp = false }
+
+-- what isn't done yet: counts, captures that are made up, and more than one lane or another flush point
+abbrev pub is_for_later : Run → Bool
+is_for_later wanted =
+    wanted.stats || is_some wanted.generate || not (wanted.lanes == 1) || not (wanted.flush_point == 1024) || not (wanted.seed == 1)
+
+-- the plan for a capture of this name: `-k` stands in place of the configuration's mode
+abbrev pub plan_for : Test → Run → Ready → List ℕ → Plan
+plan_for matches wanted ready source = record {
+  source = source;
+  limit = wanted.limit;
+  checks = option_map_or checks_of wanted.checks ready.config.checks;
+  rules = ready.rules;
+  matches = matches;
+  classes = ready.config.classes;
+}
+
+-- ---- the course
 
 -- no file is read
 abbrev pub stopping : List ℕ → Status → Course
-stopping message ended = record { readings = []; warnings = []; way = Stops message ended }
+stopping message ended = record { warnings = []; way = Stops message ended }
 
--- one file is read, without a warning
-abbrev pub reading : List ℕ → Way → Course
-reading name way = record { readings = record { name = name; warnings = [] } ∷ []; warnings = []; way = way }
+-- the way of a detector that is ready: under `-T` nothing is left to do
+abbrev pub way_ready : Test → Run → Ready → Option (List ℕ) → Way
+way_ready matches wanted ready None = Stops command_line_text status.Refused
+way_ready matches wanted ready (Some source) = Goes (plan_for matches wanted ready source)
 
--- the way that a setup of the configuration gives
-abbrev pub way_of : Options → Setup → Way
-way_of options Lacking = Stops (cannot_read_text options.conf) status.HostFault
-way_of options (RefusedAt line) = Stops (outside_profile_text options.conf line) status.Refused
-way_of options (Rules rules) = Goes (record { source = options.capture; limit = None; rules = rules })
+-- the way that a setup gives
+abbrev pub way_of : Test → Run → Result Ready Halt → Way
+way_of matches wanted (Ok ready) =
+    if wanted.test then Stops (accepted_text (length ready.rules)) status.Done else way_ready matches wanted ready wanted.capture
+way_of matches wanted (Err (Refused message)) = Stops message status.Refused
+way_of matches wanted (Err (Lacks name)) = Stops (cannot_read_text name) status.HostFault
+
+-- the warnings that are told: under `-q` none
+abbrev pub told_warnings : Run → List (List ℕ) → List (List ℕ)
+told_warnings wanted warnings = if wanted.quiet then [] else warnings
+
+-- the course that a setup gives
+abbrev pub course_by : Test → Run → Warned Ready → Course
+course_by matches wanted setup = record { warnings = told_warnings wanted setup.warnings; way = way_of matches wanted setup.outcome }
+
+-- what a course goes by beside the words: the files; the test that says which rules match an item; and
+-- the places of the rule lines whose patterns the maker refused, among all rule lines in reading order
+pub record Given : Type 0 where
+  pub files : Files
+  pub matches : Test
+  pub refused : List ℕ
+
+abbrev pub given : Files → Test → List ℕ → Given
+given files matches refused = record { files = files; matches = matches; refused = refused }
+
+-- the course of a run that the words ask for
+abbrev pub IsRunCourse : Run → Given → Course → Type 0
+IsRunCourse wanted given course =
+    MatchBool (is_for_later wanted)
+    (course ≡ stopping command_line_text status.Refused)
+    ((setup : Warned Ready) × IsSetup (setup_words wanted) given.files given.refused setup × (course ≡ course_by given.matches wanted setup))
 
 -- the course of words that may be a command
-abbrev pub course_of : Files → Option Options → Course
-course_of files None = stopping command_line_text status.Refused
-course_of files (Some options) = reading options.conf (way_of options (setup files options.conf))
+unfoldable pub IsCourse : Option Asked → Given → Course → Type 0
+IsCourse None given course = course ≡ stopping command_line_text status.Refused
+IsCourse (Some help) given course = course ≡ stopping usage_text status.Done
+IsCourse (Some version) given course = course ≡ stopping version_text status.Done
+IsCourse (Some (run wanted)) given course = IsRunCourse wanted given course
 
--- the course of these words over these files, where the maker refused the patterns of these lines
-unfoldable pub course : List (List ℕ) → Files → List RuleLine → Course
-course words files refused = course_of files (command_line words)
+-- the law of courses: words, files, a test and refused lines have at most one
+abbrev pub HasOneCourse : Type 0
+HasOneCourse = (asked : Option Asked) (here : Given) (a b : Course) → IsCourse asked here a → IsCourse asked here b → a ≡ b
 
--- the names of the words; empty where they are no command
-abbrev pub names_of : Option Options → Options
-names_of None = record { conf = []; capture = [] }
-names_of (Some names) = names
+-- ---- its readings
+
+-- one of the files that are read before the capture, and the warnings that stand before it
+unfoldable pub Reads : Option Asked → Given → List ℕ → List (List ℕ) → Type 0
+Reads (Some (run wanted)) given name warnings =
+    (earlier : List (List ℕ)) × IsReading (setup_words wanted) given.files given.refused name earlier × (warnings ≡ told_warnings wanted earlier)
+Reads asked given name warnings = ⊥
+
+-- ---- refused patterns
+
+-- each of these rule lines has a pattern that the maker refused, and there are at most as many lines as
+-- it refused patterns; words that read no rules have none
+unfoldable pub AreRefused : Option Asked → Files → List ℕ → List Refusal → Type 0
+AreRefused (Some (run wanted)) files refused grown =
+    AreRefusedBy (setup_words wanted) (conf_read (setup_words wanted) (told files)) refused grown
+AreRefused asked files refused grown = refused ≡ []

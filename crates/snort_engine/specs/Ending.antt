@@ -2,7 +2,7 @@
 --
 -- To try it on: where the alert sink fails at its second write, the alert bytes are a beginning of the
 -- answer's, and the message is `ERROR: cannot write`.
-use Rattle.std.specs.Prelude.{◌≡◌, ℕ, List, [], ◌++◌, Option, Some, None, ⊤, ◌⊎◌, Contains}
+use Rattle.std.specs.Prelude.{◌≡◌, ℕ, List, [], ◌++◌, Option, Some, None, ⊤, ◌⊎◌}
 use Rattle.std.specs.FinMap.{get}
 use Rattle.std.specs.List.{concat}
 use mathlib.Core.List.{IsPrefix}
@@ -10,7 +10,8 @@ use Rattle.edge_io.specs.Told.{behind, Rose}
 use Rattle.edge_io.specs.Files.{Files}
 use Rattle.snort_engine.specs.declared.status.Status.{Status}
 use Rattle.snort_engine.specs.declared.status.Status.TheVariants as status
-use Rattle.snort_engine.specs.Course.{Plan, Goes, Course, FileReading}
+use Rattle.command_words.specs.CommandLine.{Asked}
+use Rattle.snort_engine.specs.Course.{Plan, Goes, Course, Given, IsCourse, Reads}
 use Rattle.snort_engine.specs.Records.{records_of}
 use Rattle.snort_engine.specs.Trace.{Open}
 use Rattle.snort_engine.specs.Lines.{lines}
@@ -34,14 +35,6 @@ pub record IsAnswered (answer : Answer) (ended : Status) (alerts message : List 
   pub status : ended ≡ answer.status
   pub alerts_are : alerts ≡ answer.alerts
   pub message_is : message ≡ answer.errors
-
--- a file that stands before the capture couldn't be read: nothing was opened and no line was written,
--- and the message tells the warnings before it and its name
-pub record IsUnread (course : Course) (before after : Work) (message : List ℕ) : Type 0 where
-  pub reading : FileReading
-  pub is : Contains course.readings reading
-  pub unopened : IsUnopened before after
-  pub says : message ≡ concat reading.warnings ++ cannot_read_text reading.name
 
 -- the bytes that were taken of a capture, by what is left of it; none where nothing is open
 abbrev pub IsTakenOf : Option (List ℕ) → List ℕ → Option (List ℕ) → Type 0
@@ -75,13 +68,51 @@ pub record Ends (files : Files) (course : Course) (before after : Work) (ended :
   pub leaves_a_prefix : IsPrefix alerts (answer_of files course).alerts
   pub ended_as_stated : IsStated ended (Rose before.host_faults after.host_faults)
       → IsAnswered (answer_of files course) ended alerts message
-  -- a read fault leaves the lines of the whole records: of none where a file of the configuration
-  -- couldn't be read, else of those within the bytes taken of the capture
+  -- a read fault is the answer's, since a file is lacking, or leaves the lines of the records that are
+  -- whole within the bytes taken of the capture
   pub read_fault : ended ≡ status.HostFault
-      → IsUnread course before after message ⊎ IsCutShort files course before after message
+      → IsAnswered (answer_of files course) ended alerts message ⊎ IsCutShort files course before after message
   -- a write fault leaves a prefix, all warnings and that writing failed
   pub write_fault : ended ≡ status.WriteFault → message ≡ concat course.warnings ++ cannot_write_text
   -- want of memory leaves a prefix
   pub no_memory : ended ≡ status.NoMemory → IsNoMemoryMessage course message
   -- one batch of records at most was read ahead of the lines
   pub read_ahead : ReadsAhead files course before after ended
+
+-- ---- before the course is known
+
+-- a file that stands before the capture couldn't be read: the message tells the warnings before it and
+-- its name
+pub record IsUnread (asked : Option Asked) (given : Given) (message : List ℕ) : Type 0 where
+  pub name : List ℕ
+  pub warnings : List (List ℕ)
+  pub is : Reads asked given name warnings
+  pub says : message ≡ concat warnings ++ cannot_read_text name
+
+-- memory was lacking: the message tells no warning, or those before one of the files that are read
+pub record IsLacking (asked : Option Asked) (given : Given) (message : List ℕ) : Type 0 where
+  pub warnings : List (List ℕ)
+  pub before_one : (warnings ≡ []) ⊎ ((name : List ℕ) × Reads asked given name warnings)
+  pub says : message ≡ concat warnings ++ no_memory_text
+
+-- why a run ends before its course is known: the host failed at a file, or memory was lacking
+abbrev pub IsEarly : Option Asked → Given → Work → Work → Status → List ℕ → Type 0
+IsEarly asked given before after ended message =
+    ((ended ≡ status.HostFault) × Rose before.host_faults after.host_faults × IsUnread asked given message)
+    ⊎ ((ended ≡ status.NoMemory) × IsLacking asked given message)
+
+-- it has opened nothing and written no line
+pub record EndsEarly (asked : Option Asked) (given : Given) (before after : Work) (ended : Status) (message : List ℕ) : Type 0 where
+  pub unopened : IsUnopened before after
+  pub why : IsEarly asked given before after ended message
+
+-- a run of these words ends on its course
+pub record EndsOnCourse (asked : Option Asked) (given : Given) (before after : Work) (ended : Status) (message : List ℕ) : Type 0 where
+  pub course : Course
+  pub is : IsCourse asked given course
+  pub ends : Ends given.files course before after ended message
+
+-- how a run of these words ends: on its course, or before it is known
+abbrev pub EndsRun : Option Asked → Given → Work → Work → Status → List ℕ → Type 0
+EndsRun asked given before after ended message =
+    EndsOnCourse asked given before after ended message ⊎ EndsEarly asked given before after ended message

@@ -8,61 +8,72 @@
 -- counts stand whatever is told.
 -- To try it on: where the alert sink fails at its second write, the alert bytes are a beginning of the
 -- answer's, and the message is `ERROR: cannot write`.
-use Rattle.std.specs.Prelude.{◌≡◌, ℕ, ◌+◌, ◌≤◌, List, [], Option, Some, None, ◌⊎◌, length, drop, All, Any, Contains}
+use Rattle.std.specs.Prelude.{◌≡◌, ℕ, ◌+◌, ◌≤◌, List, [], Option, Some, None, ◌⊎◌, length, drop}
 use Rattle.edge_io.specs.Told.{Rose}
 use Rattle.edge_io.specs.Files.{Files}
 use Rattle.edge_io.specs.declared.pattern.Refusal.{Refusal}
+use Rattle.option_eval.specs.Places.{Means}
+use Rattle.command_words.specs.CommandLine.{Asked, command_line}
+use Rattle.flow_lanes.specs.Hits.{Test, Tells}
 use Rattle.snort_engine.specs.declared.status.Status.{Status}
 use Rattle.snort_engine.specs.declared.status.Status.TheVariants as status
-use Rattle.snort_engine.specs.CommandLine.{command_line}
-use Rattle.snort_engine.specs.Course.{Course, RuleLine, patterns_at, course}
+use Rattle.snort_engine.specs.Course.{Course, Given, given, IsCourse, HasOneCourse, AreRefused}
 use Rattle.snort_engine.specs.Lines.{LinesJoin, PrefixLaw}
-use Rattle.snort_engine.specs.Answer.{answer, LacksOne}
+use Rattle.snort_engine.specs.Answer.{answer_of}
 use Rattle.snort_engine.specs.Outside.{Outside, work_of, NoFault, NoCountFell}
-use Rattle.snort_engine.specs.Reporting.{Tells}
-use Rattle.snort_engine.specs.Ending.{Ends}
+use Rattle.snort_engine.specs.Reporting.{Tells as TellsMessage}
+use Rattle.snort_engine.specs.Ending.{EndsRun}
 
 -- this holds of the files, where they are told
 abbrev pub OfTold : Option Files → (Files → Type 0) → Type 0
 OfTold told Holds = (files : Files) → told ≡ Some files → Holds files
 
--- refused patterns: each line has a pattern that the maker refused in this run, and there are at most
--- as many lines as it refused patterns
-pub record AreRefused (files : Files) (lines : List RuleLine) (grown : List Refusal) : Type 0 where
-  pub asked : All (λ line. Any (λ pattern. Contains grown pattern) (patterns_at files line)) lines
-  pub few : length lines ≤ length grown
-
 -- what the maker refused in this run
 abbrev pub refused_since : Outside → Outside → List Refusal
 refused_since before after = drop (length before.refusals) after.refusals
 
--- a run of this course ends in one of the ways of `Ends`, with one message in the errors
-pub record EndsOn (files : Files) (course : Course) (before after : Outside) (ended : Status) : Type 0 where
+-- a run of these words ends in one of the ways of `EndsRun`, with one message in the errors
+pub record EndsSo (asked : Option Asked) (given : Given) (before after : Outside) (ended : Status) : Type 0 where
   pub message : List ℕ
-  pub tells : Tells message before.errors after.errors (Rose before.error_faults after.error_faults)
-  pub ends : Ends files course (work_of before) (work_of after) ended message
+  pub tells : TellsMessage message before.errors after.errors (Rose before.error_faults after.error_faults)
+  pub ends : EndsRun asked given (work_of before) (work_of after) ended message
 
--- a run with these words, by what is seen before and after it, and the status with which it ends
-pub record Headline (words : List (List ℕ)) (before after : Outside) (ended : Status) : Type 0 where
+-- the status is that of the answer of the words' course
+pub record HasAnswer (asked : Option Asked) (given : Given) (ended : Status) : Type 0 where
+  pub course : Course
+  pub is : IsCourse asked given course
+  pub status : ended ≡ (answer_of given.files course).status
+
+-- files are told, and the answer is that one of those that are read is lacking
+abbrev pub LacksOne : Option Files → (Files → Given) → Option Asked → Type 0
+LacksOne told given_of asked = (files : Files) × (told ≡ Some files) × HasAnswer asked (given_of files) status.HostFault
+
+-- a run with these words and a maker that means this, by what is seen before and after it, and the
+-- status with which it ends
+pub record Headline (words : List (List ℕ)) (means : Means) (before after : Outside) (ended : Status) : Type 0 where
+  -- the test that says which rules match an item, by what the maker means
+  pub matches : Test
+  pub tells : Tells means matches
   -- the rule lines whose pattern the maker refused: one set for all parts
-  pub refused : List RuleLine
-  pub refused_patterns : OfTold before.files (λ files. AreRefused files refused (refused_since before after))
+  pub refused : List ℕ
+  pub refused_patterns : OfTold before.files (λ files. AreRefused (command_line words) files refused (refused_since before after))
   -- the parts: as stated, or what a read fault, a write fault or want of memory leaves
-  pub ends : OfTold before.files (λ files. EndsOn files (course words files refused) before after ended)
+  pub ends : OfTold before.files (λ files. EndsSo (command_line words) (given files matches refused) before after ended)
   -- complete: where no count rose, the status is the answer's, unless memory is lacking
   pub complete : OfTold before.files (λ files. NoFault before after
-      → (ended ≡ (answer words files refused).status) ⊎ (ended ≡ status.NoMemory))
+      → HasAnswer (command_line words) (given files matches refused) ended ⊎ (ended ≡ status.NoMemory))
   -- the capture is opened at most once
   pub opened_once : after.opens ≤ before.opens + 1
   -- causes: a fault is answered only where its count rose, or a file is lacking; faulty words are
   -- refused, whatever the host tells
   pub write_fault : ended ≡ status.WriteFault → Rose before.alert_faults after.alert_faults
   pub host_fault : ended ≡ status.HostFault
-      → Rose before.host_faults after.host_faults ⊎ LacksOne before.files (λ files. course words files refused)
+      → Rose before.host_faults after.host_faults ⊎ LacksOne before.files (λ files. given files matches refused) (command_line words)
   pub faulty_words : command_line words ≡ None → (ended ≡ status.Refused) ⊎ (ended ≡ status.NoMemory)
-  -- the files stay, and no count falls
+  -- the files stay, no count falls, and the maker means the same
   pub same_files : after.files ≡ before.files
   pub counts : NoCountFell before after
-  -- the laws of the lines
+  -- the laws of courses and of the lines
+  pub one_course : HasOneCourse
   pub lines_join : LinesJoin
   pub prefix_law : PrefixLaw

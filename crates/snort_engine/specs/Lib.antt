@@ -1,9 +1,4 @@
-pub mod CommandLine
-pub mod ContentRule
-pub mod Setup
-pub mod Calendar
 pub mod Pieces
-pub mod Line
 pub mod Messages
 pub mod Status
 pub mod Course
@@ -19,3 +14,4 @@ pub mod Stop
 pub mod Batch
 pub mod Watching
 pub mod Reporting
+pub mod Preparing

@@ -7,16 +7,17 @@ use Rattle.std.specs.List.{flat_map}
 use mathlib.Core.List.{IsPrefix}
 use Rattle.snort_engine.specs.Course.{Plan}
 use Rattle.snort_engine.specs.Records.{LinkedRecord}
-use Rattle.snort_engine.specs.Line.{AlertFacts, line_text}
-use Rattle.snort_engine.specs.Trace.{CaptureState, Open, trace}
+use Rattle.alert_fast.specs.Line.{line_text}
+use Rattle.conf_parser.specs.declared.classes.Class.{Class}
+use Rattle.snort_engine.specs.Trace.{Alert, CaptureState, Open, trace}
 
--- the line of what is shown
-abbrev pub text_of : AlertFacts → List ℕ
-text_of alert = line_text alert
+-- the line of an alert, where these are the classes
+abbrev pub text_of : List Class → Alert → List ℕ
+text_of classes alert = line_text alert.head alert.rule classes
 
 -- the lines of records behind these records
 unfoldable pub lines : Plan → List LinkedRecord → List LinkedRecord → CaptureState → List ℕ
-lines plan before records state = flat_map text_of (trace plan before records state)
+lines plan before records state = flat_map (text_of plan.classes) (trace plan before records state)
 
 -- the one law: the lines of records joined to others are those of the first, while the capture goes
 -- on, and then those of the others behind the first

@@ -1,17 +1,25 @@
--- The texts of the messages that end a run.
+-- The texts that end a run.
 --
 -- Each is a line of its own with a line feed at its end, on the stream for errors. The wording is this
 -- project's own. To try it on: the first 23 bytes of a capture file end a run with
 -- `ERROR: capture is truncated at byte 0`.
 use Rattle.std.specs.Prelude.{ℕ, List, ◌++◌, codes, decimal}
 
+-- how the command is used
+unfoldable pub usage_text : List ℕ
+usage_text = codes "usage: snort -c CONF -r FILE [options]\n"
+
+-- which program it is
+unfoldable pub version_text : List ℕ
+version_text = codes "snort offline profile 2.9\n"
+
+-- the configuration is accepted, with so many rules
+unfoldable pub accepted_text : ℕ → List ℕ
+accepted_text rules = codes "configuration accepted: " ++ decimal rules ++ codes " rules\n"
+
 -- the command line is faulty
 unfoldable pub command_line_text : List ℕ
 command_line_text = codes "ERROR: command line\n"
-
--- a line of a file asks for what this detector does not do
-unfoldable pub outside_profile_text : List ℕ → ℕ → List ℕ
-outside_profile_text file line = codes "ERROR: " ++ file ++ codes "(" ++ decimal line ++ codes ") outside this profile\n"
 
 -- a file cannot be read
 unfoldable pub cannot_read_text : List ℕ → List ℕ

@@ -1,13 +1,14 @@
--- What a run that was stopped tells on the error sink.
+-- What a run tells on the error sink: its warnings, and the message of what stopped it.
 --
--- To try it on: where the configuration `r` is lacking, `ERROR: cannot read r` is told and the status is
--- HostFault; where memory is lacking for that text, `ERROR: no memory` and NoMemory.
-use Rattle.std.specs.Prelude.{◌≡◌, ℕ, List, Option, Result, ◌⊎◌}
+-- Nothing is written to a sink that has failed once. To try it on: where the configuration `r` is lacking,
+-- `ERROR: cannot read r` is told and the status is HostFault; where memory is lacking for that text,
+-- `ERROR: no memory` and NoMemory.
+use Rattle.std.specs.Prelude.{◌≡◌, ℕ, Bool, List, Option, Result, ◌⊎◌}
+use Rattle.std.specs.Bool.{OnTrue, OnFalse}
 use Rattle.edge_io.specs.Told.{behind}
 use Rattle.snort_engine.specs.declared.status.Status.{Status}
 use Rattle.snort_engine.specs.declared.status.Status.TheVariants as status
 use Rattle.snort_engine.specs.declared.stop.Stop.{Stop}
-use Rattle.snort_engine.specs.CommandLine.{Options}
 use Rattle.snort_engine.specs.Outside.{WritesPart}
 use Rattle.snort_engine.specs.Stop.{outcome_status, outcome_text}
 use Rattle.snort_engine.specs.Messages.{no_memory_text}
@@ -17,8 +18,21 @@ pub record Tells (message : List ℕ) (old new : Option (List ℕ)) (rose : Type
   pub part : WritesPart old message new
   pub whole : (new ≡ behind old message) ⊎ rose
 
--- the outcome's message and status, or those of want of memory
-abbrev pub Reports : Options → Result (Unit {0}) Stop → Status → Option (List ℕ) → Option (List ℕ) → Type 0 → Type 0
-Reports names outcome ended old new rose =
-    ((ended ≡ outcome_status outcome) × Tells (outcome_text names outcome) old new rose)
-    ⊎ ((ended ≡ status.NoMemory) × Tells no_memory_text old new rose)
+-- a text was told, if the sink was well; it is well still where the whole text was written
+pub record TellsOn (text : List ℕ) (well : Bool) (old new : Option (List ℕ)) (rose : Type 0) (still : Bool) : Type 0 where
+  pub part : WritesPart old text new
+  pub whole : OnTrue still (new ≡ behind old text)
+  pub failed : OnTrue well (OnFalse still rose)
+  pub silent : OnFalse well ((new ≡ old) × (still ≡ well))
+
+-- a text was told last, if the sink was well
+pub record TellsLast (text : List ℕ) (well : Bool) (old new : Option (List ℕ)) (rose : Type 0) : Type 0 where
+  pub part : WritesPart old text new
+  pub whole : OnTrue well ((new ≡ behind old text) ⊎ rose)
+  pub silent : OnFalse well (new ≡ old)
+
+-- the outcome's message and status, or those of want of memory, behind what was told before
+abbrev pub Reports : {A : Type 0} → List ℕ → Result A Stop → Status → (List ℕ → Type 0) → Type 0
+Reports source outcome ended Told =
+    ((ended ≡ outcome_status outcome) × Told (outcome_text source outcome))
+    ⊎ ((ended ≡ status.NoMemory) × Told no_memory_text)

@@ -1,25 +1,27 @@
--- What stops a run before its work is done: the status and the message of each stop.
+-- What ends a run before a capture is read to its end: the status and the message of each stop.
 --
--- A stop names a file by what the run reads it as; the words give its name. To try it on: a
--- configuration `r` that is refused at line 2 ends a run as Refused, with
--- `ERROR: r(2) outside this profile`.
-use Rattle.std.specs.Prelude.{ℕ, List, [], Option, Some, None, Result, Ok, Err}
+-- To try it on: a capture that is no savefile ends a run as BadCapture, with
+-- `ERROR: capture is not a pcap file`.
+use Rattle.std.specs.Prelude.{◌≡◌, ℕ, List, [], Result, Ok, Err}
 use Rattle.pcap_input.specs.declared.capture.CaptureFault.{CaptureFault}
 use Rattle.pcap_input.specs.declared.capture.CaptureFault.TheVariants as fault
+use Rattle.snort_setup.specs.declared.stop.SetupStop.{SetupStop}
+use Rattle.snort_setup.specs.declared.stop.SetupStop.TheVariants as setup
 use Rattle.snort_engine.specs.declared.status.Status.{Status}
 use Rattle.snort_engine.specs.declared.status.Status.TheVariants as status
 use Rattle.snort_engine.specs.declared.stop.Stop.{Stop}
 use Rattle.snort_engine.specs.declared.stop.Stop.TheVariants as stop
-use Rattle.snort_engine.specs.declared.stop.InputFile.{InputFile}
-use Rattle.snort_engine.specs.declared.stop.InputFile.TheVariants as input
-use Rattle.snort_engine.specs.CommandLine.{Options}
-use Rattle.snort_engine.specs.Messages.{command_line_text, outside_profile_text, cannot_read_text, cannot_write_text, no_memory_text, not_pcap_text, link_type_text, truncated_text, too_long_text, too_many_text}
+use Rattle.snort_engine.specs.Messages.{usage_text, version_text, accepted_text, command_line_text, cannot_read_text, cannot_write_text, no_memory_text, not_pcap_text, link_type_text, truncated_text, too_long_text, too_many_text}
 
 -- the status of a stop
 abbrev pub stop_status : Stop → Status
+stop_status stop.Usage = status.Done
+stop_status stop.Version = status.Done
+stop_status (stop.Accepted rules) = status.Done
 stop_status stop.CommandLine = status.Refused
-stop_status (stop.OutsideProfile line) = status.Refused
-stop_status (stop.CannotRead file) = status.HostFault
+stop_status (stop.Refused message) = status.Refused
+stop_status (stop.CannotReadFile name) = status.HostFault
+stop_status stop.CannotRead = status.HostFault
 stop_status stop.CannotWrite = status.WriteFault
 stop_status stop.NoMemory = status.NoMemory
 stop_status stop.NotPcap = status.BadCapture
@@ -28,23 +30,22 @@ stop_status (stop.Truncated at) = status.BadCapture
 stop_status (stop.TooLong at len) = status.BadCapture
 stop_status stop.TooMany = status.BadCapture
 
--- the name of a file, by what it is read as
-abbrev pub file_name : Options → InputFile → List ℕ
-file_name names input.Configuration = names.conf
-file_name names input.Capture = names.capture
-
--- the message of a stop
-unfoldable pub stop_text : Options → Stop → List ℕ
-stop_text names stop.CommandLine = command_line_text
-stop_text names (stop.OutsideProfile line) = outside_profile_text names.conf line
-stop_text names (stop.CannotRead file) = cannot_read_text (file_name names file)
-stop_text names stop.CannotWrite = cannot_write_text
-stop_text names stop.NoMemory = no_memory_text
-stop_text names stop.NotPcap = not_pcap_text
-stop_text names (stop.LinkType link_type) = link_type_text link_type
-stop_text names (stop.Truncated at) = truncated_text at
-stop_text names (stop.TooLong at len) = too_long_text at len
-stop_text names stop.TooMany = too_many_text
+-- the message of a stop, where the capture has this name
+unfoldable pub stop_text : List ℕ → Stop → List ℕ
+stop_text source stop.Usage = usage_text
+stop_text source stop.Version = version_text
+stop_text source (stop.Accepted rules) = accepted_text rules
+stop_text source stop.CommandLine = command_line_text
+stop_text source (stop.Refused message) = message
+stop_text source (stop.CannotReadFile name) = cannot_read_text name
+stop_text source stop.CannotRead = cannot_read_text source
+stop_text source stop.CannotWrite = cannot_write_text
+stop_text source stop.NoMemory = no_memory_text
+stop_text source stop.NotPcap = not_pcap_text
+stop_text source (stop.LinkType link_type) = link_type_text link_type
+stop_text source (stop.Truncated at) = truncated_text at
+stop_text source (stop.TooLong at len) = too_long_text at len
+stop_text source stop.TooMany = too_many_text
 
 -- how a fault of the capture stops a run
 abbrev pub capture_stop : CaptureFault → Stop
@@ -53,15 +54,21 @@ capture_stop (fault.LinkType link_type) = stop.LinkType link_type
 capture_stop (fault.Truncated at) = stop.Truncated at
 capture_stop (fault.TooLong at len) = stop.TooLong at len
 capture_stop fault.TooMany = stop.TooMany
-capture_stop fault.Failed = stop.CannotRead input.Capture
+capture_stop fault.Failed = stop.CannotRead
 capture_stop fault.NoMemory = stop.NoMemory
 
+-- how a setup without a detector stops a run
+abbrev pub setup_stop : SetupStop → Stop
+setup_stop (setup.Refused message) = stop.Refused message
+setup_stop (setup.CannotRead name) = stop.CannotReadFile name
+setup_stop setup.NoMemory = stop.NoMemory
+
 -- the status of a run that is stopped or done
-abbrev pub outcome_status : Result (Unit {0}) Stop → Status
+abbrev pub outcome_status : {A : Type 0} → Result A Stop → Status
 outcome_status (Ok done) = status.Done
 outcome_status (Err why) = stop_status why
 
 -- and its message, if it has one
-abbrev pub outcome_text : Options → Result (Unit {0}) Stop → List ℕ
-outcome_text names (Ok done) = []
-outcome_text names (Err why) = stop_text names why
+abbrev pub outcome_text : {A : Type 0} → List ℕ → Result A Stop → List ℕ
+outcome_text source (Ok done) = []
+outcome_text source (Err why) = stop_text source why

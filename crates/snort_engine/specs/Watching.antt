@@ -3,37 +3,49 @@
 -- What is left for a reader are the records that it has yet to give. To try it on: where a write fails
 -- in the lines of the second batch, the lines of the first were written, a part of those of the second
 -- may be, and the bytes of two batches were taken.
-use Rattle.std.specs.Prelude.{◌≡◌, ℕ, ◌≤◌, Bool, true, false, List, [], ◌++◌, length, map, Option, None, Some, Result, Ok, Err, ⊤}
+use Rattle.std.specs.Prelude.{◌≡◌, ℕ, ◌+◌, ◌-◌, ◌≤◌, min, Bool, true, false, List, [], ◌++◌, length, map, Option, None, Some, Result, Ok, Err, ⊤}
 use Rattle.std.specs.List.{flat_map}
 use Rattle.edge_io.specs.Told.{before, behind}
 use Rattle.edge_io.specs.declared.link.Link.{Link}
 use Rattle.pcap_input.specs.declared.capture.Record.{Record}
 use Rattle.pcap_input.specs.declared.capture.CaptureFault.{CaptureFault}
-use Rattle.pcap_input.specs.declared.capture.CaptureFault.TheVariants.{Failed}
-use Rattle.pcap_input.specs.Savefile.{Ending, Clean, Refused}
+use Rattle.pcap_input.specs.Savefile.{Cut, Ending, Clean, Refused, first_records}
 use Rattle.pcap_input.specs.Reader.{Reading}
 use Rattle.pcap_input.specs.Reading.{cut_for, HasRead}
 use Rattle.snort_engine.specs.declared.plan.Plan as code
 use Rattle.snort_engine.specs.declared.stop.Stop.{Stop}
 use Rattle.snort_engine.specs.declared.stop.Stop.TheVariants as stop
-use Rattle.snort_engine.specs.declared.content_rule.ContentRule.{ContentRule}
-use Rattle.snort_engine.specs.declared.flight.Flight.{Flight}
-use Rattle.snort_engine.specs.CommandLine.{Options}
+use Rattle.edge_io.specs.declared.pattern.Span.{Span}
+use Rattle.option_eval.specs.Places.{Means}
+use Rattle.option_eval.specs.RuleSet.{Rules, FindWhatIsMeant}
+use Rattle.flow_lanes.specs.Hits.{Test, Tells}
+use Rattle.flow_lanes.specs.Hits.{Item}
+use Rattle.conf_parser.specs.declared.classes.Class.{Class}
+use Rattle.rule_parser.specs.declared.rule.Rule.{Rule}
 use Rattle.snort_engine.specs.Course.{Plan}
 use Rattle.snort_engine.specs.Records.{LinkedRecord, linked}
-use Rattle.snort_engine.specs.Trace.{Open, Closed, CaptureState, flight_alerts, record_alerts}
+use Rattle.snort_engine.specs.Trace.{Open, Closed, CaptureState, item_alerts, record_alerts}
 use Rattle.snort_engine.specs.Lines.{text_of, lines}
 use Rattle.snort_engine.specs.ReadAhead.{batch}
 use Rattle.snort_engine.specs.Outside.{WritesPart}
 use Rattle.snort_engine.specs.Stop.{capture_stop}
 
--- the plan that the code works by: all records of the capture are read
-abbrev pub plan_of : code.Plan → Plan
-plan_of plan = record { source = plan.source.now; limit = None; rules = plan.rules.now }
+-- the test says which rules of a set match, by what its patterns find
+pub record IsTest {P : Type 0} (finds : P → List ℕ → Option Span) (set : Rules P) (test : Test) : Type 0 where
+  pub means : Means
+  pub find : FindWhatIsMeant finds means set
+  pub tells : Tells means test
 
--- the plan that words and rules give
-abbrev pub plan_by : Options → List ContentRule → Plan
-plan_by names rules = record { source = names.capture; limit = None; rules = rules }
+-- the plan that the code works by, where this test says which rules match
+abbrev pub plan_of : {P : Type 0} → Test → code.Plan P → Plan
+plan_of matches plan = record {
+  source = plan.source.now;
+  limit = plan.limit;
+  checks = plan.checks;
+  rules = plan.set.now.rules;
+  matches = matches;
+  classes = plan.classes.now;
+}
 
 -- ---- lines on their way to the sink
 
@@ -48,13 +60,13 @@ pub record Gathers (text : List ℕ) (old new : Gathering) : Type 0 where
   pub joined : old.block ++ text ≡ part ++ new.block
   pub wrote : new.written ≡ behind old.written part
 
--- the lines of a flight
-unfoldable pub flight_lines : List ContentRule → Flight → List ℕ → List ℕ
-flight_lines rules flight payload = flat_map text_of (flight_alerts rules flight payload)
+-- the lines of an item
+unfoldable pub item_lines : Plan → List Rule → Item → List ℕ
+item_lines plan rules item = flat_map (text_of plan.classes) (item_alerts plan.matches rules item)
 
 -- the lines of a record
 unfoldable pub record_lines : Plan → LinkedRecord → List ℕ
-record_lines plan shown = flat_map text_of (record_alerts plan [] shown)
+record_lines plan shown = flat_map (text_of plan.classes) (record_alerts plan [] shown)
 
 -- the lines of records of one link layer, each by itself
 unfoldable pub records_lines : Plan → Link → List Record → List ℕ
@@ -77,13 +89,17 @@ pub record Streams : Type 0 where
 unfoldable pub lines_of : Plan → Link → List Record → CaptureState → List ℕ
 lines_of plan link records state = lines plan [] (map (linked link) records) state
 
+-- what these bytes hold for a reader, up to the plan's limit
+abbrev pub cut_by : Plan → Reading → List ℕ → Cut
+cut_by plan reader rest = first_records plan.limit (cut_for reader rest)
+
 -- the lines of the records that these bytes hold for a reader
 abbrev pub lines_left : Plan → Reading → List ℕ → CaptureState → List ℕ
-lines_left plan reader rest state = lines_of plan reader.head.link (cut_for reader rest).records state
+lines_left plan reader rest state = lines_of plan reader.head.link (cut_by plan reader rest).records state
 
 -- all lines of the bytes that were left were written, and they end so
 pub record IsWatched (plan : Plan) (reader : Reading) (rest : List ℕ) (ending : Ending) (old new : Streams) : Type 0 where
-  pub ends : (cut_for reader rest).ending ≡ ending
+  pub ends : (cut_by plan reader rest).ending ≡ ending
   pub wrote : new.written ≡ behind old.written (lines_left plan reader rest Closed)
 
 -- the lines of the records that are whole within the bytes taken were written
@@ -99,7 +115,7 @@ pub record IsCloseBehind (plan : Plan) (reader : Reading) (old new : Streams) : 
   pub took : old.left ≡ before taken new.left
   pub given : List Record
   pub last : List Record
-  pub are : (cut_for reader taken).records ≡ given ++ last
+  pub are : (cut_by plan reader taken).records ≡ given ++ last
   pub few : length last ≤ batch
   pub more : List ℕ
   pub wrote : new.written ≡ behind old.written (lines_of plan reader.head.link given Open ++ more)
@@ -116,8 +132,7 @@ WatchesTo plan reader ending old new = (rest : List ℕ) → old.left ≡ Some r
 -- want of memory; or at what can't be read
 abbrev pub Watches : Plan → Reading → Streams → Streams → Result (Unit {0}) Stop → Type 0
 Watches plan reader old new (Ok done) = WatchesTo plan reader Clean old new
-Watches plan reader old new (Err (stop.CannotRead file)) =
-    (stop.CannotRead file ≡ capture_stop Failed) × IsCutOff plan reader old new × WritesSome plan reader old new
+Watches plan reader old new (Err stop.CannotRead) = IsCutOff plan reader old new × WritesSome plan reader old new
 Watches plan reader old new (Err stop.CannotWrite) = WritesSome plan reader old new
 Watches plan reader old new (Err stop.NoMemory) = WritesSome plan reader old new
 Watches plan reader old new (Err why) =
@@ -125,21 +140,44 @@ Watches plan reader old new (Err why) =
 
 -- ---- batch by batch
 
--- the first reader has become the second: some records were given, and the lines of these were written
-pub record IsUnderWay (plan : Plan) (first reader : Reading) (old now : Streams) : Type 0 where
+-- how many records may still be read behind so many, where there is a limit
+abbrev pub IsRoom : Option ℕ → ℕ → Option ℕ → Type 0
+IsRoom None count room = room ≡ None
+IsRoom (Some limit) count None = ⊥
+IsRoom (Some limit) count (Some room) = count + room ≡ limit
+
+-- how many records the next batch has at most
+abbrev pub most_at : Option ℕ → ℕ
+most_at None = batch
+most_at (Some room) = min batch room
+
+-- how many may still be read behind so many more
+abbrev pub room_behind : Option ℕ → ℕ → Option ℕ
+room_behind None count = None
+room_behind (Some room) count = Some (room - count)
+
+-- where a watching stands: the reader, how many records may still be read, and what is told
+pub record Standing : Type 0 where
+  pub reader : Reading
+  pub room : Option ℕ
+  pub streams : Streams
+
+-- from the first reader on some records were given, and the lines of these were written
+pub record IsUnderWay (plan : Plan) (first : Reading) (start : Streams) (now : Standing) : Type 0 where
   pub given : List Record
-  pub read : HasRead first reader given old.left now.left
-  pub wrote : now.written ≡ behind old.written (lines_of plan first.head.link given Open)
+  pub read : HasRead first now.reader given start.left now.streams.left
+  pub room_is : IsRoom plan.limit (length given) now.room
+  pub wrote : now.streams.written ≡ behind start.written (lines_of plan first.head.link given Open)
 
 -- the watching is over, with its lines close behind its records
 abbrev pub WatchesOver : Plan → Reading → Streams → Streams → Result (Unit {0}) Stop → Type 0
 WatchesOver plan first start now outcome = Watches plan first start now outcome × IsCloseBehind plan first start now
 
 -- a watching that was under way is so still, behind one more batch, or is over
-abbrev pub GoesOn : Plan → Reading → Reading → Streams → Streams → Result Bool Stop → Type 0
-GoesOn plan reader next old new (Ok true) =
-    (first : Reading) (start : Streams) → IsUnderWay plan first reader start old → IsUnderWay plan first next start new
-GoesOn plan reader next old new (Ok false) =
-    (first : Reading) (start : Streams) → IsUnderWay plan first reader start old → WatchesOver plan first start new (Ok tt)
-GoesOn plan reader next old new (Err why) =
-    (first : Reading) (start : Streams) → IsUnderWay plan first reader start old → WatchesOver plan first start new (Err why)
+abbrev pub GoesOn : Plan → Standing → Standing → Result Bool Stop → Type 0
+GoesOn plan old new (Ok true) =
+    (first : Reading) (start : Streams) → IsUnderWay plan first start old → IsUnderWay plan first start new
+GoesOn plan old new (Ok false) =
+    (first : Reading) (start : Streams) → IsUnderWay plan first start old → WatchesOver plan first start new.streams (Ok tt)
+GoesOn plan old new (Err why) =
+    (first : Reading) (start : Streams) → IsUnderWay plan first start old → WatchesOver plan first start new.streams (Err why)

@@ -1,8 +1,8 @@
-ghost use Rattle.std.specs.Prelude.{◌≡◌, ◌≢◌, ◌+◌, ◌<◌, ◌≤◌, None, [], vec_len};
+ghost use Rattle.std.specs.Prelude.{◌≡◌, ◌≢◌, ◌+◌, ◌-◌, ◌<◌, ◌≤◌, None, [], option_map, vec_len};
 ghost use Rattle.edge_io.specs.Told.{Rose};
 ghost use Rattle.pcap_input.specs.Savefile.{most_records};
 ghost use Rattle.snort_engine.specs.Batch.{IsNext, ReadsOn, more_of};
-ghost use Rattle.snort_engine.specs.ReadAhead.{batch};
+ghost use Rattle.snort_engine.specs.Watching.{most_at, room_behind};
 
 use crate::stop::Stop;
 use edge_io::Host;
@@ -56,28 +56,53 @@ fn read_one<H: Host>(
     }
 }
 
-/// Reads a batch of records: as many as one may have, or fewer where the capture ends, is refused or
-/// can't be read on behind them. These are still to be shown.
+/// How many records the next batch has at most, where so many may still be read.
+pub(crate) fn most_at(room: Option<u32>) -> usize
+    ensures { result ≡ most_at room }
+{
+    match room {
+        Some(left) => BATCH.min(left as usize),
+        None => BATCH,
+    }
+}
+
+/// How many records may still be read behind a batch of so many.
+pub(crate) fn room_behind(room: Option<u32>, count: usize) -> Option<u32>
+    requires { count ≤ most_at room }
+    ensures { result ≡ room_behind room count }
+{
+    match room {
+        Some(left) => Some(left - count as u32),
+        None => None,
+    }
+}
+
+/// Reads a batch of `most` records, or fewer where the capture ends, is refused or can't be read on
+/// behind them. These are still to be shown.
 pub(crate) fn read_batch<H: Host>(
     alloc: Global,
     host: &mut H,
     reader: &mut CaptureReader,
+    most: usize,
     records: &mut Vec<Record>,
 ) -> Reached
     requires fresh { reader.old.refused ≡ None }
+    requires some { 0 < most }
     requires empty { records.old.items ≡ [] }
     ensures reads { ReadsOn
         (record { reader = reader.old; records = []; left = H.left host.old })
         (record { reader = reader.new; records = records.new.items; left = H.left host.new }) result }
-    ensures few { vec_len records.new ≤ batch }
+    ensures few { vec_len records.new ≤ most }
+    ensures fewer { result ≢ Reached.More → vec_len records.new < most }
     ensures further { result ≡ Reached.More → reader.old.number < reader.new.number }
+    ensures goes_on { result ≡ Reached.More → reader.new.refused ≡ None }
     ensures within { result ≡ Reached.More → reader.new.number ≤ most_records }
     ensures failed { result ≡ Reached.Fault CaptureFault.Failed → Rose (H.faults host.old) (H.faults host.new) }
     ensures same_opens { H.opens host.new ≡ H.opens host.old }
     ensures same_contents { H.contents host.new ≡ H.contents host.old }
     ensures later { H.faults host.old ≤ H.faults host.new }
 {
-    'batch: while records.len() < BATCH {
+    'batch: while records.len() < most {
         match read_one(alloc, host, reader, records) {
             Reached::More => {}
             stop => return stop,

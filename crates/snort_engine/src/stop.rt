@@ -1,32 +1,33 @@
 ghost use Rattle.std.specs.Prelude.{◌≡◌};
-ghost use Rattle.snort_engine.specs.CommandLine.{options_of};
-ghost use Rattle.snort_engine.specs.Pieces.{pieces_text};
 ghost use Rattle.snort_engine.specs.Stop.{stop_status, stop_text};
+ghost use Rattle.snort_engine.specs.Messages.{cannot_read_text};
+ghost use Rattle.snort_engine.specs.Pieces.{pieces_text};
 
 use crate::Status;
 use crate::pieces::Piece;
 use crate::pieces::Piece::{Bytes, Number};
-use crate::words::Options;
-use edge_io::{LoadFault, NoMemory, WriteStop};
+use edge_io::{NoMemory, Text, WriteStop};
 use pcap_input::CaptureFault;
+use snort_setup::SetupStop;
 use std::alloc::AllocFailed;
 
-/// A file that the words name.
-#[derive(Clone, Copy, Debug, PartialEq, Eq)]
-pub(crate) enum InputFile {
-    Configuration,
-    Capture,
-}
-
-/// Why a run ends without its work done. Each has a status and a message.
-#[derive(Clone, Copy, Debug, PartialEq, Eq)]
+/// Why a run ends before a capture is read to its end. Each has a status and a message.
+#[derive(Debug, Drop)]
 pub(crate) enum Stop {
+    /// The words ask how the command is used.
+    Usage,
+    /// The words ask which program this is.
+    Version,
+    /// The configuration is accepted, with so many rules, and nothing else was asked for.
+    Accepted { rules: u64 },
     /// The words are no command.
     CommandLine,
-    /// The configuration is refused at this line, counted from 1; at 0 where it is too long.
-    OutsideProfile { line: u32 },
-    /// The host failed, or lacks the file.
-    CannotRead(InputFile),
+    /// A line of a file is refused, or a file that is too large, with this message.
+    Refused { message: Text },
+    /// The host failed at this file, which stands before the capture, or lacks it.
+    CannotReadFile { name: Text },
+    /// The host failed at the capture, or lacks it.
+    CannotRead,
     /// The alert sink failed.
     CannotWrite,
     /// Memory ran out.
@@ -47,12 +48,13 @@ const NOTHING: Piece<'static> = Bytes(b"");
 
 impl Stop {
     /// The status with which it ends a run.
-    pub fn status(self) -> Status
-        ensures { result ≡ stop_status self }
+    pub fn status(&self) -> Status
+        ensures { result ≡ stop_status self.now }
     {
         match self {
-            Stop::CommandLine | Stop::OutsideProfile { .. } => Status::Refused,
-            Stop::CannotRead(_) => Status::HostFault,
+            Stop::Usage | Stop::Version | Stop::Accepted { .. } => Status::Done,
+            Stop::CommandLine | Stop::Refused { .. } => Status::Refused,
+            Stop::CannotReadFile { .. } | Stop::CannotRead => Status::HostFault,
             Stop::CannotWrite => Status::WriteFault,
             Stop::NoMemory => Status::NoMemory,
             Stop::NotPcap
@@ -63,47 +65,45 @@ impl Stop {
         }
     }
 
-    /// Its message, with a line feed at its end. The names are those of the words.
-    #[tactic(auto, unfolding(crate::specs::Stop::stop_text, crate::specs::Messages::cannot_read_text, crate::specs::Messages::link_type_text, crate::specs::Messages::truncated_text))]
-    pub fn pieces<'a>(self, names: &Options<'a>) -> [Piece<'a>; 5]
-        ensures { pieces_text result ≡ stop_text (options_of names.now) self }
+    /// Its message, with a line feed at its end, where the capture has this name.
+    #[tactic(auto, unfolding(crate::specs::Stop::stop_text, crate::specs::Messages::cannot_read_text, crate::specs::Messages::accepted_text, crate::specs::Messages::link_type_text, crate::specs::Messages::truncated_text))]
+    pub fn pieces<'a>(&'a self, source: &'a str) -> [Piece<'a>; 5]
+        ensures { pieces_text result ≡ stop_text source.now self.now }
     {
         match self {
-            Stop::OutsideProfile { line } => [
-                Bytes(b"ERROR: "),
-                Bytes(names.conf.as_bytes()),
-                Bytes(b"("),
-                Number(line as u64),
-                Bytes(b") outside this profile\n"),
-            ],
-            Stop::CannotRead(file) => [
-                Bytes(b"ERROR: cannot read "),
-                Bytes(names.name_of(file)),
-                Bytes(b"\n"),
+            Stop::Accepted { rules } => [
+                Bytes(b"configuration accepted: "),
+                Number(*rules),
+                Bytes(b" rules\n"),
                 NOTHING,
                 NOTHING,
             ],
+            Stop::Refused { message } => alone(message.bytes()),
+            Stop::CannotReadFile { name } => cannot_read(name.bytes()),
+            Stop::CannotRead => cannot_read(source.as_bytes()),
             Stop::LinkType(link) => [
                 Bytes(b"ERROR: capture has link type "),
-                Number(link as u64),
+                Number(*link as u64),
                 Bytes(b"\n"),
                 NOTHING,
                 NOTHING,
             ],
             Stop::Truncated { at } => [
                 Bytes(b"ERROR: capture is truncated at byte "),
-                Number(at),
+                Number(*at),
                 Bytes(b"\n"),
                 NOTHING,
                 NOTHING,
             ],
             Stop::TooLong { at, len } => [
                 Bytes(b"ERROR: capture has a record of "),
-                Number(len as u64),
+                Number(*len as u64),
                 Bytes(b" bytes at byte "),
-                Number(at),
+                Number(*at),
                 Bytes(b"\n"),
             ],
+            Stop::Usage => alone(b"usage: snort -c CONF -r FILE [options]\n"),
+            Stop::Version => alone(b"snort offline profile 2.9\n"),
             Stop::CommandLine => alone(b"ERROR: command line\n"),
             Stop::CannotWrite => alone(b"ERROR: cannot write\n"),
             Stop::NoMemory => alone(b"ERROR: no memory\n"),
@@ -117,6 +117,18 @@ fn alone(text: &[u8]) -> [Piece<'_>; 5]
     ensures { pieces_text result ≡ text.now }
 {
     [Bytes(text), NOTHING, NOTHING, NOTHING, NOTHING]
+}
+
+fn cannot_read(name: &[u8]) -> [Piece<'_>; 5]
+    ensures { pieces_text result ≡ cannot_read_text name.now }
+{
+    [
+        Bytes(b"ERROR: cannot read "),
+        Bytes(name),
+        Bytes(b"\n"),
+        NOTHING,
+        NOTHING,
+    ]
 }
 
 impl From<NoMemory> for Stop {
@@ -161,22 +173,22 @@ impl From<CaptureFault> for Stop {
             CaptureFault::Truncated { at } => Stop::Truncated { at },
             CaptureFault::TooLong { at, len } => Stop::TooLong { at, len },
             CaptureFault::TooMany => Stop::TooMany,
-            CaptureFault::Failed => Stop::CannotRead(InputFile::Capture),
+            CaptureFault::Failed => Stop::CannotRead,
             CaptureFault::NoMemory => Stop::NoMemory,
         }
     }
 }
 
-impl From<LoadFault> for Stop {
-    ghost use Rattle.snort_engine.specs.Setup.{stop_of};
+impl From<SetupStop> for Stop {
+    ghost use Rattle.snort_engine.specs.Stop.{setup_stop};
 
-    ghost from_gives = { λ fault stop. stop ≡ stop_of fault };
+    ghost from_gives = { λ why stop. stop ≡ setup_stop why };
 
-    fn from(fault: LoadFault) -> Stop {
-        match fault {
-            LoadFault::Failed => Stop::CannotRead(InputFile::Configuration),
-            LoadFault::TooLarge => Stop::OutsideProfile { line: 0 },
-            LoadFault::NoMemory => Stop::NoMemory,
+    fn from(why: SetupStop) -> Stop {
+        match why {
+            SetupStop::Refused { message } => Stop::Refused { message },
+            SetupStop::CannotRead { name } => Stop::CannotReadFile { name },
+            SetupStop::NoMemory => Stop::NoMemory,
         }
     }
 }

@@ -1,11 +1,12 @@
 //! The program `snort`: the real files, streams and words around the proved call `run`.
 //!
 //! It makes the host over real files, the sinks over standard output and standard error, a maker of
-//! literal patterns and an open gate, and ends with the code of the status. What the words, the
+//! regular expressions and an open gate, and ends with the code of the status. What the words, the
 //! configuration and the capture mean, and what is written, is the contract of `run`.
 #![tactic(auto)]
 
-use edge_io::{FileHost, LiteralMaker, OpenGate, StdSink, write_all};
+use edge_io::{FileHost, OpenGate, StdSink, write_all};
+use regex_maker::RegexMaker;
 use snort_engine::{Status, run};
 use std::process::ExitCode;
 use std::rt::Env;
@@ -36,7 +37,7 @@ fn main(rt: HostRuntime) -> ExitCode {
         alloc,
         &words,
         &mut host,
-        &mut LiteralMaker::new(alloc),
+        &mut RegexMaker::new(alloc),
         &mut alerts,
         &mut errors,
         &OpenGate,

@@ -2,7 +2,6 @@
 use Rattle.std.proofs.Common.{◌≡◌, ◌+◌, ◌-◌, ◌<◌, ◌≤◌, [], None, vec_len}
 use Rattle.pcap_input.specs.Savefile.{most_records}
 use Rattle.snort_engine.specs.Batch.{ReadsOn}
-use Rattle.snort_engine.specs.ReadAhead.{batch}
 use Rattle.snort_engine.specs.declared.batch.Reached.TheVariants.{More}
 use Rattle.snort_engine.proofs.batch.read_batch.Given as goal
 
@@ -10,7 +9,7 @@ abbrev pub invariant-batch : goal.invariant-batch
 invariant-batch g l = record {
   reads : ReadsOn (record { reader = l.fn.reader; records = []; left = g.H.Host.left l.fn.host }) (record { reader = l.reader; records = l.records.items; left = g.H.Host.left l.host }) More;
   fresh : l.reader.refused ≡ None;
-  few : vec_len l.records ≤ batch;
+  few : vec_len l.records ≤ l.most;
   number : l.reader.number ≡ l.fn.reader.number + vec_len l.records;
   within : 0 < vec_len l.records → l.reader.number ≤ most_records;
   opens : g.H.Host.opens l.host ≡ g.H.Host.opens l.fn.host;
@@ -19,4 +18,4 @@ invariant-batch g l = record {
 }
 
 abbrev pub decreases-batch : goal.decreases-batch
-decreases-batch g l = batch - vec_len l.records
+decreases-batch g l = l.most - vec_len l.records

@@ -1,19 +1,72 @@
-use Rattle.std.specs.Option.{option_map}
-use Rattle.snort_engine.specs.CommandLine.{options_of}
-use Rattle.snort_engine.proofs.Runs.{headline_of}
+use Rattle.std.proofs.Common.{refl, sym, ap, ◌∙◌, arith}
+use Rattle.edge_io.specs.Told.{one_more}
+use Rattle.snort_engine.specs.Course.{Goes}
+use Rattle.snort_engine.specs.Preparing.{plan_by}
+use Rattle.snort_engine.proofs.Runs.{headline, stopped_run, watched_run}
 use Rattle.snort_engine.proofs.detector.run.Goals as goal
+
+pub watch_capture-outcome-requires-after_bounds : goal.watch_capture-outcome-requires-after_bounds
+watch_capture-outcome-requires-after_bounds g c κs within =
+    let sound = c.in-Ok.ensures.rules in
+    rw (c.plan_for-plan.ensures.set, c.plan_for-plan.ensures.classes) sound
+
+pub returns-in-Ok-clause-headline : goal.returns-in-Ok-clause-headline
+returns-in-Ok-clause-headline g c =
+    headline _ _ _ _ _
+    (watched_run (plan_by {P = g.row.M-Made.Denot}) _ _ _ _ c.in-Ok.ready c.plan_for-plan.result.source.now c.watch_capture-outcome.result c.prepare-prepared.new.warnings _ (c.matching_is_decided.ensures _)
+    (record {
+      middle = record {
+        left = g.H.Host.left c.prepare-prepared.new.host;
+        opens = g.H.Host.opens c.prepare-prepared.new.host;
+        host_faults = g.H.Host.faults c.prepare-prepared.new.host;
+        alerts = g.A.Sink.written c.args.alerts.now;
+      };
+      prepared = λ files is. c.in-Ok.ensures.prepared files is;
+      faulty_words = λ none. c.in-Ok.ensures.faulty_words none;
+      since = record { left = c.prepare-prepared.ensures.same_left; opens = c.prepare-prepared.ensures.same_opens; alerts = refl; later = c.prepare-prepared.ensures.later };
+      ends = λ matches tells files course is goes.
+          c.watch_capture-outcome.ensures.ends matches
+          (record { means = g.M.PatternMaker.means c.args.maker.now; find = rw c.plan_for-plan.ensures.set c.in-Ok.ensures.meant; tells = tells })
+          files course (c.prepare-prepared.ensures.same_contents ∙ is) (goes ∙ ap Goes (sym (c.plan_for-plan.ensures.plan matches)));
+      source_is = λ matches. sym c.plan_for-plan.ensures.source;
+      write_fault = c.watch_capture-outcome.ensures.write_fault;
+      read_fault = λ failed. rw c.prepare-prepared.ensures.same_contents at (c.watch_capture-outcome.ensures.read_fault failed);
+      opened = c.watch_capture-outcome.ensures.opened ∙ ap one_more c.prepare-prepared.ensures.same_opens;
+      same_files = c.watch_capture-outcome.ensures.same_contents ∙ c.prepare-prepared.ensures.same_contents;
+      counts = record {
+        host = omega (arith, c.prepare-prepared.ensures.later, c.watch_capture-outcome.ensures.later);
+        alerts = c.watch_capture-outcome.ensures.later_alerts;
+        errors = omega (arith, c.tell_all-well.ensures.later, c.report.ensures.later);
+      };
+    })
+    (record {
+      middle = g.E.Sink.written c.tell_all-well.new.errors;
+      at_middle = g.E.Sink.faults c.tell_all-well.new.errors;
+      well = c.tell_all-well.result;
+      later = c.tell_all-well.ensures.later;
+      on = c.report.ensures.later;
+      warned = rw c.as_slice.ensures at c.tell_all-well.ensures.tells;
+      reports = c.report.ensures.reports;
+    }))
 
 pub returns-clause-headline : goal.returns-clause-headline
 returns-clause-headline g c =
-    let reports = rw c.names_of.ensures at c.report.ensures.reports in
-    headline_of _ (option_map options_of c.read_words-options.result) _ _ c.detect-outcome.result c.report.result c.read_words-options.ensures
+    headline _ _ _ _ _
+    (stopped_run (plan_by {P = g.row.M-Made.Denot}) _ _ _ _ c.in-Err.stop c.prepare-prepared.new.warnings _ (c.matching_is_decided.ensures _)
     (record {
-      ends = c.detect-outcome.ensures.ends;
-      faulty_words = c.detect-outcome.ensures.faulty_words;
-      write_fault = c.detect-outcome.ensures.write_fault;
-      host_fault = c.detect-outcome.ensures.host_fault;
-      reports = reports;
-      opened_once = c.detect-outcome.ensures.opened_once;
-      same_files = c.detect-outcome.ensures.same_contents;
-      counts = record { host = c.detect-outcome.ensures.later; alerts = c.detect-outcome.ensures.later_alerts; errors = c.report.ensures.later };
+      prepared = λ files is. c.in-Err.ensures.prepared files is;
+      cause = c.in-Err.ensures.cause;
+      faulty_words = λ none. c.in-Err.ensures.faulty_words none;
+      unopened = record { left = c.prepare-prepared.ensures.same_left; opens = c.prepare-prepared.ensures.same_opens; alerts = refl };
+      same_files = c.prepare-prepared.ensures.same_contents;
+      counts = record { host = c.prepare-prepared.ensures.later; alerts = omega arith; errors = omega (arith, c.tell_all-well.ensures.later, c.report-in-Err.ensures.later) };
     })
+    (record {
+      middle = g.E.Sink.written c.tell_all-well.new.errors;
+      at_middle = g.E.Sink.faults c.tell_all-well.new.errors;
+      well = c.tell_all-well.result;
+      later = c.tell_all-well.ensures.later;
+      on = c.report-in-Err.ensures.later;
+      warned = rw c.as_slice.ensures at c.tell_all-well.ensures.tells;
+      reports = c.report-in-Err.ensures.reports;
+    }))

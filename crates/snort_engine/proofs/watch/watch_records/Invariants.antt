@@ -1,11 +1,15 @@
 -- The work is under way, no record and no line waits, and no count fell.
-use Rattle.std.proofs.Common.{◌≡◌, ◌≤◌, ◌-◌, []}
-use Rattle.snort_engine.specs.Watching.{plan_of, IsUnderWay}
+use Rattle.std.proofs.Common.{◌≡◌, ◌≤◌, ◌-◌, [], None}
+use Rattle.flow_lanes.specs.Hits.{Test}
+use Rattle.snort_engine.specs.Watching.{plan_of, IsTest, IsUnderWay}
 use Rattle.snort_engine.proofs.watch.watch_records.Given as goal
 
 abbrev pub invariant-batches : goal.invariant-batches
 invariant-batches g l = record {
-  going : IsUnderWay (plan_of l.plan) l.fn.reader l.reader (record { left = g.H.Host.left l.fn.host; written = g.A.Sink.written l.fn.alerts }) (record { left = g.H.Host.left l.host; written = g.A.Sink.written l.alerts });
+  going : (matches : Test) → IsTest g.P.Pattern.finds l.plan.set.now matches
+      → IsUnderWay (plan_of matches l.plan) l.fn.reader (record { left = g.H.Host.left l.fn.host; written = g.A.Sink.written l.fn.alerts })
+      (record { reader = l.reader; room = l.room; streams = record { left = g.H.Host.left l.host; written = g.A.Sink.written l.alerts } });
+  fresh : l.reader.refused ≡ None;
   shown : l.records.items ≡ [];
   offered : l.block.items ≡ [];
   opens : g.H.Host.opens l.host ≡ g.H.Host.opens l.fn.host;

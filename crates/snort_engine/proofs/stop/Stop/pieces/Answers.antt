@@ -1,19 +1,23 @@
 use Rattle.std.proofs.Common.{append_assoc}
 use Rattle.snort_engine.specs.Stop.{stop_text}
-use Rattle.snort_engine.specs.Messages.{command_line_text, outside_profile_text, cannot_write_text, no_memory_text, not_pcap_text, too_long_text, too_many_text}
+use Rattle.snort_engine.specs.Messages.{usage_text, version_text, command_line_text, cannot_write_text, no_memory_text, not_pcap_text, too_long_text, too_many_text}
 use Rattle.snort_engine.proofs.stop.Stop.pieces.Goals as goal
-
-pub returns-in-OutsideProfile : goal.returns-in-OutsideProfile
-unfolding stop_text outside_profile_text
-returns-in-OutsideProfile c = rw (c.in-OutsideProfile.is, c.as_bytes.ensures.value) (simp append_assoc)
 
 pub returns-in-TooLong : goal.returns-in-TooLong
 unfolding stop_text too_long_text
 returns-in-TooLong c = rw c.in-TooLong.is (simp append_assoc)
 
+pub returns-in-Usage : goal.returns-in-Usage
+unfolding stop_text usage_text
+returns-in-Usage c = rw c.in-Usage.is c.alone-in-Usage.ensures
+
+pub returns-in-Version : goal.returns-in-Version
+unfolding stop_text version_text
+returns-in-Version c = rw c.in-Version.is c.alone-in-Version.ensures
+
 pub returns-in-CommandLine : goal.returns-in-CommandLine
 unfolding stop_text command_line_text
-returns-in-CommandLine c = rw c.in-CommandLine.is c.alone.ensures
+returns-in-CommandLine c = rw c.in-CommandLine.is c.alone-in-CommandLine.ensures
 
 pub returns-in-CannotWrite : goal.returns-in-CannotWrite
 unfolding stop_text cannot_write_text

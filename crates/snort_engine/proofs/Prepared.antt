@@ -1,0 +1,196 @@
+-- What is known before a capture is opened, from what the words and the setup gave.
+use Rattle.std.proofs.Common.{◌≡◌, ℕ, ◌+◌, ◌<◌, ◌≤◌, Bool, true, false, List, [], ◌∷◌, Option, Some, None, Result, Ok, Err, length, refl, sym, ap, subst, ◌∙◌, arith, inl, inr, ◌⊎◌, ⊎_elim}
+use Rattle.std.specs.Prelude.{MatchBool, All, IfOk, IfErr}
+use Rattle.edge_io.specs.declared.pattern.Span.{Span}
+use Rattle.option_eval.specs.Places.{Means}
+use Rattle.option_eval.specs.RuleSet.{FindWhatIsMeant}
+use Rattle.rule_parser.specs.Sound.{IsSound}
+use Rattle.std.specs.Option.{option_map}
+use Rattle.edge_io.specs.Files.{Files}
+use Rattle.edge_io.specs.declared.pattern.Refusal.{Refusal}
+use Rattle.conf_parser.specs.Reading.{Ended, Whole, Refused as RefusedAt, Asks, told}
+use Rattle.command_words.specs.CommandLine.{Asked, help, version, run, Run}
+use Rattle.flow_lanes.specs.Hits.{Test}
+use Rattle.snort_setup.specs.declared.setup.Setup.{Setup}
+use Rattle.snort_setup.specs.declared.stop.SetupStop.{SetupStop}
+use Rattle.snort_setup.specs.declared.stop.SetupStop.TheVariants as halted
+use Rattle.snort_setup.specs.Words.{Words}
+use Rattle.snort_setup.specs.Setup.{Halt, Refused, Lacks, Ready, Warned, warned, IsSetup, IsReading, conf_read}
+use Rattle.snort_setup.specs.Answers.{AreRefusedBy, Gives, SetsUp, HasCause as HasSetupCause}
+use Rattle.snort_setup.specs.Whole.{ready_of}
+use Rattle.snort_setup.proofs.One.{setup-one}
+use Rattle.snort_engine.specs.declared.prepare.Prepared.{Prepared}
+use Rattle.snort_engine.specs.declared.status.Status.TheVariants as status
+use Rattle.snort_engine.specs.declared.stop.Stop.{Stop}
+use Rattle.snort_engine.specs.declared.stop.Stop.TheVariants as stop
+use Rattle.snort_engine.specs.Course.{Plan, Way, Stops, Goes, Course, Given, given, IsCourse, HasOneCourse, IsRunCourse, Reads, AreRefused, setup_words, told_warnings, is_for_later, way_of, course_by, stopping}
+use Rattle.snort_engine.specs.Messages.{usage_text, version_text, command_line_text}
+use Rattle.snort_engine.specs.Stop.{stop_status, stop_text, setup_stop}
+use Rattle.snort_engine.specs.Preparing.{HasWay, stops, way_by, Prepares, IsPrepared, IsSetUp, KeepsSetup, HasCause, plan_by, told_of}
+
+-- what maps to nothing is nothing
+pub none_by : {W O : Type 0} (f : W → O) (found : Option W) → ((w : W) → found ≡ Some w → ⊥) → option_map f found ≡ None
+none_by f None absent = refl
+none_by f (Some w) absent = absurd (absent w refl)
+
+-- ---- refused lines
+
+none_refused_by : (words : Words) (ended : Ended) (grown : List Refusal) → AreRefusedBy words ended [] grown
+none_refused_by words (Whole read) grown = record { asked = λ k d within. absurd (omega (arith, within)); few = omega arith }
+none_refused_by words (RefusedAt fault output) grown = refl
+none_refused_by words (Asks name output) grown = refl
+
+-- no line need be refused, whatever the words are
+none_refused : (asked : Option Asked) (files : Files) (grown : List Refusal) → AreRefused asked files [] grown
+unfolding AreRefused
+none_refused None files grown = refl
+none_refused (Some help) files grown = refl
+none_refused (Some version) files grown = refl
+none_refused (Some (run wanted)) files grown = none_refused_by (setup_words wanted) (conf_read (setup_words wanted) (told files)) grown
+
+-- ---- words that read no file
+
+-- a stop that comes without a warning, over no refused lines
+stopped_at_once : {A : Type 0} (view : Test → A → Plan) (asked : Option Asked) (files : Files) (rose : Type 0) (grown : List Refusal) (why : Stop) (warnings : List (List ℕ)) → warnings ≡ []
+    → ((matches : Test) → Prepares (view matches) asked (given files matches []) rose (Err why) []) → IsPrepared view asked files rose grown (Err why) warnings
+stopped_at_once view asked files rose grown why warnings none has =
+    subst (λ (w : List (List ℕ)). IsPrepared view asked files rose grown (Err why) w) (sym none)
+    (record { refused = []; are_refused = none_refused asked files grown; prepares = has })
+
+faulty_way : (here : Given) → HasWay None here [] (stops stop.CommandLine)
+unfolding IsCourse stop_text
+faulty_way here = record { course = stopping command_line_text status.Refused; is = refl; warnings_are = refl; way_is = refl }
+
+help_way : (here : Given) → HasWay (Some help) here [] (stops stop.Usage)
+unfolding IsCourse stop_text
+help_way here = record { course = stopping usage_text status.Done; is = refl; warnings_are = refl; way_is = refl }
+
+version_way : (here : Given) → HasWay (Some version) here [] (stops stop.Version)
+unfolding IsCourse stop_text
+version_way here = record { course = stopping version_text status.Done; is = refl; warnings_are = refl; way_is = refl }
+
+later_way : (wanted : Run) (here : Given) → is_for_later wanted ≡ true → HasWay (Some (run wanted)) here [] (stops stop.CommandLine)
+unfolding IsCourse stop_text
+later_way wanted here later = record {
+  course = stopping command_line_text status.Refused;
+  is = subst (λ (b : Bool). MatchBool b (stopping command_line_text status.Refused ≡ stopping command_line_text status.Refused) ((setup : Warned Ready) × IsSetup (setup_words wanted) here.files here.refused setup × (stopping command_line_text status.Refused ≡ course_by here.matches wanted setup))) (sym later) refl;
+  warnings_are = refl;
+  way_is = refl;
+}
+
+pub prepared_faulty : {A : Type 0} (view : Test → A → Plan) (asked : Option Asked) (files : Files) (rose : Type 0) (grown : List Refusal) (warnings : List (List ℕ)) → asked ≡ None → warnings ≡ [] → IsPrepared view asked files rose grown (Err stop.CommandLine) warnings
+prepared_faulty view asked files rose grown warnings is none =
+    subst (λ (a : Option Asked). IsPrepared view a files rose grown (Err stop.CommandLine) warnings) (sym is)
+    (stopped_at_once view None files rose grown stop.CommandLine warnings none (λ matches. faulty_way (given files matches [])))
+
+pub prepared_help : {A : Type 0} (view : Test → A → Plan) (asked : Option Asked) (files : Files) (rose : Type 0) (grown : List Refusal) (warnings : List (List ℕ)) → asked ≡ Some help → warnings ≡ [] → IsPrepared view asked files rose grown (Err stop.Usage) warnings
+prepared_help view asked files rose grown warnings is none =
+    subst (λ (a : Option Asked). IsPrepared view a files rose grown (Err stop.Usage) warnings) (sym is)
+    (stopped_at_once view (Some help) files rose grown stop.Usage warnings none (λ matches. help_way (given files matches [])))
+
+pub prepared_version : {A : Type 0} (view : Test → A → Plan) (asked : Option Asked) (files : Files) (rose : Type 0) (grown : List Refusal) (warnings : List (List ℕ)) → asked ≡ Some version → warnings ≡ [] → IsPrepared view asked files rose grown (Err stop.Version) warnings
+prepared_version view asked files rose grown warnings is none =
+    subst (λ (a : Option Asked). IsPrepared view a files rose grown (Err stop.Version) warnings) (sym is)
+    (stopped_at_once view (Some version) files rose grown stop.Version warnings none (λ matches. version_way (given files matches [])))
+
+pub prepared_later : {A : Type 0} (view : Test → A → Plan) (wanted : Run) (files : Files) (rose : Type 0) (grown : List Refusal) (warnings : List (List ℕ)) → is_for_later wanted ≡ true → warnings ≡ [] → IsPrepared view (Some (run wanted)) files rose grown (Err stop.CommandLine) warnings
+prepared_later view wanted files rose grown warnings later none =
+    stopped_at_once view (Some (run wanted)) files rose grown stop.CommandLine warnings none (λ matches. later_way wanted (given files matches []) later)
+
+-- memory was lacking
+pub prepared_lacking : {A : Type 0} (view : Test → A → Plan) (asked : Option Asked) (files : Files) (rose : Type 0) (grown : List Refusal) (warnings : List (List ℕ)) → warnings ≡ [] → IsPrepared view asked files rose grown (Err stop.NoMemory) warnings
+prepared_lacking view asked files rose grown warnings none = stopped_at_once view asked files rose grown stop.NoMemory warnings none (λ matches. refl)
+
+-- ---- words that set a detector up
+
+-- the course of a setup
+run_way : (wanted : Run) (here : Given) (setup : Warned Ready) (warnings : List (List ℕ)) (way : Way) → is_for_later wanted ≡ false → IsSetup (setup_words wanted) here.files here.refused setup
+    → warnings ≡ told_warnings wanted setup.warnings → way ≡ way_of here.matches wanted setup.outcome → HasWay (Some (run wanted)) here warnings way
+unfolding IsCourse
+run_way wanted here setup warnings way now is told_are way_is = record {
+  course = course_by here.matches wanted setup;
+  is = subst (λ (b : Bool). MatchBool b (course_by here.matches wanted setup ≡ stopping command_line_text status.Refused) ((s : Warned Ready) × IsSetup (setup_words wanted) here.files here.refused s × (course_by here.matches wanted setup ≡ course_by here.matches wanted s))) (sym now) (setup, is, refl);
+  warnings_are = sym told_are;
+  way_is = sym way_is;
+}
+
+-- the setup was stopped
+pub setup_stopped : {A B : Type 0} (view : A → Ready) (plans : Test → B → Plan) (wanted : Run) (files : Files) (rose : Type 0) (grown : List Refusal) (why : SetupStop) (warnings : List (List ℕ)) → is_for_later wanted ≡ false
+    → IsSetUp view wanted files rose grown (Err why) warnings → IsPrepared plans (Some (run wanted)) files rose grown (Err (setup_stop why)) warnings
+unfolding AreRefused Reads stop_text
+setup_stopped {A} {B} view plans wanted files rose grown why warnings now set = record {
+  refused = set.sets_up.refused;
+  are_refused = set.sets_up.are_refused;
+  prepares = λ matches. by_stop matches why set.sets_up.gives set.told_are;
+}
+  where
+    by_stop : (matches : Test) (s : SetupStop) → Gives view (setup_words wanted) files set.sets_up.refused rose (Err s) set.given_warnings → warnings ≡ told_of {A = A} (Err s) wanted set.given_warnings
+        → Prepares (plans matches) (Some (run wanted)) (given files matches set.sets_up.refused) rose (Err (setup_stop s)) warnings
+    by_stop matches (halted.Refused message) gives told_are = run_way wanted (given files matches set.sets_up.refused) (warned set.given_warnings (Err (Refused message))) warnings (stops (stop.Refused message)) now gives told_are refl
+    by_stop matches (halted.CannotRead name) gives told_are =
+        ⊎_elim
+        (λ lacks. inl (run_way wanted (given files matches set.sets_up.refused) (warned set.given_warnings (Err (Lacks name))) warnings (stops (stop.CannotReadFile name)) now lacks told_are refl))
+        (λ read. inr (read.0, (set.given_warnings, read.1, told_are)))
+        gives
+    by_stop matches halted.NoMemory gives told_are = told_are
+
+-- the detector was set up
+pub setup_ready : {P : Type 0} (wanted : Run) (files : Files) (rose : Type 0) (grown : List Refusal) (setup : Setup P) (answer : Result (Prepared P) Stop) (warnings : List (List ℕ)) → is_for_later wanted ≡ false
+    → IsSetUp ready_of wanted files rose grown (Ok setup) warnings
+    → ((matches : Test) → way_by (plan_by matches) answer ≡ way_of matches wanted (Ok (ready_of setup))) → KeepsSetup setup answer
+    → IsPrepared plan_by (Some (run wanted)) files rose grown answer warnings
+unfolding AreRefused
+setup_ready {P} wanted files rose grown setup answer warnings now set way keeps = record {
+  refused = set.sets_up.refused;
+  are_refused = set.sets_up.are_refused;
+  prepares = λ matches. by_answer matches answer keeps
+      (run_way wanted (given files matches set.sets_up.refused) (warned set.given_warnings (Ok (ready_of setup))) warnings (way_by (plan_by matches) answer) now set.sets_up.gives set.told_are (way matches));
+}
+  where
+    by_answer : (matches : Test) (a : Result (Prepared P) Stop) → KeepsSetup setup a → HasWay (Some (run wanted)) (given files matches set.sets_up.refused) warnings (way_by (plan_by matches) a)
+        → Prepares (plan_by matches) (Some (run wanted)) (given files matches set.sets_up.refused) rose a warnings
+    by_answer matches (Ok prepared) kept has = has
+    by_answer matches (Err (stop.Accepted rules)) kept has = has
+    by_answer matches (Err stop.CommandLine) kept has = has
+    by_answer matches (Err why) kept has = absurd kept
+
+-- words, files, a test and refused lines have at most one course
+pub one_course : HasOneCourse
+unfolding IsCourse
+one_course None here a b of_a of_b = of_a ∙ sym of_b
+one_course (Some help) here a b of_a of_b = of_a ∙ sym of_b
+one_course (Some version) here a b of_a of_b = of_a ∙ sym of_b
+one_course (Some (run wanted)) here a b of_a of_b = by_later (is_for_later wanted) of_a of_b
+  where
+    by_later : (later : Bool)
+        → MatchBool later (a ≡ stopping command_line_text status.Refused) ((setup : Warned Ready) × IsSetup (setup_words wanted) here.files here.refused setup × (a ≡ course_by here.matches wanted setup))
+        → MatchBool later (b ≡ stopping command_line_text status.Refused) ((setup : Warned Ready) × IsSetup (setup_words wanted) here.files here.refused setup × (b ≡ course_by here.matches wanted setup))
+        → a ≡ b
+    by_later true is_a is_b = is_a ∙ sym is_b
+    by_later false is_a is_b =
+        is_a.2 ∙ ap (λ (setup : Warned Ready). course_by here.matches wanted setup) (setup-one (setup_words wanted) here.files here.refused is_a.0 is_b.0 is_a.1 is_b.1) ∙ sym is_b.2
+
+-- ---- causes, and what stays of a setup
+
+-- a setup that was stopped has its cause
+pub setup_cause : (rose : Type 0) (host : Option Files) (why : SetupStop) → HasSetupCause rose host why → HasCause rose host (setup_stop why)
+setup_cause rose host (halted.Refused message) cause = tt
+setup_cause rose host (halted.CannotRead name) cause = cause
+setup_cause rose host halted.NoMemory cause = tt
+
+-- a detector that was set up is stopped without a fault
+pub kept_cause : {P : Type 0} (rose : Type 0) (host : Option Files) (setup : Setup P) (answer : Result (Prepared P) Stop) → KeepsSetup setup answer → IfErr answer (HasCause rose host)
+kept_cause rose host setup (Ok prepared) kept = tt
+kept_cause rose host setup (Err (stop.Accepted rules)) kept = tt
+kept_cause rose host setup (Err stop.CommandLine) kept = tt
+kept_cause rose host setup (Err why) kept = absurd kept
+
+-- its rules stay sound
+pub kept_rules : {P : Type 0} (setup : Setup P) (answer : Result (Prepared P) Stop) → KeepsSetup setup answer → All (IsSound setup.config.classes) setup.set.rules → IfOk answer (λ ready. All (IsSound ready.setup.config.classes) ready.setup.set.rules)
+kept_rules {P} setup (Ok prepared) kept sound = subst (λ (s : Setup P). All (IsSound s.config.classes) s.set.rules) (sym kept) sound
+kept_rules setup (Err why) kept sound = tt
+
+-- and its patterns find what is meant
+pub kept_meant : {P : Type 0} (finds : P → List ℕ → Option Span) (means : Means) (setup : Setup P) (answer : Result (Prepared P) Stop) → KeepsSetup setup answer → FindWhatIsMeant finds means setup.set → IfOk answer (λ ready. FindWhatIsMeant finds means ready.setup.set)
+kept_meant {P} finds means setup (Ok prepared) kept found = subst (λ (s : Setup P). FindWhatIsMeant finds means s.set) (sym kept) found
+kept_meant finds means setup (Err why) kept found = tt

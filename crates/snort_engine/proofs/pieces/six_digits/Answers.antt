@@ -1,9 +1,0 @@
-use Rattle.std.proofs.Common.{◌<◌, ◌/◌, ◌%◌, arith}
-use Rattle.snort_engine.proofs.PaddedDigits.{digits-3, digits-6}
-use Rattle.snort_engine.proofs.pieces.six_digits.Goals as goal
-
-pub returns : goal.returns
-returns c =
-    let high : c.args.number / 1000 < 1000 = omega arith in
-    let low : c.args.number % 1000 < 1000 = omega arith in
-    rw (c.three_digits.ensures, c.three_digits-2.ensures, digits-6 c.args.number c.requires, digits-3 (c.args.number / 1000) high, digits-3 (c.args.number % 1000) low)

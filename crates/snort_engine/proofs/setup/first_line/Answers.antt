@@ -1,8 +1,0 @@
-use Rattle.snort_engine.proofs.LineLemmas.{lines_cut, lines_last}
-use Rattle.snort_engine.proofs.setup.first_line.Goals as goal
-
-pub returns-in-Some-clause-cut : goal.returns-in-Some-clause-cut
-returns-in-Some-clause-cut c = rw c.without_return.ensures (lines_cut c.args.text.now c.in-Some.end c.in-Some.ensures)
-
-pub returns-in-None-clause-cut : goal.returns-in-None-clause-cut
-returns-in-None-clause-cut c = lines_last c.args.text.now c.requires c.in-None.ensures

@@ -1,0 +1,7 @@
+use Rattle.std.proofs.Common.{refl}
+use Rattle.snort_engine.specs.Messages.{cannot_read_text}
+use Rattle.snort_engine.proofs.stop.cannot_read.Goals as goal
+
+pub returns : goal.returns
+unfolding cannot_read_text
+returns c = refl

@@ -1,0 +1,104 @@
+-- What is known before a capture is opened: the plan, or why there is none.
+--
+-- To try it on: where `r` has one rule, `snort -c r -r p` is prepared with the plan for `p` and that rule,
+-- and no warning; `snort -c r -T` stops as Accepted.
+use Rattle.std.specs.Prelude.{◌≡◌, ℕ, ⊤, Bool, true, false, List, [], Option, Result, Ok, Err, ◌⊎◌}
+use Rattle.edge_io.specs.Files.{Files, Lacks}
+use Rattle.edge_io.specs.declared.pattern.Refusal.{Refusal}
+use Rattle.command_words.specs.CommandLine.{Asked, Run}
+use Rattle.flow_lanes.specs.Hits.{Test}
+use Rattle.snort_setup.specs.declared.setup.Setup.{Setup}
+use Rattle.snort_setup.specs.declared.stop.SetupStop.{SetupStop}
+use Rattle.snort_setup.specs.declared.stop.SetupStop.TheVariants as halted
+use Rattle.snort_setup.specs.Answers.{SetsUp}
+use Rattle.snort_setup.specs.Setup.{Ready}
+use Rattle.snort_setup.specs.Whole.{ready_of}
+use Rattle.snort_engine.specs.declared.prepare.Prepared.{Prepared}
+use Rattle.snort_engine.specs.declared.stop.Stop.{Stop}
+use Rattle.snort_engine.specs.declared.stop.Stop.TheVariants as stop
+use Rattle.snort_engine.specs.Course.{Plan, Way, Stops, Goes, Course, Given, given, IsCourse, Reads, AreRefused, setup_words, told_warnings}
+use Rattle.snort_engine.specs.Stop.{stop_status, stop_text}
+
+-- the words have a course of this way, with these warnings
+pub record HasWay (asked : Option Asked) (given : Given) (warnings : List (List ℕ)) (way : Way) : Type 0 where
+  pub course : Course
+  pub is : IsCourse asked given course
+  pub warnings_are : course.warnings ≡ warnings
+  pub way_is : course.way ≡ way
+
+-- the plan of a detector that is ready for a capture, where this test says which rules match
+abbrev pub plan_by : {P : Type 0} → Test → Prepared P → Plan
+plan_by matches prepared = record {
+  source = prepared.source.now;
+  limit = prepared.limit;
+  checks = prepared.checks;
+  rules = prepared.setup.set.rules;
+  matches = matches;
+  classes = prepared.setup.config.classes;
+}
+
+-- the way of a stop; no stop before a capture is opened tells its name
+abbrev pub stops : Stop → Way
+stops why = Stops (stop_text [] why) (stop_status why)
+
+-- the way of an answer
+abbrev pub way_by : {A : Type 0} → (A → Plan) → Result A Stop → Way
+way_by view (Ok ready) = Goes (view ready)
+way_by view (Err why) = stops why
+
+-- an answer is what the words' course has, with its warnings; but a file that couldn't be read may be one
+-- of those that are read where the host's count rose, and want of memory is for any, without a warning
+abbrev pub Prepares : {A : Type 0} → (A → Plan) → Option Asked → Given → Type 0 → Result A Stop → List (List ℕ) → Type 0
+Prepares view asked given rose (Ok ready) warnings = HasWay asked given warnings (Goes (view ready))
+Prepares view asked given rose (Err (stop.CannotReadFile name)) warnings =
+    HasWay asked given warnings (stops (stop.CannotReadFile name)) ⊎ (rose × Reads asked given name warnings)
+Prepares view asked given rose (Err stop.NoMemory) warnings = warnings ≡ []
+Prepares view asked given rose (Err why) warnings = HasWay asked given warnings (stops why)
+
+-- an answer over these files, where the maker's refusals grew by these: whatever test says which rules
+-- match, it is what the words' course has over one list of refused lines
+pub record IsPrepared {A : Type 0} (view : Test → A → Plan) (asked : Option Asked) (files : Files) (rose : Type 0) (grown : List Refusal) (answer : Result A Stop) (warnings : List (List ℕ)) : Type 0 where
+  pub refused : List ℕ
+  pub are_refused : AreRefused asked files refused grown
+  pub prepares : (matches : Test) → Prepares (view matches) asked (given files matches refused) rose answer warnings
+
+-- ---- its steps
+
+-- the warnings that are told of those that a setup gave: none where memory was lacking
+abbrev pub told_of : {A : Type 0} → Result A SetupStop → Run → List (List ℕ) → List (List ℕ)
+told_of (Err halted.NoMemory) wanted warnings = []
+told_of outcome wanted warnings = told_warnings wanted warnings
+
+-- the setup of a run, and the warnings of it that are told
+pub record IsSetUp {A : Type 0} (view : A → Ready) (wanted : Run) (files : Files) (rose : Type 0) (grown : List Refusal) (answer : Result A SetupStop) (warnings : List (List ℕ)) : Type 0 where
+  pub given_warnings : List (List ℕ)
+  pub sets_up : SetsUp view (setup_words wanted) files rose grown answer given_warnings
+  pub told_are : warnings ≡ told_of answer wanted given_warnings
+
+-- a detector that is set up is kept as it is, or stops as accepted, or for faulty words
+abbrev pub KeepsSetup : {P : Type 0} → Setup P → Result (Prepared P) Stop → Type 0
+KeepsSetup setup (Ok prepared) = prepared.setup ≡ setup
+KeepsSetup setup (Err (stop.Accepted rules)) = ⊤
+KeepsSetup setup (Err stop.CommandLine) = ⊤
+KeepsSetup setup (Err why) = ⊥
+
+-- ---- its causes
+
+-- what may stop a run before its capture is opened; a file that is not read has its cause: a fault was
+-- counted, or told files lack the name
+abbrev pub HasCause : Type 0 → Option Files → Stop → Type 0
+HasCause rose host stop.Usage = ⊤
+HasCause rose host stop.Version = ⊤
+HasCause rose host (stop.Accepted rules) = ⊤
+HasCause rose host stop.CommandLine = ⊤
+HasCause rose host (stop.Refused message) = ⊤
+HasCause rose host (stop.CannotReadFile name) = rose ⊎ Lacks host name
+HasCause rose host stop.NoMemory = ⊤
+HasCause rose host why = ⊥
+
+-- faulty words are refused, unless memory is lacking
+abbrev pub IsForFaultyWords : {A : Type 0} → Result A Stop → Type 0
+IsForFaultyWords (Ok ready) = ⊥
+IsForFaultyWords (Err stop.CommandLine) = ⊤
+IsForFaultyWords (Err stop.NoMemory) = ⊤
+IsForFaultyWords (Err why) = ⊥

@@ -1,0 +1,249 @@
+//! What stands before a capture: the words, the configuration, the rules and the host table.
+ghost use Rattle.std.specs.Prelude.{◌≡◌, ◌≤◌, [], None, Some, Ok, map, string_bytes, length, All, IfOk, IfErr};
+ghost use Rattle.edge_io.specs.Files.{Files};
+ghost use Rattle.edge_io.specs.Told.{Rose};
+ghost use Rattle.option_eval.specs.RuleSet.{FindWhatIsMeant, SameMeaning};
+ghost use Rattle.rule_parser.specs.Sound.{IsSound};
+ghost use Rattle.command_words.specs.CommandLine.{command_line, run};
+ghost use Rattle.command_words.specs.Told.{run_of};
+ghost use Rattle.flow_lanes.specs.Hits.{Test};
+ghost use Rattle.snort_setup.specs.Words.{words_of, HasName};
+ghost use Rattle.snort_setup.specs.Answers as setup_specs;
+ghost use Rattle.snort_setup.specs.Steps.{grown_by, Grows};
+ghost use Rattle.snort_setup.specs.Whole.{ready_of};
+ghost use Rattle.snort_engine.specs.Course.{setup_words, checks_of, is_for_later, way_of};
+ghost use Rattle.snort_engine.specs.Preparing.{IsPrepared, IsSetUp, KeepsSetup, HasCause, IsForFaultyWords, plan_by, told_of, way_by};
+ghost use Rattle.snort_engine.specs.Watching.{plan_of};
+
+use crate::plan::Plan;
+use crate::stop::Stop;
+use command_words::{ChecksumMode, Command, Words, WordsFault, read_words};
+use edge_io::{Host, Items, Pattern, PatternMaker, Text};
+use packet_decode::Checks;
+use snort_setup::{Setup, SetupStop, SetupWords, read_setup};
+use std::alloc::Global;
+
+/// A detector that is ready for a capture.
+#[derive(Drop)]
+pub(crate) struct Prepared<'a, P> {
+    /// The name of the capture.
+    pub source: &'a str,
+    /// How many of its records are read at most.
+    pub limit: Option<u32>,
+    /// The checksums that are verified.
+    pub checks: Checks,
+    pub setup: Setup<P>,
+}
+
+/// What is done with the capture.
+pub(crate) fn plan_for<'a, P>(prepared: &'a Prepared<'_, P>) -> Plan<'a, P>
+    ensures plan { (matches : Test) → plan_of matches result ≡ plan_by matches prepared.now }
+    ensures set { result.set.now ≡ prepared.now.setup.set }
+    ensures classes { result.classes.now ≡ prepared.now.setup.config.classes }
+    ensures source { result.source.now ≡ prepared.now.source.now }
+{
+    Plan {
+        source: prepared.source,
+        limit: prepared.limit,
+        checks: prepared.checks,
+        set: &prepared.setup.set,
+        classes: &prepared.setup.config.classes,
+    }
+}
+
+/// The checksums of a mode.
+fn checks_of(mode: ChecksumMode) -> Checks
+    ensures { result ≡ checks_of mode }
+{
+    let all = Checks {
+        ip: true,
+        tcp: true,
+        udp: true,
+        icmp: true,
+    };
+    match mode {
+        ChecksumMode::All => all,
+        ChecksumMode::Nothing => Checks {
+            ip: false,
+            tcp: false,
+            udp: false,
+            icmp: false,
+        },
+        ChecksumMode::NoIp => Checks { ip: false, ..all },
+        ChecksumMode::NoTcp => Checks { tcp: false, ..all },
+        ChecksumMode::NoUdp => Checks { udp: false, ..all },
+        ChecksumMode::NoIcmp => Checks { icmp: false, ..all },
+    }
+}
+
+/// Whether the words ask for what isn't done yet.
+fn is_for_later(wanted: &Words<'_>) -> bool
+    ensures { result ≡ is_for_later (run_of wanted.now) }
+{
+    wanted.stats
+        || wanted.generate.is_some()
+        || wanted.lanes != 1
+        || wanted.flush_point != 1024
+        || wanted.seed != 1
+}
+
+/// What the words say of the setup.
+fn setup_words<'a>(wanted: &Words<'a>) -> SetupWords<'a>
+    ensures { words_of result ≡ setup_words (run_of wanted.now) }
+{
+    let defined = match wanted.defined {
+        Some(defined) => Some((defined.name, defined.value)),
+        None => None,
+    };
+    SetupWords {
+        conf: wanted.conf,
+        defined,
+        host_table: wanted.host_table,
+        skip_refused: wanted.skip_refused,
+    }
+}
+
+/// The warnings that are told of those that a setup gave: none under `-q`, and none where memory was
+/// lacking.
+fn told_of<P>(
+    alloc: Global,
+    outcome: &Result<Setup<P>, SetupStop>,
+    wanted: &Words<'_>,
+    given: Items<Text>,
+) -> Items<Text>
+    ensures { result ≡ told_of outcome.now (run_of wanted.now) given }
+{
+    match outcome {
+        Err(SetupStop::NoMemory) => Items::new(alloc),
+        _ => {
+            if wanted.quiet {
+                Items::new(alloc)
+            } else {
+                given
+            }
+        }
+    }
+}
+
+/// Sets the detector up, and gives the warnings that are told of it.
+fn set_up<H: Host, M: PatternMaker>(
+    alloc: Global,
+    wanted: &Words<'_>,
+    host: &mut H,
+    maker: &mut M,
+    warnings: &mut Items<Text>,
+) -> Result<Setup<M::Made>, SetupStop>
+    requires { HasName (setup_words (run_of wanted.now)).definition }
+    ensures set_up { (files : Files) → H.contents host.old ≡ Some files
+        → IsSetUp ready_of (run_of wanted.now) files (Rose (H.faults host.old) (H.faults host.new))
+        (grown_by (M.refusals maker.old) (M.refusals maker.new)) result warnings.new }
+    ensures cause { IfErr result (setup_specs.HasCause (Rose (H.faults host.old) (H.faults host.new)) (H.contents host.old)) }
+    ensures rules { IfOk result (λ setup. All (IsSound setup.config.classes) setup.set.rules) }
+    ensures meant { IfOk result (λ setup. FindWhatIsMeant M.Made.finds (M.means maker.old) setup.set) }
+    ensures same_contents { H.contents host.new ≡ H.contents host.old }
+    ensures same_left { H.left host.new ≡ H.left host.old }
+    ensures same_opens { H.opens host.new ≡ H.opens host.old }
+    ensures later { H.faults host.old ≤ H.faults host.new }
+    ensures grows { Grows (M.refusals maker.old) (M.refusals maker.new) }
+    ensures same_meaning { SameMeaning (M.means maker.old) (M.means maker.new) }
+{
+    let mut given = Items::new(alloc);
+    let outcome = read_setup(alloc, &setup_words(wanted), host, maker, &mut given);
+    *warnings = told_of(alloc, &outcome, wanted, given);
+    outcome
+}
+
+/// What is left to do with a detector that is set up.
+fn ready<'a, P: Pattern>(wanted: &Words<'a>, setup: Setup<P>) -> Result<Prepared<'a, P>, Stop>
+    ensures way { (matches : Test) → way_by (plan_by matches) result
+        ≡ way_of matches (run_of wanted.now) (Ok (ready_of setup)) }
+    ensures kept { KeepsSetup setup result }
+{
+    if wanted.test {
+        return Err(Stop::Accepted {
+            rules: setup.set.rules().len() as u64,
+        });
+    }
+    let Some(source) = wanted.capture else {
+        return Err(Stop::CommandLine);
+    };
+    let checks = match wanted.checks {
+        Some(mode) => checks_of(mode),
+        None => setup.config.checks,
+    };
+    Ok(Prepared {
+        source,
+        limit: wanted.limit,
+        checks,
+        setup,
+    })
+}
+
+/// Prepares a run that the words ask for.
+fn prepare_run<'a, H: Host, M: PatternMaker>(
+    alloc: Global,
+    wanted: &Words<'a>,
+    host: &mut H,
+    maker: &mut M,
+    warnings: &mut Items<Text>,
+) -> Result<Prepared<'a, M::Made>, Stop>
+    requires named { HasName (setup_words (run_of wanted.now)).definition }
+    requires silent { warnings.old ≡ [] }
+    ensures prepared { (files : Files) → H.contents host.old ≡ Some files
+        → IsPrepared plan_by (Some (run (run_of wanted.now))) files (Rose (H.faults host.old) (H.faults host.new))
+        (grown_by (M.refusals maker.old) (M.refusals maker.new)) result warnings.new }
+    ensures cause { IfErr result (HasCause (Rose (H.faults host.old) (H.faults host.new)) (H.contents host.old)) }
+    ensures rules { IfOk result (λ ready. All (IsSound ready.setup.config.classes) ready.setup.set.rules) }
+    ensures meant { IfOk result (λ ready. FindWhatIsMeant M.Made.finds (M.means maker.old) ready.setup.set) }
+    ensures same_contents { H.contents host.new ≡ H.contents host.old }
+    ensures same_left { H.left host.new ≡ H.left host.old }
+    ensures same_opens { H.opens host.new ≡ H.opens host.old }
+    ensures later { H.faults host.old ≤ H.faults host.new }
+    ensures grows { Grows (M.refusals maker.old) (M.refusals maker.new) }
+    ensures same_meaning { SameMeaning (M.means maker.old) (M.means maker.new) }
+{
+    if is_for_later(wanted) {
+        return Err(Stop::CommandLine);
+    }
+    let setup = set_up(alloc, wanted, host, maker, warnings)?;
+    ready(wanted, setup)
+}
+
+/// Prepares what the words ask for: reads them, and the configuration, the rules and the host table
+/// that they name, each pattern made by `maker`.
+///
+/// Ok is a detector that is ready for a capture; Err is why there is none: the words ask for a text or
+/// for the test of a configuration, or are no command; a line is refused; a file couldn't be read; or
+/// memory is lacking. `warnings` are those that are told, each a line; none after want of memory.
+pub(crate) fn prepare<'a, H: Host, M: PatternMaker>(
+    alloc: Global,
+    words: &'a [String],
+    host: &mut H,
+    maker: &mut M,
+    warnings: &mut Items<Text>,
+) -> Result<Prepared<'a, M::Made>, Stop>
+    requires { warnings.old ≡ [] }
+    ensures prepared { (files : Files) → H.contents host.old ≡ Some files
+        → IsPrepared plan_by (command_line (map string_bytes words.entry.now)) files (Rose (H.faults host.old) (H.faults host.new))
+        (grown_by (M.refusals maker.old) (M.refusals maker.new)) result warnings.new }
+    ensures faulty_words { command_line (map string_bytes words.entry.now) ≡ None → IsForFaultyWords result }
+    ensures cause { IfErr result (HasCause (Rose (H.faults host.old) (H.faults host.new)) (H.contents host.old)) }
+    ensures rules { IfOk result (λ ready. All (IsSound ready.setup.config.classes) ready.setup.set.rules) }
+    ensures meant { IfOk result (λ ready. FindWhatIsMeant M.Made.finds (M.means maker.old) ready.setup.set) }
+
+    // The host is as before, but for its count, and the maker but for what it refused.
+    ensures same_contents { H.contents host.new ≡ H.contents host.old }
+    ensures same_left { H.left host.new ≡ H.left host.old }
+    ensures same_opens { H.opens host.new ≡ H.opens host.old }
+    ensures later { H.faults host.old ≤ H.faults host.new }
+    ensures grows { Grows (M.refusals maker.old) (M.refusals maker.new) }
+    ensures same_meaning { SameMeaning (M.means maker.old) (M.means maker.new) }
+{
+    match read_words(alloc, words) {
+        Ok(Command::Help) => Err(Stop::Usage),
+        Ok(Command::Version) => Err(Stop::Version),
+        Ok(Command::Run(wanted)) => prepare_run(alloc, &wanted, host, maker, warnings),
+        Err(WordsFault::CommandLine) => Err(Stop::CommandLine),
+        Err(WordsFault::NoMemory) => Err(Stop::NoMemory),
+    }
+}
