@@ -1,6 +1,5 @@
 -- A configuration that was loaded, or not, is the reading of it over the files that the host tells.
-use Rattle.std.proofs.Common.{◌≡◌, ℕ, Option, Some, None, Result, Ok, Err, List, length, refl, sym, ap, subst, ◌∙◌, inl, inr}
-use Rattle.std.specs.Prelude.{◌⊎◌}
+use Rattle.std.proofs.Common.{◌≡◌, ℕ, Option, Some, Err, List, length, sym, ap, subst, ◌∙◌, inl, inr}
 use Rattle.edge_io.specs.Files.{Files}
 use Rattle.net_lists.specs.Variables.{Variables}
 use Rattle.conf_parser.specs.declared.line.ConfFault.{ConfFault}
@@ -9,8 +8,8 @@ use Rattle.conf_parser.specs.declared.line.LoadStop.TheVariants as conf
 use Rattle.conf_parser.specs.declared.line.Warning.{Warning}
 use Rattle.conf_parser.specs.declared.loaded.Loaded.{Loaded}
 use Rattle.conf_parser.specs.declared.reading.Output.{Output}
-use Rattle.conf_parser.specs.Loading.{Tells, IsLoading, IsWhole, Ends, EndsUnlessFailed, AreHandedOut, first_files}
-use Rattle.conf_parser.specs.Reading.{Contents, Ended, Whole, Refused as RefusedAt, Asks, told, read_files}
+use Rattle.conf_parser.specs.Loading.{Tells, IsLoading, IsWhole, EndsUnlessFailed, AreHandedOut, first_files}
+use Rattle.conf_parser.specs.Reading.{Contents, Ended, Refused as RefusedAt, Asks, told, read_files}
 use Rattle.snort_setup.specs.declared.conf.Configured.{Configured}
 use Rattle.snort_setup.specs.declared.stop.SetupStop.{SetupStop}
 use Rattle.snort_setup.specs.declared.stop.SetupStop.TheVariants as stop

@@ -1,6 +1,6 @@
 -- A rule behind the accepted ones, and what the maker refused meanwhile.
-use Rattle.std.proofs.Common.{◌≡◌, ℕ, ◌+◌, ◌<◌, ◌≤◌, Bool, true, false, cond, Option, Some, None, Result, Ok, Err, List, [], ◌∷◌, ◌++◌, length, drop, refl, sym, ap, subst, ◌∙◌, arith, length-append, append-nil}
-use Rattle.std.specs.Prelude.{nat_le, nat_lt}
+use Rattle.std.proofs.Common.{◌≡◌, ℕ, Bool, true, false, Option, Some, None, List, [], ◌∷◌, ◌++◌, length, drop, refl, sym, ap, subst, ◌∙◌, arith, length-append, append-nil}
+use Rattle.std.specs.Prelude.{nat_le}
 use Rattle.std.specs.Bool.{OnTrue}
 use Rattle.std.proofs.Math.Seq.{drop-append_seam, drop-length}
 use Rattle.std.proofs.lemmas.Bool.{lt-ltb, le-ltb}
@@ -15,7 +15,7 @@ use Rattle.rule_parser.specs.declared.option.Opt.TheVariants as opt
 use Rattle.rule_parser.specs.declared.rule.Rule.{Rule}
 use Rattle.rule_parser.specs.Faults.{plain}
 use Rattle.snort_setup.specs.Rules.{is_taken, most_rules, judged}
-use Rattle.snort_setup.specs.Steps.{grown_by, refused_one, Grows, Refuses, IsAdded, IsJudged}
+use Rattle.snort_setup.specs.Steps.{refused_one, Grows, Refuses, IsAdded, IsJudged}
 
 -- ---- the maker
 

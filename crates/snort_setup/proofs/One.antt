@@ -1,17 +1,15 @@
 -- Words, files and refused lines have one setup, since each rule line has one meaning.
-use Rattle.std.proofs.Common.{◌≡◌, ℕ, ◌+◌, Bool, Option, Some, None, Result, Ok, Err, List, [], ◌∷◌, length, refl, sym, ap, subst, ◌∙◌, inl, inr, ⊎_elim}
+use Rattle.std.proofs.Common.{◌≡◌, ℕ, ◌+◌, Bool, Some, Result, Ok, Err, List, [], ◌∷◌, sym, ap, subst, ◌∙◌, inl, inr, ⊎_elim}
 use Rattle.std.specs.Result.{MatchResult}
 use Rattle.conf_parser.specs.declared.line.Line.{Line}
 use Rattle.conf_parser.specs.Loaded.{loaded_of}
 use Rattle.conf_parser.specs.Reading.{Ended, Whole, Refused as RefusedAt, Asks, told}
 use Rattle.rule_parser.specs.declared.fault.RuleFault.{RuleFault}
-use Rattle.rule_parser.specs.declared.fault.RuleKind.TheVariants as kind
 use Rattle.rule_parser.specs.declared.rule.Rule.{Rule}
-use Rattle.rule_parser.specs.Faults.{plain}
 use Rattle.rule_parser.proofs.Meaning.{answers-as}
 use Rattle.snort_setup.specs.Words.{Words}
-use Rattle.snort_setup.specs.Rules.{Frame, Standing, Verdict, RulesEnd, end_at, is_among, judged, IsRule, IsFaulty, LineGives, RulesGive, behind_line}
-use Rattle.snort_setup.specs.Setup.{Ruled, Ready, Warned, warned, ruled_by, conf_read, conf_warnings, IsRuledBy, IsRuled, IsSetup, with_table}
+use Rattle.snort_setup.specs.Rules.{Frame, Standing, Verdict, RulesEnd, end_at, is_among, IsRule, IsFaulty, LineGives, RulesGive, behind_line}
+use Rattle.snort_setup.specs.Setup.{Ruled, Warned, ruled_by, conf_read, IsRuledBy, with_table}
 use Rattle.snort_setup.specs.Answers.{HasOneSetup}
 
 -- the meanings of a line, whatever its faults are

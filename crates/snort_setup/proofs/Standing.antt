@@ -1,14 +1,14 @@
 -- The rule lines that were read, and those that are left: what the lines before lead to, with the lines whose
 -- patterns were refused.
-use Rattle.std.proofs.Common.{◌≡◌, ℕ, zero, suc, ◌+◌, ◌<◌, ◌≤◌, ◌==◌, Bool, true, false, cond, ◌||◌, Option, Some, None, Result, Ok, Err, List, [], ◌∷◌, ◌++◌, length, drop, refl, sym, ap, subst, ◌∙◌, append_assoc, arith, eqb, add-one, length-append, append-nil}
+use Rattle.std.proofs.Common.{◌≡◌, ℕ, zero, suc, ◌+◌, ◌<◌, ◌≤◌, Bool, true, false, ◌||◌, Option, Some, None, Result, Ok, Err, List, [], ◌∷◌, ◌++◌, length, drop, refl, sym, ap, subst, ◌∙◌, append_assoc, arith, eqb, add-one, length-append, append-nil}
 use Rattle.std.specs.Prelude.{All, Contains, is_some}
-use Rattle.std.specs.List.{list_any, slice_get}
+use Rattle.std.specs.List.{slice_get}
 use Rattle.std.specs.Bool.{OnTrue}
 use Rattle.std.specs.Result.{MatchResult}
 use Rattle.std.proofs.Math.Seq.{drop-append_seam}
-use Rattle.std.proofs.lemmas.Bool.{false≢true, ltb-true, ltb-false}
+use Rattle.std.proofs.lemmas.Bool.{false≢true, ltb-true}
 use Rattle.std.proofs.lemmas.Bool.Decides.{nat_tests}
-use Rattle.std.proofs.lemmas.List.Elements.{All-nil, All-cons, All-push, All-append, All-weaker, All-head, All-tail, Contains-append_left, Contains-append_right, Contains-push}
+use Rattle.std.proofs.lemmas.List.Elements.{All-nil, All-cons, All-push, All-weaker, Contains-append_left, Contains-append_right, Contains-push}
 use Rattle.std.proofs.lemmas.List.Folds.{list_any-append, list_any_none}
 use Rattle.edge_io.specs.declared.pattern.Refusal.{Refusal}
 use Rattle.conf_parser.specs.declared.line.Line.{Line}
@@ -16,7 +16,7 @@ use Rattle.option_eval.specs.RuleSet.{RefusesText, RefusesOneOf}
 use Rattle.rule_parser.specs.declared.option.Opt.{Opt}
 use Rattle.rule_parser.specs.declared.option.Opt.TheVariants as opt
 use Rattle.rule_parser.specs.declared.rule.Rule.{Rule}
-use Rattle.snort_setup.specs.Rules.{Frame, Standing, Verdict, RulesEnd, end_at, nothing_stands, is_among, IsRule, LineGives, RulesGive, behind_line}
+use Rattle.snort_setup.specs.Rules.{Frame, Standing, RulesEnd, end_at, nothing_stands, is_among, IsRule, LineGives, RulesGive, behind_line}
 use Rattle.snort_setup.specs.Answers.{IsPattern, HasPatternOf, IsRefusedLine, AreRefused}
 use Rattle.snort_setup.specs.Steps.{refused_one, grown_by, Grows}
 use Rattle.snort_setup.specs.Lines.{AsksOf, IsStep, StepGives, RulesAnswer}

@@ -13,10 +13,10 @@ use Rattle.rule_parser.specs.declared.rule.Rule.{Rule}
 use Rattle.rule_parser.specs.declared.fault.RuleKind.TheVariants as kind
 use Rattle.rule_parser.specs.Faults.{plain}
 use Rattle.rule_parser.specs.Sound.{IsSound}
-use Rattle.snort_setup.specs.Rules.{Frame, Standing, Verdict, is_taken, most_rules, judged, IsRule, IsFaulty, LineGives, is_skippable, rule_warning, rule_error, behind_fault, behind_line}
+use Rattle.snort_setup.specs.Rules.{Frame, Standing, is_taken, most_rules, judged, IsRule, IsFaulty, LineGives, is_skippable, rule_warning, rule_error, behind_fault, behind_line}
 use Rattle.snort_setup.specs.Steps.{is_memory, refused_one, Refuses, IsJudged}
 use Rattle.snort_setup.proofs.Judging.{refused-none}
-use Rattle.snort_setup.specs.Lines.{IsBehind, IsRead, AsksOf, IsStep, Skips, StepGives}
+use Rattle.snort_setup.specs.Lines.{IsRead, AsksOf, IsStep, Skips, StepGives}
 
 -- ---- a line that was read
 

@@ -1,6 +1,5 @@
 -- The parts of a setup put together: what the configuration, its rule lines and the host table answer is the setup.
-use Rattle.std.proofs.Common.{◌≡◌, ℕ, ◌≤◌, ◌<◌, Bool, Option, Some, None, Result, Ok, Err, List, [], ◌∷◌, length, refl, sym, ap, subst, ◌∙◌, inl, inr, ⊎_elim, arith}
-use Rattle.std.specs.Prelude.{◌⊎◌, All}
+use Rattle.std.proofs.Common.{◌≡◌, ℕ, Bool, Option, Some, None, Result, Ok, Err, List, [], refl, sym, ap, subst, ◌∙◌, inl, inr, arith}
 use Rattle.std.proofs.lemmas.List.Elements.{All-nil}
 use Rattle.edge_io.specs.Files.{Files, Lacks}
 use Rattle.edge_io.specs.declared.pattern.Refusal.{Refusal as Asked}
@@ -16,7 +15,7 @@ use Rattle.edge_io.specs.OnResult.{◌>>=◌}
 use Rattle.conf_parser.specs.declared.loaded.Loaded.{Loaded}
 use Rattle.host_table.specs.declared.host_line.HostLine.{HostLine}
 use Rattle.snort_setup.specs.Rules.{Frame, RulesEnd, RulesGive, nothing_stands}
-use Rattle.snort_setup.specs.Setup.{Halt, Refused, Lacks as LacksName, Ruled, Ready, Warned, warned, ruled, ruled_by, ready, frame_of, conf_read, conf_warnings, IsRuledBy, IsRuled, IsSetup, IsReading, IsConfReading, AsksFor, table_of, with_table}
+use Rattle.snort_setup.specs.Setup.{Halt, Refused, Lacks as LacksName, Ruled, Ready, warned, ruled, ruled_by, ready, frame_of, conf_read, conf_warnings, IsRuledBy, IsRuled, IsSetup, AsksFor, table_of, with_table}
 use Rattle.snort_setup.specs.Answers.{IsRefusedLine, AreRefused, AreRefusedBy, Gives, SetsUp, HasCause}
 use Rattle.snort_setup.specs.Lines.{RulesAnswer}
 use Rattle.snort_setup.specs.Stages.{IsConfigured, IsConfError, ConfEnds, TableGives}

@@ -5,12 +5,9 @@
 -- where the host's count of faults rose, and else the first name that the contents lack.
 -- To try it on: where the maker refuses the pattern of the one rule on line 1 of `r`, and rules are skipped, the
 -- setup is ready without a rule, with the warning `WARNING: r(1) pattern is refused`.
-use Rattle.std.specs.Prelude.{◌≡◌, ◌⊎◌, ℕ, ⊤, ◌≤◌, ◌++◌, Bool, List, [], ◌∷◌, Option, Some, None, Result, Ok, Err, All, Contains, length, slice_get}
+use Rattle.std.specs.Prelude.{◌≡◌, ◌⊎◌, ℕ, ⊤, ◌≤◌, List, [], Option, Some, Result, Ok, Err, All, Contains, length, slice_get}
 use Rattle.edge_io.specs.Files.{Files, Lacks}
 use Rattle.edge_io.specs.declared.pattern.Refusal.{Refusal}
-use Rattle.net_lists.specs.Variables.{Variables}
-use Rattle.conf_parser.specs.declared.config.Config.{Config}
-use Rattle.conf_parser.specs.declared.loaded.Loaded.{Loaded}
 use Rattle.conf_parser.specs.declared.line.Line.{Line}
 use Rattle.conf_parser.specs.Loaded.{loaded_of}
 use Rattle.conf_parser.specs.Reading.{Ended, Whole, Refused as RefusedAt, Asks, told}
@@ -21,7 +18,7 @@ use Rattle.snort_setup.specs.declared.stop.SetupStop.{SetupStop}
 use Rattle.snort_setup.specs.declared.stop.SetupStop.TheVariants as stop
 use Rattle.snort_setup.specs.Words.{Words}
 use Rattle.snort_setup.specs.Rules.{Frame, IsRule}
-use Rattle.snort_setup.specs.Setup.{Halt, Refused, Lacks as LacksName, Ready, Warned, warned, frame_of, conf_read, IsSetup, IsReading}
+use Rattle.snort_setup.specs.Setup.{Refused, Lacks as LacksName, Ready, Warned, warned, frame_of, conf_read, IsSetup, IsReading}
 
 -- ---- refused patterns
 

@@ -1,5 +1,5 @@
 -- What the code gives over rule lines: one, and all.
-use Rattle.std.specs.Prelude.{◌≡◌, ℕ, ⊤, ◌++◌, Bool, true, List, [], ◌∷◌, Option, Some, None, Result, Ok, Err}
+use Rattle.std.specs.Prelude.{◌≡◌, ℕ, Bool, List, [], Option, Some, None, Result, Ok, Err}
 use Rattle.std.specs.Bool.{OnTrue}
 use Rattle.edge_io.specs.declared.pattern.Refusal.{Refusal}
 use Rattle.conf_parser.specs.declared.line.Line.{Line}

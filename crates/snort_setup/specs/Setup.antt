@@ -15,7 +15,6 @@ use Rattle.edge_io.specs.OnResult.{◌>>=◌}
 use Rattle.net_lists.specs.Variables.{Variables}
 use Rattle.conf_parser.specs.declared.config.Config.{Config}
 use Rattle.conf_parser.specs.declared.loaded.Loaded.{Loaded}
-use Rattle.conf_parser.specs.declared.line.Line.{Line}
 use Rattle.conf_parser.specs.declared.line.Warning.{Warning}
 use Rattle.conf_parser.specs.Loaded.{loaded_of}
 use Rattle.conf_parser.specs.Loading.{first_files}

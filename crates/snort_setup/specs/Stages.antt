@@ -1,14 +1,13 @@
 -- What each part of a setup answers: the configuration, the rule lines and the host table.
-use Rattle.std.specs.Prelude.{◌≡◌, ◌⊎◌, ℕ, ⊤, ◌≤◌, ◌<◌, ◌++◌, Bool, List, [], ◌∷◌, Option, Some, None, Result, Ok, Err, codes, length}
-use Rattle.edge_io.specs.Files.{Files, Lacks}
+use Rattle.std.specs.Prelude.{◌≡◌, ◌⊎◌, ℕ, ⊤, List, Option, Some, Result, Ok, Err, codes}
+use Rattle.edge_io.specs.Files.{Files}
 use Rattle.edge_io.specs.declared.fault.NoMemory.{NoMemory}
 use Rattle.edge_io.specs.declared.host.LoadFault.{LoadFault}
 use Rattle.edge_io.specs.declared.host.LoadFault.TheVariants as load
 use Rattle.conf_parser.specs.declared.line.LoadStop.{LoadStop}
 use Rattle.conf_parser.specs.declared.line.LoadStop.TheVariants as conf
-use Rattle.conf_parser.specs.declared.loaded.Loaded.{Loaded}
 use Rattle.conf_parser.specs.Loaded.{loaded_of}
-use Rattle.conf_parser.specs.Reading.{Ended, Whole, Refused as RefusedAt, Asks, told}
+use Rattle.conf_parser.specs.Reading.{Ended, Whole, Refused as RefusedAt, Asks}
 use Rattle.host_table.specs.declared.host_line.HostLine.{HostLine}
 use Rattle.snort_setup.specs.declared.conf.Configured.{Configured}
 use Rattle.snort_setup.specs.declared.stop.SetupStop.{SetupStop}

@@ -1,7 +1,7 @@
 -- What a step of the code over one rule line gives, beside what it asked of the maker.
 --
 -- The maker's refusals tell which lines' patterns are refused: those at whose turn they grew.
-use Rattle.std.specs.Prelude.{◌≡◌, ℕ, ◌++◌, ⊤, Bool, true, false, List, [], ◌∷◌, Option, Some, None, Result, Ok, Err, length, drop, nat_lt}
+use Rattle.std.specs.Prelude.{◌≡◌, ◌++◌, Bool, true, false, List, [], ◌∷◌, Option, Some, None, Result, Ok, Err, length, drop, nat_lt}
 use Rattle.std.specs.Bool.{OnTrue}
 use Rattle.edge_io.specs.declared.pattern.Refusal.{Refusal}
 use Rattle.option_eval.specs.RuleSet.{RefusesOneOf}

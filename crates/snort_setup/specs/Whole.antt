@@ -1,5 +1,5 @@
 -- What the code gives of a setup: the configuration with its rules, and the whole.
-use Rattle.std.specs.Prelude.{◌≡◌, ℕ, ⊤, List, Result, Ok, Err}
+use Rattle.std.specs.Prelude.{ℕ, ⊤, List, Result, Ok, Err}
 use Rattle.edge_io.specs.declared.pattern.Refusal.{Refusal as Asked}
 use Rattle.conf_parser.specs.Reading.{Ended}
 use Rattle.snort_setup.specs.declared.setup.Ruled as ruled
@@ -7,7 +7,7 @@ use Rattle.snort_setup.specs.declared.setup.Setup as setup
 use Rattle.snort_setup.specs.declared.stop.SetupStop.{SetupStop}
 use Rattle.snort_setup.specs.declared.stop.SetupStop.TheVariants as stop
 use Rattle.snort_setup.specs.Words.{Words}
-use Rattle.snort_setup.specs.Setup.{Halt, Refused, Ruled, Ready, warned, IsRuledBy}
+use Rattle.snort_setup.specs.Setup.{Refused, Ruled, Ready, warned, IsRuledBy}
 use Rattle.snort_setup.specs.Answers.{AreRefusedBy}
 
 abbrev pub ruled_of : {P : Type 0} → ruled.Ruled P → Ruled

@@ -1,9 +1,13 @@
 //! Whole setups over files in memory: which rules are ready, or the message of the refusal, behind the warnings.
 //! Each was worked out by hand. The rows are text, so that another one costs nothing to prove.
 
+ghost use Rattle.std.specs.Option.{option_map};
+ghost use Rattle.snort_setup.specs.Words.{HasName};
+
 use crate::{Setup, SetupStop, SetupWords, read_setup};
 use edge_io::crossing::{sendable, shareable};
 use edge_io::{Items, Literal, LiteralMaker, MemHost, NoMemory, Text};
+use net_lists::is_name;
 use std::alloc::Global;
 use std::test::Fail;
 
@@ -173,6 +177,18 @@ fn text_of(bytes: &[u8]) -> Result<&str, Fail> {
     Ok(str::from_utf8(bytes).ok().ok_or("a text")?)
 }
 
+/// The variable that the words define.
+fn definition(words: &str) -> Option<(&'static [u8], &'static [u8])>
+    ensures { HasName (option_map (λ pair. record { name = pair.0.now; value = pair.1.now }) result) }
+{
+    let name = b"N".as_slice();
+    if words.contains("-S") && is_name(name) {
+        Some((name, b"$M".as_slice()))
+    } else {
+        None
+    }
+}
+
 /// What a setup answers, in one line.
 fn answer_line(alloc: Global, answer: Result<Setup<Literal>, SetupStop>) -> Result<String, Fail> {
     match answer {
@@ -204,11 +220,7 @@ fn outcome(alloc: Global, conf: &str, words: &str, files: &str) -> Result<String
     }
     let words = SetupWords {
         conf,
-        defined: if words.contains("-S") {
-            Some((b"N".as_slice(), b"$M".as_slice()))
-        } else {
-            None
-        },
+        defined: definition(words),
         host_table: if words.contains("--host-table") {
             Some("h")
         } else {

@@ -1,9 +1,8 @@
-use Rattle.std.proofs.Common.{◌≡◌, ◌∷◌, [], ℕ, List, refl, sym, ap, subst, ◌∙◌}
-use Rattle.std.proofs.lemmas.Result.{err_from_is_err_and}
+use Rattle.std.proofs.Common.{[], List, refl, sym, ap, subst, ◌∙◌}
 use Rattle.std.proofs.lemmas.List.Elements.{All-nil, All-same}
 use Rattle.rule_parser.specs.Sound.{IsSound}
 use Rattle.conf_parser.specs.declared.line.Line.{Line}
-use Rattle.option_eval.specs.RuleSet.{FindWhatIsMeant, SameMeaning}
+use Rattle.option_eval.specs.RuleSet.{FindWhatIsMeant}
 use Rattle.snort_setup.specs.declared.rules.Progress.{Progress}
 use Rattle.snort_setup.specs.Lines.{lines_frame, standing_of}
 use Rattle.snort_setup.specs.Steps.{grown_by}
