@@ -8,15 +8,18 @@ pub(crate) enum Key {
     Left(Left),
 }
 
-/// What the run is given: the command's words, the configuration, and the calls that fail.
+/// What the run is given: the command's words, the configuration and other files, and the calls that
+/// fail.
 #[derive(Clone, Copy)]
 pub(crate) enum Given {
     Words,
     Conf,
     ConfPart,
     ConfHex,
+    File,
     Step,
     Host,
+    Maker,
     Alerts,
     Errors,
 }
@@ -28,6 +31,7 @@ pub(crate) enum Captured {
     Hex,
     At,
     Udp,
+    UdpHex,
     Tcp,
     Fragment,
 }
@@ -43,19 +47,22 @@ pub(crate) enum Left {
     Bytes,
 }
 
-const KEYS: [(&str, Key); 20] = [
+const KEYS: [(&str, Key); 23] = [
     ("words", Key::Given(Given::Words)),
     ("conf", Key::Given(Given::Conf)),
     ("conf-", Key::Given(Given::ConfPart)),
     ("confhex", Key::Given(Given::ConfHex)),
+    ("file", Key::Given(Given::File)),
     ("step", Key::Given(Given::Step)),
     ("host", Key::Given(Given::Host)),
+    ("maker", Key::Given(Given::Maker)),
     ("alerts", Key::Given(Given::Alerts)),
     ("errors", Key::Given(Given::Errors)),
     ("head", Key::Captured(Captured::Head)),
     ("hex", Key::Captured(Captured::Hex)),
     ("at", Key::Captured(Captured::At)),
     ("U", Key::Captured(Captured::Udp)),
+    ("UX", Key::Captured(Captured::UdpHex)),
     ("T", Key::Captured(Captured::Tcp)),
     ("F", Key::Captured(Captured::Fragment)),
     ("status", Key::Left(Left::Status)),

@@ -69,6 +69,9 @@ fn run_rows<R: Print + Threads + Sync>(
         if let Some(label) = line.strip_prefix("row ") {
             close_row(rt, alloc, &row, count)?;
             row = Row::labelled(alloc, label)?;
+        } else if let Some(label) = line.strip_prefix("again ") {
+            close_row(rt, alloc, &row, count)?;
+            row = row.again(alloc, label)?;
         } else if !apply(alloc, &mut row, line)? {
             count.differed = count.differed.saturating_add(1);
             println!(rt;

@@ -57,8 +57,10 @@ fn apply_given(alloc: Global, row: &mut Row, key: Given, rest: &str) -> Result<b
         Given::Conf => append_line(alloc, row, rest),
         Given::ConfPart => append_part(alloc, row, rest),
         Given::ConfHex => append_hex(alloc, &mut row.files, CONF, rest),
+        Given::File => append_file_line(alloc, row, rest),
         Given::Step => set_step(row, rest),
         Given::Host => push_number(&mut row.host, rest),
+        Given::Maker => push_number(&mut row.maker, rest),
         Given::Alerts => push_number(&mut row.alerts, rest),
         Given::Errors => push_number(&mut row.errors, rest),
     }
@@ -76,8 +78,23 @@ fn set_step(row: &mut Row, text: &str) -> Result<bool, AllocError> {
 
 /// A line of the configuration.
 fn append_line(alloc: Global, row: &mut Row, line: &str) -> Result<bool, AllocError> {
-    append(alloc, &mut row.files, CONF, line.as_bytes())?;
-    append(alloc, &mut row.files, CONF, b"\n")?;
+    append_line_of(alloc, row, CONF, line)
+}
+
+/// `NAME TEXT`: a line of the file of this name.
+fn append_file_line(alloc: Global, row: &mut Row, rest: &str) -> Result<bool, AllocError> {
+    let (name, line) = rest.split_once(' ').unwrap_or((rest, ""));
+    append_line_of(alloc, row, name, line)
+}
+
+fn append_line_of(
+    alloc: Global,
+    row: &mut Row,
+    name: &str,
+    line: &str,
+) -> Result<bool, AllocError> {
+    append(alloc, &mut row.files, name, line.as_bytes())?;
+    append(alloc, &mut row.files, name, b"\n")?;
     Ok(true)
 }
 
@@ -107,6 +124,7 @@ fn apply_captured(
         Captured::Hex => append_hex(alloc, &mut row.files, CAPTURE, rest),
         Captured::At => set_moment(row, rest),
         Captured::Udp => append_udp(alloc, row, rest),
+        Captured::UdpHex => append_udp_hex(alloc, row, rest),
         Captured::Tcp => append_tcp(alloc, row, rest),
         Captured::Fragment => append_fragment(alloc, row, rest),
     }
@@ -145,6 +163,20 @@ fn append_udp(alloc: Global, row: &mut Row, rest: &str) -> Result<bool, AllocErr
         return Ok(false);
     };
     let packet = udp(alloc, ends, text.as_bytes())?;
+    append_record(alloc, row, &packet)
+}
+
+/// `UX C:1000>S:2000 HEX`
+fn append_udp_hex(alloc: Global, row: &mut Row, rest: &str) -> Result<bool, AllocError> {
+    let (ends, digits) = rest.split_once(' ').unwrap_or((rest, ""));
+    let Some(ends) = ends_of(ends) else {
+        return Ok(false);
+    };
+    let mut payload = Vec::new(alloc);
+    if !push_hex(&mut payload, digits)? {
+        return Ok(false);
+    }
+    let packet = udp(alloc, ends, &payload)?;
     append_record(alloc, row, &packet)
 }
 
@@ -240,12 +272,20 @@ fn append_hex(
     rest: &str,
 ) -> Result<bool, AllocError> {
     let mut bytes = Vec::new(alloc);
-    for word in rest.split(' ') {
-        if !push_pairs(&mut bytes, word.as_bytes())? {
+    if !push_hex(&mut bytes, rest)? {
+        return Ok(false);
+    }
+    append(alloc, files, name, &bytes)?;
+    Ok(true)
+}
+
+/// Appends the bytes of pairs of hexadecimal digits, between which blanks may stand.
+fn push_hex(bytes: &mut Vec<u8>, digits: &str) -> Result<bool, AllocError> {
+    for word in digits.split(' ') {
+        if !push_pairs(bytes, word.as_bytes())? {
             return Ok(false);
         }
     }
-    append(alloc, files, name, &bytes)?;
     Ok(true)
 }
 

@@ -51,19 +51,23 @@ fn text_of(alloc: Global, bytes: &[u8]) -> Result<String, NoMemory> {
     Ok(String::from_utf8_lossy(alloc, bytes)?)
 }
 
-/// Runs a command over a host and two sinks in memory; its exit status.
+fn maker_of(alloc: Global, refused: &[u32]) -> Result<LiteralMaker, NoMemory> {
+    let mut maker = LiteralMaker::new(alloc);
+    maker.fail_calls(refused)?;
+    Ok(maker)
+}
+
+/// Runs a command over a host, a maker and two sinks in memory; its exit status.
 fn status_of<R: Threads + Sync>(
     rt: &R,
     alloc: Global,
     words: &[String],
     host: &mut MemHost,
+    maker: &mut LiteralMaker,
     alerts: &mut MemSink,
     errors: &mut MemSink,
 ) -> u32 {
-    let mut maker = LiteralMaker::new(alloc);
-    let status = run(
-        rt, alloc, words, host, &mut maker, alerts, errors, &OpenGate,
-    );
+    let status = run(rt, alloc, words, host, maker, alerts, errors, &OpenGate);
     u32::from(status.code())
 }
 
@@ -116,7 +120,16 @@ pub(crate) fn differences<R: Threads + Sync>(
     let mut host = host_of(alloc, row)?;
     let mut alerts = sink_of(alloc, row.step, &row.alerts)?;
     let mut errors = sink_of(alloc, row.step, &row.errors)?;
-    let status = status_of(rt, alloc, &words, &mut host, &mut alerts, &mut errors);
+    let mut maker = maker_of(alloc, &row.maker)?;
+    let status = status_of(
+        rt,
+        alloc,
+        &words,
+        &mut host,
+        &mut maker,
+        &mut alerts,
+        &mut errors,
+    );
     let mut text = String::new(alloc);
     note_number(alloc, &mut text, "status", status, row.status)?;
     note_bytes(alloc, &mut text, "alerts", alerts.bytes(), &row.alert_bytes)?;

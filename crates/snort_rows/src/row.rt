@@ -15,6 +15,7 @@ pub(crate) struct Row {
     pub step: u32,
     /// The calls that fail, counted from 0.
     pub host: Vec<u32>,
+    pub maker: Vec<u32>,
     pub alerts: Vec<u32>,
     pub errors: Vec<u32>,
     /// What must be left: the status, the bytes in both sinks, and the bytes left of the capture.
@@ -35,6 +36,7 @@ impl Row {
             moment: None,
             step: 10,
             host: Vec::new(alloc),
+            maker: Vec::new(alloc),
             alerts: Vec::new(alloc),
             errors: Vec::new(alloc),
             status: 0,
@@ -48,6 +50,17 @@ impl Row {
     pub fn labelled(alloc: Global, label: &str) -> Result<Row, AllocError> {
         let mut row = Row::new(alloc);
         row.label = String::from_str(alloc, label)?;
+        Ok(row)
+    }
+
+    /// A row with a label that is given what this one is, but for the calls that fail; nothing must be
+    /// left.
+    pub fn again(self, alloc: Global, label: &str) -> Result<Row, AllocError> {
+        let mut row = Row::labelled(alloc, label)?;
+        row.words = self.words;
+        row.files = self.files;
+        row.records = self.records;
+        row.step = self.step;
         Ok(row)
     }
 }
