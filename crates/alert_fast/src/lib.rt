@@ -10,8 +10,6 @@
 mod address;
 mod alert;
 mod pieces;
-#[cfg(test)]
-mod tests;
 mod utc;
 
 pub use alert::line;

@@ -37,6 +37,3 @@ pub use filter::{EventFilter, FilterKind, Suppress, Track};
 pub use line::{ConfFault, ConfKind, Line, LoadStop, Warning};
 pub use loaded::Loaded;
 pub use loading::load;
-
-#[cfg(test)]
-mod tests;

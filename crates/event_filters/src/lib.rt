@@ -15,7 +15,5 @@ mod filters;
 mod lines;
 mod queue;
 mod suppress;
-#[cfg(test)]
-mod tests;
 
 pub use filters::Filters;

@@ -12,8 +12,6 @@ mod flow;
 mod header;
 mod kind;
 mod sizes;
-#[cfg(test)]
-mod tests;
 
 pub use field::field_matches;
 pub use header::header_matches;

@@ -20,5 +20,3 @@ pub use host_line::HostLine;
 pub use hosts::Hosts;
 pub use read::{LONGEST_TABLE, read_hosts};
 
-#[cfg(test)]
-mod tests;

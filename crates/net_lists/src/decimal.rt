@@ -20,6 +20,7 @@ pub fn are_digits(text: &[u8]) -> bool
     !text.is_empty() && text.iter().all(|byte| byte.is_ascii_digit())
 }
 
+/// Whether a number in this text begins with a 0 that another byte follows.
 #[tactic(auto, unfolding(crate::specs::Numbers::has_leading_zero))]
 pub fn has_leading_zero(text: &[u8]) -> bool
     ensures { result ≡ has_leading_zero text.now }

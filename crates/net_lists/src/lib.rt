@@ -46,6 +46,3 @@ pub use parts::{Parts, first_word};
 pub use port_list::PortList;
 pub use stop::Stop;
 pub use vars::Vars;
-
-#[cfg(test)]
-mod tests;

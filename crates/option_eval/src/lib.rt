@@ -24,5 +24,3 @@ pub use making::PushFault;
 pub use rule_set::{RuleSet, payload_matches};
 pub use steps::Steps;
 
-#[cfg(test)]
-mod tests;

@@ -17,13 +17,9 @@ mod flags;
 mod flowbits;
 mod header;
 mod line;
-#[cfg(test)]
-mod line_tests;
 mod names;
 mod number;
 mod option;
-#[cfg(test)]
-mod option_tests;
 mod options;
 mod patterns;
 mod periods;

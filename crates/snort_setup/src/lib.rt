@@ -9,8 +9,6 @@ mod rules;
 mod setup;
 mod stop;
 mod table;
-#[cfg(test)]
-mod tests;
 mod words;
 
 pub use setup::{Setup, read_setup};

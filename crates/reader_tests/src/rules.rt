@@ -1,9 +1,9 @@
 //! Whole lines of rules: which are read, what their options stand for, and which fault decides where there are
 //! several. Each was worked out by hand from the grammar of the manual's chapter 3.
 
-use crate::{BitNames, Rule, RuleFault, read_rule};
 use conf_parser::Classes;
 use net_lists::{Vars, is_name};
+use rule_parser::{BitNames, Rule, RuleFault, read_rule};
 use std::alloc::Global;
 use std::test::Fail;
 

@@ -1,6 +1,6 @@
 use super::{FRAGMENT, ICMP, IP, REBUILT, STREAM, TCP, TCP_HEAD, UDP};
-use crate::{Body, IpHead, ItemHead, SessionFacts, TcpHead, field_matches};
 use edge_io::Addr;
+use header_eval::{Body, IpHead, ItemHead, SessionFacts, TcpHead, field_matches};
 use rule_parser::{Cmp, Field, FlowOpt, Mode, Opt, Side};
 use std::process::Abort;
 use std::test::Fail;

@@ -1,10 +1,10 @@
 //! Headers and fields worked out by hand.
 
+mod directions;
 mod fields;
-mod headers;
 
-use crate::{Body, IpHead, ItemHead, ItemKind, SessionFacts, TcpHead};
 use edge_io::{Addr, Moment};
+use header_eval::{Body, IpHead, ItemHead, ItemKind, SessionFacts, TcpHead};
 
 /// 10.0.0.1 and 10.0.0.2.
 const CLIENT: Addr = Addr::V4(0x0a00_0001);

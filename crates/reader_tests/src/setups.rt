@@ -4,10 +4,10 @@
 ghost use Rattle.std.specs.Option.{option_map};
 ghost use Rattle.snort_setup.specs.Words.{HasName};
 
-use crate::{Setup, SetupStop, SetupWords, read_setup};
 use edge_io::crossing::{sendable, shareable};
 use edge_io::{Items, Literal, LiteralMaker, MemHost, NoMemory, Text};
 use net_lists::is_name;
+use snort_setup::{Setup, SetupStop, SetupWords, read_setup};
 use std::alloc::Global;
 use std::test::Fail;
 

@@ -3,10 +3,10 @@
 //! `==` an item a line, with its moment in nanoseconds, the last number of its source, the places of the
 //! rules that match it, and behind `>` those that are kept.
 
-use crate::Filters;
 use conf_parser::{Loaded, load};
 use edge_io::crossing::sendable;
 use edge_io::{Addr, MemHost, Moment};
+use event_filters::Filters;
 use net_lists::Vars;
 use packet_decode::{Body, IpHead, ItemHead, ItemKind, SessionFacts};
 use rule_parser::{BitNames, Rule, read_rule};

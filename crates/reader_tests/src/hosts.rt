@@ -1,8 +1,8 @@
 //! Tables worked out by hand from the form of host lines.
 
-use crate::{FragPolicy, HostFault, Hosts, LONGEST_TABLE, StreamPolicy, read_hosts};
 use edge_io::Addr;
 use edge_io::crossing::{sendable, shareable};
+use host_table::{FragPolicy, HostFault, Hosts, LONGEST_TABLE, StreamPolicy, read_hosts};
 use std::alloc::Global;
 use std::process::Abort;
 use std::test::Fail;

@@ -1,11 +1,11 @@
 //! Texts worked out by hand from the grammar of lists and from the forms of variables.
 
-use crate::{
+use edge_io::Addr;
+use edge_io::crossing::{sendable, shareable};
+use net_lists::{
     AddrBounds, AddrList, Bounds, ExpandFault, ListFault, Network, Part, Parts, PortList, Vars,
     first_word, is_name, signed_in,
 };
-use edge_io::Addr;
-use edge_io::crossing::{sendable, shareable};
 use std::alloc::{AllocError, Global};
 use std::test::Fail;
 

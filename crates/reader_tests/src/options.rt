@@ -1,19 +1,35 @@
 //! Options of rules, one a line: which are read, and why the others are refused. Each was worked out by hand
 //! from the grammar of the manual's chapter 3.
 
-use crate::{BitNames, RuleKind, read_rule};
-use conf_parser::Classes;
+use conf_parser::{Classes, Loaded, load};
+use edge_io::MemHost;
 use net_lists::Vars;
+use rule_parser::{BitNames, RuleKind, read_rule};
 use std::alloc::{AllocError, Global};
 use std::test::Fail;
 
+/// A configuration with two classes.
+fn with_classes(alloc: Global) -> Result<Loaded, Fail> {
+    let mut host = MemHost::new(alloc);
+    host.put(
+        "r",
+        b"config classification: c,Some class,2\nconfig classification: web-attack,Web,1\n",
+    )?;
+    let mut loaded = Loaded::new(alloc);
+    load(alloc, &mut host, "r", &mut Vars::new(alloc), &mut loaded)?;
+    Ok(loaded)
+}
+
 /// The kind of the fault of a rule with these options and a `sid` behind them; None where it is read.
-fn kind_of(alloc: Global, options: &str) -> Result<Option<RuleKind>, AllocError> {
+fn kind_of(
+    alloc: Global,
+    classes: &Classes,
+    options: &str,
+) -> Result<Option<RuleKind>, AllocError> {
     let line = format!(in alloc; "alert ip any any -> any any ({options} sid:1;)")?;
     let mut bits = BitNames::new(alloc);
     let vars = Vars::new(alloc);
-    let classes = Classes::new(alloc);
-    match read_rule(alloc, line.as_bytes(), &vars, &classes, &mut bits) {
+    match read_rule(alloc, line.as_bytes(), &vars, classes, &mut bits) {
         Ok(_) => Ok(None),
         Err(fault) => Ok(Some(fault.kind)),
     }
@@ -28,6 +44,9 @@ rev:0;
 rev:7;
 priority:0;
 priority:4294967295;
+classtype:c;
+classtype: web-attack ; priority:3;
+priority:3; classtype:c;
 reference:url,a.b;
 reference;
 metadata:a b, c d;
@@ -537,9 +556,11 @@ fn options_are_read_or_refused(rt: HostRuntime) -> Result<(), Fail> {
         (OUTSIDE, Some(RuleKind::OutsideProfile)),
         (TOO_MANY, Some(RuleKind::Limit)),
     ];
+    let loaded = with_classes(rt.alloc())?;
+    let classes = &loaded.config.classes;
     for (table, kind) in tables {
         for options in table.lines() {
-            assert_eq!(rt; kind_of(rt.alloc(), options)?, kind, "{options}");
+            assert_eq!(rt; kind_of(rt.alloc(), classes, options)?, kind, "{options}");
         }
     }
     Ok(())
@@ -557,15 +578,20 @@ const LIMITS: [(&str, &str, &str, usize); 6] = [
 
 #[test]
 fn limits_are_kept(rt: HostRuntime) -> Result<(), Fail> {
+    let classes = Classes::new(rt.alloc());
     for (front, text, behind, most) in LIMITS {
         let mut options = String::from_str(rt.alloc(), front)?;
         for _ in 0..most {
             options.push_str(text)?;
         }
         let full = format!(in rt.alloc(); "{options}{behind}")?;
-        assert_eq!(rt; kind_of(rt.alloc(), full.as_str())?, None, "{front}");
+        assert_eq!(rt;
+            kind_of(rt.alloc(), &classes, full.as_str())?,
+            None,
+            "{front}"
+        );
         let over = format!(in rt.alloc(); "{options}{text}{behind}")?;
-        let kind = kind_of(rt.alloc(), over.as_str())?;
+        let kind = kind_of(rt.alloc(), &classes, over.as_str())?;
         assert_eq!(rt; kind, Some(RuleKind::Limit), "{front}");
     }
     Ok(())

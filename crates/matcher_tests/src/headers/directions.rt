@@ -1,6 +1,6 @@
 use super::{FRAGMENT, ICMP, STREAM, TCP, TCP_HEAD, UDP, answered};
-use crate::{Body, ItemHead, TcpHead, header_matches};
 use edge_io::{Items, NoMemory, Text};
+use header_eval::{Body, ItemHead, TcpHead, header_matches};
 use net_lists::{AddrList, ListFault, PortList};
 use rule_parser::{Action, Proto, Rule};
 use std::alloc::Global;

@@ -1,13 +1,10 @@
 //! Configurations that are accepted or refused, with what the definitions give, worked out by hand; and that the
 //! types cross threads. The rows are text, so that another one costs nothing to prove.
 
-use crate::conf_line::conf_line;
-use crate::draft::{Settings, Spot};
-use crate::settings::first_draft;
-use crate::{ConfKind, Config, LoadStop, Loaded, load};
+use conf_parser::{ConfKind, Config, LoadStop, Loaded, load};
 use edge_io::crossing::{sendable, shareable};
 use edge_io::{MemHost, NoMemory};
-use net_lists::{PortList, Stop, Vars};
+use net_lists::{PortList, Vars};
 use std::alloc::{AllocError, Global};
 use std::test::Fail;
 
@@ -133,24 +130,25 @@ value: suppress gen_id 1, sig_id 1, track by_src, ip 10.0.0.1, x
 ";
 
 /// The kind of the first line that is refused, or `fine`; the lines stand in a file 16 includes deep.
-fn lines_outcome(alloc: Global, lines: &str) -> Result<&'static str, NoMemory> {
-    let mut settings = Settings {
-        vars: Vars::new(alloc),
-        draft: first_draft(alloc),
-    };
-    for line in lines.split(" && ") {
-        let spot = Spot {
-            file: b"etc/snort.conf".as_slice(),
-            depth: 16,
-            files: 17,
-        };
-        match conf_line(alloc, &spot, settings, line.as_bytes()) {
-            Ok(behind) => settings = behind.settings,
-            Err(Stop::Wrong(kind)) => return Ok(kind_name(&kind)),
-            Err(Stop::NoMemory) => return Err(NoMemory),
-        }
+fn lines_outcome(alloc: Global, lines: &str) -> Result<&'static str, Fail> {
+    let mut host = MemHost::new(alloc);
+    for depth in 0..16 {
+        let name = format!(in alloc; "c/{depth}")?;
+        let include = format!(in alloc; "include {}\n", depth + 1)?;
+        host.put(name.as_str(), include.as_bytes())?;
     }
-    Ok("fine")
+    let mut text = String::new(alloc);
+    for line in lines.split(" && ") {
+        writeln!(text, "{line}")?;
+    }
+    host.put("c/16", text.as_bytes())?;
+    let mut out = Loaded::new(alloc);
+    match load(alloc, &mut host, "c/0", &mut Vars::new(alloc), &mut out) {
+        Ok(()) => Ok("fine"),
+        Err(LoadStop::Conf(fault)) => Ok(kind_name(&fault.kind)),
+        Err(LoadStop::HostFailed { name: _ }) => Ok("host"),
+        Err(LoadStop::NoMemory) => Err(NoMemory)?,
+    }
 }
 
 #[test]
@@ -186,6 +184,11 @@ fn loading(
 /// of files and warnings.
 fn files_outcome(alloc: Global, files: &str, failing: &[u32]) -> Result<String, Fail> {
     let (answer, out) = loading(alloc, files, failing)?;
+    answer_text(alloc, answer, &out)
+}
+
+/// The same, of an answer and what stands in `out`.
+fn answer_text(alloc: Global, answer: Result<(), LoadStop>, out: &Loaded) -> Result<String, Fail> {
     let warnings = out.warnings.as_slice().len();
     match answer {
         Ok(()) => Ok(format!(in alloc; "fine {} {}", warnings, out.rules.as_slice().len())?),
@@ -338,6 +341,34 @@ fn limits_are_kept(rt: HostRuntime) -> Result<(), Fail> {
         let over = format!(in rt.alloc(); "{files}{text}{behind}")?;
         let got = files_outcome(rt.alloc(), over.as_str(), &[])?;
         assert_eq!(rt; got.as_str(), want, "{text}");
+    }
+    Ok(())
+}
+
+/// The file that is read first, and what loading it gives where `big` is too long by one byte.
+const LARGE: [(&str, &str); 3] = [
+    ("big", "large 0 0"),
+    ("one", "large 0 2"),
+    ("two", "large 1 2"),
+];
+
+#[test]
+fn files_have_at_most_16_mebibytes(rt: HostRuntime) -> Result<(), Fail> {
+    let mut host = MemHost::new(rt.alloc());
+    let mut big = Vec::new(rt.alloc());
+    host.put("one", b"#\ninclude big\n")?;
+    host.put("two", b"#\n\ninclude one\n")?;
+    for (size, is_over) in [(16777216, false), (16777217, true)] {
+        big.resize(size, b'#')?;
+        host.put("big", big.as_slice())?;
+        for (name, over) in LARGE {
+            let mut out = Loaded::new(rt.alloc());
+            let mut vars = Vars::new(rt.alloc());
+            let answer = load(rt.alloc(), &mut host, name, &mut vars, &mut out);
+            let want = if is_over { over } else { "fine 0 0" };
+            let got = answer_text(rt.alloc(), answer, &out)?;
+            assert_eq!(rt; got.as_str(), want, "{name}");
+        }
     }
     Ok(())
 }

@@ -4,11 +4,11 @@
 ghost use Rattle.std.specs.Prelude.{◌≡◌, ◌<◌, IfOk, length};
 ghost use Rattle.rule_parser.specs.Sound.{IsTriable};
 
-use crate::{PushFault, RuleSet, Steps, payload_matches};
 use conf_parser::Classes;
 use edge_io::crossing::{sendable, shareable};
 use edge_io::{Literal, LiteralMaker, NoMemory, Text};
 use net_lists::Vars;
+use option_eval::{PushFault, RuleSet, Steps, payload_matches};
 use rule_parser::{BitNames, Opt, Rule, read_rule};
 use std::alloc::Global;
 use std::marker::Brand;

@@ -1,8 +1,7 @@
-//! Whole lines, and addresses of version 6, that the calls succeed. The rows are text, so that another one
+//! Whole lines, also with addresses of version 6. The rows are text, so that another one
 //! costs nothing to prove.
 
-use crate::address::push_address;
-use crate::line;
+use alert_fast::line;
 use conf_parser::{Loaded, load};
 use edge_io::{Addr, MemHost, Moment};
 use net_lists::Vars;
@@ -145,12 +144,19 @@ fe800000000000000000000000000000 fe80::
 
 #[test]
 fn addresses_of_version_6(rt: HostRuntime) -> Result<(), Fail> {
+    let loaded = with_a_class(rt.alloc())?;
     for row in ADDRESSES.lines() {
-        let (digits, want) = row.split_once(' ').ok_or("a row")?;
-        let address = u128::from_str_radix(digits, 16)?;
+        let (digits, text) = row.split_once(' ').ok_or("a row")?;
+        let address = Addr::V6(u128::from_str_radix(digits, 16)?);
+        let mut head = item("0 58 10.0.0.1 10.0.0.1 other 0 0")?;
+        head.ip.src = address;
+        head.ip.dst = address;
         let mut out = Vec::new(rt.alloc());
-        push_address(Addr::V6(address), &mut out)?;
-        assert_eq!(rt; out.as_slice(), want.as_bytes(), "{want}");
+        append(rt.alloc(), &loaded, "sid:1; msg:\"t\";", &head, &mut out)?;
+        let want = format!(in rt.alloc();
+            "01/01-00:00:00.000000  [**] [1:1:0] t [**] [Priority: 0] {{PROTO:058}} {text} -> {text}\n"
+        )?;
+        assert_eq!(rt; out.as_slice(), want.as_bytes(), "{text}");
     }
     Ok(())
 }

@@ -1,0 +1,17 @@
+//! Tests of the readers of text: lists, hosts, configurations, rules, options and whole setups, by the public
+//! calls of their crates. They stand in a crate of their own, since a crate is proved once more with each test
+//! that it has.
+#![tactic(auto)]
+
+#[cfg(test)]
+mod configurations;
+#[cfg(test)]
+mod hosts;
+#[cfg(test)]
+mod lists;
+#[cfg(test)]
+mod options;
+#[cfg(test)]
+mod rules;
+#[cfg(test)]
+mod setups;
