@@ -83,48 +83,74 @@ fn gates_are_passed_and_types_cross_threads(_rt: HostRuntime) {
     shareable::<Text>();
 }
 
-/// The policies by their names, in either case, and the rows that they stand for.
+/// Names of policies for fragments and for streams, and the rows that they stand for.
+const POLICIES: &str = "fragments:first:First
+fragments:LAST:Last
+fragments:bsd:Bsd
+fragments:BSD-Right:BsdRight
+fragments:linux:Linux
+fragments:Windows:Windows
+fragments:solaris:Solaris
+fragments::none
+fragments:bsd :none
+fragments:bsdright:none
+fragments:vista:none
+streams:first:First
+streams:vista:First
+streams:last:Last
+streams:bsd:Bsd
+streams:old-linux:Bsd
+streams:HPUX:Bsd
+streams:irix:Bsd
+streams:macos:Bsd
+streams:linux:Linux
+streams:windows:Windows
+streams:Win2003:Windows
+streams:solaris:Solaris
+streams:hpux10:BsdRight
+streams::none
+streams:bsd :none
+streams:bsd-right:none
+streams:hpux1:none
+streams:first,last:none
+";
+
 #[test]
-fn policies_have_their_rows(rt: HostRuntime) {
-    let fragments = [
-        ("first", Preference::First),
-        ("LAST", Preference::Last),
-        ("bsd", Preference::Bsd),
-        ("BSD-Right", Preference::BsdRight),
-        ("linux", Preference::Linux),
-        ("Windows", Preference::Windows),
-        ("solaris", Preference::Solaris),
-    ];
-    for (name, want) in fragments {
-        let row = FragPolicy::read(name.as_bytes()).map(|policy| policy.preference());
-        assert_eq!(rt; row, Some(want), "at {name}");
+fn policies_have_their_rows(rt: HostRuntime) -> Result<(), Fail> {
+    for row in POLICIES.lines() {
+        let (kind, rest) = row.split_once(':').ok_or("a kind")?;
+        let (name, want) = rest.split_once(':').ok_or("a name")?;
+        let found = if kind == "fragments" {
+            FragPolicy::read(name.as_bytes()).map(|policy| policy.preference())
+        } else {
+            StreamPolicy::read(name.as_bytes()).map(|policy| policy.preference())
+        };
+        let got = match found {
+            Some(preference) => format!(in rt.alloc(); "{preference:?}")?,
+            None => String::from_str(rt.alloc(), "none")?,
+        };
+        assert_eq!(rt; got.as_str(), want, "{row}");
     }
-    let streams = [
-        ("first", Preference::First),
-        ("vista", Preference::First),
-        ("last", Preference::Last),
-        ("bsd", Preference::Bsd),
-        ("old-linux", Preference::Bsd),
-        ("HPUX", Preference::Bsd),
-        ("irix", Preference::Bsd),
-        ("macos", Preference::Bsd),
-        ("linux", Preference::Linux),
-        ("windows", Preference::Windows),
-        ("Win2003", Preference::Windows),
-        ("solaris", Preference::Solaris),
-        ("hpux10", Preference::BsdRight),
-    ];
-    for (name, want) in streams {
-        let row = StreamPolicy::read(name.as_bytes()).map(|policy| policy.preference());
-        assert_eq!(rt; row, Some(want), "at {name}");
-    }
-    for name in ["", "bsd ", "bsdright", "hpux1", "first,last"] {
-        assert!(rt; FragPolicy::read(name.as_bytes()).is_none(), "at {name}");
-        assert!(rt; StreamPolicy::read(name.as_bytes()).is_none(), "at {name}");
-    }
-    assert!(rt; FragPolicy::read(b"vista").is_none());
-    assert!(rt; StreamPolicy::read(b"bsd-right").is_none());
+    Ok(())
 }
+
+/// What the rows call the answer to a load.
+fn load_word(answer: &Result<(), LoadFault>) -> &'static str {
+    match answer {
+        Ok(()) => "loaded",
+        Err(LoadFault::TooLarge) => "large",
+        Err(LoadFault::Failed) => "failed",
+        Err(LoadFault::NoMemory) => "memory",
+    }
+}
+
+/// Names, limits, answers, and what stands behind each load.
+const LOADS: &str = "rules 5 loaded <hello
+empty 0 loaded <hello
+rules 4 large <hello
+none 9 failed <hello
+rules 9 failed <hello
+";
 
 #[test]
 fn memory_host_gives_its_files_and_fails_by_number(rt: HostRuntime) -> Result<(), Fail> {
@@ -137,15 +163,13 @@ fn memory_host_gives_its_files_and_fails_by_number(rt: HostRuntime) -> Result<()
 
     // Calls 0 to 4.
     let mut out = Vec::from_slice(alloc, b"<")?;
-    for (name, limit, answer, after) in [
-        ("rules", 5, Ok(()), "<hello"),
-        ("empty", 0, Ok(()), "<hello"),
-        ("rules", 4, Err(LoadFault::TooLarge), "<hello"),
-        ("none", 9, Err(LoadFault::Failed), "<hello"),
-        ("rules", 9, Err(LoadFault::Failed), "<hello"),
-    ] {
-        assert_eq!(rt; host.load(name, limit, &mut out), answer, "{name}, {limit}");
-        assert_eq!(rt; out.as_slice(), after.as_bytes(), "{name}, {limit}");
+    for row in LOADS.lines() {
+        let mut words = row.split(' ');
+        let mut word = || words.next().ok_or("a word");
+        let (name, limit) = (word()?, word()?.parse::<usize>()?);
+        let answer = host.load(name, limit, &mut out);
+        assert_eq!(rt; load_word(&answer), word()?, "{row}");
+        assert_eq!(rt; out.as_slice(), word()?.as_bytes(), "{row}");
     }
 
     // Calls 5 to 9: an open capture keeps its bytes when its file is replaced.
@@ -188,29 +212,36 @@ fn memory_sink_takes_steps_and_fails_when_full_or_by_number(rt: HostRuntime) -> 
     Ok(())
 }
 
+/// Texts, whether case counts, the bytes that are searched, and the match.
+const MATCHES: &str = "bc:case:abcbc:1 3
+BC:case:abcbc:none
+BC:nocase:abcbC:1 3
+abc:case:ab:none
+:case::0 0
+c.:case:abc.:2 4
+";
+
 #[test]
 fn literal_patterns_give_the_leftmost_match(rt: HostRuntime) -> Result<(), Fail> {
     let alloc = rt.alloc();
     let mut maker = LiteralMaker::new(alloc);
     maker.fail_calls(&[6])?;
-    for (text, nocase, bytes, place) in [
-        ("bc", false, "abcbc", Some((1, 3))),
-        ("BC", false, "abcbc", None),
-        ("BC", true, "abcbC", Some((1, 3))),
-        ("abc", false, "ab", None),
-        ("", false, "", Some((0, 0))),
-        ("c.", false, "abc.", Some((2, 4))),
-    ] {
+    for row in MATCHES.lines() {
+        let mut parts = row.split(':');
+        let mut part = || parts.next().ok_or("a part");
+        let text = part()?;
         let flags = PatternFlags {
-            nocase,
+            nocase: part()? == "nocase",
             dot_all: true,
             multi_line: true,
             extended: true,
         };
         let pattern = maker.make(alloc, text, flags)?;
-        let found = pattern.find(bytes.as_bytes())?;
-        let want = place.map(|(start, end)| Span { start, end });
-        assert_eq!(rt; found, want, "{text} in {bytes}");
+        let got = match pattern.find(part()?.as_bytes())? {
+            Some(Span { start, end }) => format!(in alloc; "{start} {end}")?,
+            None => String::from_str(alloc, "none")?,
+        };
+        assert_eq!(rt; got.as_str(), part()?, "{row}");
     }
     let flags = PatternFlags {
         nocase: false,
@@ -238,6 +269,42 @@ fn read_out<H: Host>(alloc: Global, host: &mut H, buf: &mut [u8]) -> Result<Vec<
     Ok(read)
 }
 
+/// The same through a buffer that is larger than the host's own.
+fn read_straight<H: Host>(alloc: Global, host: &mut H, buf: &mut Vec<u8>) -> Result<Vec<u8>, Fail> {
+    if buf.is_empty() {
+        return Err(Fail::new("a buffer"));
+    }
+    read_out(alloc, host, buf.as_mut_slice())
+}
+
+/// The bytes that a row names.
+fn held<'a>(word: &str, large: &'a [u8]) -> &'a [u8] {
+    match word {
+        "large" => large,
+        "hello" => b"hello",
+        _ => b"",
+    }
+}
+
+/// Names of real files, limits, answers, and the bytes behind a load.
+const REAL_LOADS: &str = "edge_files/present 5 loaded hello
+edge_files/present 4 large nothing
+edge_files/empty 0 loaded nothing
+edge_files/large 100000 loaded large
+edge_files/large 99999 large nothing
+edge_files/large 18446744073709551615 loaded large
+edge_files/missing 9 failed nothing
+edge_files/folder 9 failed nothing
+";
+
+/// Names of real files, and the bytes that are read where they can be opened.
+const REAL_READS: &str = "edge_files/large large
+edge_files/present hello
+edge_files/empty nothing
+edge_files/missing missing
+edge_files/folder missing
+";
+
 #[test]
 fn real_files_are_loaded_and_read(rt: HostRuntime) -> Result<(), Fail> {
     let alloc = rt.alloc();
@@ -251,37 +318,37 @@ fn real_files_are_loaded_and_read(rt: HostRuntime) -> Result<(), Fail> {
     fs::write(&rt, "edge_files/large", large.as_slice())?;
 
     let mut host = FileHost::new(alloc, rt)?;
-    for (name, limit, answer, bytes) in [
-        ("edge_files/present", 5, Ok(()), b"hello".as_slice()),
-        ("edge_files/present", 4, Err(LoadFault::TooLarge), b""),
-        ("edge_files/empty", 0, Ok(()), b""),
-        ("edge_files/large", 100000, Ok(()), &large),
-        ("edge_files/large", 99999, Err(LoadFault::TooLarge), b""),
-        ("edge_files/large", usize::MAX, Ok(()), &large),
-        ("edge_files/missing", 9, Err(LoadFault::Failed), b""),
-        ("edge_files/folder", 9, Err(LoadFault::Failed), b""),
-    ] {
+    for row in REAL_LOADS.lines() {
+        let mut words = row.split(' ');
+        let mut word = || words.next().ok_or("a word");
+        let (name, limit) = (word()?, word()?.parse::<usize>()?);
         let mut out = Vec::from_slice(alloc, b"<")?;
+        let answer = host.load(name, limit, &mut out);
+        assert_eq!(rt; load_word(&answer), word()?, "{row}");
         let mut want = Vec::from_slice(alloc, b"<")?;
-        want.extend_from_slice(bytes)?;
-        assert_eq!(rt; host.load(name, limit, &mut out), answer, "{name}, {limit}");
-        assert_eq!(rt; out.as_slice(), want.as_slice(), "{name}, {limit}");
+        want.extend_from_slice(held(word()?, large.as_slice()))?;
+        assert_eq!(rt; out.as_slice(), want.as_slice(), "{row}");
     }
 
-    let mut wide = [0; 65536];
-    for (name, answer, bytes) in [
-        ("edge_files/large", Ok(()), large.as_slice()),
-        ("edge_files/present", Ok(()), b"hello"),
-        ("edge_files/empty", Ok(()), b""),
-        ("edge_files/missing", Err(Failed), b""),
-        ("edge_files/folder", Err(Failed), b""),
-    ] {
-        assert_eq!(rt; host.open(name), answer, "{name}");
+    let mut wide = Vec::new(alloc);
+    wide.resize(65536, 0u8)?;
+    for row in REAL_READS.lines() {
+        let (name, want) = row.split_once(' ').ok_or("a name")?;
+        let is_there = want != "missing";
+        assert_eq!(rt; host.open(name).is_ok(), is_there, "{row}");
         let read = read_out(alloc, &mut host, &mut [0; 16])?;
-        assert_eq!(rt; read.as_slice(), bytes, "{name}, by the host's buffer");
-        assert_eq!(rt; host.open(name), answer, "{name}");
-        let read = read_out(alloc, &mut host, &mut wide)?;
-        assert_eq!(rt; read.as_slice(), bytes, "{name}, straight");
+        assert_eq!(rt;
+            read.as_slice(),
+            held(want, large.as_slice()),
+            "{row}, by the host's buffer"
+        );
+        assert_eq!(rt; host.open(name).is_ok(), is_there, "{row}");
+        let read = read_straight(alloc, &mut host, &mut wide)?;
+        assert_eq!(rt;
+            read.as_slice(),
+            held(want, large.as_slice()),
+            "{row}, straight"
+        );
     }
     fs::remove_dir_all(&rt, "edge_files")?;
     Ok(())
@@ -341,34 +408,46 @@ impl Write for Unsteady {
     }
 }
 
+/// How often a stream is interrupted, its room, whether it fails, and what reading and writing give. The end
+/// of a file is no failure; a stream that takes nothing has failed.
+const UNSTEADY: &str = "0 9 steady 4 4
+3 9 steady 4 4
+3 2 steady 2 2
+3 0 steady 0 failed
+3 9 failing failed failed
+";
+
+/// What the rows call the answer of one call.
+fn count_word(alloc: Global, answer: Result<usize, Failed>) -> Result<String, Fail> {
+    Ok(match answer {
+        Ok(count) => format!(in alloc; "{count}")?,
+        Err(Failed) => String::from_str(alloc, "failed")?,
+    })
+}
+
 #[test]
 fn an_interrupted_call_goes_on(rt: HostRuntime) -> Result<(), Fail> {
-    for (interruptions, room, fails, given, taken) in [
-        (0, 9, false, Ok(4), Ok(4)),
-        (3, 9, false, Ok(4), Ok(4)),
-        (3, 2, false, Ok(2), Ok(2)),
-        // The end of a file is no failure; a stream that takes nothing has failed.
-        (3, 0, false, Ok(0), Err(Failed)),
-        (3, 9, true, Err(Failed), Err(Failed)),
-    ] {
+    for row in UNSTEADY.lines() {
+        let mut words = row.split(' ');
+        let mut word = || words.next().ok_or("a word");
+        let interruptions = word()?.parse::<u32>()?;
+        let room = word()?.parse::<usize>()?;
+        let fails = word()? == "failing";
         let mut file = Unsteady {
             interruptions,
             room,
             fails,
         };
-        let mut buf = [0; 4];
         let mut faults = FaultCount::new();
-        assert_eq!(rt;
-            read_once(&mut file, &mut buf, &mut faults),
-            given,
-            "{interruptions}, {room}"
-        );
+        let given = read_once(&mut file, &mut [0; 4], &mut faults);
+        assert_eq!(rt; count_word(rt.alloc(), given)?.as_str(), word()?, "{row}");
         let mut sink = StdSink::over(Unsteady {
             interruptions,
             room,
             fails,
         });
-        assert_eq!(rt; sink.write(b"line"), taken, "{interruptions}, {room}");
+        let taken = sink.write(b"line");
+        assert_eq!(rt; count_word(rt.alloc(), taken)?.as_str(), word()?, "{row}");
     }
     Ok(())
 }
