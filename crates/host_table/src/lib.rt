@@ -19,4 +19,3 @@ pub use fault::HostFault;
 pub use host_line::HostLine;
 pub use hosts::Hosts;
 pub use read::{LONGEST_TABLE, read_hosts};
-

@@ -23,4 +23,3 @@ mod walk;
 pub use making::PushFault;
 pub use rule_set::{RuleSet, payload_matches};
 pub use steps::Steps;
-
