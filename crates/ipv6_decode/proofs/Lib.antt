@@ -1,0 +1,4 @@
+pub mod Class
+pub mod Flag
+pub mod Walks
+mod Chains
