@@ -1,5 +1,5 @@
--- Whole chains of extension headers, as a sender writes them (RFC 8200, section 4.1): a walk goes over
--- every chain of at most eight headers, whatever they hold, and a longer one is malformed.
+-- Whole chains of extension headers, as a sender writes them (RFC 8200, section 4.1): a walk goes
+-- over every chain of at most eight headers, whatever they hold, and a longer one is malformed.
 use Rattle.std.proofs.Common.{◌≡◌, ℕ, zero, suc, ◌+◌, ◌*◌, ◌<◌, ◌≤◌, List, [], ◌∷◌, ◌++◌, length, true, false, ◌||◌, nat_lt, ◌==◌, Ok, Err, refl, sym, ap, ◌∙◌, arith, length-append, append_assoc, append-nil}
 use Rattle.std.proofs.lemmas.List.{get_or_at, get_or-append-add}
 use Rattle.std.proofs.lemmas.Bool.{le-ltb}
@@ -11,7 +11,8 @@ use Rattle.ipv6_decode.specs.declared.walk.Walk.{Walk}
 use Rattle.ipv6_decode.specs.Headers.{has_length_field, is_at_header, behind_length_field, behind_header, walk_end}
 use Rattle.ipv6_decode.proofs.Walks.{ended, too_many, over}
 
--- an extension header with a length field: its number, its length field, and what it holds behind it
+-- an extension header with a length field: its number, its length field, and what it holds behind
+-- it
 pub record Extension : Type 0 where
   pub number : ℕ
   pub units : ℕ

@@ -1,13 +1,16 @@
--- What a captured record with an IPv6 packet says, by the places of its bytes, or why it is skipped.
+-- What a captured record with an IPv6 packet says, by the places of its bytes, or why it is
+-- skipped.
 --
 -- The steps go in this order, and the first one that fails decides: link header, tags and type; the
--- header's length, version and payload length; the extension headers from the front on; the transport
--- header and its checksum. No byte is named before a test that it is captured.
--- The standards: RFC 8200 for the headers, and section 8.1 for the pseudo header of checksums, RFC 2464
--- for the type field, RFC 9293 section 3.1 for TCP, RFC 768 for UDP, RFC 4443 section 2.1 for ICMPv6.
--- To try it on: 02 00 00 00 00 02 02 00 00 00 00 01 86 dd, 60 00 00 00 00 0b 11 40, 20 01 0d b8 and 12
--- bytes that end in 01, the same with 02, 03 e8 07 d0 00 0b 00 00, 61 62 63 over Ethernet is a UDP packet
--- from 2001:db8::1 port 1000 to 2001:db8::2 port 2000, whose payload is the last three bytes.
+-- header's length, version and payload length; the extension headers from the front on; the
+-- transport header and its checksum. No byte is named before a test that it is captured.
+-- The standards: RFC 8200 for the headers, and section 8.1 for the pseudo header of checksums, RFC
+-- 2464 for the type field, RFC 9293 section 3.1 for TCP, RFC 768 for UDP, RFC 4443 section 2.1 for
+-- ICMPv6.
+-- To try it on: 02 00 00 00 00 02 02 00 00 00 00 01 86 dd, 60 00 00 00 00 0b 11 40, 20 01 0d b8 and
+-- 12 bytes that end in 01, the same with 02, 03 e8 07 d0 00 0b 00 00, 61 62 63 over Ethernet is a
+-- UDP packet from 2001:db8::1 port 1000 to 2001:db8::2 port 2000, whose payload is the last three
+-- bytes.
 use Rattle.std.specs.Prelude.{ℕ, ◌+◌, List, length, false, Result, Ok, Err, if◌then◌else◌}
 use Rattle.edge_io.specs.Bytes.{slice}
 use Rattle.edge_io.specs.OnResult.{◌>>=◌}
@@ -22,8 +25,8 @@ use Rattle.packet_decode.specs.Decoding.{Fields, link_start, transport_at}
 use Rattle.ipv6_decode.specs.declared.walk.Walk.{Walk}
 use Rattle.ipv6_decode.specs.Headers.{packet_stop, head_at, most_headers, walk_end}
 
--- what stands at the end of a walk and is no part of a datagram: the transport header and its data, up
--- to the end of the packet
+-- what stands at the end of a walk and is no part of a datagram: the transport header and its data,
+-- up to the end of the packet
 abbrev pub upper_at : Walk → List ℕ → Checks → Result Fields Skip
 upper_at walk packet checks = transport_at walk.head packet walk.place (length packet) checks
 
@@ -31,11 +34,12 @@ upper_at walk packet checks = transport_at walk.head packet walk.place (length p
 unfoldable pub walk_start : List ℕ → ℕ → Walk
 walk_start packet start = record { head = head_at packet start; place = start + 40; is_part = false }
 
--- What a packet says, with which the bytes end, and whose walk ended so. A part of a datagram has no
--- transport header of its own: all bytes behind the fragment header are the part.
+-- What a packet says, with which the bytes end, and whose walk ended so. A part of a datagram has
+-- no transport header of its own: all bytes behind the fragment header are the part.
 unfoldable pub packet_behind : Walk → List ℕ → Checks → Result Fields Skip
 packet_behind walk packet checks =
-    if walk.is_part then Ok (record { ip = walk.head; body = Fragment; payload = slice packet walk.place (length packet) })
+    if walk.is_part
+    then Ok (record { ip = walk.head; body = Fragment; payload = slice packet walk.place (length packet) })
     else upper_at walk packet checks
 
 -- what the packet at `start` says, with which the bytes end
@@ -50,8 +54,8 @@ decoded6 link bytes checks = do
   stop ← packet_stop bytes start
   packet_at (slice bytes 0 stop) start checks
 
--- What a datagram says that was put together from fragments: extension headers, the first one that of
--- the head's protocol, and the transport header. Such a datagram is no fragment again.
+-- What a datagram says that was put together from fragments: extension headers, the first one that
+-- of the head's protocol, and the transport header. Such a datagram is no fragment again.
 unfoldable pub datagram_decoded6 : IpHead → List ℕ → Checks → Result Fields Skip
 datagram_decoded6 ip bytes checks = do
   walk ← walk_end most_headers (record { head = ip; place = 0; is_part = false }) bytes

@@ -1,10 +1,10 @@
 -- The header of an IPv6 packet and its extension headers, by the places of their bytes.
 --
--- The standard: RFC 8200, section 3 for the header, section 4 for the extension headers: 4.3 hop-by-hop
--- options, 4.4 routing, 4.5 fragment, 4.6 destination options.
--- To try it on: 60 00 00 00 00 10 2c 40, two addresses of 16 bytes, 11 00 00 01 00 00 00 07 and eight
--- bytes more is a packet of 56 bytes whose one extension header, of next header 44, says that a part of
--- the UDP datagram 7 stands from place 48 on: its start, and more is to come.
+-- The standard: RFC 8200, section 3 for the header, section 4 for the extension headers: 4.3
+-- hop-by-hop options, 4.4 routing, 4.5 fragment, 4.6 destination options.
+-- To try it on: 60 00 00 00 00 10 2c 40, two addresses of 16 bytes, 11 00 00 01 00 00 00 07 and
+-- eight bytes more is a packet of 56 bytes whose one extension header, of next header 44, says that
+-- a part of the UDP datagram 7 stands from place 48 on: its start, and more is to come.
 use Rattle.std.specs.Prelude.{ℕ, zero, suc, ◌+◌, ◌*◌, ◌/◌, ◌%◌, List, length, Bool, false, not, ◌&&◌, ◌||◌, Result, Ok, Err, nat_lt, ◌==◌, if◌then◌else◌}
 use Rattle.byteorder.specs.Endian.{big_from}
 use Rattle.edge_io.specs.Bytes.{byte_at, be16, be32}
@@ -29,8 +29,9 @@ packet_stop bytes start =
     else (let stop = start + 40 + be16 bytes (start + 4) in
     if nat_lt (length bytes) stop then Err Short else Ok stop))
 
--- The fields of the header at `start` (RFC 8200, section 3). The first word has 4 bits of version, 8 of
--- traffic class, and the flow label. Without a fragment header a packet is no part of a datagram.
+-- The fields of the header at `start` (RFC 8200, section 3). The first word has 4 bits of version,
+-- 8 of traffic class, and the flow label. Without a fragment header a packet is no part of a
+-- datagram.
 unfoldable pub head_at : List ℕ → ℕ → IpHead
 head_at bytes start =
     record {
@@ -55,18 +56,19 @@ has_length_field next = next == 0 || next == 43 || next == 60
 abbrev pub is_at_header : Walk → Bool
 is_at_header walk = not walk.is_part && (has_length_field walk.head.protocol || walk.head.protocol == 44)
 
--- Behind a header with a length field: its first byte is the next header, and its second one counts the
--- units of 8 bytes behind the first 8 (RFC 8200, sections 4.3, 4.4 and 4.6).
+-- Behind a header with a length field: its first byte is the next header, and its second one counts
+-- the units of 8 bytes behind the first 8 (RFC 8200, sections 4.3, 4.4 and 4.6).
 unfoldable pub behind_length_field : Walk → List ℕ → Result Walk Skip
 behind_length_field walk bytes =
     if nat_lt (length bytes) (walk.place + 2) then Err Malformed
     else (let end = walk.place + 8 + 8 * byte_at bytes (walk.place + 1) in
     if nat_lt (length bytes) end then Err Malformed
-    else Ok (record { head = record walk.head { protocol = byte_at bytes walk.place }; place = end; is_part = walk.is_part }))
+    else (let head = record walk.head { protocol = byte_at bytes walk.place } in
+    Ok (record { head = head; place = end; is_part = walk.is_part })))
 
--- The head with what the fragment header at a place says: its first byte is the next header, the word
--- at 2 has 13 bits of offset, 2 reserved bits and the bit for more fragments, and the identification
--- stands at 4 (RFC 8200, section 4.5).
+-- The head with what the fragment header at a place says: its first byte is the next header, the
+-- word at 2 has 13 bits of offset, 2 reserved bits and the bit for more fragments, and the
+-- identification stands at 4 (RFC 8200, section 4.5).
 unfoldable pub fragment_head : IpHead → List ℕ → ℕ → IpHead
 fragment_head head bytes place =
     record head {
@@ -76,8 +78,8 @@ fragment_head head bytes place =
       offset = be16 bytes (place + 2) / 8;
     }
 
--- Behind a fragment header, which has 8 bytes: a part of a datagram, unless it begins at 0 with no more
--- to come (RFC 6946, section 2).
+-- Behind a fragment header, which has 8 bytes: a part of a datagram, unless it begins at 0 with no
+-- more to come (RFC 6946, section 2).
 unfoldable pub behind_fragment_header : Walk → List ℕ → Result Walk Skip
 behind_fragment_header walk bytes =
     if nat_lt (length bytes) (walk.place + 8) then Err Malformed
@@ -93,9 +95,11 @@ behind_header walk bytes =
 abbrev pub most_headers : ℕ
 most_headers = 8
 
--- Where the walk ends that goes over at most so many extension headers: at a part of a datagram, or at
--- what is no extension header. A header more than that is one too many. The laws `walk_end-chain` and
--- `walk_end-long_chain` of proofs/Chains say what that is for whole chains as a sender writes them.
+-- Where the walk ends that goes over at most so many extension headers: at a part of a datagram, or
+-- at what is no extension header. A header more than that is one too many. The laws
+-- `walk_end-chain` and `walk_end-long_chain` of proofs/Chains say what that is for whole chains as
+-- a sender writes them.
 unfoldable pub walk_end : ℕ → Walk → List ℕ → Result Walk Skip
 walk_end zero walk bytes = if is_at_header walk then Err Malformed else Ok walk
-walk_end (suc left) walk bytes = if is_at_header walk then (behind_header walk bytes >>= (λ next. walk_end left next bytes)) else Ok walk
+walk_end (suc left) walk bytes =
+    if is_at_header walk then (behind_header walk bytes >>= (λ next. walk_end left next bytes)) else Ok walk

@@ -33,7 +33,8 @@ pub fn packet_stop(bytes: &[u8], start: usize) -> Result<usize, Skip>
     Ok(stop)
 }
 
-/// The traffic class of the IPv6 header at `start`: four bits of the first byte and four of the second.
+/// The traffic class of the IPv6 header at `start`: four bits of the first byte and four of the
+/// second.
 #[tactic(auto, using(crate::proofs::Class::traffic_class))]
 fn traffic_class(bytes: &[u8], start: usize) -> u8
     requires { start + 40 ≤ length bytes.now }
@@ -42,7 +43,8 @@ fn traffic_class(bytes: &[u8], start: usize) -> u8
     bytes[start] % 16 * 16 + bytes[start + 1] / 16
 }
 
-/// The fields of the IPv6 header at `start`; those of a fragment are as if there were no such header.
+/// The fields of the IPv6 header at `start`; those of a fragment are as if there were no such
+/// header.
 #[tactic(auto, unfolding(crate::specs::Headers::head_at))]
 pub fn ip_head(bytes: &[u8], start: usize) -> IpHead
     requires { start + 40 ≤ length bytes.now }

@@ -12,7 +12,8 @@ use packet_decode::{Body, Checks, IpHead, IpVersion, Packet, Skip, decode_datagr
 fn upper<'a>(walk: Walk, packet: &'a [u8], checks: Checks) -> Result<Packet<'a>, Skip>
     requires { walk.place ≤ length packet.now }
     ensures exact { seen result ≡ upper_at walk packet.now checks }
-    ensures within { IfOk result (λ upper. walk.place + length upper.payload.now ≤ length packet.now) }
+    ensures within { IfOk result
+        (λ found. walk.place + length found.payload.now ≤ length packet.now) }
 {
     decode_datagram(walk.head, &packet[walk.place..], checks)
 }
@@ -36,7 +37,8 @@ fn walk_start(packet: &[u8], start: usize) -> Walk
 fn packet_behind<'a>(walk: Walk, packet: &'a [u8], checks: Checks) -> Result<Packet<'a>, Skip>
     requires { walk.place ≤ length packet.now }
     ensures exact { seen result ≡ packet_behind walk packet.now checks }
-    ensures within { IfOk result (λ found. walk.place + length found.payload.now ≤ length packet.now) }
+    ensures within { IfOk result
+        (λ found. walk.place + length found.payload.now ≤ length packet.now) }
 {
     if walk.is_part {
         Ok(Packet {
@@ -54,7 +56,8 @@ fn packet_behind<'a>(walk: Walk, packet: &'a [u8], checks: Checks) -> Result<Pac
 fn packet_at<'a>(packet: &'a [u8], start: usize, checks: Checks) -> Result<Packet<'a>, Skip>
     requires { start + 40 ≤ length packet.now }
     ensures exact { seen result ≡ packet_at packet.now start checks }
-    ensures within { IfOk result (λ found. start + 40 + length found.payload.now ≤ length packet.now) }
+    ensures within { IfOk result
+        (λ found. start + 40 + length found.payload.now ≤ length packet.now) }
 {
     let walk = walk_end(walk_start(packet, start), packet)?;
     packet_behind(walk, packet, checks)
@@ -64,12 +67,13 @@ fn packet_at<'a>(packet: &'a [u8], start: usize, checks: Checks) -> Result<Packe
 /// extension headers, and the transport header as `decode_datagram` does, unless the packet is a
 /// fragment.
 ///
-/// `bytes` are all that was captured, and the payload is lent from them; it ends with the packet. The
-/// first step that fails decides. `Skip::Short` says that captured bytes are missing, up to the payload
-/// length; `Skip::OtherProtocol` that this is no IPv6, or stands behind more than two tags;
-/// `Skip::Malformed` that the version isn't 6, that an extension header ends behind the packet, that
-/// there are more than eight of them, or that the transport header doesn't fit; `Skip::Checksum` that a
-/// checksum which `checks` asks for is wrong. A UDP checksum of 0 is none. Takes no memory.
+/// `bytes` are all that was captured, and the payload is lent from them; it ends with the packet.
+/// The first step that fails decides. `Skip::Short` says that captured bytes are missing, up to the
+/// payload length; `Skip::OtherProtocol` that this is no IPv6, or stands behind more than two tags;
+/// `Skip::Malformed` that the version isn't 6, that an extension header ends behind the packet,
+/// that there are more than eight of them, or that the transport header doesn't fit;
+/// `Skip::Checksum` that a checksum which `checks` asks for is wrong. A UDP checksum of 0 is none.
+/// Takes no memory.
 #[tactic(auto, unfolding(crate::specs::Decoding6::decoded6))]
 pub fn decode6<'a>(link: Link, bytes: &'a [u8], checks: Checks) -> Result<Packet<'a>, Skip>
     ensures exact { seen result ≡ decoded6 link bytes.now checks }
@@ -83,11 +87,12 @@ pub fn decode6<'a>(link: Link, bytes: &'a [u8], checks: Checks) -> Result<Packet
 /// Reads the extension headers and the transport header of a datagram that was put together from
 /// fragments, beginning with what the protocol of its head names.
 ///
-/// `bytes` are all that follows the header, and the payload is lent from them. The head comes back with
-/// the protocol of the transport header, and with the identification of a fragment header, if there is
-/// one. `Skip::Malformed` says that an extension header ends behind the bytes, that there are more than
-/// eight, that one of them makes the datagram a part of another, or that the transport header doesn't
-/// fit; `Skip::Checksum` that a checksum which `checks` asks for is wrong. Takes no memory.
+/// `bytes` are all that follows the header, and the payload is lent from them. The head comes back
+/// with the protocol of the transport header, and with the identification of a fragment header, if
+/// there is one. `Skip::Malformed` says that an extension header ends behind the bytes, that there
+/// are more than eight, that one of them makes the datagram a part of another, or that the
+/// transport header doesn't fit; `Skip::Checksum` that a checksum which `checks` asks for is wrong.
+/// Takes no memory.
 #[tactic(auto, unfolding(crate::specs::Decoding6::datagram_decoded6))]
 pub fn decode6_datagram<'a>(ip: IpHead, bytes: &'a [u8], checks: Checks) -> Result<Packet<'a>, Skip>
     requires source { version_of ip.src ≡ IpVersion.Six }

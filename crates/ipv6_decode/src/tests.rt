@@ -1,5 +1,5 @@
-//! Packets of version 6 with the answers that the layouts of RFC 8200 give, worked out by hand. The rows
-//! are text, so that another one costs nothing to prove.
+//! Packets of version 6 with the answers that the layouts of RFC 8200 give, worked out by hand. The
+//! rows are text, so that another one costs nothing to prove.
 
 ghost use Rattle.std.specs.Prelude.{◌≡◌, ◌<◌};
 ghost use Rattle.packet_decode.specs.Versions.{version_of};
@@ -17,9 +17,9 @@ const ALL: Checks = Checks {
     icmp: true,
 };
 
-/// A row for each packet with these bytes behind its header: its name, the next header, the bytes, and
-/// the answer: a skip, or the packet's kind, protocol, identification, offset, more-fragments and the
-/// length of its payload.
+/// A row for each packet with these bytes behind its header: its name, the next header, the bytes,
+/// and the answer: a skip, or the packet's kind, protocol, identification, offset, more-fragments
+/// and the length of its payload.
 const EXTENSION_ROWS: &str =
     "UDP without a checksum | 11 | 03e807d0 000b0000 616263 | udp 17 0 0 false 3
 UDP with a checksum | 11 | 03e807d0 000bd448 616263 | udp 17 0 0 false 3
@@ -213,7 +213,8 @@ fn record(alloc: Global, next: &str, payload: &[u8]) -> Result<Vec<u8>, AllocErr
     Ok(bytes)
 }
 
-/// Each row as a record, and as a datagram that was put together from fragments, which is no fragment.
+/// Each row as a record, and as a datagram that was put together from fragments, which is no
+/// fragment.
 #[test]
 fn extension_headers_end_where_they_say(rt: HostRuntime) -> Result<(), Fail> {
     for row in EXTENSION_ROWS.lines() {
@@ -261,7 +262,8 @@ fn records_give_their_packets(rt: HostRuntime) -> Result<(), Fail> {
     Ok(())
 }
 
-/// Every field of a header: version 6, traffic class ab, flow label 12345, 11 bytes, UDP, hop limit 3.
+/// Every field of a header: version 6, traffic class ab, flow label 12345, 11 bytes, UDP, hop limit
+/// 3.
 #[test]
 fn a_header_has_these_fields(rt: HostRuntime) -> Result<(), Fail> {
     let record = bytes_of(
