@@ -37,7 +37,7 @@ fn pattern_text(alloc: Global, text: &str) -> Result<String, NoMemory>
 
 /// The regular expression that the text with the flags spells. It is refused where it is none, nests
 /// too deep or would take more memory than the library gives one by itself.
-pub(crate) fn regex_of(alloc: Global, text: &str, flags: PatternFlags) -> Result<Regex, MakeFault>
+fn regex_of(alloc: Global, text: &str, flags: PatternFlags) -> Result<Regex, MakeFault>
     ensures source { IfOk result (λ regex. regex_source regex ≡ pattern_text text.now) }
     ensures options { IfOk result (λ regex. regex_config regex ≡ options_of flags) }
     ensures read { IfOk result IsReadFromSource }
@@ -99,7 +99,7 @@ impl PatternMaker for RegexMaker {
         ensures no_memory { IsErrOf result MakeFault.NoMemory → self.new ≡ self.old }
     {
         match regex_of(alloc, text, flags) {
-            Ok(_regex) => Ok(RegexPattern::of(alloc, text, flags)?),
+            Ok(regex) => Ok(RegexPattern { alloc, regex }),
             Err(MakeFault::NoMemory) => Err(MakeFault::NoMemory),
             Err(MakeFault::Refused) => {
                 self.refuse(alloc, text, flags)?;

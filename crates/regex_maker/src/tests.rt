@@ -1,6 +1,7 @@
 //! Expressions and what they find, worked out by hand.
 
-use crate::RegexMaker;
+use crate::{RegexMaker, RegexPattern};
+use edge_io::crossing::{sendable, shareable};
 use edge_io::{MakeFault, NoMemory, Pattern, PatternFlags, PatternMaker, Span};
 use std::test::Fail;
 
@@ -78,4 +79,10 @@ fn texts_that_are_refused(rt: HostRuntime) {
             Err(fault) => assert_eq!(rt; fault, MakeFault::Refused, "{text}"),
         }
     }
+}
+
+#[test]
+fn patterns_cross_threads() {
+    sendable::<RegexPattern>();
+    shareable::<RegexPattern>();
 }
