@@ -6,3 +6,5 @@ pub mod Records
 pub mod Endings
 pub mod Steps
 pub mod Reading
+pub mod Making
+pub mod Words

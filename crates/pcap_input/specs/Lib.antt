@@ -2,3 +2,5 @@ pub mod Savefile
 pub mod Reader
 pub mod Pieces
 pub mod Reading
+pub mod Frames
+pub mod Generated

@@ -8,12 +8,17 @@
 #![tactic(auto)]
 
 mod capture;
+mod draws;
 mod fill;
+mod frames;
+mod generate;
 mod header;
 mod reader;
 mod spares;
 #[cfg(test)]
 mod tests;
+mod traffic;
 
 pub use capture::{CaptureFault, CaptureHead, Record};
+pub use generate::make_capture;
 pub use reader::CaptureReader;

@@ -1,0 +1,5 @@
+use Rattle.pcap_input.proofs.Making.{text-short}
+use Rattle.pcap_input.proofs.draws.Draws.text.Goals as goal
+
+pub returns-clause-short : goal.returns-clause-short
+returns-clause-short c = text-short c.below-number.result _ c.below-number.ensures.below c.in_ok-text.ensures.ok

@@ -1,0 +1,8 @@
+use Rattle.std.proofs.Common.{◌<◌, arith}
+use Rattle.pcap_input.proofs.Words.{pseudo_positive}
+use Rattle.pcap_input.proofs.frames.Segment.header.Goals as goal
+
+pub checksum-requires : goal.checksum-requires
+checksum-requires c =
+    let positive : 0 < c.word_sum.result = rw (c.word_sum.ensures.value, c.pseudo_header-pseudo.ensures) (pseudo_positive _ _ _ _) in
+    omega arith

@@ -1,0 +1,5 @@
+use Rattle.pcap_input.proofs.Words.{ip_positive}
+use Rattle.pcap_input.proofs.frames.ip_header.Goals as goal
+
+pub checksum-requires : goal.checksum-requires
+checksum-requires c = rw (c.word_sum-sum.ensures.value, c.ip_fields.ensures) (ip_positive _ _ _ _ _)

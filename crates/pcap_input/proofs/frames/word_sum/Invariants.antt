@@ -1,0 +1,12 @@
+use Rattle.std.proofs.Common.{◌≡◌, ◌+◌, ◌*◌, ◌≤◌, length}
+use Rattle.pcap_input.specs.Frames.{word_sum}
+use Rattle.pcap_input.proofs.frames.word_sum.Given as goal
+
+abbrev pub invariant-loop-rest : goal.invariant-loop-rest
+invariant-loop-rest l = record {
+  same : l.sum + word_sum l.rest ≡ word_sum l.bytes;
+  room : l.sum + 65536 * length l.rest ≤ 65536 * length l.bytes;
+}
+
+abbrev pub decreases-loop-rest : goal.decreases-loop-rest
+decreases-loop-rest l = length l.rest
