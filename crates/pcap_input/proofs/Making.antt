@@ -4,6 +4,7 @@ use Rattle.std.specs.Prelude.{codes, decimal, slice_set}
 use Rattle.std.proofs.lemmas.Bool.{ne_eqb}
 use Rattle.std.proofs.lemmas.Fmt.{length-decimal-le}
 use Rattle.std.proofs.lemmas.List.Edits.{fill_by_more}
+use Rattle.pcap_input.specs.declared.frames.Segment.{Segment}
 use Rattle.pcap_input.specs.declared.traffic.Session.{Session}
 use Rattle.pcap_input.specs.declared.traffic.Traffic.{Traffic}
 use Rattle.pcap_input.specs.Frames.{tcp_frame, udp_frame}
@@ -66,18 +67,20 @@ datagram-made traffic host first after text frame host_is first_is text_is after
     rw (frame_is, text_is, after_is, first_is, host_is) refl
 
 -- a segment, by its draws
-pub segment-made : (traffic : Traffic) (number first after : ℕ) (session : Session) (payload frame : List ℕ)
+pub segment-made : (traffic : Traffic) (number first after : ℕ) (session next : Session) (sessions : List Session) (segment : Segment) (payload frame : List ℕ)
     → number ≡ draw 16 traffic.draws.state
     → first ≡ step traffic.draws.state
     → session ≡ session_at traffic.sessions number
     → payload ≡ payload_at session.turn first
     → after ≡ state_behind session.turn first
-    → frame ≡ tcp_frame (segment_at number session.client session.server session.turn) payload
-    → IsMade (made_segment traffic) frame
-        (record { draws = record { state = after }; sessions = slice_set traffic.sessions number (session_behind session.client session.server session.turn) })
+    → sessions ≡ traffic.sessions
+    → next ≡ session_behind session.client session.server session.turn
+    → segment ≡ segment_at number session.client session.server session.turn
+    → frame ≡ tcp_frame segment payload
+    → IsMade (made_segment traffic) frame (record { draws = record { state = after }; sessions = set sessions number next })
 unfolding made_segment made_of_session
-segment-made traffic number first after session payload frame number_is first_is session_is payload_is after_is frame_is =
-    rw (frame_is, payload_is, after_is, session_is, first_is, number_is) refl
+segment-made traffic number first after session next sessions segment payload frame number_is first_is session_is payload_is after_is sessions_are next_is segment_is frame_is =
+    rw (frame_is, segment_is, next_is, sessions_are, payload_is, after_is, session_is, first_is, number_is) refl
 
 -- one in four is a datagram
 pub made-datagram : (traffic behind : Traffic) (drawn first : ℕ) (frame : List ℕ)

@@ -1,5 +1,5 @@
 ghost use Rattle.std.specs.Prelude.{◌≡◌, ◌+◌, ◌<◌, ◌≤◌, length, IfOk};
-ghost use Rattle.pcap_input.specs.Generated.{first_session, segment_at, session_behind, has_payload, payload_at, state_behind, first_traffic, made_of_session, made_segment, made_datagram, made, IsMade};
+ghost use Rattle.pcap_input.specs.Generated.{first_session, session_at, segment_at, session_behind, has_payload, payload_at, state_behind, first_traffic, made_of_session, made_segment, made_datagram, made, IsMade};
 
 use crate::draws::Draws;
 use crate::frames::{Endpoint, Segment, udp_frame};
@@ -104,6 +104,14 @@ impl Traffic {
         Traffic { draws: Draws { state: seed }, sessions }
     }
 
+    /// Session `number`.
+    fn session(&self, number: u8) -> Session
+        requires { number < 16 }
+        ensures { result ≡ session_at self.now.sessions number }
+    {
+        self.sessions[number as usize]
+    }
+
     /// The payload of a turn.
     #[tactic(auto, unfolding(crate::specs::Generated::payload_at, crate::specs::Generated::state_behind))]
     fn payload(&mut self, alloc: Global, turn: Turn) -> Result<Vec<u8>, AllocError>
@@ -127,7 +135,7 @@ impl Traffic {
         ensures short { IfOk result (λ frame. length frame.items < 1000) }
     {
         let number = self.draws.below(16) as u8;
-        let session = self.sessions[number as usize];
+        let session = self.session(number);
         let payload = self.payload(alloc, session.turn)?;
         self.sessions[number as usize] = session.behind();
         let frame = session.segment(number).frame(alloc, &payload)?;
