@@ -135,9 +135,9 @@ text_drawn state = codes "gen-" ++ decimal (draw 1000 state)
 unfoldable pub made_datagram : Traffic → Made
 made_datagram traffic = record {
   frame = udp_frame
-    (record { net = 1; host = 1 + draw 16 traffic.draws.state; port = 1024 })
-    (record { net = 2; host = 2; port = 53 })
-    (text_drawn (step traffic.draws.state));
+      (record { net = 1; host = 1 + draw 16 traffic.draws.state; port = 1024 })
+      (record { net = 2; host = 2; port = 53 })
+      (text_drawn (step traffic.draws.state));
   behind = with_state traffic (steps 2 traffic.draws.state);
 }
 

@@ -6,7 +6,9 @@ use std::alloc::{AllocError, Global};
 
 /// The bytes of an Ethernet header, of an IPv4 header and of a TCP header, each without options.
 const ETHERNET: usize = 14;
+
 const IP: usize = 20;
+
 const TCP: usize = 20;
 
 /// The Ethernet header: destination, source and the type of IPv4.
@@ -14,6 +16,7 @@ const ETHERNET_HEADER: &[u8; ETHERNET] = b"\x02\0\0\0\0\x02\x02\0\0\0\0\x01\x08\
 
 /// The numbers of the protocols.
 const TCP_PROTOCOL: u8 = 6;
+
 const UDP_PROTOCOL: u8 = 17;
 
 /// One end of a packet: the address 10.net.0.host and a port.
@@ -187,7 +190,14 @@ impl Segment {
         ensures short { IfOk result (λ frame. length frame.items < 1000) }
     {
         let header = self.header(payload);
-        frame(alloc, self.source, self.destination, TCP_PROTOCOL, &header, payload)
+        frame(
+            alloc,
+            self.source,
+            self.destination,
+            TCP_PROTOCOL,
+            &header,
+            payload,
+        )
     }
 }
 

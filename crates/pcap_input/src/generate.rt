@@ -7,7 +7,8 @@ use edge_io::NoMemory;
 use std::alloc::{AllocError, Global};
 
 /// The file header: microseconds, least significant byte first, version 2.4, Ethernet.
-const HEADER: &[u8; FILE_HEADER] = b"\xd4\xc3\xb2\xa1\x02\0\x04\0\0\0\0\0\0\0\0\0\xff\xff\0\0\x01\0\0\0";
+const HEADER: &[u8; FILE_HEADER] =
+    b"\xd4\xc3\xb2\xa1\x02\0\x04\0\0\0\0\0\0\0\0\0\xff\xff\0\0\x01\0\0\0";
 
 /// The bytes of the longest record: its header, and a frame with 64 bytes of data.
 const LONGEST_RECORD: usize = 134;

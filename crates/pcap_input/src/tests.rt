@@ -1,6 +1,6 @@
 //! Whole captures in memory: every head, records and endings worked out by hand from the format.
 
-use crate::{CaptureFault, CaptureHead, CaptureReader, Record};
+use crate::{CaptureFault, CaptureHead, CaptureReader, Record, make_capture};
 use edge_io::crossing::{sendable, shareable};
 use edge_io::{Host, Link, MemHost, Moment};
 use std::alloc::Global;
@@ -373,6 +373,41 @@ fn a_failing_read_is_repeated(rt: HostRuntime) -> Result<(), Fail> {
             reader.next(alloc, &mut host).err(),
             Some(CaptureFault::Failed)
         );
+    }
+    Ok(())
+}
+
+/// A row for each case: the seed and the count, what is shown, and the last bytes of the capture.
+const MADE_ROWS: &str = "1 0 no packet: d4c3b2a1020004000000000000000000ffff000001000000
+1 1 the SYN of session 14: d4c3b2a1020004000000000000000000ffff0000010000000000000000000000360000003600000002000000000202000000000108004500002800010000400666bd0a01000f0a0200019c4e0050000036b0000000005002ffffc8810000
+1 3 a SYN ACK: 00000000d0070000360000003600000002000000000202000000000108004500002800010000400666c00a0200010a01000c00509c4b0007a12000002af95012ffff33070000
+1 4 an ACK behind it: 00000000b80b0000360000003600000002000000000202000000000108004500002800010000400666c00a01000c0a0200019c4b005000002af90007a1215010ffff33080000
+1 5 a datagram: 00000000a00f0000310000003100000002000000000202000000000108004500002300010000401166be0a0100070a02000204000035000f000067656e2d373439
+1432 5 data: 00000000a00f0000760000007600000002000000000202000000000108004500006800010000400666800a01000c0a0200019c4b005000002af90007a1215018ffffe6e5000061796164696c656f6d6c68796171737668776e746b756177616a62666a6f786a636e687a746d616770647169697a61757a6e6d666a697568776163746d646673
+12032 6 data with the mark: 0000000088130000760000007600000002000000000202000000000108004500006800010000400666860a0100060a0200019c450050000013890007a1215018ffff7d64000061747461636b706d756c7879776a7467667a6e7474706c726c7462636d636b6168677571616c6d6766766c7877676271797a616b7a6978796473756b79737173
+49787 6 their acknowledgement: 0000000088130000360000003600000002000000000202000000000108004500002800010000400666bc0a0200010a01001000509c4f0007a12100003ad95010ffff23200000
+1 1235 a packet in the second second: 0100000010920300360000003600000002000000000202000000000108004500002800010000400666bf0a0200010a01000d00509c4c0007a121000036e15010ffff271e0000";
+
+/// The last bytes of a capture in digits, as many as the text beside them has.
+fn last_digits(alloc: Global, bytes: &[u8], like: &str) -> Result<String, Fail> {
+    let start = bytes.len().saturating_sub(like.len() / 2);
+    let mut digits = String::new(alloc);
+    for byte in bytes.get(start..).unwrap_or(&[]) {
+        write!(digits, "{byte:02x}")?;
+    }
+    Ok(digits)
+}
+
+#[test]
+fn captures_are_made(rt: HostRuntime) -> Result<(), Fail> {
+    let alloc = rt.alloc();
+    for row in MADE_ROWS.lines() {
+        let (call, want) = row.split_once(": ").unwrap_or((row, ""));
+        let mut words = call.split_whitespace();
+        let seed = words.next().unwrap_or("").parse().unwrap_or(0);
+        let count = words.next().unwrap_or("").parse().unwrap_or(0);
+        let bytes = make_capture(alloc, seed, count)?;
+        assert_eq!(rt; last_digits(alloc, &bytes, want)?.as_str(), want, "{call}");
     }
     Ok(())
 }

@@ -10,12 +10,23 @@ const SESSIONS: usize = 16;
 
 /// The flags of TCP that are sent.
 const SYN: u8 = 2;
+
 const PSH: u8 = 8;
+
 const ACK: u8 = 16;
 
 /// The end that serves the sessions, and the one that the datagrams go to.
-const WEB_SERVER: Endpoint = Endpoint { net: 2, host: 1, port: 80 };
-const NAME_SERVER: Endpoint = Endpoint { net: 2, host: 2, port: 53 };
+const WEB_SERVER: Endpoint = Endpoint {
+    net: 2,
+    host: 1,
+    port: 80,
+};
+
+const NAME_SERVER: Endpoint = Endpoint {
+    net: 2,
+    host: 2,
+    port: 53,
+};
 
 /// What a session sends next. Data and their acknowledgement take turns for ever.
 #[derive(Clone, Copy, Debug, PartialEq, Eq)]
@@ -49,7 +60,11 @@ impl Session {
     fn first(number: u8) -> Session
         ensures { result ≡ first_session number }
     {
-        Session { client: 1000 * u32::from(number), server: 500_000, turn: Turn::Syn }
+        Session {
+            client: 1000 * u32::from(number),
+            server: 500_000,
+            turn: Turn::Syn,
+        }
     }
 
     /// What session `number` sends at its turn.
@@ -58,14 +73,40 @@ impl Session {
         requires { number < 16 }
         ensures { result ≡ segment_at number self.client self.server self.turn }
     {
-        let client = Endpoint { net: 1, host: 1 + number, port: 40_000 + u16::from(number) };
-        let to_server = Segment { source: client, destination: WEB_SERVER, seq: self.client, ack: self.server, flags: ACK };
-        let to_client = Segment { source: WEB_SERVER, destination: client, seq: self.server, ack: self.client, flags: ACK };
+        let client = Endpoint {
+            net: 1,
+            host: 1 + number,
+            port: 40_000 + u16::from(number),
+        };
+        let to_server = Segment {
+            source: client,
+            destination: WEB_SERVER,
+            seq: self.client,
+            ack: self.server,
+            flags: ACK,
+        };
+        let to_client = Segment {
+            source: WEB_SERVER,
+            destination: client,
+            seq: self.server,
+            ack: self.client,
+            flags: ACK,
+        };
         match self.turn {
-            Turn::Syn => Segment { ack: 0, flags: SYN, ..to_server },
-            Turn::SynAck => Segment { flags: SYN + ACK, ..to_client },
+            Turn::Syn => Segment {
+                ack: 0,
+                flags: SYN,
+                ..to_server
+            },
+            Turn::SynAck => Segment {
+                flags: SYN + ACK,
+                ..to_client
+            },
             Turn::Established => to_server,
-            Turn::Data => Segment { flags: PSH + ACK, ..to_server },
+            Turn::Data => Segment {
+                flags: PSH + ACK,
+                ..to_server
+            },
             Turn::DataAck => to_client,
         }
     }
@@ -76,11 +117,29 @@ impl Session {
         ensures { result ≡ session_behind self.client self.server self.turn }
     {
         match self.turn {
-            Turn::Syn => Session { client: self.client.wrapping_add(1), turn: Turn::SynAck, ..self },
-            Turn::SynAck => Session { server: self.server.wrapping_add(1), turn: Turn::Established, ..self },
-            Turn::Established => Session { turn: Turn::Data, ..self },
-            Turn::Data => Session { client: self.client.wrapping_add(64), turn: Turn::DataAck, ..self },
-            Turn::DataAck => Session { turn: Turn::Data, ..self },
+            Turn::Syn => Session {
+                client: self.client.wrapping_add(1),
+                turn: Turn::SynAck,
+                ..self
+            },
+            Turn::SynAck => Session {
+                server: self.server.wrapping_add(1),
+                turn: Turn::Established,
+                ..self
+            },
+            Turn::Established => Session {
+                turn: Turn::Data,
+                ..self
+            },
+            Turn::Data => Session {
+                client: self.client.wrapping_add(64),
+                turn: Turn::DataAck,
+                ..self
+            },
+            Turn::DataAck => Session {
+                turn: Turn::Data,
+                ..self
+            },
         }
     }
 }
@@ -101,7 +160,10 @@ impl Traffic {
         for number in 0..SESSIONS {
             sessions[number] = Session::first(number as u8);
         }
-        Traffic { draws: Draws { state: seed }, sessions }
+        Traffic {
+            draws: Draws { state: seed },
+            sessions,
+        }
     }
 
     /// Session `number`.
@@ -149,7 +211,11 @@ impl Traffic {
     {
         let host = 1 + self.draws.below(16) as u8;
         let text = self.draws.text(alloc)?;
-        let source = Endpoint { net: 1, host, port: 1024 };
+        let source = Endpoint {
+            net: 1,
+            host,
+            port: 1024,
+        };
         let frame = udp_frame(alloc, source, NAME_SERVER, text.as_bytes())?;
         Ok(frame)
     }

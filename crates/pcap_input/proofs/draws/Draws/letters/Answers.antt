@@ -9,11 +9,11 @@ loop-number-preserved c =
     let state = c.loop-number.self.state in
     record {
       drawn =
-        rw (c.in_ok-push.ensures.items, c.below-letter.ensures.drawn, c.below-letter.ensures.stepped)
-        (letters-step (64 - number) (64 - (number + 1)) state c.loop-number.text.items (letters 64 c.args.self.now.state) (omega arith) c.loop-number.invariant.drawn);
+          rw (c.in_ok-push.ensures.items, c.below-letter.ensures.drawn, c.below-letter.ensures.stepped)
+          (letters-step (64 - number) (64 - (number + 1)) state c.loop-number.text.items (letters 64 c.args.self.now.state) (omega arith) c.loop-number.invariant.drawn);
       stepped =
-        rw c.below-letter.ensures.stepped
-        (steps-step (64 - number) (64 - (number + 1)) state (steps 64 c.args.self.now.state) (omega arith) c.loop-number.invariant.stepped);
+          rw c.below-letter.ensures.stepped
+          (steps-step (64 - number) (64 - (number + 1)) state (steps 64 c.args.self.now.state) (omega arith) c.loop-number.invariant.stepped);
       size = omega (arith, c.in_ok-push.ensures.len);
     }
 
