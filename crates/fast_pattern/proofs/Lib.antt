@@ -7,6 +7,7 @@ pub mod Hitting
 pub mod Lettering
 pub mod Linking
 pub mod Making
+pub mod Marking
 pub mod Needing
 pub mod Occurring
 pub mod Ordering

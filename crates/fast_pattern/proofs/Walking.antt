@@ -1,14 +1,16 @@
 -- The walk, a byte at a time.
-use Rattle.std.proofs.Common.{◌≡◌, ℕ, ◌+◌, ◌*◌, ◌/◌, ◌%◌, ◌<◌, ◌≤◌, inl, Bool, true, false, ◌&&◌, ◌||◌, cond, eqb, ltb, List, [], ◌∷◌, length, take, get_or, slice_index, sym, refl, ap, subst, ◌∙◌, arith, ⊎_elim, lit<}
+use Rattle.std.proofs.Common.{◌≡◌, ℕ, ◌+◌, ◌*◌, ◌/◌, ◌%◌, ◌<◌, ◌≤◌, Bool, true, false, ◌&&◌, ◌||◌, cond, eqb, ltb, List, [], ◌∷◌, length, take, get_or, slice_index, sym, refl, ap, subst, ◌∙◌, arith, ⊎_elim, lit<}
 use Rattle.std.specs.List.Sorted.{IsPermutation}
 use Rattle.std.proofs.lemmas.List.{length-map, take_all}
 use Rattle.std.proofs.lemmas.List.Sorted.{IsPermutation-refl}
 use Rattle.std.proofs.lemmas.Nat.{div-mul-add}
 use Rattle.std.proofs.lemmas.Bool.{cases_eq, eq-eqb, ne_eqb, lt-ltb, le-ltb, ltb-true, and_parts, and_from, cond-true, cond-false}
 use Rattle.fast_pattern.specs.declared.automaton.Automaton.{Automaton}
+use Rattle.fast_pattern.specs.declared.seen.Seen.{Seen}
+use Rattle.fast_pattern.specs.Marking.{is_marked}
 use Rattle.fast_pattern.specs.Words.{begins, has_ended, word_of, word_at, IsAt}
 use Rattle.fast_pattern.specs.Outputs.{is_left, ends_word, AreWords, entry_of}
-use Rattle.fast_pattern.specs.Finding.{numbers, is_marked, is_ended, IsClosedUnder, words_in, Walks, Notes, AreHits}
+use Rattle.fast_pattern.specs.Finding.{numbers, is_ended, IsClosedUnder, words_in, Walks, Notes, AreHits}
 use Rattle.fast_pattern.proofs.Words.{ended-push, ended-none, ended-suffix, walk-step}
 use Rattle.fast_pattern.proofs.Growing.{word_of-more}
 use Rattle.fast_pattern.proofs.Hitting.{numbers-same, numbers-none}
@@ -49,7 +51,7 @@ ended-more words patterns ends read letter state place are at h =
     go true false false = refl
     go false e b = refl
 
-closed-under : (patterns : List (List ℕ)) (read : List ℕ) (seen : List Bool) → ((place : ℕ) → place < length patterns → is_marked seen place ≡ is_ended patterns read place) → IsClosedUnder patterns seen
+closed-under : (patterns : List (List ℕ)) (read : List ℕ) (seen : Seen) → ((place : ℕ) → place < length patterns → is_marked seen place ≡ is_ended patterns read place) → IsClosedUnder patterns seen
 closed-under patterns read seen marked one other j k m some b =
     let tells = ended-tells patterns read other (sym (marked other k) ∙ m) in
     marked one j ∙ ended-from patterns read one some (ended-suffix (word_at patterns one) (word_at patterns other) read b tells.1)
@@ -57,12 +59,11 @@ closed-under patterns read seen marked one other j k m some b =
 pub count-words : (letters : List ℕ) (patterns : List (List ℕ)) → length (words_in letters patterns) ≡ length patterns
 count-words letters patterns = length-map patterns (word_of letters)
 
-pub walks-none : (automaton : Automaton) → Walks automaton (word_of automaton.letters []) 0 [] []
-walks-none automaton =
-    let P : List ℕ → Type 0 = λ read. Walks automaton read 0 [] [] in
+pub walks-none : (automaton : Automaton) (seen : Seen) → ((place : ℕ) → is_marked seen place ≡ false) → Walks automaton (word_of automaton.letters []) 0 seen []
+walks-none automaton seen none =
+    let P : List ℕ → Type 0 = λ read. Walks automaton read 0 seen [] in
     subst P (sym (word_of-none automaton.letters)) (record {
       small = lit< tt;
-      sized = inl refl;
       walked = λ patterns finds.
           let Q : List ℕ → Type 0 = λ ns. IsPermutation ns [] in
           record {
@@ -70,21 +71,20 @@ walks-none automaton =
             within = finds.some;
             row = refl_row automaton.width;
             is = λ state h. ap (begins (word_at finds.words state)) (sym finds.root);
-            marked = λ place h. sym (ended-start (words_in automaton.letters patterns) place);
-            listed = subst Q (sym (numbers-none (is_marked []) 0 (length (words_in automaton.letters patterns)) (λ place. refl))) (IsPermutation-refl []);
+            marked = λ place h. none place ∙ sym (ended-start (words_in automaton.letters patterns) place);
+            listed = subst Q (sym (numbers-none (is_marked seen) 0 (length (words_in automaton.letters patterns)) none)) (IsPermutation-refl []);
           };
     })
   where
     refl_row : (width : ℕ) → 0 ≡ 0 * width
     refl_row width = omega arith
 
-pub walks-more : (automaton : Automaton) (bytes : List ℕ) (i at letter entry : ℕ) (old new : List Bool) (old_hits new_hits : List ℕ) → Walks automaton (word_of automaton.letters (take i bytes)) at old old_hits → i < length bytes → letter ≡ slice_index automaton.letters (get_or bytes i 0) → entry ≡ slice_index automaton.table.items (at + letter) → entry < 4294967296 → Notes automaton entry old old_hits new new_hits → Walks automaton (word_of automaton.letters (take (i + 1) bytes)) (entry / 2) new new_hits
+pub walks-more : (automaton : Automaton) (bytes : List ℕ) (i at letter entry : ℕ) (old new : Seen) (old_hits new_hits : List ℕ) → Walks automaton (word_of automaton.letters (take i bytes)) at old old_hits → i < length bytes → letter ≡ slice_index automaton.letters (get_or bytes i 0) → entry ≡ slice_index automaton.table.items (at + letter) → entry < 4294967296 → Notes automaton entry old old_hits new new_hits → Walks automaton (word_of automaton.letters (take (i + 1) bytes)) (entry / 2) new new_hits
 walks-more automaton bytes i at letter entry old new old_hits new_hits was h letter_is entry_is short notes =
     let read = word_of automaton.letters (take i bytes) in
     let P : List ℕ → Type 0 = λ r. Walks automaton r (entry / 2) new new_hits in
     subst P (ap (λ l. l ∷ read) letter_is ∙ sym (word_of-more automaton.letters bytes i h)) (record {
       small = omega arith;
-      sized = notes.sized was.sized;
       walked = λ patterns finds.
           let w = was.walked patterns finds in
           let words = finds.words in
@@ -105,14 +105,14 @@ walks-more automaton bytes i at letter entry old new old_hits new_hits was h let
             row = half.0;
             is = at_next;
             marked = λ place k.
-                notes.marked pats head (omega arith) was.sized count finds.nexts (closed-under pats read old w.marked) (chain.within, chain.some) known half.1 place k
+                notes.marked pats head (omega arith) count finds.nexts (closed-under pats read old w.marked) (chain.within, chain.some) known half.1 place k
                 ∙ ap (λ b. b || is_left pats head place) (w.marked place k)
                 ∙ ap (λ b. is_ended pats read place || b) (chain.left place k)
                 ∙ ended-more words pats finds.ends read letter has.next place finds.are at_next k;
             listed =
                 let Q : ℕ → Type 0 = λ n. IsPermutation (numbers (is_marked old) 0 n) old_hits in
                 let R : ℕ → Type 0 = λ n. IsPermutation (numbers (is_marked new) 0 n) new_hits in
-                subst R (sym count) (notes.listed was.sized (subst Q count w.listed));
+                subst R (sym count) (notes.listed (subst Q count w.listed));
           };
     })
   where
@@ -125,7 +125,7 @@ walks-more automaton bytes i at letter entry old new old_hits new_hits was h let
         (λ some. let same : ◌≡◌ {A = ℕ} (cond (eqb hd 0) 0 1) 1 = cond-false {A = ℕ} (eqb hd 0) 0 1 (ne_eqb hd 0 some) in (omega (arith, same), λ even. absurd (omega (arith, same))))
         (cases_eq hd 0)
 
-pub hits-all : (automaton : Automaton) (bytes : List ℕ) (i at : ℕ) (seen : List Bool) (hits : List ℕ) → length bytes ≤ i → Walks automaton (word_of automaton.letters (take i bytes)) at seen hits → AreHits automaton bytes hits
+pub hits-all : (automaton : Automaton) (bytes : List ℕ) (i at : ℕ) (seen : Seen) (hits : List ℕ) → length bytes ≤ i → Walks automaton (word_of automaton.letters (take i bytes)) at seen hits → AreHits automaton bytes hits
 hits-all automaton bytes i at seen hits h walks = record {
   found = λ patterns finds.
       let w = walks.walked patterns finds in

@@ -6,7 +6,9 @@
 use Rattle.std.specs.Prelude.{◌≡◌, ℕ, zero, suc, ◌+◌, ◌-◌, ◌*◌, ◌/◌, ◌%◌, ◌<◌, ◌≤◌, ◌⊎◌, Bool, true, false, ◌&&◌, ◌||◌, List, [], ◌∷◌, length, map, nat_lt, slice_index, slice_index_or, if◌then◌else◌}
 use Rattle.std.specs.List.Sorted.{IsPermutation}
 use Rattle.fast_pattern.specs.declared.automaton.Automaton.{Automaton}
+use Rattle.fast_pattern.specs.declared.seen.Seen.{Seen}
 use Rattle.fast_pattern.specs.Letters.{AllTold}
+use Rattle.fast_pattern.specs.Marking.{is_marked}
 use Rattle.fast_pattern.specs.Words.{begins, has_ended, word_of, word_at, IsClosed, IsAt}
 use Rattle.fast_pattern.specs.Outputs.{AreWords, is_left, IsHead, IsNext, entry_of}
 
@@ -15,16 +17,12 @@ unfoldable pub numbers : (ℕ → Bool) → ℕ → ℕ → List ℕ
 numbers test from zero = []
 numbers test from (suc count) = if test from then from ∷ numbers test (from + 1) count else numbers test (from + 1) count
 
--- the mark of a place
-abbrev pub is_marked : List Bool → ℕ → Bool
-is_marked seen place = slice_index_or seen place false
-
 -- the pattern, which isn't empty, has ended
 unfoldable pub is_ended : List (List ℕ) → List ℕ → ℕ → Bool
 is_ended patterns read place = nat_lt 0 (length (word_at patterns place)) && has_ended (word_at patterns place) read
 
 -- where a pattern is marked, those that it ends in are
-abbrev pub IsClosedUnder : List (List ℕ) → List Bool → Type 0
+abbrev pub IsClosedUnder : List (List ℕ) → Seen → Type 0
 IsClosedUnder patterns seen = (one other : ℕ) → one < length patterns → other < length patterns → is_marked seen other ≡ true → 0 < length (word_at patterns one) → begins (word_at patterns one) (word_at patterns other) ≡ true → is_marked seen one ≡ true
 
 -- behind each pattern the chain goes on as told
@@ -36,27 +34,21 @@ abbrev pub MayBegin : List (List ℕ) → ℕ → Type 0
 MayBegin patterns head = (head ≤ length patterns) × (0 < head → 0 < length (word_at patterns (head - 1)))
 
 -- a chain's patterns were marked, and those that weren't marked before listed
-pub record Follows (nexts : List ℕ) (head : ℕ) (old : List Bool) (old_hits : List ℕ) (new : List Bool) (new_hits : List ℕ) : Type 0 where
-  pub sized : length new ≡ length old
-  pub marked : (patterns : List (List ℕ)) → length patterns ≡ length old → AreChained patterns nexts → IsClosedUnder patterns old → MayBegin patterns head
+pub record Follows (nexts : List ℕ) (head : ℕ) (old : Seen) (old_hits : List ℕ) (new : Seen) (new_hits : List ℕ) : Type 0 where
+  pub marked : (patterns : List (List ℕ)) → length patterns ≡ length nexts → AreChained patterns nexts → IsClosedUnder patterns old → MayBegin patterns head
       → (place : ℕ) → place < length patterns → is_marked new place ≡ (is_marked old place || is_left patterns head place)
-  pub listed : IsPermutation (numbers (is_marked old) 0 (length old)) old_hits → IsPermutation (numbers (is_marked new) 0 (length old)) new_hits
+  pub listed : IsPermutation (numbers (is_marked old) 0 (length nexts)) old_hits → IsPermutation (numbers (is_marked new) 0 (length nexts)) new_hits
 
 -- the same on the way, where the chain from a place on is left
-pub record IsFollowing (nexts : List ℕ) (head : ℕ) (old : List Bool) (old_hits : List ℕ) (at : ℕ) (new : List Bool) (new_hits : List ℕ) : Type 0 where
-  pub sized : length new ≡ length old
-  pub begins : (patterns : List (List ℕ)) → length patterns ≡ length old → AreChained patterns nexts → MayBegin patterns head → MayBegin patterns at
-  pub part : (patterns : List (List ℕ)) → length patterns ≡ length old → AreChained patterns nexts → MayBegin patterns head
+pub record IsFollowing (nexts : List ℕ) (head : ℕ) (old : Seen) (old_hits : List ℕ) (at : ℕ) (new : Seen) (new_hits : List ℕ) : Type 0 where
+  pub begins : (patterns : List (List ℕ)) → length patterns ≡ length nexts → AreChained patterns nexts → MayBegin patterns head → MayBegin patterns at
+  pub part : (patterns : List (List ℕ)) → length patterns ≡ length nexts → AreChained patterns nexts → MayBegin patterns head
       → (place : ℕ) → place < length patterns → is_left patterns at place ≡ true → is_left patterns head place ≡ true
-  pub before : (patterns : List (List ℕ)) → length patterns ≡ length old → AreChained patterns nexts → MayBegin patterns head
+  pub before : (patterns : List (List ℕ)) → length patterns ≡ length nexts → AreChained patterns nexts → MayBegin patterns head
       → (place : ℕ) → place < length patterns → is_left patterns at place ≡ true → is_marked new place ≡ is_marked old place
-  pub marked : (patterns : List (List ℕ)) → length patterns ≡ length old → AreChained patterns nexts → MayBegin patterns head
+  pub marked : (patterns : List (List ℕ)) → length patterns ≡ length nexts → AreChained patterns nexts → MayBegin patterns head
       → (place : ℕ) → place < length patterns → is_left patterns at place ≡ false → is_marked new place ≡ (is_marked old place || is_left patterns head place)
-  pub listed : IsPermutation (numbers (is_marked old) 0 (length old)) old_hits → IsPermutation (numbers (is_marked new) 0 (length old)) new_hits
-
--- no mark yet, or one for each pattern
-abbrev pub IsTable : ℕ → List Bool → Type 0
-IsTable count seen = (length seen ≡ 0) ⊎ (length seen ≡ count)
+  pub listed : IsPermutation (numbers (is_marked old) 0 (length nexts)) old_hits → IsPermutation (numbers (is_marked new) 0 (length nexts)) new_hits
 
 -- the patterns' words, by the letters
 abbrev pub words_in : List ℕ → List (List ℕ) → List (List ℕ)
@@ -85,7 +77,7 @@ pub record Finds (automaton : Automaton) (patterns : List (List ℕ)) : Type 0 w
   pub count : length automaton.nexts.items ≡ length patterns
 
 -- behind what was read the walk stands at a state's row, and has marked and listed what has ended
-pub record IsWalked (automaton : Automaton) (patterns words : List (List ℕ)) (read : List ℕ) (at : ℕ) (seen : List Bool) (hits : List ℕ) : Type 0 where
+pub record IsWalked (automaton : Automaton) (patterns words : List (List ℕ)) (read : List ℕ) (at : ℕ) (seen : Seen) (hits : List ℕ) : Type 0 where
   pub state : ℕ
   pub within : state < length words
   pub row : at ≡ state * automaton.width
@@ -94,31 +86,23 @@ pub record IsWalked (automaton : Automaton) (patterns words : List (List ℕ)) (
   pub listed : IsPermutation (numbers (is_marked seen) 0 (length patterns)) hits
 
 -- whatever the patterns are that the automaton finds, the walk is right so far
-pub record Walks (automaton : Automaton) (read : List ℕ) (at : ℕ) (seen : List Bool) (hits : List ℕ) : Type 0 where
+pub record Walks (automaton : Automaton) (read : List ℕ) (at : ℕ) (seen : Seen) (hits : List ℕ) : Type 0 where
   pub small : at < 2147483648
-  pub sized : IsTable (length automaton.nexts.items) seen
   pub walked : (patterns : List (List ℕ)) (finds : Finds automaton patterns) → IsWalked automaton (words_in automaton.letters patterns) finds.words read at seen hits
 
 -- the chain of a state was marked and listed
-pub record Marks (automaton : Automaton) (at : ℕ) (old : List Bool) (old_hits : List ℕ) (new : List Bool) (new_hits : List ℕ) : Type 0 where
-  pub sized : IsTable (length automaton.nexts.items) old → length new ≡ length automaton.nexts.items
-  pub marked : (patterns : List (List ℕ)) → 0 < automaton.width → IsTable (length automaton.nexts.items) old → length patterns ≡ length automaton.nexts.items → AreChained patterns automaton.nexts.items → IsClosedUnder patterns old → MayBegin patterns (slice_index automaton.heads.items (at / automaton.width))
+pub record Marks (automaton : Automaton) (at : ℕ) (old : Seen) (old_hits : List ℕ) (new : Seen) (new_hits : List ℕ) : Type 0 where
+  pub marked : (patterns : List (List ℕ)) → 0 < automaton.width → length patterns ≡ length automaton.nexts.items → AreChained patterns automaton.nexts.items → IsClosedUnder patterns old → MayBegin patterns (slice_index automaton.heads.items (at / automaton.width))
       → (place : ℕ) → place < length patterns → is_marked new place ≡ (is_marked old place || is_left patterns (slice_index automaton.heads.items (at / automaton.width)) place)
-  pub listed : IsTable (length automaton.nexts.items) old → IsPermutation (numbers (is_marked old) 0 (length automaton.nexts.items)) old_hits → IsPermutation (numbers (is_marked new) 0 (length automaton.nexts.items)) new_hits
+  pub listed : IsPermutation (numbers (is_marked old) 0 (length automaton.nexts.items)) old_hits → IsPermutation (numbers (is_marked new) 0 (length automaton.nexts.items)) new_hits
 
 -- the hits are the patterns, not empty ones, that have ended somewhere in the bytes
 pub record AreHits (automaton : Automaton) (bytes hits : List ℕ) : Type 0 where
   pub found : (patterns : List (List ℕ)) → Finds automaton patterns → IsPermutation (numbers (is_ended (words_in automaton.letters patterns) (word_of automaton.letters bytes)) 0 (length patterns)) hits
 
--- a table of marks was made, where there was none
-pub record IsMade (count : ℕ) (old new : List Bool) : Type 0 where
-  pub sized : IsTable count old → length new ≡ count
-  pub same : (place : ℕ) → is_marked new place ≡ is_marked old place
-
 -- a move was noted: the chain of the state that it goes to, if it says that a pattern ends there
-pub record Notes (automaton : Automaton) (entry : ℕ) (old : List Bool) (old_hits : List ℕ) (new : List Bool) (new_hits : List ℕ) : Type 0 where
-  pub sized : IsTable (length automaton.nexts.items) old → IsTable (length automaton.nexts.items) new
-  pub marked : (patterns : List (List ℕ)) (head : ℕ) → 0 < automaton.width → IsTable (length automaton.nexts.items) old → length patterns ≡ length automaton.nexts.items → AreChained patterns automaton.nexts.items → IsClosedUnder patterns old → MayBegin patterns head
+pub record Notes (automaton : Automaton) (entry : ℕ) (old : Seen) (old_hits : List ℕ) (new : Seen) (new_hits : List ℕ) : Type 0 where
+  pub marked : (patterns : List (List ℕ)) (head : ℕ) → 0 < automaton.width → length patterns ≡ length automaton.nexts.items → AreChained patterns automaton.nexts.items → IsClosedUnder patterns old → MayBegin patterns head
       → head ≡ slice_index automaton.heads.items (entry / 2 / automaton.width) → (entry % 2 ≡ 0 → head ≡ 0)
       → (place : ℕ) → place < length patterns → is_marked new place ≡ (is_marked old place || is_left patterns head place)
-  pub listed : IsTable (length automaton.nexts.items) old → IsPermutation (numbers (is_marked old) 0 (length automaton.nexts.items)) old_hits → IsPermutation (numbers (is_marked new) 0 (length automaton.nexts.items)) new_hits
+  pub listed : IsPermutation (numbers (is_marked old) 0 (length automaton.nexts.items)) old_hits → IsPermutation (numbers (is_marked new) 0 (length automaton.nexts.items)) new_hits

@@ -6,6 +6,7 @@ pub mod Grouping
 pub mod Growing
 pub mod Kinds
 pub mod Letters
+pub mod Marking
 pub mod Outputs
 pub mod Sides
 pub mod Words

@@ -1,11 +1,13 @@
 //! One walk over a payload finds all patterns that occur in it.
 
-ghost use Rattle.std.specs.Prelude.{◌≡◌, ◌-◌, ◌≤◌, ◌<◌, ◌&&◌, not, length, nat_lt, slice_index_or, false, true, if◌then◌else◌, slice_set, IfOk, OnOk};
-ghost use Rattle.fast_pattern.specs.Finding.{IsMade, Follows};
+ghost use Rattle.std.specs.Prelude.{◌≡◌, ℕ, ◌-◌, ◌≤◌, ◌<◌, ◌==◌, ◌&&◌, ◌||◌, not, length, nat_lt, IfOk, OnOk};
+ghost use Rattle.fast_pattern.specs.Finding.{Follows};
+ghost use Rattle.fast_pattern.specs.Marking.{is_marked};
 
 use crate::ends::Grown;
 use crate::letters::letters_of;
 use crate::links::{Links, Owned, nexts, pack};
+use crate::seen::Seen;
 use crate::trie::{Trie, read};
 use edge_io::{NoMemory, Text};
 use std::alloc::{AllocError, Global};
@@ -25,41 +27,27 @@ pub struct Automaton {
     pub nexts: Vec<u32>,
 }
 
-/// Marks a place, and answers whether it wasn't marked before.
-fn mark(seen: &mut [bool], at: usize) -> bool
-    ensures answer { result ≡ (nat_lt at (length seen.old) && not (slice_index_or seen.old at false)) }
-    ensures seen { seen.new ≡ (if result then slice_set seen.old at true else seen.old) }
+/// Marks a place below a count, and answers whether it is one that wasn't marked before.
+fn mark(seen: &mut Seen, count: usize, at: u32) -> Result<bool, AllocError>
+    ensures answer { IfOk result (λ fresh. fresh ≡ (nat_lt at count && not (is_marked seen.old at))) }
+    ensures marked { IfOk result (λ fresh. (place : ℕ) → is_marked seen.new place ≡ (is_marked seen.old place || (fresh && (place == at)))) }
 {
-    if at < seen.len() && !seen[at] {
-        seen[at] = true;
-        return true;
+    if count <= at as usize {
+        return Ok(false);
     }
-    false
-}
-
-/// Room for so many marks, where there is none yet.
-fn make_table(alloc: Global, seen: &mut Vec<bool>, count: usize) -> Result<(), AllocError>
-    ensures { OnOk result (IsMade count seen.old.items seen.new.items) }
-{
-    if seen.is_empty() {
-        *seen = vec![in alloc; false; count]?;
-    }
-    Ok(())
+    let fresh = seen.mark(at)?;
+    Ok(fresh)
 }
 
 /// Marks the patterns of a chain, up to one that is marked: those behind it are marked too. Lists those that
 /// weren't marked.
-fn follow(
-    nexts: &[u32],
-    head: u32,
-    seen: &mut [bool],
-    hits: &mut Vec<u32>,
-) -> Result<(), AllocError>
+fn follow(nexts: &[u32], head: u32, seen: &mut Seen, hits: &mut Vec<u32>) -> Result<(), AllocError>
     ensures { OnOk result (Follows nexts.now head seen.old hits.old.items seen.new hits.new.items) }
 {
     let mut at = head;
     while at != 0 {
-        if !mark(seen, at as usize - 1) {
+        let fresh = mark(seen, nexts.len(), at - 1)?;
+        if !fresh {
             return Ok(());
         }
         hits.push(at - 1)?;
@@ -99,16 +87,9 @@ impl Automaton {
     }
 
     /// Marks and lists the patterns that end at the state with this row.
-    fn mark_ended(
-        &self,
-        alloc: Global,
-        at: usize,
-        seen: &mut Vec<bool>,
-        hits: &mut Vec<u32>,
-    ) -> Result<(), NoMemory>
-        ensures { OnOk result (Marks self.now at seen.old.items hits.old.items seen.new.items hits.new.items) }
+    fn mark_ended(&self, at: usize, seen: &mut Seen, hits: &mut Vec<u32>) -> Result<(), NoMemory>
+        ensures { OnOk result (Marks self.now at seen.old hits.old.items seen.new hits.new.items) }
     {
-        make_table(alloc, seen, self.nexts.len())?;
         let state = at.checked_div(self.width as usize).unwrap_or(0);
         let head = read(&self.heads, state);
         follow(&self.nexts, head, seen, hits)?;
@@ -116,19 +97,13 @@ impl Automaton {
     }
 
     /// Marks and lists the patterns that end where the move goes to, if it says that some do.
-    fn note(
-        &self,
-        alloc: Global,
-        entry: u32,
-        seen: &mut Vec<bool>,
-        hits: &mut Vec<u32>,
-    ) -> Result<(), NoMemory>
-        ensures { OnOk result (Notes self.now entry seen.old.items hits.old.items seen.new.items hits.new.items) }
+    fn note(&self, entry: u32, seen: &mut Seen, hits: &mut Vec<u32>) -> Result<(), NoMemory>
+        ensures { OnOk result (Notes self.now entry seen.old hits.old.items seen.new hits.new.items) }
     {
         if entry % 2 == 0 {
             return Ok(());
         }
-        self.mark_ended(alloc, entry as usize / 2, seen, hits)?;
+        self.mark_ended(entry as usize / 2, seen, hits)?;
         Ok(())
     }
 
@@ -136,14 +111,14 @@ impl Automaton {
     pub fn hits(&self, alloc: Global, bytes: &[u8]) -> Result<Vec<u32>, NoMemory>
         ensures { IfOk result (λ hits. AreHits self.now bytes.now hits.items) }
     {
-        let mut seen = Vec::new(alloc);
+        let mut seen = Seen::new(alloc);
         let mut hits = Vec::new(alloc);
         let mut at = 0usize;
         for byte in bytes {
             let letter = self.letters[*byte as usize] as usize;
             let entry = read(&self.table, at + letter);
             at = entry as usize / 2;
-            self.note(alloc, entry, &mut seen, &mut hits)?;
+            self.note(entry, &mut seen, &mut hits)?;
         }
         Ok(hits)
     }

@@ -22,8 +22,10 @@ pub struct Entry {
     pub place: u32,
 }
 
+/// Which places are asked for at which ports: the entries, and a chain of them for each block, the last entry first.
 #[derive(Drop)]
 pub struct PortIndex {
+    /// The places, each with a block; a place stands once at each of its blocks.
     pub entries: Vec<Entry>,
     /// The last entry of each block: its place in the list, plus one.
     pub heads: Vec<u32>,

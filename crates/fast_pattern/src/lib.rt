@@ -21,6 +21,7 @@ mod header;
 mod index;
 mod letters;
 mod links;
+mod seen;
 mod sides;
 #[cfg(test)]
 mod tests;

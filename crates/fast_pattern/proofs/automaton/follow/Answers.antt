@@ -1,7 +1,9 @@
-use Rattle.std.proofs.Common.{ℕ, ◌-◌, ◌<◌, Bool, true, not, ltb, List, length, set, sym, subst, arith}
+use Rattle.std.proofs.Common.{◌≡◌, ℕ, ◌-◌, ◌==◌, Bool, true, false, not, ◌&&◌, ◌||◌, ltb, List, length, sym, ap, subst, ◌∙◌, arith}
 use Rattle.std.proofs.lemmas.Bool.{and_parts, ltb-true, not-true}
-use Rattle.fast_pattern.specs.Finding.{is_marked, IsFollowing, Follows}
-use Rattle.fast_pattern.proofs.Hitting.{unseen, following-none, following-more, follows-end, follows-seen, unseen-set}
+use Rattle.fast_pattern.specs.declared.seen.Seen.{Seen}
+use Rattle.fast_pattern.specs.Marking.{is_marked}
+use Rattle.fast_pattern.specs.Finding.{IsFollowing}
+use Rattle.fast_pattern.proofs.Hitting.{unseen-less, following-none, following-more, follows-end, follows-seen, marked-by}
 use Rattle.fast_pattern.proofs.automaton.follow.Goals as goal
 
 pub loop-at-init : goal.loop-at-init
@@ -11,24 +13,26 @@ pub loop-at-preserved : goal.loop-at-preserved
 loop-at-preserved c =
     let at = c.loop-at.at in
     let seen = c.loop-at.seen in
-    let parts = and_parts (ltb (at - 1) (length seen)) (not (is_marked seen (at - 1))) (sym c.if-not-mark.ensures.answer) in
-    let P : List Bool → Type 0 = λ new. IsFollowing c.args.nexts.now c.args.head c.args.seen.now c.args.hits.now.items c.read-at.result new c.push.new.self.items in
-    let Q : List ℕ → Type 0 = λ hits. IsFollowing c.args.nexts.now c.args.head c.args.seen.now c.args.hits.now.items c.read-at.result (set seen (at - 1) true) hits in
-    subst P (sym c.if-not-mark.ensures.seen) (subst Q (sym c.in_ok-push.ensures.items)
-    (following-more c.args.nexts.now c.args.head c.args.seen.now c.args.hits.now.items at seen c.loop-at.hits.items c.read-at.result c.loop-at.invariant (omega arith) (ltb-true (at - 1) (length seen) parts.0) (not-true (is_marked seen (at - 1)) parts.1) c.read-at.ensures))
+    let parts = and_parts (ltb (at - 1) (length c.args.nexts.now)) (not (is_marked seen (at - 1))) (sym (c.in_ok-fresh.ensures.answer) ∙ c.if-not-fresh.false) in
+    let also = marked-by seen c.mark.new.seen (at - 1) c.in_ok-fresh.fresh true c.if-not-fresh.false c.in_ok-fresh.ensures.marked in
+    let Q : List ℕ → Type 0 = λ hits. IsFollowing c.args.nexts.now c.args.head c.args.seen.now c.args.hits.now.items c.read-at.result c.mark.new.seen hits in
+    subst Q (sym c.in_ok-push.ensures.items)
+    (following-more c.args.nexts.now c.args.head c.args.seen.now c.args.hits.now.items at seen c.loop-at.hits.items c.read-at.result c.loop-at.invariant (omega arith) (ltb-true (at - 1) (length c.args.nexts.now) parts.0) (not-true (is_marked seen (at - 1)) parts.1) c.read-at.ensures c.mark.new.seen also)
 
 pub loop-at-smaller : goal.loop-at-smaller
 loop-at-smaller c =
     let at = c.loop-at.at in
     let seen = c.loop-at.seen in
-    let parts = and_parts (ltb (at - 1) (length seen)) (not (is_marked seen (at - 1))) (sym c.if-not-mark.ensures.answer) in
-    let P : List Bool → Type 0 = λ new. unseen new < unseen seen in
-    subst P (sym c.if-not-mark.ensures.seen) (unseen-set seen (at - 1) (ltb-true (at - 1) (length seen) parts.0) (not-true (is_marked seen (at - 1)) parts.1))
+    let parts = and_parts (ltb (at - 1) (length c.args.nexts.now)) (not (is_marked seen (at - 1))) (sym (c.in_ok-fresh.ensures.answer) ∙ c.if-not-fresh.false) in
+    let also = marked-by seen c.mark.new.seen (at - 1) c.in_ok-fresh.fresh true c.if-not-fresh.false c.in_ok-fresh.ensures.marked in
+    unseen-less (length c.args.nexts.now) (at - 1) seen c.mark.new.seen (ltb-true (at - 1) (length c.args.nexts.now) parts.0) (not-true (is_marked seen (at - 1)) parts.1) also
 
-pub returns-then-not-mark : goal.returns-then-not-mark
-returns-then-not-mark c =
-    let P : List Bool → Type 0 = λ new. Follows c.args.nexts.now c.args.head c.args.seen.now c.args.hits.now.items new c.loop-at.hits.items in
-    subst P (sym c.if-not-mark.ensures.seen) (follows-seen c.args.nexts.now c.args.head c.args.seen.now c.args.hits.now.items c.loop-at.at c.loop-at.seen c.loop-at.hits.items c.loop-at.invariant (omega arith) (sym c.if-not-mark.ensures.answer))
+pub returns-then-not-fresh : goal.returns-then-not-fresh
+returns-then-not-fresh c =
+    let at = c.loop-at.at in
+    let seen = c.loop-at.seen in
+    let also = marked-by seen c.mark.new.seen (at - 1) c.in_ok-fresh.fresh false c.if-not-fresh.true c.in_ok-fresh.ensures.marked in
+    follows-seen c.args.nexts.now c.args.head c.args.seen.now c.args.hits.now.items at seen c.loop-at.hits.items c.loop-at.invariant (omega arith) (sym c.in_ok-fresh.ensures.answer ∙ c.if-not-fresh.true) c.mark.new.seen also
 
 pub returns : goal.returns
 returns c = follows-end c.args.nexts.now c.args.head c.args.seen.now c.args.hits.now.items c.loop-at.at c.loop-at.seen c.loop-at.hits.items c.loop-at.invariant (omega arith)

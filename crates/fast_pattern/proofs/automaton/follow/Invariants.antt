@@ -1,3 +1,4 @@
+use Rattle.std.proofs.Common.{length}
 use Rattle.fast_pattern.specs.Finding.{IsFollowing}
 use Rattle.fast_pattern.proofs.Hitting.{unseen}
 use Rattle.fast_pattern.proofs.automaton.follow.Given as goal
@@ -6,4 +7,4 @@ abbrev pub invariant-loop-at : goal.invariant-loop-at
 invariant-loop-at l = IsFollowing l.nexts l.head l.fn.seen l.fn.hits.items l.at l.seen l.hits.items
 
 abbrev pub decreases-loop-at : goal.decreases-loop-at
-decreases-loop-at l = unseen l.seen
+decreases-loop-at l = unseen (length l.nexts) l.seen

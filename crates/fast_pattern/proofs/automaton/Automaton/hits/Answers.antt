@@ -7,9 +7,8 @@ use Rattle.fast_pattern.proofs.automaton.Automaton.hits.Goals as goal
 pub loop-byte-init : goal.loop-byte-init
 loop-byte-init c =
     let read = word_of c.args.self.now.letters [] in
-    let P : List Bool → Type 0 = λ seen. Walks c.args.self.now read 0 seen c.new-hits.result.items in
-    let Q : List ℕ → Type 0 = λ hits. Walks c.args.self.now read 0 [] hits in
-    subst P (sym c.new-seen.ensures.items) (subst Q (sym c.new-hits.ensures.items) (walks-none c.args.self.now))
+    let Q : List ℕ → Type 0 = λ hits. Walks c.args.self.now read 0 c.new-seen.result hits in
+    subst Q (sym c.new-hits.ensures.items) (walks-none c.args.self.now c.new-seen.result c.new-seen.ensures)
 
 pub loop-byte-preserved : goal.loop-byte-preserved
 loop-byte-preserved c =
@@ -18,7 +17,7 @@ loop-byte-preserved c =
     let i = c.loop-byte.byte-index in
     let letter = slice_index automaton.letters (slice_index bytes i) in
     let entry : c.read-entry.result ≡ slice_index automaton.table.items (c.loop-byte.at + letter) = c.read-entry.ensures ∙ ap (λ (xs : List ℕ). slice_index xs (c.loop-byte.at + letter)) c.deref.ensures.value in
-    walks-more automaton bytes i c.loop-byte.at letter c.read-entry.result c.loop-byte.seen.items c.note.new.seen.items c.loop-byte.hits.items c.note.new.hits.items c.loop-byte.invariant c.loop-byte-test.true refl entry c.read-entry.type_inv c.in_ok-note.ensures
+    walks-more automaton bytes i c.loop-byte.at letter c.read-entry.result c.loop-byte.seen c.note.new.seen c.loop-byte.hits.items c.note.new.hits.items c.loop-byte.invariant c.loop-byte-test.true refl entry c.read-entry.type_inv c.in_ok-note.ensures
 
 pub returns : goal.returns
-returns c = hits-all c.args.self.now c.args.bytes.now c.loop-byte.byte-index c.loop-byte.at c.loop-byte.seen.items c.loop-byte.hits.items c.loop-byte-test.false c.loop-byte.invariant
+returns c = hits-all c.args.self.now c.args.bytes.now c.loop-byte.byte-index c.loop-byte.at c.loop-byte.seen c.loop-byte.hits.items c.loop-byte-test.false c.loop-byte.invariant

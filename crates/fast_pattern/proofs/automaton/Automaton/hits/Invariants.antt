@@ -4,4 +4,4 @@ use Rattle.fast_pattern.specs.Finding.{Walks}
 use Rattle.fast_pattern.proofs.automaton.Automaton.hits.Given as goal
 
 abbrev pub invariant-loop-byte : goal.invariant-loop-byte
-invariant-loop-byte l = Walks l.self (word_of l.self.letters (take l.byte-index l.bytes)) l.at l.seen.items l.hits.items
+invariant-loop-byte l = Walks l.self (word_of l.self.letters (take l.byte-index l.bytes)) l.at l.seen l.hits.items

@@ -3,7 +3,7 @@ use Rattle.fast_pattern.proofs.Hitting.{notes-none, notes-some}
 use Rattle.fast_pattern.proofs.automaton.Automaton.note.Goals as goal
 
 pub returns-then-entry-eq0 : goal.returns-then-entry-eq0
-returns-then-entry-eq0 c = notes-none c.args.self.now c.args.entry c.args.seen.now.items c.args.hits.now.items (omega arith)
+returns-then-entry-eq0 c = notes-none c.args.self.now c.args.entry c.args.seen.now c.args.hits.now.items (omega arith)
 
 pub returns : goal.returns
-returns c = notes-some c.args.self.now c.args.entry c.args.seen.now.items c.mark_ended.new.seen.items c.args.hits.now.items c.mark_ended.new.hits.items c.in_ok-mark_ended.ensures
+returns c = notes-some c.args.self.now c.args.entry c.args.seen.now c.mark_ended.new.seen c.args.hits.now.items c.mark_ended.new.hits.items c.in_ok-mark_ended.ensures

@@ -1,0 +1,5 @@
+use Rattle.fast_pattern.proofs.Marking.{none-marked}
+use Rattle.fast_pattern.proofs.seen.Seen.new.Goals as goal
+
+pub returns : goal.returns
+returns c = none-marked (record { places = c.new.result }) c.new.ensures.empty
