@@ -1,41 +1,12 @@
--- Rows, owners, chains and packed moves, one step of a loop at a time.
-use Rattle.std.proofs.Common.{◌≡◌, ℕ, ◌+◌, ◌-◌, ◌*◌, ◌<◌, ◌≤◌, Bool, true, false, cond, eqb, List, [], ◌∷◌, ◌++◌, length, set, get_or, slice_index, replicate, take, drop, sym, refl, ap, subst, ◌∙◌, arith, ⊎_elim}
-use Rattle.std.proofs.lemmas.List.{get_or_append_left, get_or_push, length_push, length-set, get_or-set_same, get_or-set_other, length-replicate, get_or-replicate, get_or_past, take_at, with_items_is}
-use Rattle.std.specs.Vec.{with_items}
-use Rattle.std.proofs.lemmas.Nat.{same_from_place}
+-- Owners, links and chains, one step of a loop at a time.
+use Rattle.std.proofs.Common.{◌≡◌, ℕ, ◌+◌, ◌-◌, ◌<◌, ◌≤◌, Bool, true, false, cond, eqb, List, [], ◌∷◌, ◌++◌, length, set, get_or, slice_index, replicate, take, drop, sym, refl, ap, subst, ◌∙◌, arith, ⊎_elim}
+use Rattle.std.proofs.lemmas.List.{get_or_append_left, get_or_push, length_push, length-set, get_or-set_same, get_or-set_other, length-replicate, get_or-replicate, get_or_past, take_at}
 use Rattle.std.proofs.lemmas.Bool.{cases_lt, cases_eq, ne_eqb, eq-eqb, cond-true, cond-false}
 use Rattle.fast_pattern.specs.declared.trie.Trie.{Trie}
-use Rattle.fast_pattern.specs.Words.{words_of, cell}
-use Rattle.fast_pattern.specs.Outputs.{IsLastOf, AreOwned, either, IsFilled, IsFilledTo, fail_of, owned_by, IsLinking, next_of, AreNexts, entry_of, ArePacked}
+use Rattle.fast_pattern.specs.Words.{words_of}
+use Rattle.fast_pattern.specs.Moves.{FailsTo}
+use Rattle.fast_pattern.specs.Outputs.{IsLastOf, AreOwned, either, owned_by, AreLinked, IsLinking, next_of, AreNexts}
 use Rattle.fast_pattern.proofs.Linking.{linked-more}
-
--- rows
-pub filled-none : (old : List ℕ) (width state fail : ℕ) → IsFilledTo old old width state fail 0
-filled-none old width state fail = record { sized = refl; own = λ letter h k fits. absurd (omega arith); behind = λ letter h k. refl; others = λ other letter ne k. refl }
-
-pub filled-all : (old new : List ℕ) (width state fail done : ℕ) → width ≤ done → IsFilledTo old new width state fail done → IsFilled old new width state fail
-filled-all old new width state fail done h is = record { sized = is.sized; own = λ letter k fits. is.own letter (omega arith) k fits; others = is.others }
-
-pub filled-more : (old new : List ℕ) (width state fail done next : ℕ) → done < width → IsFilledTo old new width state fail done → next ≡ either (cell new width state done) (cell new width fail done) → IsFilledTo old (set new (state * width + done) next) width state fail (done + 1)
-filled-more old new width state fail done next h is known =
-    let more = set new (state * width + done) next in
-    let kept : (other letter : ℕ) → letter < width → ((other ≡ state) × (letter ≡ done) → ⊥) → cell more width other letter ≡ cell new width other letter = λ other letter k ne. get_or-set_other new (state * width + done) (other * width + letter) next 0 (λ e. ne (same_from_place other letter state done width k h e)) in
-    let from_fail : cell new width fail done ≡ cell old width fail done = ⊎_elim
-    (λ e. ap (λ (f : ℕ). cell new width f done) e ∙ is.behind done (omega arith) h ∙ ap (λ (f : ℕ). cell old width f done) (sym e))
-    (λ ne. is.others fail done ne h)
-    (cases_eq fail state) in
-    record {
-      sized = length-set new (state * width + done) next ∙ is.sized;
-      own = λ letter k wide fits. ⊎_elim
-          (λ e.
-          let P : ℕ → Type 0 = λ l. cell more width state l ≡ either (cell old width state l) (cell old width fail l) in
-          let at : state * width + done < length new = omega (arith, is.sized) in
-          subst P (sym e) (get_or-set_same new (state * width + done) next 0 at ∙ known ∙ ap (λ a. either a (cell new width fail done)) (is.behind done (omega arith) h) ∙ ap (either (cell old width state done)) from_fail))
-          (λ ne. kept state letter wide (λ both. ne both.1) ∙ is.own letter (omega arith) wide fits)
-          (cases_eq letter done);
-      behind = λ letter k wide. kept state letter wide (λ both. omega (arith, both.1)) ∙ is.behind letter (omega arith) wide;
-      others = λ other letter ne wide. kept other letter wide (λ both. ne both.0) ∙ is.others other letter ne wide;
-    }
 
 -- owners
 module _ (ends : List ℕ) (states : ℕ) where
@@ -112,32 +83,25 @@ module _ (ends : List ℕ) (states : ℕ) where
         (cases_eq (slice_index ends place) 0)
 
 -- links
-pub linking-none : (trie : Trie) (firsts : List ℕ) → IsLinking trie firsts trie [] [] 0
+pub linking-none : (trie : Trie) (firsts : List ℕ) → IsLinking trie firsts [] [] 0
 linking-none trie firsts = record {
-  steps = refl;
-  width = refl;
   linked = λ patterns ends sames deep is are owned h. record {
-    sized = refl;
     fail_count = refl;
     head_count = refl;
-    moves = λ state letter k wide. absurd (omega arith);
-    rest = λ state letter k wide. refl;
-    lower = λ state some k. absurd (omega arith);
-    failing = λ state some k. absurd (omega arith);
+    failing = record { lower = λ state some k. absurd (omega arith); failing = λ state some k. absurd (omega arith) };
     chains = λ state k. absurd (omega arith);
   };
 }
 
-pub linking-more : (old trie new : Trie) (firsts fails heads : List ℕ) (state fail : ℕ) → IsLinking old firsts trie fails heads state → fail ≡ fail_of trie.steps.items trie.cells.items trie.width fails state → IsFilled trie.cells.items new.cells.items trie.width state fail → new.steps.items ≡ trie.steps.items → new.width ≡ trie.width → IsLinking old firsts new (fails ++ fail ∷ []) (heads ++ either (slice_index firsts state) (slice_index heads fail) ∷ []) (state + 1)
-linking-more old trie new firsts fails heads state fail is known full steps width = record {
-  steps = steps ∙ is.steps;
-  width = width ∙ is.width;
+pub linking-more : (trie : Trie) (firsts fails heads : List ℕ) (state fail head : ℕ) (fails_now heads_now : List ℕ) → IsLinking trie firsts fails heads state → FailsTo trie fails state fail → head ≡ either (slice_index firsts state) (slice_index heads fail) → heads_now ≡ heads ++ head ∷ [] → fails_now ≡ fails ++ fail ∷ [] → IsLinking trie firsts fails_now heads_now (state + 1)
+linking-more trie firsts fails heads state fail head fails_now heads_now is fails_to known heads_is fails_is = record {
   linked = λ patterns ends sames deep trie_is are owned h.
-      let words = words_of old.steps.items in
+      let words = words_of trie.steps.items in
       let before = is.linked patterns ends sames deep trie_is are owned (omega arith) in
-      let known_old : fail ≡ fail_of old.steps.items trie.cells.items old.width fails state = known ∙ ap (λ ss. fail_of ss trie.cells.items trie.width fails state) is.steps ∙ ap (λ w. fail_of old.steps.items trie.cells.items w fails state) is.width in
-      let P : ℕ → Type 0 = λ w. IsFilled trie.cells.items new.cells.items w state fail in
-      linked-more words patterns ends old deep trie_is are trie.cells.items fails heads state (omega arith) before fail known_old new.cells.items firsts sames (subst P is.width full) owned;
+      let here = fails_to.is words deep trie_is before.failing (omega arith) in
+      let P : List ℕ → Type 0 = λ fs. AreLinked words patterns fs heads_now (state + 1) in
+      let Q : List ℕ → Type 0 = λ hs. AreLinked words patterns (fails ++ fail ∷ []) hs (state + 1) in
+      subst P (sym fails_is) (subst Q (sym (heads_is ∙ ap (λ hd. heads ++ hd ∷ []) known)) (linked-more words patterns ends trie deep trie_is are fails heads state fail (omega arith) before here fails_to.root firsts sames owned));
 }
 
 -- chains
@@ -153,21 +117,6 @@ nexts-more ends sames fails heads nexts done are = record {
       (cases_eq place done);
 }
 
--- packing
-pub packed-none : (width : ℕ) (heads cells : List ℕ) → ArePacked width heads cells cells 0
-packed-none width heads cells = record { count = refl; before = λ place h k. absurd (omega arith); behind = λ place h. refl }
-
-pub packed-more : (width : ℕ) (heads old new : List ℕ) (done entry : ℕ) → ArePacked width heads old new done → entry ≡ entry_of width heads (slice_index new done) → ArePacked width heads old (set new done entry) (done + 1)
-packed-more width heads old new done entry are known = record {
-  count = length-set new done entry ∙ are.count;
-  before = λ place h k. ⊎_elim
-      (λ e. let P : ℕ → Type 0 = λ p. slice_index (set new done entry) p ≡ entry_of width heads (slice_index old p) in
-      subst P (sym e) (get_or-set_same new done entry 0 (omega (arith, are.count)) ∙ known ∙ ap (entry_of width heads) (are.behind done (omega arith))))
-      (λ ne. get_or-set_other new done place entry 0 ne ∙ are.before place (omega arith) k)
-      (cases_eq place done);
-  behind = λ place h. get_or-set_other new done place entry 0 (λ e. omega arith) ∙ are.behind place (omega arith);
-}
-
 -- what is written through a lent slice
 pub lent-back : (firsts news old : List ℕ) (end owner len : ℕ) → news ≡ owned_by firsts end owner → length firsts ≡ len → take len (news ++ drop (length news) old) ≡ owned_by firsts end owner
 lent-back firsts news old end owner len is long = take_at news (drop (length news) old) len (ap length is ∙ owned-length (eqb end 0) ∙ long) ∙ is
@@ -175,15 +124,3 @@ lent-back firsts news old end owner len is long = take_at news (drop (length new
     owned-length : (b : Bool) → length (cond b firsts (set firsts end owner)) ≡ length firsts
     owned-length true = refl
     owned-length false = length-set firsts end owner
-
--- a filled row, written through the lent table
-pub linking-step : (old trie : Trie) (firsts fails heads : List ℕ) (state : ℕ) (lent filled : List ℕ) (fail_now head_now : ℕ) (fails_now heads_now : List ℕ) → IsLinking old firsts trie fails heads state → lent ≡ trie.cells.items → fail_now ≡ fail_of trie.steps.items trie.cells.items trie.width fails state → IsFilled lent filled trie.width state fail_now → head_now ≡ either (slice_index firsts state) (slice_index heads fail_now) → heads_now ≡ heads ++ head_now ∷ [] → fails_now ≡ fails ++ fail_now ∷ [] → length trie.cells.items ≡ trie.cells.len → IsLinking old firsts (record { steps = trie.steps; cells = with_items trie.cells filled; width = trie.width }) fails_now heads_now (state + 1)
-linking-step old trie firsts fails heads state lent filled fail_now head_now fails_now heads_now is same known full head heads_is fails_is long =
-    let new : Trie = record { steps = trie.steps; cells = with_items trie.cells filled; width = trie.width } in
-    let back : new.cells.items ≡ filled = with_items_is trie.cells filled (full.sized ∙ ap length same ∙ long) in
-    let P : List ℕ → Type 0 = λ xs. IsFilled xs filled trie.width state fail_now in
-    let Q : List ℕ → Type 0 = λ xs. IsFilled trie.cells.items xs trie.width state fail_now in
-    let made = linking-more old trie new firsts fails heads state fail_now is known (subst Q (sym back) (subst P same full)) refl refl in
-    let R : List ℕ → Type 0 = λ xs. IsLinking old firsts new xs heads_now (state + 1) in
-    let S : List ℕ → Type 0 = λ xs. IsLinking old firsts new (fails ++ fail_now ∷ []) xs (state + 1) in
-    subst R (sym fails_is) (subst S (sym (heads_is ∙ ap (λ h. heads ++ h ∷ []) head)) made)

@@ -21,13 +21,14 @@ word_of-more letters bytes depth h = ap (word_of letters) (take_more bytes depth
 pub deeper : (words : List (List ℕ)) (trie : Trie) (deep more : ℕ) → deep ≤ more → IsTrieOf words trie deep → IsTrieOf words trie more
 deeper words trie deep more h is = record {
   count = is.count;
-  cells = is.cells;
+  first_count = is.first_count;
   root = is.root;
   steps = is.steps;
   told = is.told;
   ups = is.ups;
   bys = is.bys;
-  children = is.children;
+  first = is.first;
+  same = is.same;
   apart = is.apart;
   levels = is.levels;
   deepest = λ state k. omega (arith, is.deepest state k);

@@ -8,6 +8,7 @@ use Rattle.fast_pattern.specs.Outputs.{is_left, IsNext}
 use Rattle.fast_pattern.specs.declared.automaton.Automaton.{Automaton}
 use Rattle.fast_pattern.specs.declared.seen.Seen.{Seen}
 use Rattle.fast_pattern.specs.Marking.{is_marked}
+use Rattle.fast_pattern.specs.Rows.{state_of}
 use Rattle.fast_pattern.specs.Finding.{Marks, Notes, numbers, AreChained, MayBegin, Follows, IsFollowing}
 use Rattle.fast_pattern.proofs.Words.{begins-self}
 use Rattle.fast_pattern.proofs.Linking.{left-none, left-tells, left-from, ends_word-tells, ends_word-from}
@@ -181,7 +182,7 @@ following-more nexts head old old_hits at new new_hits next is some within off n
     left-on patterns same chained may place h l = left-is patterns same chained may place h ∙ l
 
 -- the chain of the state with this row
-pub marks-chain : (automaton : Automaton) (at : ℕ) (old new : Seen) (old_hits new_hits : List ℕ) (head : ℕ) → Follows automaton.nexts.items head old old_hits new new_hits → (0 < automaton.width → head ≡ slice_index automaton.heads.items (at / automaton.width)) → Marks automaton at old old_hits new new_hits
+pub marks-chain : (automaton : Automaton) (at : ℕ) (old new : Seen) (old_hits new_hits : List ℕ) (head : ℕ) → Follows automaton.nexts.items head old old_hits new new_hits → (0 < automaton.trie.width → head ≡ slice_index automaton.heads.items (state_of automaton.trie.width at)) → Marks automaton at old old_hits new new_hits
 marks-chain automaton at old new old_hits new_hits head goes known = record {
   marked = λ patterns wide count chained closed may place h.
       let P : ℕ → Type 0 = λ hd. MayBegin patterns hd in

@@ -1,4 +1,5 @@
 pub mod Blocking
+pub mod Children
 pub mod Choosing
 pub mod Filing
 pub mod Filling
@@ -8,13 +9,16 @@ pub mod Lettering
 pub mod Linking
 pub mod Making
 pub mod Marking
+pub mod Moving
 pub mod Needing
 pub mod Occurring
 pub mod Ordering
 pub mod Ports
+pub mod Rowing
 pub mod Selecting
 pub mod Siding
 pub mod Sizes
+pub mod Stepping
 pub mod Tries
 pub mod Walking
 pub mod Words

@@ -1,12 +1,11 @@
 -- The states of a trie, linked one by one.
 use Rattle.std.proofs.Common.{◌≡◌, ℕ, ◌+◌, ◌-◌, ◌*◌, ◌<◌, ◌≤◌, ◌==◌, ◌⊎◌, inl, inr, true, false, ◌&&◌, ◌||◌, cond, eqb, ltb, List, [], ◌∷◌, ◌++◌, length, slice_index, sym, ap, subst, ◌∙◌, arith, ⊎_elim}
 use Rattle.std.proofs.lemmas.List.{get_or_append_left, get_or_push, length_push, get_or_past}
-use Rattle.std.proofs.lemmas.Nat.{row_fits}
 use Rattle.std.proofs.lemmas.Bool.{false≢true, cases_lt, cases_eq, eqb-true, eq-eqb, ne_eqb, ltb-true, lt-ltb, and_parts, and_from, or_cases, or_left, or_right, false_from_ne_true, cond-true, cond-false}
 use Rattle.fast_pattern.specs.declared.trie.Trie.{Trie}
-use Rattle.fast_pattern.specs.Words.{begins, word_at, step_at, cell, IsAt, IsClosed, IsFail, IsTrieOf}
-use Rattle.fast_pattern.specs.Outputs.{ends_word, is_left, AreWords, IsLastOf, AreOwned, either, IsHead, IsNext, IsMove, IsFilled, fail_of, AreLinked}
-use Rattle.fast_pattern.proofs.Words.{same_bools, begins-self, begins-length, begins-same, begins-none, fail-step, root-step, fail-child, fail-first}
+use Rattle.fast_pattern.specs.Words.{begins, word_at, IsClosed, IsFail, IsTrieOf}
+use Rattle.fast_pattern.specs.Outputs.{ends_word, is_left, AreWords, IsLastOf, AreOwned, either, IsHead, IsNext, AreLinked}
+use Rattle.fast_pattern.proofs.Words.{same_bools, begins-self, begins-length, begins-same, begins-none}
 
 pub either-some : (one other : ℕ) → 0 < one → either one other ≡ one
 either-some one other h = cond-false (eqb one 0) other one (ne_eqb one 0 (λ e. omega arith))
@@ -198,150 +197,59 @@ trie-closed words trie deep is state h some =
     (cases_eq state 0)
 
 -- one state more is linked
-module _ (words patterns : List (List ℕ)) (ends : List ℕ) (trie : Trie) (deep : ℕ) (is : IsTrieOf words trie deep) (are : AreWords words patterns ends) (cells fails heads : List ℕ) (state : ℕ) (h : state < length words) (linked : AreLinked words patterns trie.width trie.cells.items cells fails heads state) where
-  closed : IsClosed words
-  closed = trie-closed words trie deep is
+module _ (words patterns : List (List ℕ)) (ends : List ℕ) (trie : Trie) (deep : ℕ) (is : IsTrieOf words trie deep) (are : AreWords words patterns ends) (fails heads : List ℕ) (state fail : ℕ) (h : state < length words) (linked : AreLinked words patterns fails heads state) (is_fail : 0 < state → (fail < state) × IsFail words (word_at words state) (word_at words fail)) (root_fail : state ≡ 0 → fail ≡ 0) where
+  some-word : 0 < state → 0 < length (word_at words state)
+  some-word some = let step = is.steps state some h in omega (arith, ap length step.4)
 
-  -- where the state fails to
-  module _ (fail : ℕ) (known : fail ≡ fail_of trie.steps.items cells trie.width fails state) where
-    number : ℕ
-    number = state - 1
+  -- its chain
+  new-head : (firsts sames : List ℕ) → AreOwned ends (length words) firsts sames (length patterns) → IsHead patterns (word_at words state) (either (slice_index firsts state) (slice_index heads fail))
+  new-head firsts sames owned =
+      let first = slice_index firsts state in
+      let P : ℕ → Type 0 = λ hd. IsHead patterns (word_at words state) hd in
+      ⊎_elim
+      (λ none. ⊎_elim
+      (λ root.
+      let nothing : slice_index heads fail ≡ 0 = get_or_past heads fail 0 (omega (arith, linked.head_count)) in
+      subst P (sym (either-none first (slice_index heads fail) none ∙ nothing)) (head-root words patterns ends are is.apart state (ap (word_at words) root ∙ is.root)))
+      (λ low.
+      let fails_to = is_fail (omega arith) in
+      let last = owned.first state (omega arith) h in
+      let Q : ℕ → Type 0 = λ o. IsLastOf ends (length patterns) state o in
+      subst P (sym (either-none first (slice_index heads fail) none)) (head-fail words patterns ends are is.apart state (word_at words fail) (slice_index heads fail) h fails_to.1 (subst Q none last) (linked.chains fail fails_to.0)))
+      (cases_eq state 0))
+      (λ some.
+      let low : 0 < state = ⊎_elim (λ root. omega (arith, ap (slice_index firsts) root, owned.root)) (λ ne. omega arith) (cases_eq state 0) in
+      subst P (sym (either-some first (slice_index heads fail) (omega arith))) (head-own words patterns ends are is.apart state first (some-word low) h (owned.first state low h) (omega arith)))
+      (cases_eq first 0)
 
-    pub root-fail : state ≡ 0 → fail ≡ 0
-    unfolding fail_of
-    root-fail e = known ∙ cond-true (eqb state 0) 0 _ (eq-eqb state 0 e)
-
-    here : 0 < state → state - 1 < length trie.steps.items
-    here some = omega (arith, is.count)
-
-    word-is : 0 < state → word_at words state ≡ (step_at trie.steps.items (state - 1)).by ∷ word_at words (step_at trie.steps.items (state - 1)).up
-    word-is some = let e : state ≡ state - 1 + 1 = omega arith in ap (word_at words) e ∙ is.told (state - 1) (here some)
-
-    known-some : 0 < state → fail ≡ (cond (eqb (step_at trie.steps.items (state - 1)).up 0) 0 (cell cells trie.width (slice_index fails (step_at trie.steps.items (state - 1)).up) (step_at trie.steps.items (state - 1)).by))
-    unfolding fail_of
-    known-some some = known ∙ cond-false (eqb state 0) 0 _ (ne_eqb state 0 (λ e. omega arith))
-
-    pub is-fail : 0 < state → (fail < state) × IsFail words (word_at words state) (word_at words fail)
-    is-fail some =
-        let up = (step_at trie.steps.items (state - 1)).up in
-        let by = (step_at trie.steps.items (state - 1)).by in
-        let low : up < state = omega (arith, is.ups (state - 1) (here some)) in
-        let P : List ℕ → Type 0 = λ w. IsFail words w (word_at words fail) in
-        let Q : List ℕ → Type 0 = λ w. IsFail words (by ∷ w) (word_at words fail) in
-        let R : List ℕ → Type 0 = λ w. IsFail words (by ∷ []) w in
-        ⊎_elim
-        (λ root.
-        let zero_fail : fail ≡ 0 = known-some some ∙ cond-true (eqb up 0) 0 _ (eq-eqb up 0 root) in
-        let empty_up : word_at words up ≡ [] = ap (word_at words) root ∙ is.root in
-        let empty_fail : word_at words fail ≡ [] = ap (word_at words) zero_fail ∙ is.root in
-        (omega (arith, zero_fail), subst P (sym (word-is some)) (subst Q (sym empty_up) (subst R (sym empty_fail) (fail-first words by)))))
-        (λ other.
-        let shallow = slice_index fails up in
-        let lower = linked.lower up (omega arith) low in
-        let move = linked.moves shallow by (omega arith) (is.bys (state - 1) (here some)) in
-        let fail_is : cell cells trie.width shallow by ≡ fail = sym (known-some some ∙ cond-false (eqb up 0) 0 _ (ne_eqb up 0 other)) in
-        let S : ℕ → Type 0 = λ f. (f < length words) × IsAt words (by ∷ word_at words shallow) (word_at words f) in
-        let at = subst S fail_is (move.within, move.at) in
-        let result = fail-child words closed (word_at words up) (word_at words shallow) by fail (linked.failing up (omega arith) low) at.0 at.1 in
-        let whole : IsFail words (word_at words state) (word_at words fail) = subst P (sym (word-is some)) result in
-        (⊎_elim (λ below. below) (λ above. omega (arith, is.levels state fail above at.0, whole.shorter)) (cases_lt fail state), whole))
-        (cases_eq up 0)
-
-    -- its moves
-    pub new-move : (filled : List ℕ) → IsFilled cells filled trie.width state fail → (letter : ℕ) → letter < trie.width → IsMove words state letter (cell filled trie.width state letter)
-    new-move filled full letter wide =
-        let child = is.children state letter h wide in
-        let before : cell cells trie.width state letter ≡ cell trie.cells.items trie.width state letter = linked.rest state letter (omega arith) wide in
-        let fits : state * trie.width + trie.width ≤ length cells = omega (arith, linked.sized, is.cells, row_fits state trie.width (length words) trie.width h (omega arith)) in
-        let now = full.own letter wide fits in
-        let target = cell filled trie.width state letter in
-        ⊎_elim
-        (λ none.
-        let to_fail : target ≡ cell cells trie.width fail letter = now ∙ either-none (cell cells trie.width state letter) (cell cells trie.width fail letter) (before ∙ none) in
-        ⊎_elim
-        (λ root.
-        let fail_root : fail ≡ state = root-fail root ∙ sym root in
-        let zero_target : target ≡ 0 = to_fail ∙ ap (λ (f : ℕ). cell cells trie.width f letter) fail_root ∙ before ∙ none in
-        let empty : word_at words state ≡ [] = ap (word_at words) root ∙ is.root in
-        let empty_target : word_at words target ≡ [] = ap (word_at words) zero_target ∙ is.root in
-        let P : List ℕ → Type 0 = λ w. IsAt words (letter ∷ w) (word_at words target) in
-        let Q : List ℕ → Type 0 = λ w. IsAt words (letter ∷ []) w in
-        record {
-          within = omega (arith, zero_target);
-          at = subst P (sym empty) (subst Q (sym empty_target) (root-step words closed letter (λ other k e. child.lacks none other k (e ∙ ap (λ w. letter ∷ w) (sym empty)))));
-        })
-        (λ some.
-        let fails_to = is-fail (omega arith) in
-        let move = linked.moves fail letter fails_to.0 wide in
-        let S : ℕ → Type 0 = λ t. (t < length words) × IsAt words (letter ∷ word_at words fail) (word_at words t) in
-        let at = subst S (sym to_fail) (move.within, move.at) in
-        record {
-          within = at.0;
-          at = fail-step words closed (word_at words state) (word_at words fail) (word_at words target) letter fails_to.1 (child.lacks none) at.1;
-        })
-        (cases_eq state 0))
-        (λ some.
-        let to_child : target ≡ cell trie.cells.items trie.width state letter = now ∙ either-some (cell cells trie.width state letter) (cell cells trie.width fail letter) (omega (arith, before)) ∙ before in
-        let grown : word_at words target ≡ letter ∷ word_at words state = ap (word_at words) to_child ∙ child.grown (omega arith) in
-        record {
-          within = omega (arith, to_child, child.within);
-          at = λ other k. ap (begins (word_at words other)) (sym grown);
-        })
-        (cases_eq (cell trie.cells.items trie.width state letter) 0)
-
-    -- its chain
-    pub new-head : (firsts sames : List ℕ) → AreOwned ends (length words) firsts sames (length patterns) → IsHead patterns (word_at words state) (either (slice_index firsts state) (slice_index heads fail))
-    new-head firsts sames owned =
-        let first = slice_index firsts state in
-        let P : ℕ → Type 0 = λ hd. IsHead patterns (word_at words state) hd in
-        ⊎_elim
-        (λ none. ⊎_elim
-        (λ root.
-        let nothing : slice_index heads fail ≡ 0 = get_or_past heads fail 0 (omega (arith, linked.head_count)) in
-        subst P (sym (either-none first (slice_index heads fail) none ∙ nothing)) (head-root words patterns ends are is.apart state (ap (word_at words) root ∙ is.root)))
-        (λ low.
-        let fails_to = is-fail (omega arith) in
-        let last = owned.first state (omega arith) h in
-        let Q : ℕ → Type 0 = λ o. IsLastOf ends (length patterns) state o in
-        subst P (sym (either-none first (slice_index heads fail) none)) (head-fail words patterns ends are is.apart state (word_at words fail) (slice_index heads fail) h fails_to.1 (subst Q none last) (linked.chains fail fails_to.0)))
-        (cases_eq state 0))
-        (λ some.
-        let low : 0 < state = ⊎_elim (λ root. omega (arith, ap (slice_index firsts) root, owned.root)) (λ ne. omega arith) (cases_eq state 0) in
-        subst P (sym (either-some first (slice_index heads fail) (omega arith))) (head-own words patterns ends are is.apart state first (omega (arith, ap length (word-is low))) h (owned.first state low h) (omega arith)))
-        (cases_eq first 0)
-
-    pub linked-more : (filled firsts sames : List ℕ) → IsFilled cells filled trie.width state fail → AreOwned ends (length words) firsts sames (length patterns) → AreLinked words patterns trie.width trie.cells.items filled (fails ++ fail ∷ []) (heads ++ either (slice_index firsts state) (slice_index heads fail) ∷ []) (state + 1)
-    linked-more filled firsts sames full owned =
-        let head = either (slice_index firsts state) (slice_index heads fail) in
-        let fail_kept : (other : ℕ) → other < state → slice_index (fails ++ fail ∷ []) other ≡ slice_index fails other = λ other k. get_or_append_left fails (fail ∷ []) 0 other (omega (arith, linked.fail_count)) in
-        let fail_last : slice_index (fails ++ fail ∷ []) state ≡ fail = get_or_push fails fail 0 state linked.fail_count in
-        let head_kept : (other : ℕ) → other < state → slice_index (heads ++ head ∷ []) other ≡ slice_index heads other = λ other k. get_or_append_left heads (head ∷ []) 0 other (omega (arith, linked.head_count)) in
-        let head_last : slice_index (heads ++ head ∷ []) state ≡ head = get_or_push heads head 0 state linked.head_count in
-        record {
-          sized = full.sized ∙ linked.sized;
-          fail_count = length_push fails fail ∙ ap (λ n. n + 1) linked.fail_count;
-          head_count = length_push heads head ∙ ap (λ n. n + 1) linked.head_count;
-          moves = λ other letter k wide. ⊎_elim
-              (λ e. let P : ℕ → Type 0 = λ o. IsMove words o letter (cell filled trie.width o letter) in subst P (sym e) (new-move filled full letter wide))
-              (λ ne. let P : ℕ → Type 0 = λ t. IsMove words other letter t in subst P (sym (full.others other letter ne wide)) (linked.moves other letter (omega arith) wide))
-              (cases_eq other state);
-          rest = λ other letter k wide. full.others other letter (λ e. omega arith) wide ∙ linked.rest other letter (omega arith) wide;
+  pub linked-more : (firsts sames : List ℕ) → AreOwned ends (length words) firsts sames (length patterns) → AreLinked words patterns (fails ++ fail ∷ []) (heads ++ either (slice_index firsts state) (slice_index heads fail) ∷ []) (state + 1)
+  linked-more firsts sames owned =
+      let head = either (slice_index firsts state) (slice_index heads fail) in
+      let fail_kept : (other : ℕ) → other < state → slice_index (fails ++ fail ∷ []) other ≡ slice_index fails other = λ other k. get_or_append_left fails (fail ∷ []) 0 other (omega (arith, linked.fail_count)) in
+      let fail_last : slice_index (fails ++ fail ∷ []) state ≡ fail = get_or_push fails fail 0 state linked.fail_count in
+      let head_kept : (other : ℕ) → other < state → slice_index (heads ++ head ∷ []) other ≡ slice_index heads other = λ other k. get_or_append_left heads (head ∷ []) 0 other (omega (arith, linked.head_count)) in
+      let head_last : slice_index (heads ++ head ∷ []) state ≡ head = get_or_push heads head 0 state linked.head_count in
+      record {
+        fail_count = length_push fails fail ∙ ap (λ n. n + 1) linked.fail_count;
+        head_count = length_push heads head ∙ ap (λ n. n + 1) linked.head_count;
+        failing = record {
           lower = λ other some k. ⊎_elim
-              (λ e. omega (arith, ap (slice_index (fails ++ fail ∷ [])) e, fail_last, (is-fail (omega arith)).0))
-              (λ ne. omega (arith, fail_kept other (omega arith), linked.lower other some (omega arith)))
+              (λ e. omega (arith, ap (slice_index (fails ++ fail ∷ [])) e, fail_last, (is_fail (omega arith)).0))
+              (λ ne. omega (arith, fail_kept other (omega arith), linked.failing.lower other some (omega arith)))
               (cases_eq other state);
           failing = λ other some k. ⊎_elim
               (λ e.
               let P : ℕ → Type 0 = λ o. IsFail words (word_at words o) (word_at words (slice_index (fails ++ fail ∷ []) o)) in
               let Q : ℕ → Type 0 = λ f. IsFail words (word_at words state) (word_at words f) in
-              subst P (sym e) (subst Q (sym fail_last) (is-fail (omega arith)).1))
-              (λ ne. let Q : ℕ → Type 0 = λ f. IsFail words (word_at words other) (word_at words f) in subst Q (sym (fail_kept other (omega arith))) (linked.failing other some (omega arith)))
+              subst P (sym e) (subst Q (sym fail_last) (is_fail (omega arith)).1))
+              (λ ne. let Q : ℕ → Type 0 = λ f. IsFail words (word_at words other) (word_at words f) in subst Q (sym (fail_kept other (omega arith))) (linked.failing.failing other some (omega arith)))
               (cases_eq other state);
-          chains = λ other k. ⊎_elim
-              (λ e.
-              let P : ℕ → Type 0 = λ o. IsHead patterns (word_at words o) (slice_index (heads ++ head ∷ []) o) in
-              let Q : ℕ → Type 0 = λ hd. IsHead patterns (word_at words state) hd in
-              subst P (sym e) (subst Q (sym head_last) (new-head firsts sames owned)))
-              (λ ne. let Q : ℕ → Type 0 = λ hd. IsHead patterns (word_at words other) hd in subst Q (sym (head_kept other (omega arith))) (linked.chains other (omega arith)))
-              (cases_eq other state);
-        }
+        };
+        chains = λ other k. ⊎_elim
+            (λ e.
+            let P : ℕ → Type 0 = λ o. IsHead patterns (word_at words o) (slice_index (heads ++ head ∷ []) o) in
+            let Q : ℕ → Type 0 = λ hd. IsHead patterns (word_at words state) hd in
+            subst P (sym e) (subst Q (sym head_last) (new-head firsts sames owned)))
+            (λ ne. let Q : ℕ → Type 0 = λ hd. IsHead patterns (word_at words other) hd in subst Q (sym (head_kept other (omega arith))) (linked.chains other (omega arith)))
+            (cases_eq other state);
+      }

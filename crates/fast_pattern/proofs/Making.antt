@@ -1,17 +1,15 @@
 -- An automaton that was made finds its patterns.
 use Rattle.std.proofs.Common.{◌≡◌, ℕ, ◌+◌, ◌*◌, ◌<◌, List, [], length, get_or, slice_index, sym, ap, subst, ◌∙◌, arith, ⊎_elim}
 use Rattle.std.proofs.lemmas.List.{get_or-map, get_or_default, length-map}
-use Rattle.std.proofs.lemmas.Nat.{mul-add-lt}
 use Rattle.std.proofs.lemmas.Bool.{cases_eq}
-use Rattle.std.proofs.Math.Nat.{mul_comm}
 use Rattle.fast_pattern.specs.declared.automaton.Automaton.{Automaton}
 use Rattle.fast_pattern.specs.declared.ends.Grown.{Grown}
-use Rattle.fast_pattern.specs.declared.trie.Trie.{Trie}
 use Rattle.fast_pattern.specs.Letters.{AllTold}
-use Rattle.fast_pattern.specs.Words.{word_of, word_at, words_of, cell}
+use Rattle.fast_pattern.specs.Words.{word_of, word_at, words_of}
 use Rattle.fast_pattern.specs.Growing.{AreGrown}
-use Rattle.fast_pattern.specs.Outputs.{AreWords, IsLastOf, AreOwned, either, IsNext, AreLinked, IsLinking, AreNexts, entry_of, ArePacked}
-use Rattle.fast_pattern.specs.Finding.{words_in, Finds, HasEntry}
+use Rattle.fast_pattern.specs.Outputs.{AreWords, IsLastOf, AreOwned, either, IsNext, AreLinked, IsLinking, AreNexts}
+use Rattle.fast_pattern.specs.Rows.{AreEntries, IsLayout}
+use Rattle.fast_pattern.specs.Finding.{words_in, Finds}
 use Rattle.fast_pattern.proofs.Linking.{trie-closed, next-same, next-fail, either-some, either-none}
 
 pub word-in : (letters : List ℕ) (patterns : List (List ℕ)) (place : ℕ) → place < length patterns → word_at (words_in letters patterns) place ≡ word_of letters (word_at patterns place)
@@ -26,17 +24,20 @@ are-words letters patterns grown is =
       word = λ place h. (is.each place (omega (arith, count))).word ∙ sym (word-in letters patterns place (omega (arith, count)));
     }
 
-module _ (automaton : Automaton) (patterns : List (List ℕ)) (grown : Grown) (linked : Trie) (firsts sames fails cells : List ℕ) (told : AllTold automaton.letters patterns) (below : (byte : ℕ) → slice_index automaton.letters byte < automaton.width) (is : AreGrown automaton.letters patterns grown) (owned : AreOwned grown.ends.items (length grown.trie.steps.items + 1) firsts sames (length grown.ends.items)) (links : IsLinking grown.trie firsts linked fails automaton.heads.items (length grown.trie.steps.items + 1)) (nexts : AreNexts grown.ends.items sames fails automaton.heads.items automaton.nexts.items (length grown.ends.items)) (cells_are : cells ≡ linked.cells.items) (packed : ArePacked automaton.width automaton.heads.items cells automaton.table.items (length cells)) (width : automaton.width ≡ linked.width) where
+module _ (automaton : Automaton) (patterns : List (List ℕ)) (grown : Grown) (firsts sames : List ℕ) (told : AllTold automaton.letters patterns) (below : (byte : ℕ) → slice_index automaton.letters byte < automaton.trie.width) (is : AreGrown automaton.letters patterns (record { trie = automaton.trie; ends = grown.ends })) (owned : AreOwned grown.ends.items (length automaton.trie.steps.items + 1) firsts sames (length grown.ends.items)) (links : IsLinking automaton.trie firsts automaton.fails.items automaton.heads.items (length automaton.trie.steps.items + 1)) (nexts : AreNexts grown.ends.items sames automaton.fails.items automaton.heads.items automaton.nexts.items (length grown.ends.items)) (laid : IsLayout automaton.trie automaton.fails.items automaton.heads.items (record { dense = automaton.dense; table = automaton.table; entries = automaton.entries })) where
   abbrev words : List (List ℕ)
-  words = words_of grown.trie.steps.items
+  words = words_of automaton.trie.steps.items
+
+  abbrev fails : List ℕ
+  fails = automaton.fails.items
 
   abbrev pats : List (List ℕ)
   pats = words_in automaton.letters patterns
 
   are : AreWords words pats grown.ends.items
-  are = are-words automaton.letters patterns grown is
+  are = are-words automaton.letters patterns (record { trie = automaton.trie; ends = grown.ends }) is
 
-  states : length grown.trie.steps.items + 1 ≡ length words
+  states : length automaton.trie.steps.items + 1 ≡ length words
   states = sym is.trie.count
 
   owned-here : AreOwned grown.ends.items (length words) firsts sames (length pats)
@@ -45,13 +46,10 @@ module _ (automaton : Automaton) (patterns : List (List ℕ)) (grown : Grown) (l
       let Q : ℕ → Type 0 = λ n. AreOwned grown.ends.items (length words) firsts sames n in
       subst Q are.count (subst P states owned)
 
-  all : AreLinked words pats grown.trie.width grown.trie.cells.items linked.cells.items fails automaton.heads.items (length words)
+  all : AreLinked words pats fails automaton.heads.items (length words)
   all =
-      let P : ℕ → Type 0 = λ n. AreLinked words pats grown.trie.width grown.trie.cells.items linked.cells.items fails automaton.heads.items n in
+      let P : ℕ → Type 0 = λ n. AreLinked words pats fails automaton.heads.items n in
       subst P states (links.linked pats grown.ends.items sames is.deep is.trie are owned-here (omega (arith, states)))
-
-  wide : automaton.width ≡ grown.trie.width
-  wide = width ∙ links.width
 
   -- a pattern doesn't end at the root
   ends-some : (place : ℕ) → place < length pats → 0 < length (word_at pats place) → 0 < slice_index grown.ends.items place
@@ -73,20 +71,9 @@ module _ (automaton : Automaton) (patterns : List (List ℕ)) (grown : Grown) (l
       ⊎_elim
       (λ none.
       let Q : ℕ → Type 0 = λ o. IsLastOf grown.ends.items place end o in
-      subst P (sym (known ∙ either-none before (slice_index automaton.heads.items fail) none)) (next-fail words pats grown.ends.items are is.trie.apart place (word_at words fail) (slice_index automaton.heads.items fail) h some (all.failing end low within) (subst Q none same) (all.chains fail (omega (arith, all.lower end low within)))))
+      subst P (sym (known ∙ either-none before (slice_index automaton.heads.items fail) none)) (next-fail words pats grown.ends.items are is.trie.apart place (word_at words fail) (slice_index automaton.heads.items fail) h some (all.failing.failing end low within) (subst Q none same) (all.chains fail (omega (arith, all.failing.lower end low within)))))
       (λ ne. subst P (sym (known ∙ either-some before (slice_index automaton.heads.items fail) (omega arith))) (next-same words pats grown.ends.items are is.trie.apart place before h some same (omega arith)))
       (cases_eq before 0)
-
-  has-entry : (state letter : ℕ) → state < length words → letter < automaton.width → HasEntry words automaton.width automaton.heads.items state letter (slice_index automaton.table.items (state * automaton.width + letter))
-  has-entry state letter h k =
-      let move = all.moves state letter h (omega (arith, wide)) in
-      let at : state * automaton.width + letter < length cells = omega (arith, mul-add-lt state automaton.width letter (length words) h k, mul_comm automaton.width (length words), ap (λ w. length words * w) wide, is.trie.cells, all.sized, ap length cells_are) in
-      record {
-        next = cell linked.cells.items grown.trie.width state letter;
-        within = move.within;
-        at = move.at;
-        is = packed.before (state * automaton.width + letter) at at ∙ ap (entry_of automaton.width automaton.heads.items) (ap (λ (xs : List ℕ). slice_index xs (state * automaton.width + letter)) cells_are ∙ ap (λ w. slice_index linked.cells.items (state * w + letter)) wide);
-      }
 
   pub finds-made : Finds automaton patterns
   finds-made = record {
@@ -94,15 +81,25 @@ module _ (automaton : Automaton) (patterns : List (List ℕ)) (grown : Grown) (l
     ends = grown.ends.items;
     told = told;
     below = below;
-    some = omega (arith, states);
-    root = is.trie.root;
-    closed = trie-closed words grown.trie is.deep is.trie;
+    deep = is.deep;
+    trie = is.trie;
+    closed = trie-closed words automaton.trie is.deep is.trie;
     are = are;
-    entries = has-entry;
+    failing = all.failing;
+    dense = (laid.some, omega (arith, laid.within, states));
+    long = laid.rows.long ∙ none (automaton.dense * automaton.trie.width);
+    fits = laid.fits;
+    rows = laid.rows.rows words is.deep is.trie all.failing (omega (arith, laid.within, states)) (λ some. absurd (omega arith));
+    entries =
+        let P : ℕ → Type 0 = λ n. AreEntries automaton.trie.width automaton.dense automaton.heads.items automaton.entries.items n in
+        subst P states laid.moves;
     chains = λ state h. all.chains state h;
     nexts = is-next;
     count = nexts.count ∙ is.count;
   }
+    where
+      none : (n : ℕ) → n + 0 ≡ n
+      none n = omega arith
 
 pub ends-within : (letters : List ℕ) (patterns : List (List ℕ)) (grown : Grown) → AreGrown letters patterns grown → (place d : ℕ) → place < length grown.ends.items → get_or grown.ends.items place d < length grown.trie.steps.items + 1
 ends-within letters patterns grown is place d h =

@@ -1,13 +1,10 @@
 -- A trie that grows by a state.
-use Rattle.std.proofs.Common.{◌≡◌, ℕ, zero, suc, ◌+◌, ◌-◌, ◌*◌, ◌<◌, ◌≤◌, List, [], ◌∷◌, ◌++◌, length, get_or, set, sym, refl, ap, subst, ◌∙◌, arith, ⊎_elim, length-append, length-set, get_or-set_same, get_or-set_other}
-use Rattle.std.proofs.lemmas.List.{get_or_append_left, get_or_push, length_push, length-replicate, get_or-replicate, get_or-append_right}
+use Rattle.std.proofs.Common.{◌≡◌, ℕ, zero, suc, ◌+◌, ◌-◌, ◌<◌, ◌≤◌, List, [], ◌∷◌, ◌++◌, length, get_or, set, slice_index, sym, refl, ap, subst, ◌∙◌, arith, ⊎_elim, length-set, get_or-set_same, get_or-set_other}
+use Rattle.std.proofs.lemmas.List.{get_or_append_left, get_or_push, length_push}
 use Rattle.std.proofs.lemmas.Bool.{cases_lt, cases_eq}
-use Rattle.std.proofs.lemmas.Nat.{same_from_place, mul-add-lt}
-use Rattle.std.proofs.Math.Nat.{mul_comm}
-use lib.ListN.{replicate}
 use Rattle.fast_pattern.specs.declared.trie.Step.{Step}
 use Rattle.fast_pattern.specs.declared.trie.Trie.{Trie}
-use Rattle.fast_pattern.specs.Words.{word_at, words_from, words_of, step_at, cell, IsChild, IsTrieOf, IsTrie, HasChild}
+use Rattle.fast_pattern.specs.Words.{word_at, words_from, words_of, step_at, IsLastChild, IsTrieOf, IsTrie, HasChild, FindsChild}
 
 pub words-push : (words : List (List ℕ)) (steps : List Step) (step : Step) → words_from words (steps ++ step ∷ []) ≡ words_from words steps ++ (step.by ∷ word_at (words_from words steps) step.up) ∷ []
 unfolding words_from
@@ -19,43 +16,38 @@ unfolding words_from
 words-none = refl
 
 -- the empty word alone
-module _ (width : ℕ) where
-  zero-cell : (i : ℕ) → ◌≡◌ {A = ℕ} (get_or (replicate width 0) i 0) 0
-  zero-cell i = ⊎_elim (λ h. get_or-replicate {A = ℕ} width i 0 0 h) (λ h. past (replicate width 0) i (omega (arith, length-replicate {A = ℕ} width 0))) (cases_lt i width)
-    where
-      past : (xs : List ℕ) (i : ℕ) → length xs ≤ i → ◌≡◌ {A = ℕ} (get_or xs i 0) 0
-      past [] i h = refl
-      past (x ∷ xs) zero h = absurd (omega arith)
-      past (x ∷ xs) (suc i) h = past xs i (omega arith)
+pub empty-trie : (trie : Trie) → trie.steps.items ≡ [] → trie.firsts.items ≡ 0 ∷ [] → IsTrieOf ([] ∷ []) trie 0
+empty-trie trie steps firsts = record {
+  count = omega (arith, ap length steps);
+  first_count = ap length firsts;
+  root = refl;
+  steps = λ state h within. absurd (omega arith);
+  told = λ number h. absurd (omega (arith, ap length steps));
+  ups = λ number h. absurd (omega (arith, ap length steps));
+  bys = λ number h. absurd (omega (arith, ap length steps));
+  first = λ state h.
+      let P : ℕ → Type 0 = λ c. IsLastChild trie.steps.items (length trie.steps.items) state c in
+      let zero_first : slice_index trie.firsts.items state ≡ 0 = ap (λ (c : List ℕ). slice_index c state) firsts ∙ first-zero state h in
+      subst P (sym zero_first) (record { within = omega arith; own = λ some. absurd (omega arith); greatest = λ number k up. absurd (omega (arith, ap length steps)) });
+  same = λ number h. absurd (omega (arith, ap length steps));
+  apart = λ one other h k e. omega arith;
+  levels = λ one other h k. omega (arith, only one (omega arith), only other k);
+  deepest = λ state h. omega (arith, only state h);
+}
+  where
+    only : (state : ℕ) → state < 1 → length (word_at ([] ∷ []) state) ≡ 0
+    only zero h = refl
+    only (suc state) h = absurd (omega arith)
 
-  pub empty-trie : (trie : Trie) → trie.steps.items ≡ [] → trie.width ≡ width → trie.cells.items ≡ replicate width 0 → IsTrieOf ([] ∷ []) trie 0
-  empty-trie trie steps wide cells = record {
-    count = omega (arith, ap length steps);
-    cells = omega (arith, ap length cells, length-replicate {A = ℕ} width 0);
-    root = refl;
-    steps = λ state h within. absurd (omega arith);
-    told = λ number h. absurd (omega (arith, ap length steps));
-    ups = λ number h. absurd (omega (arith, ap length steps));
-    bys = λ number h. absurd (omega (arith, ap length steps));
-    children = λ state letter h k. record {
-      lacks = λ none other within e. ne other within letter (word_at ([] ∷ []) state) e;
-      within = rw (cells, zero-cell (state * trie.width + letter)) (omega arith);
-      grown = λ some. absurd (omega (arith, ap (λ (c : List ℕ). get_or c (state * trie.width + letter) 0) cells, zero-cell (state * trie.width + letter)));
-    };
-    apart = λ one other h k e. omega arith;
-    levels = λ one other h k. omega (arith, only one (omega arith), only other k);
-    deepest = λ state h. omega (arith, only state h);
-  }
-    where
-      only : (state : ℕ) → state < 1 → length (word_at ([] ∷ []) state) ≡ 0
-      only zero h = refl
-      only (suc state) h = absurd (omega arith)
-
-      ne : (other : ℕ) → other < 1 → (letter : ℕ) (word : List ℕ) → word_at ([] ∷ []) other ≡ letter ∷ word → ⊥
-      ne other h letter word e = omega (arith, only other h, ap length e)
+    first-zero : (state : ℕ) → state < 1 → slice_index (0 ∷ []) state ≡ 0
+    first-zero zero h = refl
+    first-zero (suc state) h = absurd (omega arith)
 
 -- a state more
-module _ (words : List (List ℕ)) (old new : Trie) (deep state letter : ℕ) (is : IsTrieOf words old deep) (here : state < length words) (wide : letter < old.width) (lacks : cell old.cells.items old.width state letter ≡ 0) (long : length (word_at words state) + 1 ≡ deep) (steps : new.steps.items ≡ old.steps.items ++ record { up = state; by = letter } ∷ []) (width : new.width ≡ old.width) (cells : new.cells.items ≡ set (old.cells.items ++ replicate old.width 0) (state * old.width + letter) (length words)) where
+module _ (words : List (List ℕ)) (old new : Trie) (deep state letter : ℕ) (is : IsTrieOf words old deep) (here : state < length words) (wide : letter < old.width) (lacks : (other : ℕ) → other < length words → word_at words other ≡ letter ∷ word_at words state → ⊥) (long : length (word_at words state) + 1 ≡ deep) (steps : new.steps.items ≡ old.steps.items ++ record { up = state; by = letter; same = slice_index old.firsts.items state } ∷ []) (width : new.width ≡ old.width) (firsts : new.firsts.items ≡ set (old.firsts.items ++ 0 ∷ []) state (length words)) where
+  abbrev added : Step
+  added = record { up = state; by = letter; same = slice_index old.firsts.items state }
+
   abbrev more : List (List ℕ)
   more = words ++ (letter ∷ word_at words state) ∷ []
 
@@ -74,33 +66,7 @@ module _ (words : List (List ℕ)) (old new : Trie) (deep state letter : ℕ) (i
       ⊎_elim (λ k. old_ones other k) (λ k. let e : length words ≡ other = omega (arith, more-length) in subst P e new_one) (cases_lt other (length words))
 
   none-before : (other : ℕ) → other < length words → word_at words other ≡ letter ∷ word_at words state → ⊥
-  none-before other h e = (is.children state letter here wide).lacks lacks other h e
-
-  cell-now : (row column : ℕ) → cell new.cells.items new.width row column ≡ get_or (set (old.cells.items ++ replicate old.width 0) (state * old.width + letter) (length words)) (row * old.width + column) 0
-  cell-now row column =
-      ap (λ (w : ℕ). get_or new.cells.items (row * w + column) 0) width
-      ∙ ap (λ (cs : List ℕ). get_or cs (row * old.width + column) 0) cells
-
-  place-in : (row column : ℕ) → row < length words → column < old.width → row * old.width + column < length old.cells.items
-  place-in row column h k = omega (arith, mul-add-lt row old.width column (length words) h k, is.cells, mul_comm old.width (length words))
-
-  cell-same : cell new.cells.items new.width state letter ≡ length words
-  cell-same =
-      let within : state * old.width + letter < length (old.cells.items ++ replicate old.width 0) = omega (arith, place-in state letter here wide, length-append old.cells.items (replicate old.width 0)) in
-      cell-now state letter ∙ get_or-set_same (old.cells.items ++ replicate old.width 0) (state * old.width + letter) (length words) 0 within
-
-  cell-other : (row column : ℕ) → row < length words → column < old.width → ((row ≡ state) × (column ≡ letter) → ⊥) → cell new.cells.items new.width row column ≡ cell old.cells.items old.width row column
-  cell-other row column h k ne =
-      cell-now row column
-      ∙ get_or-set_other (old.cells.items ++ replicate old.width 0) (state * old.width + letter) (row * old.width + column) (length words) 0 (λ e. ne (same_from_place row column state letter old.width k wide e))
-      ∙ get_or_append_left old.cells.items (replicate old.width 0) 0 (row * old.width + column) (place-in row column h k)
-
-  cell-new : (column : ℕ) → column < old.width → cell new.cells.items new.width (length words) column ≡ 0
-  cell-new column k =
-      cell-now (length words) column
-      ∙ get_or-set_other (old.cells.items ++ replicate old.width 0) (state * old.width + letter) (length words * old.width + column) (length words) 0 (λ e. omega (arith, same_from_place (length words) column state letter old.width k wide e))
-      ∙ get_or-append_right old.cells.items (replicate old.width 0) (length old.cells.items) (length words * old.width + column) 0 refl (omega (arith, is.cells))
-      ∙ zero-cell old.width (length words * old.width + column - length old.cells.items)
+  none-before other h e = lacks other h e
 
   more-steps : (other : ℕ) → 0 < other → other < length more → (up : ℕ) × (by : ℕ) × (up < other) × (by < new.width) × (word_at more other ≡ by ∷ word_at more up)
   more-steps other some h =
@@ -112,60 +78,6 @@ module _ (words : List (List ℕ)) (old new : Trie) (deep state letter : ℕ) (i
       let e : other ≡ length words = omega (arith, more-length) in
       (state, letter, omega arith, omega arith, ap (word_at more) e ∙ more-last ∙ ap (λ w. letter ∷ w) (sym (more-kept state here))))
       (cases_lt other (length words))
-
-  child-same : IsChild more state letter (cell new.cells.items new.width state letter)
-  child-same = record {
-    lacks = λ none other h e. omega (arith, cell-same);
-    within = omega (arith, cell-same, more-length);
-    grown = λ some. ap (word_at more) cell-same ∙ more-last ∙ ap (λ w. letter ∷ w) (sym (more-kept state here));
-  }
-
-  child-other : (row column : ℕ) → row < length words → column < old.width → ((row ≡ state) × (column ≡ letter) → ⊥) → IsChild more row column (cell new.cells.items new.width row column)
-  child-other row column h k ne =
-      let before = is.children row column h k in
-      let same = cell-other row column h k ne in
-      let lacked : cell new.cells.items new.width row column ≡ 0 → (other : ℕ) → other < length more → word_at more other ≡ column ∷ word_at more row → ⊥ = λ none other within e.
-      ⊎_elim
-      (λ old_one. before.lacks (sym same ∙ none) other old_one (sym (more-kept other old_one) ∙ e ∙ ap (λ w. column ∷ w) (more-kept row h)))
-      (λ new_one.
-      let last : other ≡ length words = omega (arith, more-length) in
-      let both : letter ∷ word_at words state ≡ column ∷ word_at words row = sym more-last ∙ ap (word_at more) (sym last) ∙ e ∙ ap (λ w. column ∷ w) (more-kept row h) in
-      let letters : letter ≡ column = cc in
-      let ups : word_at words state ≡ word_at words row = cc in
-      ne (sym (is.apart state row here h ups), sym letters))
-      (cases_lt other (length words)) in
-      record {
-        lacks = lacked;
-        within = omega (arith, same, before.within, more-length);
-        grown = λ some. ap (word_at more) same ∙ more-kept (cell old.cells.items old.width row column) before.within ∙ before.grown (omega (arith, same)) ∙ ap (λ w. column ∷ w) (sym (more-kept row h));
-      }
-
-  child-new : (column : ℕ) → column < old.width → IsChild more (length words) column (cell new.cells.items new.width (length words) column)
-  child-new column k = record {
-    lacks = λ none other within e.
-        let long_one : length (word_at more other) ≡ length (word_at words state) + 2 = omega (arith, ap length e, ap length more-last) in
-        ⊎_elim
-        (λ old_one. omega (arith, is.deepest other old_one, ap length (more-kept other old_one)))
-        (λ new_one. let last : other ≡ length words = omega (arith, more-length) in omega (arith, ap (λ o. length (word_at more o)) last, ap length more-last))
-        (cases_lt other (length words));
-    within = omega (arith, cell-new column k, more-length);
-    grown = λ some. absurd (omega (arith, cell-new column k));
-  }
-
-  child-each : (row column : ℕ) → row < length more → column < new.width → IsChild more row column (cell new.cells.items new.width row column)
-  child-each row column h k =
-      let wide_enough : column < old.width = omega arith in
-      ⊎_elim
-      (λ old_one.
-      ⊎_elim
-      (λ rows. ⊎_elim
-      (λ columns. let P : ℕ → Type 0 = λ r. IsChild more r column (cell new.cells.items new.width r column) in let Q : ℕ → Type 0 = λ c. IsChild more state c (cell new.cells.items new.width state c) in subst P (sym rows) (subst Q (sym columns) child-same))
-      (λ columns. child-other row column old_one wide_enough (λ both. columns both.1))
-      (cases_eq column letter))
-      (λ rows. child-other row column old_one wide_enough (λ both. rows both.0))
-      (cases_eq row state))
-      (λ new_one. let last : length words ≡ row = omega (arith, more-length) in let P : ℕ → Type 0 = λ r. IsChild more r column (cell new.cells.items new.width r column) in subst P last (child-new column wide_enough))
-      (cases_lt row (length words))
 
   more-apart : (one other : ℕ) → one < length more → other < length more → word_at more one ≡ word_at more other → one ≡ other
   more-apart one other h k e =
@@ -195,18 +107,92 @@ module _ (words : List (List ℕ)) (old new : Trie) (deep state letter : ℕ) (i
       (cases_lt other (length words))
 
   last : (number : ℕ) → length old.steps.items ≤ number → number < length new.steps.items → number ≡ length old.steps.items
-  last number h k = omega (arith, ap length steps, length_push old.steps.items (record { up = state; by = letter }))
+  last number h k = omega (arith, ap length steps, length_push old.steps.items added)
 
   step-kept : (number : ℕ) → number < length old.steps.items → step_at new.steps.items number ≡ step_at old.steps.items number
-  step-kept number h = ap (λ (ss : List Step). step_at ss number) steps ∙ get_or_append_left old.steps.items (record { up = state; by = letter } ∷ []) (record { up = 0; by = 0 }) number h
+  step-kept number h = ap (λ (ss : List Step). step_at ss number) steps ∙ get_or_append_left old.steps.items (added ∷ []) (record { up = 0; by = 0; same = 0 }) number h
 
-  step-last : (number : ℕ) → number ≡ length old.steps.items → step_at new.steps.items number ≡ record { up = state; by = letter }
-  step-last number e = ap (λ (ss : List Step). step_at ss number) steps ∙ get_or_push old.steps.items (record { up = state; by = letter }) (record { up = 0; by = 0 }) number (sym e)
+  step-last : (number : ℕ) → number ≡ length old.steps.items → step_at new.steps.items number ≡ record { up = state; by = letter; same = slice_index old.firsts.items state }
+  step-last number e = ap (λ (ss : List Step). step_at ss number) steps ∙ get_or_push old.steps.items added (record { up = 0; by = 0; same = 0 }) number (sym e)
+
+  -- the last child up to a number that there was stays
+  last-kept : (upto other child : ℕ) → upto ≤ length old.steps.items → IsLastChild old.steps.items upto other child → IsLastChild new.steps.items upto other child
+  last-kept upto other child h was = record {
+    within = was.within;
+    own = λ some. ap (λ (s : Step). s.up) (step-kept (child - 1) (omega (arith, was.within))) ∙ was.own some;
+    greatest = λ number k up. was.greatest number k (sym (ap (λ (s : Step). s.up) (step-kept number (omega arith))) ∙ up);
+  }
+
+  -- and up to the new one, of another state
+  last-other : (other child : ℕ) → (other ≡ state → ⊥) → IsLastChild old.steps.items (length old.steps.items) other child → IsLastChild new.steps.items (length new.steps.items) other child
+  last-other other child ne was =
+      let kept = last-kept (length old.steps.items) other child (omega arith) was in
+      record {
+        within = omega (arith, was.within, ap length steps, length_push old.steps.items added);
+        own = kept.own;
+        greatest = λ number k up. ⊎_elim
+            (λ below. kept.greatest number below up)
+            (λ above. absurd (ne (sym up ∙ ap (λ (s : Step). s.up) (step-last number (last number above k)))))
+            (cases_lt number (length old.steps.items));
+      }
+
+  -- the state has a child more
+  last-here : IsLastChild new.steps.items (length new.steps.items) state (length words)
+  last-here =
+      let e : length words - 1 ≡ length old.steps.items = omega (arith, is.count) in
+      record {
+        within = omega (arith, is.count, ap length steps, length_push old.steps.items added);
+        own = λ some. ap (λ (s : Step). s.up) (step-last (length words - 1) e);
+        greatest = λ number k up. omega (arith, is.count, ap length steps, length_push old.steps.items added);
+      }
+
+  -- the new state has none
+  last-new : IsLastChild new.steps.items (length new.steps.items) (length words) 0
+  last-new = record {
+    within = omega arith;
+    own = λ some. absurd (omega arith);
+    greatest = λ number k up. ⊎_elim
+        (λ below. absurd (omega (arith, is.count, is.ups number below, up, ap (λ (s : Step). s.up) (step-kept number below))))
+        (λ above. absurd (omega (arith, up, ap (λ (s : Step). s.up) (step-last number (last number above k)))))
+        (cases_lt number (length old.steps.items));
+  }
+
+  first-each : (other : ℕ) → other < length more → IsLastChild new.steps.items (length new.steps.items) other (slice_index new.firsts.items other)
+  first-each other h =
+      let P : ℕ → ℕ → Type 0 = λ s c. IsLastChild new.steps.items (length new.steps.items) s c in
+      let Q : List ℕ → Type 0 = λ fs. P other (slice_index fs other) in
+      let long_enough : state < length (old.firsts.items ++ 0 ∷ []) = omega (arith, length_push old.firsts.items 0, is.first_count) in
+      subst Q (sym firsts) (⊎_elim
+      (λ e.
+      let S : ℕ → Type 0 = λ s. P s (slice_index (set (old.firsts.items ++ 0 ∷ []) state (length words)) s) in
+      let R : ℕ → Type 0 = λ c. P state c in
+      subst S (sym e) (subst R (sym (get_or-set_same (old.firsts.items ++ 0 ∷ []) state (length words) 0 long_enough)) last-here))
+      (λ ne.
+      let R : ℕ → Type 0 = λ c. P other c in
+      subst R (sym (get_or-set_other (old.firsts.items ++ 0 ∷ []) state other (length words) 0 ne)) (⊎_elim
+      (λ below. subst R (sym (get_or_append_left old.firsts.items (0 ∷ []) 0 other (omega (arith, is.first_count)))) (last-other other (slice_index old.firsts.items other) ne (is.first other below)))
+      (λ above.
+      let end : other ≡ length words = omega (arith, more-length) in
+      let T : ℕ → Type 0 = λ s. P s 0 in
+      subst R (sym (get_or_push old.firsts.items 0 0 other (is.first_count ∙ sym end))) (subst T (sym end) last-new))
+      (cases_lt other (length words))))
+      (cases_eq other state))
+
+  same-each : (number : ℕ) → number < length new.steps.items → IsLastChild new.steps.items number (step_at new.steps.items number).up (step_at new.steps.items number).same
+  same-each number h =
+      let P : Step → Type 0 = λ s. IsLastChild new.steps.items number s.up s.same in
+      ⊎_elim
+      (λ below. subst P (sym (step-kept number below)) (last-kept number (step_at old.steps.items number).up (step_at old.steps.items number).same (omega arith) (is.same number below)))
+      (λ above.
+      let e = last number above h in
+      let Q : ℕ → Type 0 = λ n. IsLastChild new.steps.items n state (slice_index old.firsts.items state) in
+      subst P (sym (step-last number e)) (subst Q (sym e) (last-kept (length old.steps.items) state (slice_index old.firsts.items state) (omega arith) (is.first state here))))
+      (cases_lt number (length old.steps.items))
 
   pub more-trie : IsTrieOf more new deep
   more-trie = record {
-    count = omega (arith, more-length, is.count, ap length steps, length_push old.steps.items (record { up = state; by = letter }));
-    cells = cells-long;
+    count = omega (arith, more-length, is.count, ap length steps, length_push old.steps.items added);
+    first_count = omega (arith, more-length, is.first_count, ap length firsts, length-set (old.firsts.items ++ 0 ∷ []) state (length words), length_push old.firsts.items 0);
     root = more-kept 0 (omega (arith, is.count)) ∙ is.root;
     steps = more-steps;
     told = λ number h. ⊎_elim
@@ -221,38 +207,34 @@ module _ (words : List (List ℕ)) (old new : Trie) (deep state letter : ℕ) (i
         (λ k. omega (arith, is.bys number k, ap (λ (s : Step). s.by) (step-kept number k)))
         (λ k. omega (arith, ap (λ (s : Step). s.by) (step-last number (last number k h))))
         (cases_lt number (length old.steps.items));
-    children = child-each;
+    first = first-each;
+    same = same-each;
     apart = more-apart;
     levels = more-levels;
     deepest = more-deepest;
   }
-    where
-      product : length more * new.width ≡ length words * old.width + old.width
-      product = ap (λ n. n * new.width) more-length ∙ ap (λ w. (length words + 1) * w) width ∙ suc_times (length words) old.width
-        where
-          suc_times : (n w : ℕ) → (n + 1) * w ≡ n * w + w
-          suc_times n w = omega arith
-
-      cells-long : length new.cells.items ≡ length more * new.width
-      cells-long = omega (arith, product, ap length cells, length-set (old.cells.items ++ replicate old.width 0) (state * old.width + letter) (length words), length-append old.cells.items (replicate old.width 0), length-replicate {A = ℕ} old.width 0, is.cells)
 
 -- what `child` says, where the state stands already and where it is added
-pub has-child : (trie : Trie) (state letter : ℕ) → IsTrie trie (length (word_at (words_of trie.steps.items) state) + 1) → state < length (words_of trie.steps.items) → letter < trie.width → 0 < cell trie.cells.items trie.width state letter → HasChild trie state letter (cell trie.cells.items trie.width state letter) trie
-has-child trie state letter is here wide some = record {
-  trie = is;
-  width = refl;
-  extends = record { longer = omega arith; kept = λ other h. refl };
-  within = (is.children state letter here wide).within;
-  grown = (is.children state letter here wide).grown some;
-}
+pub has-child : (trie : Trie) (state letter child : ℕ) → IsTrie trie (length (word_at (words_of trie.steps.items) state) + 1) → state < length (words_of trie.steps.items) → FindsChild trie state letter child → 0 < child → HasChild trie state letter child trie
+has-child trie state letter child is here finds some =
+    let found = finds.found (words_of trie.steps.items) (length (word_at (words_of trie.steps.items) state) + 1) is here in
+    record {
+      trie = is;
+      width = refl;
+      extends = record { longer = omega arith; kept = λ other h. refl };
+      within = found.within;
+      grown = found.grown some;
+    }
 
-pub adds-child : (old new : Trie) (state letter child : ℕ) → IsTrie old (length (word_at (words_of old.steps.items) state) + 1) → state < length (words_of old.steps.items) → letter < old.width → cell old.cells.items old.width state letter ≡ 0 → child ≡ length old.steps.items + 1 → new.steps.items ≡ old.steps.items ++ record { up = state; by = letter } ∷ [] → new.cells.items ≡ set (old.cells.items ++ replicate old.width 0) (state * old.width + letter) child → new.width ≡ old.width → HasChild old state letter child new
-adds-child old new state letter child is here wide lacks number steps cells width =
+pub adds-child : (old new : Trie) (state letter lacking child : ℕ) → IsTrie old (length (word_at (words_of old.steps.items) state) + 1) → state < length (words_of old.steps.items) → letter < old.width → FindsChild old state letter lacking → lacking ≡ 0 → child ≡ length old.steps.items + 1 → new.steps.items ≡ old.steps.items ++ record { up = state; by = letter; same = slice_index old.firsts.items state } ∷ [] → new.firsts.items ≡ set (old.firsts.items ++ 0 ∷ []) state child → new.width ≡ old.width → HasChild old state letter child new
+adds-child old new state letter lacking child is here wide finds none number steps firsts width =
     let words = words_of old.steps.items in
     let last : child ≡ length words = omega (arith, is.count) in
-    let cells_now = cells ∙ ap (set (old.cells.items ++ replicate old.width 0) (state * old.width + letter)) last in
-    let grown : words_of new.steps.items ≡ words ++ (letter ∷ word_at words state) ∷ [] = ap words_of steps ∙ words-push ([] ∷ []) old.steps.items (record { up = state; by = letter }) in
-    let all = more-trie words old new (length (word_at words state) + 1) state letter is here wide lacks refl steps width cells_now in
+    let firsts_now = firsts ∙ ap (set (old.firsts.items ++ 0 ∷ []) state) last in
+    let added : Step = record { up = state; by = letter; same = slice_index old.firsts.items state } in
+    let grown : words_of new.steps.items ≡ words ++ (letter ∷ word_at words state) ∷ [] = ap words_of steps ∙ words-push ([] ∷ []) old.steps.items added in
+    let lacks = (finds.found words (length (word_at words state) + 1) is here).lacks none in
+    let all = more-trie words old new (length (word_at words state) + 1) state letter is here wide lacks refl steps width firsts_now in
     let P : List (List ℕ) → Type 0 = λ ws. IsTrieOf ws new (length (word_at words state) + 1) in
     record {
       trie = subst P (sym grown) all;

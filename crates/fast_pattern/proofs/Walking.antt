@@ -9,11 +9,13 @@ use Rattle.fast_pattern.specs.declared.automaton.Automaton.{Automaton}
 use Rattle.fast_pattern.specs.declared.seen.Seen.{Seen}
 use Rattle.fast_pattern.specs.Marking.{is_marked}
 use Rattle.fast_pattern.specs.Words.{begins, has_ended, word_of, word_at, IsAt}
-use Rattle.fast_pattern.specs.Outputs.{is_left, ends_word, AreWords, entry_of}
-use Rattle.fast_pattern.specs.Finding.{numbers, is_ended, IsClosedUnder, words_in, Walks, Notes, AreHits}
+use Rattle.fast_pattern.specs.Outputs.{is_left, ends_word, AreWords}
+use Rattle.fast_pattern.specs.Rows.{state_of}
+use Rattle.fast_pattern.specs.Finding.{numbers, is_ended, IsClosedUnder, words_in, Steps, Walks, Notes, AreHits}
 use Rattle.fast_pattern.proofs.Words.{ended-push, ended-none, ended-suffix, walk-step}
 use Rattle.fast_pattern.proofs.Growing.{word_of-more}
 use Rattle.fast_pattern.proofs.Hitting.{numbers-same, numbers-none}
+use Rattle.fast_pattern.proofs.Stepping.{place-row, state-place, halves}
 
 pub word_of-none : (letters : List ℕ) → word_of letters [] ≡ []
 unfolding word_of
@@ -63,40 +65,37 @@ pub walks-none : (automaton : Automaton) (seen : Seen) → ((place : ℕ) → is
 walks-none automaton seen none =
     let P : List ℕ → Type 0 = λ read. Walks automaton read 0 seen [] in
     subst P (sym (word_of-none automaton.letters)) (record {
-      small = lit< tt;
       walked = λ patterns finds.
           let Q : List ℕ → Type 0 = λ ns. IsPermutation ns [] in
           record {
             state = 0;
-            within = finds.some;
-            row = refl_row automaton.width;
-            is = λ state h. ap (begins (word_at finds.words state)) (sym finds.root);
+            within = omega (arith, finds.dense.0, finds.dense.1);
+            row = sym (place-row automaton.trie.width automaton.dense 0 finds.dense.0 ∙ none-row automaton.trie.width);
+            is = λ state h. ap (begins (word_at finds.words state)) (sym finds.trie.root);
             marked = λ place h. none place ∙ sym (ended-start (words_in automaton.letters patterns) place);
             listed = subst Q (sym (numbers-none (is_marked seen) 0 (length (words_in automaton.letters patterns)) none)) (IsPermutation-refl []);
           };
     })
   where
-    refl_row : (width : ℕ) → 0 ≡ 0 * width
-    refl_row width = omega arith
+    none-row : (width : ℕ) → 0 * width ≡ 0
+    none-row width = omega arith
 
-pub walks-more : (automaton : Automaton) (bytes : List ℕ) (i at letter entry : ℕ) (old new : Seen) (old_hits new_hits : List ℕ) → Walks automaton (word_of automaton.letters (take i bytes)) at old old_hits → i < length bytes → letter ≡ slice_index automaton.letters (get_or bytes i 0) → entry ≡ slice_index automaton.table.items (at + letter) → entry < 4294967296 → Notes automaton entry old old_hits new new_hits → Walks automaton (word_of automaton.letters (take (i + 1) bytes)) (entry / 2) new new_hits
-walks-more automaton bytes i at letter entry old new old_hits new_hits was h letter_is entry_is short notes =
+pub walks-more : (automaton : Automaton) (bytes : List ℕ) (i at letter entry : ℕ) (old new : Seen) (old_hits new_hits : List ℕ) → Walks automaton (word_of automaton.letters (take i bytes)) at old old_hits → i < length bytes → letter ≡ slice_index automaton.letters (get_or bytes i 0) → Steps automaton at letter entry → Notes automaton entry old old_hits new new_hits → Walks automaton (word_of automaton.letters (take (i + 1) bytes)) (entry / 2) new new_hits
+walks-more automaton bytes i at letter entry old new old_hits new_hits was h letter_is steps notes =
     let read = word_of automaton.letters (take i bytes) in
     let P : List ℕ → Type 0 = λ r. Walks automaton r (entry / 2) new new_hits in
     subst P (ap (λ l. l ∷ read) letter_is ∙ sym (word_of-more automaton.letters bytes i h)) (record {
-      small = omega arith;
       walked = λ patterns finds.
           let w = was.walked patterns finds in
           let words = finds.words in
           let pats = words_in automaton.letters patterns in
-          let wide : letter < automaton.width = omega (arith, letter_is, finds.below (get_or bytes i 0)) in
-          let has = finds.entries w.state letter w.within wide in
-          let entry_here : entry ≡ entry_of automaton.width automaton.heads.items has.next = entry_is ∙ ap (λ (a : ℕ). slice_index automaton.table.items (a + letter)) w.row ∙ has.is in
+          let wide : letter < automaton.trie.width = omega (arith, letter_is, finds.below (get_or bytes i 0)) in
+          let has = steps.stepped patterns finds w.state w.within w.row wide in
           let head = slice_index automaton.heads.items has.next in
           let chain = finds.chains has.next has.within in
-          let half = halves (has.next * automaton.width) head entry entry_here in
-          let row : entry / 2 / automaton.width ≡ has.next = ap (λ (x : ℕ). x / automaton.width) half.0 ∙ whole has.next automaton.width (omega arith) in
-          let known : head ≡ slice_index automaton.heads.items (entry / 2 / automaton.width) = ap (slice_index automaton.heads.items) (sym row) in
+          let half = halves automaton.trie.width automaton.dense automaton.heads.items has.next entry (has.is ∙ finds.entries.each has.next has.within) in
+          let state : state_of automaton.trie.width (entry / 2) ≡ has.next = ap (state_of automaton.trie.width) half.0 ∙ state-place automaton.trie.width automaton.dense has.next (omega arith) finds.fits in
+          let known : head ≡ slice_index automaton.heads.items (state_of automaton.trie.width (entry / 2)) = ap (slice_index automaton.heads.items) (sym state) in
           let at_next = walk-step words finds.closed read (word_at words w.state) (word_at words has.next) letter w.is has.at in
           let count : length pats ≡ length automaton.nexts.items = count-words automaton.letters patterns ∙ sym finds.count in
           record {
@@ -115,15 +114,6 @@ walks-more automaton bytes i at letter entry old new old_hits new_hits was h let
                 subst R (sym count) (notes.listed (subst Q count w.listed));
           };
     })
-  where
-    whole : (a w : ℕ) → 0 < w → a * w / w ≡ a
-    whole a w some = let e : a * w ≡ a * w + 0 = omega arith in ap (λ (x : ℕ). x / w) e ∙ div-mul-add a w 0 some
-
-    halves : (x hd e : ℕ) → e ≡ 2 * x + cond (eqb hd 0) 0 1 → (e / 2 ≡ x) × (e % 2 ≡ 0 → hd ≡ 0)
-    halves x hd e is = ⊎_elim
-        (λ none. let same : ◌≡◌ {A = ℕ} (cond (eqb hd 0) 0 1) 0 = cond-true {A = ℕ} (eqb hd 0) 0 1 (eq-eqb hd 0 none) in (omega (arith, same), λ even. none))
-        (λ some. let same : ◌≡◌ {A = ℕ} (cond (eqb hd 0) 0 1) 1 = cond-false {A = ℕ} (eqb hd 0) 0 1 (ne_eqb hd 0 some) in (omega (arith, same), λ even. absurd (omega (arith, same))))
-        (cases_eq hd 0)
 
 pub hits-all : (automaton : Automaton) (bytes : List ℕ) (i at : ℕ) (seen : Seen) (hits : List ℕ) → length bytes ≤ i → Walks automaton (word_of automaton.letters (take i bytes)) at seen hits → AreHits automaton bytes hits
 hits-all automaton bytes i at seen hits h walks = record {

@@ -9,8 +9,9 @@ use Rattle.fast_pattern.specs.declared.automaton.Automaton.{Automaton}
 use Rattle.fast_pattern.specs.declared.seen.Seen.{Seen}
 use Rattle.fast_pattern.specs.Letters.{AllTold}
 use Rattle.fast_pattern.specs.Marking.{is_marked}
-use Rattle.fast_pattern.specs.Words.{begins, has_ended, word_of, word_at, IsClosed, IsAt}
-use Rattle.fast_pattern.specs.Outputs.{AreWords, is_left, IsHead, IsNext, entry_of}
+use Rattle.fast_pattern.specs.Words.{begins, has_ended, word_of, word_at, IsClosed, IsAt, IsTrieOf}
+use Rattle.fast_pattern.specs.Outputs.{AreWords, is_left, IsHead, IsNext, AreFailing}
+use Rattle.fast_pattern.specs.Rows.{sparse, place_of, state_of, HasEntry, AreRows, AreEntries}
 
 -- the numbers from one on, so many, for which the test holds, in ascending order
 unfoldable pub numbers : (ℕ → Bool) → ℕ → ℕ → List ℕ
@@ -54,24 +55,22 @@ pub record IsFollowing (nexts : List ℕ) (head : ℕ) (old : Seen) (old_hits : 
 abbrev pub words_in : List ℕ → List (List ℕ) → List (List ℕ)
 words_in letters patterns = map (word_of letters) patterns
 
--- a move of the table
-pub record HasEntry (words : List (List ℕ)) (width : ℕ) (heads : List ℕ) (state letter entry : ℕ) : Type 0 where
-  pub next : ℕ
-  pub within : next < length words
-  pub at : IsAt words (letter ∷ word_at words state) (word_at words next)
-  pub is : entry ≡ entry_of width heads next
-
 -- the automaton finds these patterns
 pub record Finds (automaton : Automaton) (patterns : List (List ℕ)) : Type 0 where
   pub words : List (List ℕ)
   pub ends : List ℕ
   pub told : AllTold automaton.letters patterns
-  pub below : (byte : ℕ) → slice_index automaton.letters byte < automaton.width
-  pub some : 0 < length words
-  pub root : word_at words 0 ≡ []
+  pub below : (byte : ℕ) → slice_index automaton.letters byte < automaton.trie.width
+  pub deep : ℕ
+  pub trie : IsTrieOf words automaton.trie deep
   pub closed : IsClosed words
   pub are : AreWords words (words_in automaton.letters patterns) ends
-  pub entries : (state letter : ℕ) → state < length words → letter < automaton.width → HasEntry words automaton.width automaton.heads.items state letter (slice_index automaton.table.items (state * automaton.width + letter))
+  pub failing : AreFailing words automaton.fails.items (length words)
+  pub dense : (0 < automaton.dense) × (automaton.dense ≤ length words)
+  pub long : length automaton.table.items ≡ automaton.dense * automaton.trie.width
+  pub fits : automaton.dense * automaton.trie.width ≤ sparse
+  pub rows : AreRows words automaton.trie.width automaton.entries.items automaton.table.items
+  pub entries : AreEntries automaton.trie.width automaton.dense automaton.heads.items automaton.entries.items (length words)
   pub chains : (state : ℕ) → state < length words → IsHead (words_in automaton.letters patterns) (word_at words state) (slice_index automaton.heads.items state)
   pub nexts : AreChained (words_in automaton.letters patterns) automaton.nexts.items
   pub count : length automaton.nexts.items ≡ length patterns
@@ -80,20 +79,27 @@ pub record Finds (automaton : Automaton) (patterns : List (List ℕ)) : Type 0 w
 pub record IsWalked (automaton : Automaton) (patterns words : List (List ℕ)) (read : List ℕ) (at : ℕ) (seen : Seen) (hits : List ℕ) : Type 0 where
   pub state : ℕ
   pub within : state < length words
-  pub row : at ≡ state * automaton.width
+  pub row : at ≡ place_of automaton.trie.width automaton.dense state
   pub is : IsAt words read (word_at words state)
   pub marked : (place : ℕ) → place < length patterns → is_marked seen place ≡ is_ended patterns read place
   pub listed : IsPermutation (numbers (is_marked seen) 0 (length patterns)) hits
 
+-- a move from the state with a place
+pub record Steps (automaton : Automaton) (at letter entry : ℕ) : Type 0 where
+  pub stepped : (patterns : List (List ℕ)) (finds : Finds automaton patterns) (state : ℕ) → state < length finds.words → at ≡ place_of automaton.trie.width automaton.dense state → letter < automaton.trie.width → HasEntry finds.words automaton.entries.items state letter entry
+
+-- the same, from a state that has no row
+pub record StepsBack (automaton : Automaton) (state letter entry : ℕ) : Type 0 where
+  pub stepped : (patterns : List (List ℕ)) (finds : Finds automaton patterns) → state < length finds.words → letter < automaton.trie.width → HasEntry finds.words automaton.entries.items state letter entry
+
 -- whatever the patterns are that the automaton finds, the walk is right so far
 pub record Walks (automaton : Automaton) (read : List ℕ) (at : ℕ) (seen : Seen) (hits : List ℕ) : Type 0 where
-  pub small : at < 2147483648
   pub walked : (patterns : List (List ℕ)) (finds : Finds automaton patterns) → IsWalked automaton (words_in automaton.letters patterns) finds.words read at seen hits
 
 -- the chain of a state was marked and listed
 pub record Marks (automaton : Automaton) (at : ℕ) (old : Seen) (old_hits : List ℕ) (new : Seen) (new_hits : List ℕ) : Type 0 where
-  pub marked : (patterns : List (List ℕ)) → 0 < automaton.width → length patterns ≡ length automaton.nexts.items → AreChained patterns automaton.nexts.items → IsClosedUnder patterns old → MayBegin patterns (slice_index automaton.heads.items (at / automaton.width))
-      → (place : ℕ) → place < length patterns → is_marked new place ≡ (is_marked old place || is_left patterns (slice_index automaton.heads.items (at / automaton.width)) place)
+  pub marked : (patterns : List (List ℕ)) → 0 < automaton.trie.width → length patterns ≡ length automaton.nexts.items → AreChained patterns automaton.nexts.items → IsClosedUnder patterns old → MayBegin patterns (slice_index automaton.heads.items (state_of automaton.trie.width at))
+      → (place : ℕ) → place < length patterns → is_marked new place ≡ (is_marked old place || is_left patterns (slice_index automaton.heads.items (state_of automaton.trie.width at)) place)
   pub listed : IsPermutation (numbers (is_marked old) 0 (length automaton.nexts.items)) old_hits → IsPermutation (numbers (is_marked new) 0 (length automaton.nexts.items)) new_hits
 
 -- the hits are the patterns, not empty ones, that have ended somewhere in the bytes
@@ -102,7 +108,7 @@ pub record AreHits (automaton : Automaton) (bytes hits : List ℕ) : Type 0 wher
 
 -- a move was noted: the chain of the state that it goes to, if it says that a pattern ends there
 pub record Notes (automaton : Automaton) (entry : ℕ) (old : Seen) (old_hits : List ℕ) (new : Seen) (new_hits : List ℕ) : Type 0 where
-  pub marked : (patterns : List (List ℕ)) (head : ℕ) → 0 < automaton.width → length patterns ≡ length automaton.nexts.items → AreChained patterns automaton.nexts.items → IsClosedUnder patterns old → MayBegin patterns head
-      → head ≡ slice_index automaton.heads.items (entry / 2 / automaton.width) → (entry % 2 ≡ 0 → head ≡ 0)
+  pub marked : (patterns : List (List ℕ)) (head : ℕ) → 0 < automaton.trie.width → length patterns ≡ length automaton.nexts.items → AreChained patterns automaton.nexts.items → IsClosedUnder patterns old → MayBegin patterns head
+      → head ≡ slice_index automaton.heads.items (state_of automaton.trie.width (entry / 2)) → (entry % 2 ≡ 0 → head ≡ 0)
       → (place : ℕ) → place < length patterns → is_marked new place ≡ (is_marked old place || is_left patterns head place)
   pub listed : IsPermutation (numbers (is_marked old) 0 (length automaton.nexts.items)) old_hits → IsPermutation (numbers (is_marked new) 0 (length automaton.nexts.items)) new_hits

@@ -7,6 +7,8 @@ pub mod Growing
 pub mod Kinds
 pub mod Letters
 pub mod Marking
+pub mod Moves
 pub mod Outputs
+pub mod Rows
 pub mod Sides
 pub mod Words

@@ -5,10 +5,9 @@
 -- plus one, and 0 stands for none.
 -- To try it on: of the patterns he, she and he again, behind `she` the chain is she, the last he, the
 -- first he: 2, 3, 1.
-use Rattle.std.specs.Prelude.{◌≡◌, ℕ, ◌+◌, ◌-◌, ◌*◌, ◌<◌, ◌≤◌, ◌==◌, ◌≢◌, Bool, false, ◌&&◌, ◌||◌, List, ◌∷◌, length, nat_lt, slice_index, slice_set, if◌then◌else◌}
-use Rattle.fast_pattern.specs.declared.trie.Step.{Step}
+use Rattle.std.specs.Prelude.{◌≡◌, ℕ, ◌+◌, ◌-◌, ◌<◌, ◌≤◌, ◌==◌, Bool, false, ◌&&◌, ◌||◌, List, ◌∷◌, length, nat_lt, slice_index, slice_set, if◌then◌else◌}
 use Rattle.fast_pattern.specs.declared.trie.Trie.{Trie}
-use Rattle.fast_pattern.specs.Words.{begins, word_at, words_of, step_at, IsAt, IsFail, IsTrie, cell}
+use Rattle.fast_pattern.specs.Words.{begins, word_at, words_of, IsFail, IsTrie}
 
 -- the pattern ends this word
 unfoldable pub ends_word : List (List ℕ) → List ℕ → ℕ → Bool
@@ -56,52 +55,26 @@ pub record IsNext (patterns : List (List ℕ)) (place next : ℕ) : Type 0 where
   pub left : (other : ℕ) → other < length patterns → is_left patterns (place + 1) other ≡ ((other == place) || is_left patterns next other)
   pub past : is_left patterns next place ≡ false
 
--- one letter on from a state
-pub record IsMove (words : List (List ℕ)) (state letter next : ℕ) : Type 0 where
-  pub within : next < length words
-  pub at : IsAt words (letter ∷ word_at words state) (word_at words next)
-
--- the row of a state is filled from that of another
-pub record IsFilled (old new : List ℕ) (width state fail : ℕ) : Type 0 where
-  pub sized : length new ≡ length old
-  pub own : (letter : ℕ) → letter < width → state * width + width ≤ length old → cell new width state letter ≡ either (cell old width state letter) (cell old width fail letter)
-  pub others : (other letter : ℕ) → other ≢ state → letter < width → cell new width other letter ≡ cell old width other letter
-
--- the row is filled in its first columns
-pub record IsFilledTo (old new : List ℕ) (width state fail done : ℕ) : Type 0 where
-  pub sized : length new ≡ length old
-  pub own : (letter : ℕ) → letter < done → letter < width → state * width + width ≤ length old → cell new width state letter ≡ either (cell old width state letter) (cell old width fail letter)
-  pub behind : (letter : ℕ) → done ≤ letter → letter < width → cell new width state letter ≡ cell old width state letter
-  pub others : (other letter : ℕ) → other ≢ state → letter < width → cell new width other letter ≡ cell old width other letter
-
--- the state that another fails to
-unfoldable pub fail_of : List Step → List ℕ → ℕ → List ℕ → ℕ → ℕ
-fail_of steps cells width fails state =
-    if state == 0 then 0
-    else (if (step_at steps (state - 1)).up == 0 then 0
-    else cell cells width (slice_index fails (step_at steps (state - 1)).up) (step_at steps (state - 1)).by)
-
--- the states below one have their moves, fails and chains
-pub record AreLinked (words patterns : List (List ℕ)) (width : ℕ) (before cells fails heads : List ℕ) (done : ℕ) : Type 0 where
-  pub sized : length cells ≡ length before
-  pub fail_count : length fails ≡ done
-  pub head_count : length heads ≡ done
-  pub moves : (state letter : ℕ) → state < done → letter < width → IsMove words state letter (cell cells width state letter)
-  pub rest : (state letter : ℕ) → done ≤ state → letter < width → cell cells width state letter ≡ cell before width state letter
+-- the states below one fail to earlier states
+pub record AreFailing (words : List (List ℕ)) (fails : List ℕ) (done : ℕ) : Type 0 where
   pub lower : (state : ℕ) → 0 < state → state < done → slice_index fails state < state
   pub failing : (state : ℕ) → 0 < state → state < done → IsFail words (word_at words state) (word_at words (slice_index fails state))
+
+-- the states below one have their fails and chains
+pub record AreLinked (words patterns : List (List ℕ)) (fails heads : List ℕ) (done : ℕ) : Type 0 where
+  pub fail_count : length fails ≡ done
+  pub head_count : length heads ≡ done
+  pub failing : AreFailing words fails done
   pub chains : (state : ℕ) → state < done → IsHead patterns (word_at words state) (slice_index heads state)
 
 -- a pattern becomes the last of its state, if that isn't the root
 abbrev pub owned_by : List ℕ → ℕ → ℕ → List ℕ
 owned_by firsts end owner = if end == 0 then firsts else slice_set firsts end owner
 
--- whatever the patterns are of whose words this was the trie, the states below one are linked
-pub record IsLinking (old : Trie) (firsts : List ℕ) (new : Trie) (fails heads : List ℕ) (done : ℕ) : Type 0 where
-  pub steps : new.steps.items ≡ old.steps.items
-  pub width : new.width ≡ old.width
-  pub linked : (patterns : List (List ℕ)) (ends sames : List ℕ) (deep : ℕ) → IsTrie old deep → AreWords (words_of old.steps.items) patterns ends → AreOwned ends (length (words_of old.steps.items)) firsts sames (length patterns)
-      → done ≤ length (words_of old.steps.items) → AreLinked (words_of old.steps.items) patterns old.width old.cells.items new.cells.items fails heads done
+-- whatever the patterns are of whose words this is the trie, the states below one are linked
+pub record IsLinking (trie : Trie) (firsts fails heads : List ℕ) (done : ℕ) : Type 0 where
+  pub linked : (patterns : List (List ℕ)) (ends sames : List ℕ) (deep : ℕ) → IsTrie trie deep → AreWords (words_of trie.steps.items) patterns ends → AreOwned ends (length (words_of trie.steps.items)) firsts sames (length patterns)
+      → done ≤ length (words_of trie.steps.items) → AreLinked (words_of trie.steps.items) patterns fails heads done
 
 -- behind each pattern the chain goes on at the one before it of its state, else with that of the fail
 abbrev pub next_of : List ℕ → List ℕ → List ℕ → List ℕ → ℕ → ℕ
@@ -110,12 +83,3 @@ next_of ends sames fails heads place = either (slice_index sames place) (slice_i
 pub record AreNexts (ends sames fails heads nexts : List ℕ) (done : ℕ) : Type 0 where
   pub count : length nexts ≡ done
   pub next : (place : ℕ) → place < done → slice_index nexts place ≡ next_of ends sames fails heads place
-
--- a move as the table has it: where the row of the next state begins, doubled, and whether a pattern has ended
-abbrev pub entry_of : ℕ → List ℕ → ℕ → ℕ
-entry_of width heads next = 2 * (next * width) + (if slice_index heads next == 0 then 0 else 1)
-
-pub record ArePacked (width : ℕ) (heads old new : List ℕ) (done : ℕ) : Type 0 where
-  pub count : length new ≡ length old
-  pub before : (place : ℕ) → place < done → place < length old → slice_index new place ≡ entry_of width heads (slice_index old place)
-  pub behind : (place : ℕ) → done ≤ place → slice_index new place ≡ slice_index old place

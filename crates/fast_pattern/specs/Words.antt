@@ -4,7 +4,7 @@
 -- read stand with the latest letter first, so that what ends at a moment is what the list begins with.
 -- To try it on: behind the letters h, s, h, e the words `he` and `she` have ended, `his` hasn't; as lists
 -- they are e h, e h s and s i h, and what was read is e h s h.
-use Rattle.std.specs.Prelude.{◌≡◌, ℕ, ◌+◌, ◌*◌, ◌<◌, ◌≤◌, ◌==◌, Bool, true, false, ◌&&◌, ◌||◌, List, [], ◌∷◌, ◌++◌, length, map, reverse, slice_index, slice_index_or}
+use Rattle.std.specs.Prelude.{◌≡◌, ℕ, ◌+◌, ◌-◌, ◌<◌, ◌≤◌, ◌==◌, Bool, true, false, ◌&&◌, ◌||◌, List, [], ◌∷◌, ◌++◌, length, map, reverse, slice_index, slice_index_or}
 use Rattle.fast_pattern.specs.declared.trie.Step.{Step}
 use Rattle.fast_pattern.specs.declared.trie.Trie.{Trie}
 
@@ -50,10 +50,6 @@ words_from words (step ∷ steps) = words_from (words ++ (step.by ∷ word_at wo
 abbrev pub words_of : List Step → List (List ℕ)
 words_of steps = words_from ([] ∷ []) steps
 
--- the number in a row and a column of a table
-abbrev pub cell : List ℕ → ℕ → ℕ → ℕ → ℕ
-cell cells width row column = slice_index cells (row * width + column)
-
 -- which word is longer by a letter: none, where the number is 0
 pub record IsChild (words : List (List ℕ)) (state letter child : ℕ) : Type 0 where
   pub lacks : child ≡ 0 → (other : ℕ) → other < length words → ¬ (word_at words other ≡ letter ∷ word_at words state)
@@ -62,18 +58,25 @@ pub record IsChild (words : List (List ℕ)) (state letter child : ℕ) : Type 0
 
 -- the step of a state behind the empty word
 abbrev pub step_at : List Step → ℕ → Step
-step_at steps number = slice_index_or steps number (record { up = 0; by = 0 })
+step_at steps number = slice_index_or steps number (record { up = 0; by = 0; same = 0 })
+
+-- of the states up to a number the last that is a state's with a letter behind it; 0 where there is none
+pub record IsLastChild (steps : List Step) (upto state child : ℕ) : Type 0 where
+  pub within : child ≤ upto
+  pub own : 0 < child → (step_at steps (child - 1)).up ≡ state
+  pub greatest : (number : ℕ) → number < upto → (step_at steps number).up ≡ state → number < child
 
 -- the numbers of a trie whose words have at most so many letters
 pub record IsTrieOf (words : List (List ℕ)) (trie : Trie) (deep : ℕ) : Type 0 where
   pub count : length words ≡ length trie.steps.items + 1
-  pub cells : length trie.cells.items ≡ length words * trie.width
+  pub first_count : length trie.firsts.items ≡ length words
   pub root : word_at words 0 ≡ []
   pub steps : (state : ℕ) → 0 < state → state < length words → (up : ℕ) × (by : ℕ) × (up < state) × (by < trie.width) × (word_at words state ≡ by ∷ word_at words up)
   pub told : (number : ℕ) → number < length trie.steps.items → word_at words (number + 1) ≡ (step_at trie.steps.items number).by ∷ word_at words (step_at trie.steps.items number).up
   pub ups : (number : ℕ) → number < length trie.steps.items → (step_at trie.steps.items number).up ≤ number
   pub bys : (number : ℕ) → number < length trie.steps.items → (step_at trie.steps.items number).by < trie.width
-  pub children : (state letter : ℕ) → state < length words → letter < trie.width → IsChild words state letter (cell trie.cells.items trie.width state letter)
+  pub first : (state : ℕ) → state < length words → IsLastChild trie.steps.items (length trie.steps.items) state (slice_index trie.firsts.items state)
+  pub same : (number : ℕ) → number < length trie.steps.items → IsLastChild trie.steps.items number (step_at trie.steps.items number).up (step_at trie.steps.items number).same
   pub apart : (one other : ℕ) → one < length words → other < length words → word_at words one ≡ word_at words other → one ≡ other
   pub levels : (one other : ℕ) → one ≤ other → other < length words → length (word_at words one) ≤ length (word_at words other)
   pub deepest : (state : ℕ) → state < length words → length (word_at words state) ≤ deep
@@ -93,3 +96,16 @@ pub record HasChild (old : Trie) (state letter child : ℕ) (new : Trie) : Type 
   pub extends : Extends (words_of old.steps.items) (words_of new.steps.items)
   pub within : child < length (words_of new.steps.items)
   pub grown : word_at (words_of new.steps.items) child ≡ letter ∷ word_at (words_of old.steps.items) state
+
+-- which word is a state's with a letter behind it, of whatever words this is the trie
+pub record FindsChild (trie : Trie) (state letter child : ℕ) : Type 0 where
+  pub found : (words : List (List ℕ)) (deep : ℕ) → IsTrieOf words trie deep → state < length words → IsChild words state letter child
+
+-- the state is still sought among those up to a number that are another's with a letter behind it
+pub record IsSought (steps : List Step) (state letter at : ℕ) : Type 0 where
+  pub within : at ≤ length steps
+  pub own : 0 < at → (step_at steps (at - 1)).up ≡ state
+  pub rest : (number : ℕ) → number < length steps → (step_at steps number).up ≡ state → (step_at steps number).by ≡ letter → number < at
+
+pub record IsSeeking (trie : Trie) (state letter at : ℕ) : Type 0 where
+  pub sought : (words : List (List ℕ)) (deep : ℕ) → IsTrieOf words trie deep → state < length words → IsSought trie.steps.items state letter at

@@ -3,24 +3,34 @@
 ghost use Rattle.std.specs.Prelude.{◌≡◌, ℕ, ◌-◌, ◌≤◌, ◌<◌, ◌==◌, ◌&&◌, ◌||◌, not, length, nat_lt, IfOk, OnOk};
 ghost use Rattle.fast_pattern.specs.Finding.{Follows};
 ghost use Rattle.fast_pattern.specs.Marking.{is_marked};
+ghost use Rattle.fast_pattern.specs.Rows.{state_of};
 
 use crate::ends::Grown;
 use crate::letters::letters_of;
-use crate::links::{Links, Owned, nexts, pack};
+use crate::links::{Links, Owned, nexts};
+use crate::moves::reach;
+use crate::rows::{Rows, SPARSE};
 use crate::seen::Seen;
-use crate::trie::{Trie, read};
+use crate::trie::{Trie, place, read};
 use edge_io::{NoMemory, Text};
 use std::alloc::{AllocError, Global};
 
-/// The automaton of Aho and Corasick, its moves resolved into one table: a row a state, a column a letter.
+/// The automaton of Aho and Corasick. Its first states have a row of moves each; from the others a walk goes back
+/// along the fails.
 #[derive(Drop)]
 pub struct Automaton {
     /// The letter of each byte.
     pub letters: [u16; 256],
-    /// How many letters there are.
-    pub width: u16,
-    /// Where the row of the next state begins, doubled, and one more where a pattern ends there.
+    /// The states.
+    pub trie: Trie,
+    /// How many of them have a row.
+    pub dense: u32,
+    /// The rows, a column a letter: the moves from these states.
     pub table: Vec<u32>,
+    /// The move to each state: its place, doubled, and one more where a pattern ends there.
+    pub entries: Vec<u32>,
+    /// The state that each one fails to.
+    pub fails: Vec<u32>,
     /// The first pattern of each state's chain: its place, plus one.
     pub heads: Vec<u32>,
     /// The pattern behind each one in the chains: its place, plus one.
@@ -57,7 +67,7 @@ fn follow(nexts: &[u32], head: u32, seen: &mut Seen, hits: &mut Vec<u32>) -> Res
 }
 
 impl Automaton {
-    ghost use Rattle.fast_pattern.specs.Finding.{Finds, Walks, Marks, Notes, AreHits};
+    ghost use Rattle.fast_pattern.specs.Finding.{Finds, Steps, StepsBack, Walks, Marks, Notes, AreHits};
 
     /// The automaton of these patterns; an empty one is none.
     pub fn of(alloc: Global, patterns: &[Text]) -> Result<Automaton, NoMemory>
@@ -65,33 +75,68 @@ impl Automaton {
         ensures { IfOk result (λ automaton. Finds automaton patterns.now) }
     {
         let letters = letters_of(patterns);
-        let mut grown = Grown::of(alloc, &letters, patterns)?;
-        let owned = Owned::of(alloc, grown.trie.steps.len() + 1, &grown.ends)?;
-        let links = Links::of(alloc, &mut grown.trie, &owned.firsts)?;
-        let nexts = nexts(alloc, &grown.ends, &owned.sames, &links)?;
-        let Grown { trie, ends: _ } = grown;
-        let Trie {
-            steps: _,
-            cells: mut table,
-            width,
-        } = trie;
-        pack(&mut table, width, &links.heads)?;
-        let Links { fails: _, heads } = links;
+        let grown = Grown::of(alloc, &letters, patterns)?;
+        let Grown { trie, ends } = grown;
+        let owned = Owned::of(alloc, trie.steps.len() + 1, &ends)?;
+        let links = Links::of(alloc, &trie, &owned.firsts)?;
+        let nexts = nexts(alloc, &ends, &owned.sames, &links)?;
+        let Links { fails, heads } = links;
+        let rows = Rows::of(alloc, &trie, &fails, &heads)?;
+        let Rows {
+            dense,
+            table,
+            entries,
+        } = rows;
         Ok(Automaton {
             letters: letters.of,
-            width,
+            trie,
+            dense,
             table,
+            entries,
+            fails,
             heads,
             nexts,
         })
     }
 
-    /// Marks and lists the patterns that end at the state with this row.
-    fn mark_ended(&self, at: usize, seen: &mut Seen, hits: &mut Vec<u32>) -> Result<(), NoMemory>
+    /// The state with a place.
+    #[tactic(auto, unfolding(crate::specs::Rows::state_of))]
+    fn state_at(&self, at: u32) -> u32
+        ensures { 0 < self.now.trie.width → result ≡ state_of self.now.trie.width at }
+    {
+        if at < SPARSE {
+            return at.checked_div(u32::from(self.trie.width)).unwrap_or(0);
+        }
+        at - SPARSE
+    }
+
+    /// The move by a letter from a state that has no row.
+    fn step_back(&self, state: u32, letter: u16) -> u32
+        ensures { StepsBack self.now state letter result }
+    {
+        let reached = reach(&self.trie, &self.fails, self.dense, state, letter);
+        if reached.child != 0 {
+            return read(&self.entries, reached.child as usize);
+        }
+        read(&self.table, place(self.trie.width, reached.state, letter))
+    }
+
+    /// The move by a letter from the state with a place.
+    fn step(&self, at: u32, letter: u16) -> u32
+        ensures { Steps self.now at letter result }
+    {
+        let place = at as usize + letter as usize;
+        if place < self.table.len() {
+            return self.table[place];
+        }
+        self.step_back(at.saturating_sub(SPARSE), letter)
+    }
+
+    /// Marks and lists the patterns that end at the state with this place.
+    fn mark_ended(&self, at: u32, seen: &mut Seen, hits: &mut Vec<u32>) -> Result<(), NoMemory>
         ensures { OnOk result (Marks self.now at seen.old hits.old.items seen.new hits.new.items) }
     {
-        let state = at.checked_div(self.width as usize).unwrap_or(0);
-        let head = read(&self.heads, state);
+        let head = read(&self.heads, self.state_at(at) as usize);
         follow(&self.nexts, head, seen, hits)?;
         Ok(())
     }
@@ -103,7 +148,7 @@ impl Automaton {
         if entry % 2 == 0 {
             return Ok(());
         }
-        self.mark_ended(entry as usize / 2, seen, hits)?;
+        self.mark_ended(entry / 2, seen, hits)?;
         Ok(())
     }
 
@@ -113,11 +158,11 @@ impl Automaton {
     {
         let mut seen = Seen::new(alloc);
         let mut hits = Vec::new(alloc);
-        let mut at = 0usize;
+        let mut at = 0;
         for byte in bytes {
-            let letter = self.letters[*byte as usize] as usize;
-            let entry = read(&self.table, at + letter);
-            at = entry as usize / 2;
+            let letter = self.letters[*byte as usize];
+            let entry = self.step(at, letter);
+            at = entry / 2;
             self.note(entry, &mut seen, &mut hits)?;
         }
         Ok(hits)

@@ -5,11 +5,12 @@
 //! patterns of all rules, ASCII case folded, into one automaton of Aho and Corasick (Communications of the
 //! ACM 18, 1975) and the rules that have none into indexes by port; `Groups::candidates` walks a
 //! payload once and appends exactly the candidates of specs/Candidates.antt, which looks for each pattern
-//! in the whole payload. A byte costs two look-ups, whatever the rules are; nothing is allocated before
-//! the first pattern has ended. What tries rules on items stands on this crate.
+//! in the whole payload. A byte costs a few look-ups, however many rules there are; nothing is allocated
+//! before the first pattern has ended. What tries rules on items stands on this crate.
 //!
-//! A state takes four bytes a letter (a byte of some pattern, case folded) and four more. The four indexes take
-//! half a megabyte each, and twelve bytes for each block of ports of a rule.
+//! The automaton takes at most 124 bytes a byte of a pattern: rows of moves for the first states, and for the others
+//! the states that are longer by a letter. The four indexes take half a megabyte each, and twelve bytes for each
+//! block of ports of a rule.
 #![tactic(auto)]
 
 mod automaton;
@@ -21,6 +22,8 @@ mod header;
 mod index;
 mod letters;
 mod links;
+mod moves;
+mod rows;
 mod seen;
 mod sides;
 #[cfg(test)]

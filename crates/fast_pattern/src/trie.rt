@@ -1,23 +1,26 @@
 //! The words that patterns begin with, each behind a shorter one.
 
-ghost use Rattle.std.specs.Prelude.{◌≡◌, ◌+◌, ◌*◌, ◌<◌, ◌∷◌, [], ◌++◌, length, replicate, slice_index, slice_set, IfOk, OnOk};
+ghost use Rattle.std.specs.Prelude.{◌≡◌, ◌+◌, ◌*◌, ◌<◌, ◌∷◌, [], ◌++◌, length, slice_index, slice_set, IfOk, OnOk};
+ghost use Rattle.fast_pattern.specs.Words.{step_at};
 
 use edge_io::NoMemory;
-use std::alloc::{AllocError, Global};
+use std::alloc::Global;
 
-/// A state: the word of an earlier state, with a letter behind it.
+/// A state: the word of an earlier state, with a letter behind it. Before it the last state that is that state's
+/// word with another letter behind it; 0 where there is none.
 #[derive(Clone, Copy)]
 pub struct Step {
     pub up: u32,
     pub by: u16,
+    pub same: u32,
 }
 
-/// The states, and a table with a row a state and a column a letter that names the state which is longer by
-/// the letter; 0 where there is none. The state 0 is the empty word, and has no step.
+/// The states. The state 0 is the empty word, and has no step.
 #[derive(Drop)]
 pub struct Trie {
     pub steps: Vec<Step>,
-    pub cells: Vec<u32>,
+    /// The last state that is each state's word with a letter behind it; 0 where there is none.
+    pub firsts: Vec<u32>,
     pub width: u16,
 }
 
@@ -44,18 +47,22 @@ pub fn place(width: u16, row: u32, column: u16) -> usize
     row as usize * width as usize + column as usize
 }
 
-/// Adds so many zeros.
-pub fn push_zeros(cells: &mut Vec<u32>, count: u16) -> Result<(), AllocError>
-    ensures { OnOk result (cells.new.items ≡ cells.old.items ++ replicate count 0) }
+/// The step at a place.
+pub fn step_at(steps: &[Step], at: usize) -> Step
+    ensures { result ≡ step_at steps.now at }
 {
-    for _column in 0..count {
-        cells.push(0)?;
+    if steps.len() <= at {
+        return Step {
+            up: 0,
+            by: 0,
+            same: 0,
+        };
     }
-    Ok(())
+    steps[at]
 }
 
 impl Trie {
-    ghost use Rattle.fast_pattern.specs.Words.{IsTrie, words_of, word_at, cell, HasChild};
+    ghost use Rattle.fast_pattern.specs.Words.{IsTrie, words_of, word_at, HasChild, FindsChild};
 
     /// The empty word alone.
     pub fn new(alloc: Global, width: u16) -> Result<Trie, NoMemory>
@@ -63,20 +70,35 @@ impl Trie {
         ensures width { IfOk result (λ trie. trie.width ≡ width) }
         ensures steps { IfOk result (λ trie. trie.steps.items ≡ []) }
     {
-        let mut cells = Vec::new(alloc);
-        push_zeros(&mut cells, width)?;
+        let mut firsts = Vec::new(alloc);
+        firsts.push(0)?;
         Ok(Trie {
             steps: Vec::new(alloc),
-            cells,
+            firsts,
             width,
         })
+    }
+
+    /// The state whose word is this state's with the letter behind it; 0 where there is none.
+    pub fn found(&self, state: u32, letter: u16) -> u32
+        ensures { FindsChild self.now state letter result }
+    {
+        let mut at = read(&self.firsts, state as usize);
+        while at != 0 {
+            let step = step_at(&self.steps, at as usize - 1);
+            if step.by == letter {
+                return at;
+            }
+            at = step.same.min(at - 1);
+        }
+        0
     }
 
     /// Adds the state behind `up` that is longer by the letter.
     fn grow(&mut self, up: u32, by: u16) -> Result<u32, NoMemory>
         ensures state { IfOk result (λ state. state ≡ length self.old.steps.items + 1) }
-        ensures steps { OnOk result (self.new.steps.items ≡ self.old.steps.items ++ record { up = up; by = by } ∷ []) }
-        ensures cells { IfOk result (λ state. self.new.cells.items ≡ slice_set (self.old.cells.items ++ replicate self.old.width 0) (up * self.old.width + by) state) }
+        ensures steps { OnOk result (self.new.steps.items ≡ self.old.steps.items ++ record { up = up; by = by; same = slice_index self.old.firsts.items up } ∷ []) }
+        ensures firsts { IfOk result (λ state. self.new.firsts.items ≡ slice_set (self.old.firsts.items ++ 0 ∷ []) up state) }
         ensures width { OnOk result (self.new.width ≡ self.old.width) }
     {
         let Ok(earlier) = u32::try_from(self.steps.len()) else {
@@ -85,9 +107,10 @@ impl Trie {
         let Some(state) = earlier.checked_add(1) else {
             return Err(NoMemory);
         };
-        push_zeros(&mut self.cells, self.width)?;
-        self.steps.push(Step { up, by })?;
-        write(&mut self.cells, place(self.width, up, by), state);
+        let same = read(&self.firsts, up as usize);
+        self.firsts.push(0)?;
+        self.steps.push(Step { up, by, same })?;
+        write(&mut self.firsts, up as usize, state);
         Ok(state)
     }
 
@@ -99,7 +122,7 @@ impl Trie {
         requires letter { letter < self.old.width }
         ensures { IfOk result (λ child. HasChild self.old state letter child self.new) }
     {
-        let child = read(&self.cells, place(self.width, state, letter));
+        let child = self.found(state, letter);
         if child != 0 {
             return Ok(child);
         }

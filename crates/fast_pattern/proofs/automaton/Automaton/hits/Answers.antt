@@ -16,8 +16,7 @@ loop-byte-preserved c =
     let bytes = c.args.bytes.now in
     let i = c.loop-byte.byte-index in
     let letter = slice_index automaton.letters (slice_index bytes i) in
-    let entry : c.read-entry.result ≡ slice_index automaton.table.items (c.loop-byte.at + letter) = c.read-entry.ensures ∙ ap (λ (xs : List ℕ). slice_index xs (c.loop-byte.at + letter)) c.deref.ensures.value in
-    walks-more automaton bytes i c.loop-byte.at letter c.read-entry.result c.loop-byte.seen c.note.new.seen c.loop-byte.hits.items c.note.new.hits.items c.loop-byte.invariant c.loop-byte-test.true refl entry c.read-entry.type_inv c.in_ok-note.ensures
+    walks-more automaton bytes i c.loop-byte.at letter c.step-entry.result c.loop-byte.seen c.note.new.seen c.loop-byte.hits.items c.note.new.hits.items c.loop-byte.invariant c.loop-byte-test.true refl c.step-entry.ensures c.in_ok-note.ensures
 
 pub returns : goal.returns
 returns c = hits-all c.args.self.now c.args.bytes.now c.loop-byte.byte-index c.loop-byte.at c.loop-byte.seen c.loop-byte.hits.items c.loop-byte-test.false c.loop-byte.invariant

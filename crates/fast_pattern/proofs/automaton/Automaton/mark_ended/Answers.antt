@@ -1,6 +1,7 @@
-use Rattle.std.proofs.Common.{◌≡◌, ℕ, ◌/◌, ◌<◌, List, slice_index, ap, subst, ◌∙◌}
+use Rattle.std.proofs.Common.{◌≡◌, ℕ, ◌<◌, List, slice_index, ap, subst, ◌∙◌}
+use Rattle.fast_pattern.specs.Rows.{state_of}
 use Rattle.fast_pattern.specs.Finding.{Follows}
-use Rattle.fast_pattern.proofs.Hitting.{marks-chain, unwrapped}
+use Rattle.fast_pattern.proofs.Hitting.{marks-chain}
 use Rattle.fast_pattern.proofs.automaton.Automaton.mark_ended.Goals as goal
 
 pub returns : goal.returns
@@ -8,9 +9,9 @@ returns c =
     let a = c.args in
     let automaton = c.args.self.now in
     let head = c.read-head.result in
-    let known : 0 < automaton.width → head ≡ slice_index automaton.heads.items (a.at / automaton.width) = λ wide.
+    let known : 0 < automaton.trie.width → head ≡ slice_index automaton.heads.items (state_of automaton.trie.width a.at) = λ wide.
     c.read-head.ensures
-    ∙ ap (slice_index c.deref.result.now) (c.unwrap_or-state.ensures ∙ unwrapped c.checked_div.result (0 < automaton.width) (a.at / automaton.width) c.checked_div.ensures wide)
-    ∙ ap (λ (xs : List ℕ). slice_index xs (a.at / automaton.width)) c.deref.ensures.value in
+    ∙ ap (slice_index c.deref.result.now) (c.state_at.ensures wide)
+    ∙ ap (λ (xs : List ℕ). slice_index xs (state_of automaton.trie.width a.at)) c.deref.ensures.value in
     let R : List ℕ → Type 0 = λ nexts. Follows nexts head a.seen.now a.hits.now.items c.follow.new.seen c.follow.new.hits.items in
     marks-chain automaton a.at a.seen.now c.follow.new.seen a.hits.now.items c.follow.new.hits.items head (subst R c.deref-2.ensures.value c.in_ok-follow.ensures) known

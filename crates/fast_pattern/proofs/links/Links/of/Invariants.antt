@@ -2,4 +2,4 @@ use Rattle.fast_pattern.specs.Outputs.{IsLinking}
 use Rattle.fast_pattern.proofs.links.Links.of.Given as goal
 
 abbrev pub invariant-loop-state : goal.invariant-loop-state
-invariant-loop-state l = IsLinking l.fn.trie l.firsts l.trie l.fails.items l.heads.items l.state
+invariant-loop-state l = IsLinking l.trie l.firsts l.fails.items l.heads.items l.state

@@ -1,0 +1,17 @@
+use Rattle.std.proofs.Common.{◌+◌, ◌<◌, ◌≤◌, length, ◌∙◌, arith}
+use Rattle.std.proofs.lemmas.List.{get_or_default}
+use Rattle.fast_pattern.proofs.Stepping.{step-row, step-sparse}
+use Rattle.fast_pattern.proofs.automaton.Automaton.step.Goals as goal
+
+pub returns-then-place-len : goal.returns-then-place-len
+returns-then-place-len c =
+    let table = c.args.self.now.table in
+    let place = c.args.at + c.args.letter in
+    let below : c.args.at + c.args.letter < length table.items = omega (arith, c.len.ensures, table.ok.0) in
+    step-row c.args.self.now c.args.at c.args.letter c.index.result.now below (c.index.ensures ∙ get_or_default table.items place c.index.result.now 0 below)
+
+pub returns : goal.returns
+returns c =
+    let table = c.args.self.now.table in
+    let above : length table.items ≤ c.args.at + c.args.letter = omega (arith, c.len.ensures, table.ok.0) in
+    step-sparse c.args.self.now c.args.at c.saturating_sub.result c.args.letter c.step_back.result above c.saturating_sub.ensures c.step_back.ensures

@@ -1,0 +1,8 @@
+use Rattle.fast_pattern.specs.Moves.{IsReaching}
+use Rattle.fast_pattern.proofs.moves.reach.Given as goal
+
+abbrev pub invariant-loop-at : goal.invariant-loop-at
+invariant-loop-at l = IsReaching l.trie l.fails l.state l.letter l.at
+
+abbrev pub decreases-loop-at : goal.decreases-loop-at
+decreases-loop-at l = l.at

@@ -1,0 +1,5 @@
+use Rattle.fast_pattern.specs.Rows.{HasRows}
+use Rattle.fast_pattern.proofs.rows.push_row.Given as goal
+
+abbrev pub invariant-loop-letter : goal.invariant-loop-letter
+invariant-loop-letter l = HasRows l.trie l.fails l.entries l.state 0 l.fn.table.items → HasRows l.trie l.fails l.entries l.state l.letter l.table.items

@@ -1,0 +1,8 @@
+use Rattle.fast_pattern.specs.Words.{IsSeeking}
+use Rattle.fast_pattern.proofs.trie.Trie.found.Given as goal
+
+abbrev pub invariant-loop-at : goal.invariant-loop-at
+invariant-loop-at l = IsSeeking l.self l.state l.letter l.at
+
+abbrev pub decreases-loop-at : goal.decreases-loop-at
+decreases-loop-at l = l.at

@@ -1,0 +1,152 @@
+//! The layout of the moves: rows for the first states, and the moves to all states.
+
+ghost use Rattle.std.specs.Prelude.{◌≡◌, ◌+◌, ◌*◌, ◌^◌, ◌<◌, ◌≤◌, length, IfOk, OnOk};
+ghost use Rattle.fast_pattern.specs.Rows.{sparse, place_of, entry_of, AreEntries, IsNextEntry, HasRows};
+
+use crate::trie::{Trie, place, read};
+use edge_io::NoMemory;
+use std::alloc::{AllocError, Global};
+
+/// The first place that no row has.
+pub const SPARSE: u32 = 1_073_741_824;
+
+/// How many moves rows have for each state, all in all.
+const MOVES: usize = 20;
+
+/// How many states have a row: as many as there is room for, at least one.
+fn row_count(width: u16, states: usize) -> u32
+    ensures some { 0 < result }
+    ensures within { 0 < states → result ≤ states }
+    ensures fits { result * width ≤ sparse }
+{
+    let wide = u32::from(width).max(1);
+    let most = SPARSE / wide;
+    let room = states.saturating_mul(MOVES) / wide as usize;
+    room.min(states).min(most as usize).max(1) as u32
+}
+
+/// The place of a state.
+#[tactic(auto, unfolding(crate::specs::Rows::place_of))]
+fn place_of(width: u16, dense: u32, state: u32) -> u64
+    ensures place { result ≡ place_of width dense state }
+    ensures small { result < 2 ^ 62 }
+{
+    if state < dense {
+        return place(width, state, 0) as u64;
+    }
+    u64::from(SPARSE) + u64::from(state)
+}
+
+/// The move to a state.
+#[tactic(auto, unfolding(crate::specs::Rows::entry_of))]
+fn entry_of(width: u16, dense: u32, heads: &[u32], state: u32) -> Result<u32, NoMemory>
+    ensures { IfOk result (λ entry. entry ≡ entry_of width dense heads.now state) }
+{
+    let ended = u64::from(read(heads, state as usize) != 0);
+    let entry = 2 * place_of(width, dense, state) + ended;
+    u32::try_from(entry).map_err(|_| NoMemory)
+}
+
+/// The moves to all states.
+fn entries_of(
+    alloc: Global,
+    width: u16,
+    dense: u32,
+    heads: &[u32],
+    states: u32,
+) -> Result<Vec<u32>, NoMemory>
+    ensures { IfOk result (λ entries. AreEntries width dense heads.now entries.items states) }
+{
+    let mut entries = Vec::with_capacity(alloc, states as usize)?;
+    for state in 0..states {
+        entries.push(entry_of(width, dense, heads, state)?)?;
+    }
+    Ok(entries)
+}
+
+/// The next move of a table.
+fn next_entry(
+    trie: &Trie,
+    fails: &[u32],
+    entries: &[u32],
+    table: &[u32],
+    state: u32,
+    letter: u16,
+) -> u32
+    ensures { IsNextEntry trie.now fails.now entries.now table.now state letter result }
+{
+    let child = trie.found(state, letter);
+    if child != 0 {
+        return read(entries, child as usize);
+    }
+    if state == 0 {
+        return read(entries, 0);
+    }
+    read(
+        table,
+        place(trie.width, read(fails, state as usize), letter),
+    )
+}
+
+/// Adds the row of a state.
+fn push_row(
+    trie: &Trie,
+    fails: &[u32],
+    entries: &[u32],
+    state: u32,
+    table: &mut Vec<u32>,
+) -> Result<(), AllocError>
+    ensures { OnOk result (HasRows trie.now fails.now entries.now state 0 table.old.items → HasRows trie.now fails.now entries.now (state + 1) 0 table.new.items) }
+{
+    for letter in 0..trie.width {
+        let entry = next_entry(trie, fails, entries, table, state, letter);
+        table.push(entry)?;
+    }
+    Ok(())
+}
+
+/// The rows of the first states.
+fn table_of(
+    alloc: Global,
+    trie: &Trie,
+    fails: &[u32],
+    entries: &[u32],
+    dense: u32,
+) -> Result<Vec<u32>, AllocError>
+    ensures { IfOk result (λ table. HasRows trie.now fails.now entries.now dense 0 table.items) }
+{
+    let mut table = Vec::with_capacity(alloc, place(trie.width, dense, 0))?;
+    for state in 0..dense {
+        push_row(trie, fails, entries, state, &mut table)?;
+    }
+    Ok(table)
+}
+
+/// How many of the first states have a row, their rows, and the moves to all states.
+#[derive(Drop)]
+pub struct Rows {
+    pub dense: u32,
+    pub table: Vec<u32>,
+    pub entries: Vec<u32>,
+}
+
+impl Rows {
+    ghost use Rattle.fast_pattern.specs.Rows.{IsLayout};
+
+    /// The layout of the moves of these states.
+    pub fn of(alloc: Global, trie: &Trie, fails: &[u32], heads: &[u32]) -> Result<Rows, NoMemory>
+        ensures { IfOk result (λ rows. IsLayout trie.now fails.now heads.now rows) }
+    {
+        let Ok(states) = u32::try_from(trie.steps.len() + 1) else {
+            return Err(NoMemory);
+        };
+        let dense = row_count(trie.width, states as usize);
+        let entries = entries_of(alloc, trie.width, dense, heads, states)?;
+        let table = table_of(alloc, trie, fails, &entries, dense)?;
+        Ok(Rows {
+            dense,
+            table,
+            entries,
+        })
+    }
+}
