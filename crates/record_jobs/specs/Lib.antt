@@ -1,0 +1,9 @@
+pub mod Way
+pub mod Packets
+pub mod Touches
+pub mod Jobs
+pub mod Counts
+pub mod Ready
+pub mod Fronts
+pub mod Steps
+pub mod Inside

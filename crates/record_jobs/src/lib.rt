@@ -1,0 +1,18 @@
+//! The front of the detector: the records of a capture become the jobs of its flows.
+//!
+//! A `Front` takes the records one by one. It reads each packet, puts fragments together, finds the flow
+//! of each packet and which flow ends for it, and says by which engine and which policy either end goes.
+//! What it gives is `jobs` and `finishes` of specs/Jobs, which are defined over the list of all records,
+//! without a cache; what the records are counted as is `counts` of specs/Counts. The lanes of flow_lanes
+//! run the jobs; what makes a whole run stands on both.
+#![tactic(auto)]
+
+mod config;
+mod counts;
+mod front;
+mod item;
+mod time;
+
+pub use config::FrontConfig;
+pub use counts::RecordCounts;
+pub use front::Front;
