@@ -5,7 +5,7 @@
 -- begins. (The counts are this project's own.)
 -- To try it on: two fragments that make a UDP datagram with a wrong checksum count as 2 records, 2 fragments,
 -- 1 rebuilt datagram and 1 skip for its checksum.
-use Rattle.std.specs.Prelude.{ℕ, Bool, true, false, List, Option, count_by, length}
+use Rattle.std.specs.Prelude.{Bool, true, false, List, count_by, length}
 use Rattle.std.specs.List.{filter_map}
 use Rattle.std.specs.Option.{option_to_list}
 use Rattle.edge_io.specs.Along.{trail}

@@ -1,5 +1,5 @@
 -- How a `Front` keeps what it stands for.
-use Rattle.std.specs.Prelude.{ℕ, ◌*◌, ◌^◌, ◌≤◌}
+use Rattle.std.specs.Prelude.{◌*◌, ◌^◌, ◌≤◌}
 use Rattle.record_jobs.specs.declared.front.Front.TheInside.{Inside}
 use Rattle.record_jobs.specs.Fronts.{FrontState}
 use Rattle.record_jobs.specs.Steps.{AreFew}

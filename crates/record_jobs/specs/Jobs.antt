@@ -8,7 +8,7 @@
 -- To try it on: with at most one TCP flow, the SYNs from port 1000 and from port 1001 to port 80 give the
 -- jobs 0, a packet of flow 0; 1, the end of flow 0; and 2, a packet of flow 1. Behind them, 3 is the end of
 -- flow 1.
-use Rattle.std.specs.Prelude.{ℕ, ◌+◌, Bool, true, false, List, [], ◌∷◌, ◌++◌, map, fold, length, Option, Some, None, option_and_then, unwrap_or}
+use Rattle.std.specs.Prelude.{ℕ, ◌+◌, Bool, List, [], ◌∷◌, ◌++◌, map, fold, length, Option, Some, None, option_and_then, unwrap_or}
 use Rattle.std.specs.Option.{option_map, option_to_list}
 use Rattle.edge_io.specs.Along.{trail}
 use Rattle.edge_io.specs.declared.moment.Moment.{Moment}

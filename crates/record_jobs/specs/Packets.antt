@@ -7,7 +7,7 @@
 -- (Snort Users Manual 2.9, section 2.2.1.)
 -- To try it on: of two fragments that make a UDP datagram, the first record brings its fragment alone; the
 -- second brings its fragment and the datagram, both at the second record's moment.
-use Rattle.std.specs.Prelude.{ℕ, Bool, true, false, List, Option, Some, None, Result, Ok, Err, option_and_then, if◌then◌else◌}
+use Rattle.std.specs.Prelude.{Bool, true, false, List, Option, Some, None, Result, Ok, Err, option_and_then, if◌then◌else◌}
 use Rattle.std.specs.List.{filter_map}
 use Rattle.std.specs.Option.{option_map, option_or}
 use Rattle.std.specs.Result.{result_ok, result_err}

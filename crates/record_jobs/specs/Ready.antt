@@ -2,7 +2,7 @@
 --
 -- To try it on: the jobs of a capture's records, and those of its end behind them, have the numbers 0, 1, 2
 -- and so on, and each packet of a flow is between the ends of the flow's first packet.
-use Rattle.std.specs.Prelude.{◌≡◌, ℕ, ◌+◌, ◌^◌, ◌≤◌, ⊤, List, [], ◌∷◌, ◌++◌, Option, Some, None, All, filter, fold, length, map}
+use Rattle.std.specs.Prelude.{◌≡◌, ℕ, ◌^◌, ◌≤◌, ⊤, List, ◌∷◌, ◌++◌, Some, None, All, filter, fold, length, map}
 use Rattle.std.specs.List.{range_with_len}
 use Rattle.edge_io.specs.Along.{trail}
 use Rattle.flow_lanes.specs.declared.job.Job.{Job}

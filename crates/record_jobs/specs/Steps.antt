@@ -1,5 +1,5 @@
 -- The parts of a record's step, in the terms of the code's functions.
-use Rattle.std.specs.Prelude.{◌≡◌, ℕ, ◌+◌, ◌≤◌, Bool, true, false, List, [], ◌++◌, length, Option, Some, None, IfSome, Result, Ok, Err, is_some, option_and_then, if◌then◌else◌}
+use Rattle.std.specs.Prelude.{◌≡◌, ℕ, ◌+◌, ◌≤◌, Bool, false, List, ◌++◌, length, Option, Some, None, IfSome, Result, Ok, Err, is_some, option_and_then, if◌then◌else◌}
 use Rattle.std.specs.Option.{option_map, option_map_or, option_to_list}
 use Rattle.edge_io.specs.declared.moment.Moment.{Moment}
 use Rattle.packet_decode.specs.declared.checks.Checks.{Checks}

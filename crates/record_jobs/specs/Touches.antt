@@ -8,13 +8,11 @@
 use Rattle.std.specs.Prelude.{ℕ, Bool, true, false, List, reverse, Option, Some, None, option_and_then, if◌then◌else◌}
 use Rattle.std.specs.Option.{option_map, option_to_list}
 use Rattle.edge_io.specs.Along.{trail}
-use Rattle.edge_io.specs.declared.address.Addr.{Addr}
 use Rattle.packet_decode.specs.declared.packet.Body.{Body}
 use Rattle.packet_decode.specs.declared.packet.Body.TheVariants as body
 use Rattle.packet_decode.specs.declared.packet.IpHead.{IpHead}
 use Rattle.conf_parser.specs.declared.config.StreamConfig.{StreamConfig}
 use Rattle.stream5_sessions.specs.declared.flows.Touch.{Touch}
-use Rattle.stream5_sessions.specs.declared.key.End.{End}
 use Rattle.stream5_sessions.specs.declared.key.Key.{Key}
 use Rattle.stream5_sessions.specs.Keys.{key_of}
 use Rattle.stream5_sessions.specs.Liveness.{MaxFlows, touch_found}

@@ -11,7 +11,6 @@ use Rattle.std.specs.List.{find}
 use Rattle.std.specs.Option.{option_or}
 use Rattle.edge_io.specs.declared.address.Addr.{Addr}
 use Rattle.edge_io.specs.declared.link.Link.{Link}
-use Rattle.edge_io.specs.declared.moment.Moment.{Moment}
 use Rattle.edge_io.specs.declared.policy.Preference.{Preference}
 use Rattle.edge_io.specs.Policies.{frag_preference, stream_preference}
 use Rattle.net_lists.specs.declared.part.AddrBounds.{AddrBounds}

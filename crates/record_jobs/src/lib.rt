@@ -11,8 +11,10 @@ mod config;
 mod counts;
 mod front;
 mod item;
+mod laws;
 mod time;
 
 pub use config::FrontConfig;
 pub use counts::RecordCounts;
 pub use front::Front;
+pub use laws::{jobs_are_in_order, lanes_may_run, records_are_counted};

@@ -1,0 +1,9 @@
+pub mod Growth
+pub mod Counting
+pub mod Catching
+pub mod Sizes
+pub mod Taking
+pub mod Knowing
+pub mod Sounding
+pub mod Running
+pub mod Learning

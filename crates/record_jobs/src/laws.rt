@@ -1,0 +1,30 @@
+//! Laws about the jobs of a capture, for callers.
+
+ghost use Rattle.std.specs.Prelude.{◌≡◌, ℕ, Bool, List, [], ◌++◌, length};
+ghost use Rattle.flow_lanes.specs.declared.job.Job.{Job};
+ghost use Rattle.flow_lanes.specs.Standing.{AreNew, LanesState, LearnsBatch};
+ghost use Rattle.record_jobs.specs.Fronts.{FrontState, StandsFor};
+ghost use Rattle.record_jobs.specs.Ready.{AreInOrder, AreNumbered, AreReady, AreSound, HaveLearnt};
+ghost use Rattle.record_jobs.specs.Way.{LinkedRecord, Way};
+
+/// All jobs of a capture's records are numbered by their places, and where their data are short, as a front
+/// says, each is sound behind the earlier jobs of its flow.
+pub fn jobs_are_in_order()
+    ensures { (way : Way) (records : List LinkedRecord) → AreInOrder way records }
+{}
+
+/// A front counts the records that it stands for.
+pub fn records_are_counted()
+    ensures { (way : Way) (front : FrontState) (before : List LinkedRecord) → StandsFor way front before
+        → front.counts.records ≡ length before }
+{}
+
+/// New lanes know that there was no job; lanes that know the earlier jobs may run the next ones, and know these
+/// too then.
+pub fn lanes_may_run()
+    ensures new { (count flush : ℕ) (inserts : Bool) (lanes : LanesState) → AreNew count flush inserts lanes → HaveLearnt lanes [] }
+    ensures ready { (engines : ℕ) (lanes : LanesState) (earlier batch rest : List Job) → HaveLearnt lanes earlier
+        → AreSound engines (earlier ++ (batch ++ rest)) → AreNumbered (earlier ++ (batch ++ rest)) → AreReady engines lanes batch }
+    ensures learn { (old new : LanesState) (earlier batch : List Job) → HaveLearnt old earlier
+        → LearnsBatch old batch new → HaveLearnt new (earlier ++ batch) }
+{}
