@@ -1,3 +1,4 @@
+pub mod Bound
 pub mod Growth
 pub mod Counting
 pub mod Catching

@@ -31,6 +31,7 @@ use Rattle.record_jobs.specs.declared.time.Time.{Time}
 use Rattle.record_jobs.specs.Jobs.{alone, flow_packet, numbered}
 use Rattle.record_jobs.specs.Touches.{item_key, key_between, most_flows, tracked_key}
 use Rattle.record_jobs.specs.Way.{Way, is_bound, stream_place, stream_preference_at, toward_address}
+use Rattle.record_jobs.proofs.Bound.{stream_place-within}
 use Rattle.record_jobs.proofs.Knowing.{HadFlow, had_apart, number_at}
 
 -- ---- what goes by the ends of a flow depends on its key alone
@@ -143,25 +144,6 @@ ends_are way time item key e =
 
     to : (receiver p).addr ≡ item.head.ip.dst
     to = receiver_addr item.head.ip item.head.body (length item.payload) time.now
-
--- an engine's place is within the engines, or their number
-place_within : (way : Way) (addr : Addr) → stream_place way.stream.engines addr ≤ length way.stream.engines
-unfolding stream_place
-place_within way addr = go (ltb first count) refl (ltb second count) refl
-  where
-    count : ℕ
-    count = length way.stream.engines
-
-    first : ℕ
-    first = position_or_len (λ (engine : StreamEngine). is_bound addr engine.bind) way.stream.engines
-
-    second : ℕ
-    second = position_or_len (λ (engine : StreamEngine). is_none engine.bind) way.stream.engines
-
-    go : (a : Bool) → ltb first count ≡ a → (b : Bool) → ltb second count ≡ b → unwrap_or (option_or (cond a (Some first) None) (cond b (Some second) None)) count ≤ count
-    go true x b y = omega (arith, ltb-true first count x)
-    go false x true y = omega (arith, ltb-true second count y)
-    go false x false y = omega arith
 
 -- ---- what is known of each flow
 
@@ -284,8 +266,8 @@ packet_job way touches packets earlier number time item key flow knows keyed num
       same_ends = same (known earlier flow) (knows flow);
       few = bound (known earlier flow) (knows flow);
       size = size;
-      to_dst = place_within way item.head.ip.dst;
-      to_src = place_within way item.head.ip.src;
+      to_dst = stream_place-within way.stream.engines item.head.ip.dst;
+      to_src = stream_place-within way.stream.engines item.head.ip.src;
     }
 
     more : (o : Option FlowFacts) → Knows way touches packets flow o → option_map_or (λ (f : FlowFacts). f.packets + 1) o 1 ≤ packets + 1

@@ -7,12 +7,16 @@
 //! run the jobs; what makes a whole run stands on both.
 #![tactic(auto)]
 
+mod adding;
+mod caught;
 mod config;
 mod counts;
+mod engines;
 mod front;
 mod item;
 mod laws;
 mod time;
+mod touches;
 
 pub use config::FrontConfig;
 pub use counts::RecordCounts;

@@ -1,0 +1,178 @@
+//! What is done for a record, as jobs behind a list.
+ghost use Rattle.std.specs.Prelude.{◌≡◌, ◌+◌, ◌≤◌, ◌<◌, ◌^◌, ◌++◌, length, map, take, IfOk, OnOk, OnErr};
+ghost use Rattle.std.specs.Option.{option_map, option_to_list};
+ghost use Rattle.flow_lanes.specs.Sessions.{is_tcp};
+ghost use Rattle.record_jobs.specs.Jobs.{alone, evicted_by, flow_packet, numbered, packet_work, works_by};
+ghost use Rattle.record_jobs.specs.Steps.{Adds};
+ghost use Rattle.record_jobs.specs.Way.{way_of};
+
+use crate::config::FrontConfig;
+use crate::engines::toward;
+use crate::item::{Caught, Item};
+use crate::time::Time;
+use edge_io::{Moment, NoMemory};
+use flow_lanes::{Job, Work};
+use packet_decode::Body;
+use stream5_sessions::Touch;
+
+/// An item by itself.
+fn alone(item: Item) -> Work
+    ensures { result ≡ alone item }
+{
+    let Item { head, payload } = item;
+    Work::Alone { head, payload }
+}
+
+/// A packet of a flow.
+#[tactic(auto, unfolding(crate::specs::Jobs::flow_packet))]
+fn flow_packet(by: &FrontConfig<'_>, time: Time, item: Item, flow: u64) -> Work
+    requires { length by.now.config.now.stream.engines ≤ 1024 }
+    ensures { result ≡ flow_packet (way_of by.now) time item flow }
+{
+    let Item { head, payload } = item;
+    let tcp = is_tcp(head.body);
+    let to_dst = toward(by, tcp, time, head.ip.dst);
+    let to_src = toward(by, tcp, time, head.ip.src);
+    Work::Packet {
+        flow,
+        head,
+        payload,
+        to_dst,
+        to_src,
+    }
+}
+
+/// Whether a packet is of TCP.
+fn is_tcp(body: Body) -> bool
+    ensures { result ≡ is_tcp body }
+{
+    match body {
+        Body::Tcp(_) => true,
+        _ => false,
+    }
+}
+
+/// What is done for a packet that found this of its flow, if it has one.
+fn packet_work(by: &FrontConfig<'_>, time: Time, touch: Option<Touch>, item: Item) -> Work
+    requires { length by.now.config.now.stream.engines ≤ 1024 }
+    ensures { result ≡ packet_work (way_of by.now) time touch item }
+{
+    match touch {
+        Some(touch) => flow_packet(by, time, item, touch.flow),
+        None => alone(item),
+    }
+}
+
+/// The flow that a touch ends.
+fn evicted(touch: Option<Touch>) -> Option<u64>
+    ensures { result ≡ evicted_by touch }
+{
+    touch?.evicted
+}
+
+/// The end of a flow, if one ends.
+fn finish_of(flow: Option<u64>) -> Option<Work>
+    ensures { result ≡ option_map (λ flow. Work.Finish flow) flow }
+{
+    match flow {
+        Some(flow) => Some(Work::Finish { flow }),
+        None => None,
+    }
+}
+
+/// A fragment by itself, if there is one.
+fn fragment_of(fragment: Option<Item>) -> Option<Work>
+    ensures { result ≡ option_map alone fragment }
+{
+    match fragment {
+        Some(item) => Some(alone(item)),
+        None => None,
+    }
+}
+
+/// A packet, if there is one.
+fn packet_of(
+    by: &FrontConfig<'_>,
+    time: Time,
+    touch: Option<Touch>,
+    packet: Option<Item>,
+) -> Option<Work>
+    requires { length by.now.config.now.stream.engines ≤ 1024 }
+    ensures { result ≡ option_map (packet_work (way_of by.now) time touch) packet }
+{
+    match packet {
+        Some(item) => Some(packet_work(by, time, touch, item)),
+        None => None,
+    }
+}
+
+/// Adds a job, if there is one, and gives the number of the next.
+fn add(
+    out: &mut Vec<Job>,
+    number: u64,
+    moment: Moment,
+    work: Option<Work>,
+) -> Result<u64, NoMemory>
+    requires { number + 1 < 2 ^ 64 }
+    ensures next { IfOk result (λ next. next ≡ number + length (option_to_list work)) }
+    ensures added { OnOk result (out.new.items ≡ out.old.items ++ numbered number moment (option_to_list work)) }
+    ensures err { OnErr result (out.new.items ≡ out.old.items) }
+{
+    let Some(work) = work else {
+        return Ok(number);
+    };
+    out.push(Job {
+        number,
+        moment,
+        work,
+    })?;
+    Ok(number + 1)
+}
+
+/// Adds what is done for a record, where its touch found this, and gives the number of the next job.
+pub(crate) fn add_works(
+    out: &mut Vec<Job>,
+    by: &FrontConfig<'_>,
+    time: Time,
+    touch: Option<Touch>,
+    caught: Caught,
+    number: u64,
+) -> Result<u64, NoMemory>
+    requires engines { length by.now.config.now.stream.engines ≤ 1024 }
+    requires room { number + 3 < 2 ^ 64 }
+    ensures added { IfOk result (λ next. Adds number time.now
+        (works_by (way_of by.now) time touch caught.fragment caught.whole.packet) out.old.items next out.new.items) }
+    ensures few { IfOk result (λ next. next ≤ number + 3) }
+    ensures err { OnErr result (take (length out.old.items) out.new.items ≡ out.old.items) }
+{
+    let Caught {
+        fragment, whole, ..
+    } = caught;
+    let number = add(out, number, time.now, finish_of(evicted(touch)))?;
+    let number = add(out, number, time.now, fragment_of(fragment))?;
+    let next = add(
+        out,
+        number,
+        time.now,
+        packet_of(by, time, touch, whole.packet),
+    )?;
+    Ok(next)
+}
+
+/// Adds the ends of these flows.
+pub(crate) fn add_finishes(
+    out: &mut Vec<Job>,
+    number: u64,
+    moment: Moment,
+    flows: &[u64],
+) -> Result<(), NoMemory>
+    requires { number ≤ 2 ^ 34 }
+    ensures ok { OnOk result (out.new.items ≡ out.old.items ++ numbered number moment (map (λ flow. Work.Finish flow) flows.now)) }
+    ensures err { OnErr result (take (length out.old.items) out.new.items ≡ out.old.items) }
+{
+    let mut number = number;
+    for flow in flows {
+        number = add(out, number, moment, finish_of(Some(*flow)))?;
+    }
+    Ok(())
+}

@@ -1,0 +1,151 @@
+//! Which engine an address goes by, and what goes by it.
+ghost use Rattle.std.specs.Prelude.{◌≡◌, ◌+◌, ◌*◌, ◌≤◌, Bool, is_none, length, position, unwrap_or, nat_le};
+ghost use Rattle.std.specs.List.{find};
+ghost use Rattle.std.specs.Option.{option_copied, option_or};
+ghost use Rattle.edge_io.specs.Policies.{frag_preference};
+ghost use Rattle.flow_lanes.specs.Engines.{engine_at};
+ghost use Rattle.record_jobs.specs.Way.{frag_rules, is_bound, is_due, stream_place, stream_preference_at, toward_address, way_of};
+
+use crate::config::FrontConfig;
+use crate::time::Time;
+use conf_parser::{FragConfig, FragEngine, StreamEngine};
+use edge_io::{Addr, FragPolicy, Preference, StreamPolicy};
+use flow_lanes::Toward;
+use frag3_core::FragRules;
+use host_table::Hosts;
+use net_lists::AddrList;
+
+/// Whether a line's `bind_to` has the address.
+fn is_bound(addr: Addr, bind: &Option<AddrList>) -> bool
+    ensures { result ≡ is_bound addr bind.now }
+{
+    match bind {
+        Some(list) => list.contains(addr),
+        None => false,
+    }
+}
+
+/// The first engine of fragments whose `bind_to` has the address.
+fn bound_engine(engines: &[FragEngine], addr: Addr) -> Option<&FragEngine>
+    ensures { option_copied result ≡ find (λ engine. is_bound addr engine.bind) engines.now }
+{
+    engines.iter().find(|engine| is_bound(addr, &engine.bind))
+}
+
+/// The first engine of fragments to all that no other line has.
+fn other_engine(engines: &[FragEngine]) -> Option<&FragEngine>
+    ensures { option_copied result ≡ find (λ engine. is_none engine.bind) engines.now }
+{
+    engines.iter().find(|engine| engine.bind.is_none())
+}
+
+/// The engine of fragments to an address; None where the defaults hold.
+fn frag_engine(engines: &[FragEngine], addr: Addr) -> Option<&FragEngine>
+    ensures { option_copied result
+        ≡ option_or (find (λ engine. is_bound addr engine.bind) engines.now) (find (λ engine. is_none engine.bind) engines.now) }
+{
+    bound_engine(engines, addr).or_else(|| other_engine(engines))
+}
+
+/// What fragments are taken by, where the host table says this of their destination and its engine the rest.
+fn rules_of(host: Option<FragPolicy>, policy: FragPolicy, timeout: u32, min_ttl: u8) -> FragRules
+    ensures { result
+        ≡ record { preference = frag_preference (unwrap_or host policy); timeout = timeout; min_ttl = min_ttl } }
+{
+    FragRules {
+        preference: host.unwrap_or(policy).preference(),
+        timeout,
+        min_ttl,
+    }
+}
+
+/// What a fragment to this address is taken by.
+#[tactic(auto, unfolding(crate::specs::Way::frag_rules, crate::specs::Way::frag_engine))]
+pub(crate) fn frag_rules(hosts: &Hosts, config: &FragConfig, addr: Addr) -> FragRules
+    ensures { result ≡ frag_rules hosts.now config.now addr }
+{
+    let host = hosts.frag_policy(addr);
+    match frag_engine(config.engines.as_slice(), addr) {
+        Some(engine) => rules_of(host, engine.policy, engine.timeout, engine.min_ttl),
+        None => rules_of(host, FragPolicy::Bsd, 60, 1),
+    }
+}
+
+/// The place of the first engine of streams whose `bind_to` has the address.
+fn bound_place(engines: &[StreamEngine], addr: Addr) -> Option<usize>
+    ensures { result ≡ position (λ engine. is_bound addr engine.bind) engines.now }
+{
+    engines.iter().position(|engine| is_bound(addr, &engine.bind))
+}
+
+/// The place of the first engine of streams to all that no other line has.
+fn other_place(engines: &[StreamEngine]) -> Option<usize>
+    ensures { result ≡ position (λ engine. is_none engine.bind) engines.now }
+{
+    engines.iter().position(|engine| engine.bind.is_none())
+}
+
+/// The place of the engine of streams to an address; the number of engines where the defaults hold.
+#[tactic(auto, unfolding(crate::specs::Way::stream_place))]
+fn stream_place(engines: &[StreamEngine], addr: Addr) -> usize
+    ensures { result ≡ stream_place engines.now addr }
+{
+    bound_place(engines, addr)
+        .or_else(|| other_place(engines))
+        .unwrap_or(engines.len())
+}
+
+/// What the engine at a place says; behind the last one stand the defaults.
+#[derive(Clone, Copy)]
+struct Settings {
+    policy: StreamPolicy,
+    handshake: Option<u32>,
+}
+
+/// The settings of the engine at a place.
+#[tactic(auto, unfolding(conf_parser::specs::Stream5::engine_of))]
+fn settings_at(engines: &[StreamEngine], place: usize) -> Settings
+    ensures policy { result.policy ≡ (engine_at engines.now place).policy }
+    ensures handshake { result.handshake ≡ (engine_at engines.now place).handshake }
+{
+    match engines.get(place) {
+        Some(engine) => Settings {
+            policy: engine.policy,
+            handshake: engine.handshake,
+        },
+        None => Settings {
+            policy: StreamPolicy::Bsd,
+            handshake: None,
+        },
+    }
+}
+
+/// Whether so many seconds have gone by since the capture's first record.
+fn is_due(time: Time, handshake: Option<u32>) -> bool
+    ensures { result ≡ is_due time handshake }
+{
+    match handshake {
+        Some(seconds) => {
+            u128::from(time.first.nanos) + u128::from(seconds) * 1_000_000_000
+                <= u128::from(time.now.nanos)
+        }
+        None => false,
+    }
+}
+
+/// What a packet's data go by, sent to this address.
+#[tactic(auto, unfolding(crate::specs::Way::toward_address, crate::specs::Way::stream_preference_at))]
+pub(crate) fn toward(by: &FrontConfig<'_>, tcp: bool, time: Time, addr: Addr) -> Toward
+    requires { length by.now.config.now.stream.engines ≤ 1024 }
+    ensures { result ≡ toward_address (way_of by.now) tcp time addr }
+{
+    let engines = by.config.stream.engines.as_slice();
+    let place = stream_place(engines, addr);
+    let settings = settings_at(engines, place);
+    let host = by.hosts.stream_policy(addr);
+    Toward {
+        engine: place as u32,
+        preference: host.unwrap_or(settings.policy).preference(),
+        needed: tcp && is_due(time, settings.handshake),
+    }
+}
