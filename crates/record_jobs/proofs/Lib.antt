@@ -4,6 +4,7 @@ pub mod Counting
 pub mod Catching
 pub mod Sizes
 pub mod Taking
+pub mod Ending
 pub mod Knowing
 pub mod Sounding
 pub mod Running

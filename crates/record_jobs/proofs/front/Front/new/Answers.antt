@@ -1,0 +1,6 @@
+use Rattle.record_jobs.specs.Way.{way_of}
+use Rattle.record_jobs.proofs.Ending.{stands_none}
+use Rattle.record_jobs.proofs.front.Front.new.Goals as goal
+
+pub returns-clause-stands : goal.returns-clause-stands
+returns-clause-stands c = stands_none (way_of c.args.by.now) c.frag3_of.result c.in_ok-flows.flows c.frag3_of.ensures c.in_ok-flows.ensures.seen c.in_ok-flows.ensures.most
