@@ -107,12 +107,7 @@ fn packet_of(
 }
 
 /// Adds a job, if there is one, and gives the number of the next.
-fn add(
-    out: &mut Vec<Job>,
-    number: u64,
-    moment: Moment,
-    work: Option<Work>,
-) -> Result<u64, NoMemory>
+fn add(out: &mut Vec<Job>, number: u64, moment: Moment, work: Option<Work>) -> Result<u64, NoMemory>
     requires { number + 1 < 2 ^ 64 }
     ensures next { IfOk result (λ next. next ≡ number + length (option_to_list work)) }
     ensures added { OnOk result (out.new.items ≡ out.old.items ++ numbered number moment (option_to_list work)) }
@@ -146,7 +141,9 @@ pub(crate) fn add_works(
     ensures err { OnErr result (take (length out.old.items) out.new.items ≡ out.old.items) }
 {
     let Caught {
-        fragment, whole, ..
+        fragment,
+        whole,
+        ..
     } = caught;
     let number = add(out, number, time.now, finish_of(evicted(touch)))?;
     let number = add(out, number, time.now, fragment_of(fragment))?;

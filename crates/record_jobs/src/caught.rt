@@ -10,7 +10,9 @@ use crate::engines::frag_rules;
 use crate::item::{Caught, Item, Whole};
 use edge_io::{Link, Moment, NoMemory, Text};
 use frag3_core::{Datagram, Frag3, Taken};
-use packet_decode::{Body, Checks, ItemHead, ItemKind, Packet, SessionFacts, decode, decode_datagram};
+use packet_decode::{
+    Body, Checks, ItemHead, ItemKind, Packet, SessionFacts, decode, decode_datagram,
+};
 use pcap_input::Record;
 use std::alloc::Global;
 

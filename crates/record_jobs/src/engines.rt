@@ -75,7 +75,9 @@ pub(crate) fn frag_rules(hosts: &Hosts, config: &FragConfig, addr: Addr) -> Frag
 fn bound_place(engines: &[StreamEngine], addr: Addr) -> Option<usize>
     ensures { result ≡ position (λ engine. is_bound addr engine.bind) engines.now }
 {
-    engines.iter().position(|engine| is_bound(addr, &engine.bind))
+    engines
+        .iter()
+        .position(|engine| is_bound(addr, &engine.bind))
 }
 
 /// The place of the first engine of streams to all that no other line has.

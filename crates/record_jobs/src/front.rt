@@ -5,9 +5,9 @@ ghost use Rattle.record_jobs.specs.Fronts.{GivesFinishes, StandsFor, TakesRecord
 ghost use Rattle.record_jobs.specs.Steps.{Steps};
 ghost use Rattle.record_jobs.specs.Way.{linked, way_of};
 
-use crate::config::FrontConfig;
 use crate::adding::{add_finishes, add_works};
 use crate::caught::caught;
+use crate::config::FrontConfig;
 use crate::counts::RecordCounts;
 use crate::time::Time;
 use crate::touches::{touched, whole_key};

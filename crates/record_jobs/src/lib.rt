@@ -15,6 +15,8 @@ mod engines;
 mod front;
 mod item;
 mod laws;
+#[cfg(test)]
+mod tests;
 mod time;
 mod touches;
 
