@@ -1,8 +1,8 @@
 -- The states that are another's word with a letter behind it, one after the other.
-use Rattle.std.proofs.Common.{◌≡◌, ℕ, ◌+◌, ◌-◌, ◌<◌, ◌≤◌, min, List, ◌∷◌, length, slice_index, sym, ap, subst, ◌∙◌, arith, ⊎_elim}
+use Rattle.std.proofs.Common.{◌≡◌, ℕ, ◌+◌, ◌-◌, ◌<◌, min, List, ◌∷◌, length, slice_index, sym, ap, subst, ◌∙◌, arith, ⊎_elim}
 use Rattle.std.proofs.lemmas.Bool.{cases_eq}
 use Rattle.fast_pattern.specs.declared.trie.Trie.{Trie}
-use Rattle.fast_pattern.specs.Words.{word_at, step_at, IsChild, IsTrieOf, IsSought, IsSeeking, FindsChild}
+use Rattle.fast_pattern.specs.Words.{word_at, step_at, IsSought, IsSeeking, FindsChild}
 
 pub seek-start : (trie : Trie) (state letter at : ℕ) → at ≡ slice_index trie.firsts.items state → IsSeeking trie state letter at
 seek-start trie state letter at e = record {

@@ -1,11 +1,10 @@
 -- Moves: back along the fails, and on by a letter.
-use Rattle.std.proofs.Common.{◌≡◌, ℕ, ◌+◌, ◌-◌, ◌<◌, ◌≤◌, min, List, [], ◌∷◌, length, slice_index, sym, refl, ap, subst, ◌∙◌, arith, ⊎_elim}
+use Rattle.std.proofs.Common.{◌≡◌, ℕ, ◌+◌, ◌-◌, ◌<◌, min, List, [], ◌∷◌, length, slice_index, sym, refl, ap, subst, ◌∙◌, arith, ⊎_elim}
 use Rattle.std.proofs.lemmas.Bool.{cases_eq, cases_lt}
 use Rattle.fast_pattern.specs.declared.trie.Step.{Step}
 use Rattle.fast_pattern.specs.declared.trie.Trie.{Trie}
 use Rattle.fast_pattern.specs.declared.moves.Reached.{Reached}
 use Rattle.fast_pattern.specs.Words.{begins, word_at, step_at, IsAt, IsFail, IsTrieOf, FindsChild}
-use Rattle.fast_pattern.specs.Outputs.{AreFailing}
 use Rattle.fast_pattern.specs.Moves.{IsMove, IsBack, IsReached, Reaches, IsReaching, Moves, FailsTo}
 use Rattle.fast_pattern.proofs.Words.{fail-step, root-step, fail-child, fail-first}
 use Rattle.fast_pattern.proofs.Linking.{trie-closed}

@@ -1,11 +1,11 @@
 -- Rows and moves to all states, one at a time.
-use Rattle.std.proofs.Common.{◌≡◌, ℕ, ◌+◌, ◌*◌, ◌<◌, ◌≤◌, List, [], ◌∷◌, ◌++◌, length, slice_index, sym, refl, ap, subst, ◌∙◌, arith, ⊎_elim}
+use Rattle.std.proofs.Common.{◌≡◌, ℕ, ◌+◌, ◌*◌, ◌<◌, List, [], ◌∷◌, ◌++◌, length, slice_index, sym, refl, ap, subst, ◌∙◌, arith, ⊎_elim}
 use Rattle.std.proofs.lemmas.List.{get_or_append_left, get_or_push, length_push}
 use Rattle.std.proofs.lemmas.Nat.{same_from_place, row_fits}
 use Rattle.std.proofs.lemmas.Bool.{cases_lt, cases_eq}
 use Rattle.fast_pattern.specs.declared.trie.Trie.{Trie}
 use Rattle.fast_pattern.specs.Words.{begins, word_at, FindsChild}
-use Rattle.fast_pattern.specs.Rows.{entry_of, AreEntries, HasEntry, AreRows, IsNextEntry, HasRows}
+use Rattle.fast_pattern.specs.Rows.{entry_of, AreEntries, HasEntry, IsNextEntry, HasRows}
 use Rattle.fast_pattern.proofs.Words.{fail-step}
 use Rattle.fast_pattern.proofs.Linking.{trie-closed}
 use Rattle.fast_pattern.proofs.Moving.{root-move}

@@ -1,10 +1,9 @@
 -- The walk, a byte at a time.
-use Rattle.std.proofs.Common.{◌≡◌, ℕ, ◌+◌, ◌*◌, ◌/◌, ◌%◌, ◌<◌, ◌≤◌, Bool, true, false, ◌&&◌, ◌||◌, cond, eqb, ltb, List, [], ◌∷◌, length, take, get_or, slice_index, sym, refl, ap, subst, ◌∙◌, arith, ⊎_elim, lit<}
+use Rattle.std.proofs.Common.{◌≡◌, ℕ, ◌+◌, ◌*◌, ◌/◌, ◌<◌, ◌≤◌, Bool, true, false, ◌&&◌, ◌||◌, ltb, List, [], ◌∷◌, length, take, get_or, slice_index, sym, refl, ap, subst, ◌∙◌, arith, ⊎_elim}
 use Rattle.std.specs.List.Sorted.{IsPermutation}
 use Rattle.std.proofs.lemmas.List.{length-map, take_all}
 use Rattle.std.proofs.lemmas.List.Sorted.{IsPermutation-refl}
-use Rattle.std.proofs.lemmas.Nat.{div-mul-add}
-use Rattle.std.proofs.lemmas.Bool.{cases_eq, eq-eqb, ne_eqb, lt-ltb, le-ltb, ltb-true, and_parts, and_from, cond-true, cond-false}
+use Rattle.std.proofs.lemmas.Bool.{cases_eq, lt-ltb, le-ltb, ltb-true, and_parts, and_from}
 use Rattle.fast_pattern.specs.declared.automaton.Automaton.{Automaton}
 use Rattle.fast_pattern.specs.declared.seen.Seen.{Seen}
 use Rattle.fast_pattern.specs.Marking.{is_marked}

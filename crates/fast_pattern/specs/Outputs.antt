@@ -5,7 +5,7 @@
 -- plus one, and 0 stands for none.
 -- To try it on: of the patterns he, she and he again, behind `she` the chain is she, the last he, the
 -- first he: 2, 3, 1.
-use Rattle.std.specs.Prelude.{◌≡◌, ℕ, ◌+◌, ◌-◌, ◌<◌, ◌≤◌, ◌==◌, Bool, false, ◌&&◌, ◌||◌, List, ◌∷◌, length, nat_lt, slice_index, slice_set, if◌then◌else◌}
+use Rattle.std.specs.Prelude.{◌≡◌, ℕ, ◌+◌, ◌-◌, ◌<◌, ◌≤◌, ◌==◌, Bool, false, ◌&&◌, ◌||◌, List, length, nat_lt, slice_index, slice_set, if◌then◌else◌}
 use Rattle.fast_pattern.specs.declared.trie.Trie.{Trie}
 use Rattle.fast_pattern.specs.Words.{begins, word_at, words_of, IsFail, IsTrie}
 

@@ -1,6 +1,6 @@
 //! One walk over a payload finds all patterns that occur in it.
 
-ghost use Rattle.std.specs.Prelude.{◌≡◌, ℕ, ◌-◌, ◌≤◌, ◌<◌, ◌==◌, ◌&&◌, ◌||◌, not, length, nat_lt, IfOk, OnOk};
+ghost use Rattle.std.specs.Prelude.{◌≡◌, ℕ, ◌≤◌, ◌<◌, ◌==◌, ◌&&◌, ◌||◌, not, length, nat_lt, IfOk, OnOk};
 ghost use Rattle.fast_pattern.specs.Finding.{Follows};
 ghost use Rattle.fast_pattern.specs.Marking.{is_marked};
 ghost use Rattle.fast_pattern.specs.Rows.{state_of};
@@ -111,6 +111,7 @@ impl Automaton {
     }
 
     /// The move by a letter from a state that has no row.
+    #[inline(never)]
     fn step_back(&self, state: u32, letter: u16) -> u32
         ensures { StepsBack self.now state letter result }
     {
@@ -122,6 +123,7 @@ impl Automaton {
     }
 
     /// The move by a letter from the state with a place.
+    #[inline(always)]
     fn step(&self, at: u32, letter: u16) -> u32
         ensures { Steps self.now at letter result }
     {
@@ -133,6 +135,7 @@ impl Automaton {
     }
 
     /// Marks and lists the patterns that end at the state with this place.
+    #[inline(never)]
     fn mark_ended(&self, at: u32, seen: &mut Seen, hits: &mut Vec<u32>) -> Result<(), NoMemory>
         ensures { OnOk result (Marks self.now at seen.old hits.old.items seen.new hits.new.items) }
     {
@@ -142,6 +145,7 @@ impl Automaton {
     }
 
     /// Marks and lists the patterns that end where the move goes to, if it says that some do.
+    #[inline(always)]
     fn note(&self, entry: u32, seen: &mut Seen, hits: &mut Vec<u32>) -> Result<(), NoMemory>
         ensures { OnOk result (Notes self.now entry seen.old hits.old.items seen.new hits.new.items) }
     {

@@ -1,6 +1,6 @@
 //! The layout of the moves: rows for the first states, and the moves to all states.
 
-ghost use Rattle.std.specs.Prelude.{◌≡◌, ◌+◌, ◌*◌, ◌^◌, ◌<◌, ◌≤◌, length, IfOk, OnOk};
+ghost use Rattle.std.specs.Prelude.{◌≡◌, ◌+◌, ◌*◌, ◌^◌, ◌<◌, ◌≤◌, IfOk, OnOk};
 ghost use Rattle.fast_pattern.specs.Rows.{sparse, place_of, entry_of, AreEntries, IsNextEntry, HasRows};
 
 use crate::trie::{Trie, place, read};

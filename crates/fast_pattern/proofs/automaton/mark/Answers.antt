@@ -1,4 +1,4 @@
-use Rattle.std.proofs.Common.{not, ◌∙◌, arith}
+use Rattle.std.proofs.Common.{not, arith}
 use Rattle.fast_pattern.specs.Marking.{is_marked}
 use Rattle.fast_pattern.proofs.Marking.{past-answer, past-marks, below-answer, answer-marks}
 use Rattle.fast_pattern.proofs.automaton.mark.Goals as goal

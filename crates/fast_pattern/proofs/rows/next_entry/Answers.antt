@@ -1,4 +1,4 @@
-use Rattle.std.proofs.Common.{◌≡◌, ℕ, ◌+◌, ◌*◌, slice_index, ap, ◌∙◌, arith}
+use Rattle.std.proofs.Common.{ℕ, ◌+◌, ◌*◌, slice_index, ap, ◌∙◌, arith}
 use Rattle.fast_pattern.proofs.Rowing.{entry-child, entry-root, entry-back}
 use Rattle.fast_pattern.proofs.rows.next_entry.Goals as goal
 

@@ -1,4 +1,4 @@
-use Rattle.std.proofs.Common.{◌≡◌, ℕ, ◌+◌, Bool, List, [], slice_index, sym, ap, subst, ◌∙◌, refl}
+use Rattle.std.proofs.Common.{ℕ, List, [], slice_index, sym, subst, refl}
 use Rattle.fast_pattern.specs.Words.{word_of}
 use Rattle.fast_pattern.specs.Finding.{Walks}
 use Rattle.fast_pattern.proofs.Walking.{walks-none, walks-more, hits-all}

@@ -1,4 +1,4 @@
-use Rattle.std.proofs.Common.{◌≡◌, ℕ, ◌+◌, ◌*◌, List, slice_index, ap, subst, ◌∙◌, arith}
+use Rattle.std.proofs.Common.{ℕ, ◌+◌, ◌*◌, List, slice_index, ap, subst, ◌∙◌, arith}
 use Rattle.fast_pattern.specs.Moves.{Reaches}
 use Rattle.fast_pattern.proofs.Stepping.{back-child, back-row}
 use Rattle.fast_pattern.proofs.automaton.Automaton.step_back.Goals as goal
