@@ -26,8 +26,6 @@ mod moves;
 mod rows;
 mod seen;
 mod sides;
-#[cfg(test)]
-mod tests;
 mod trie;
 
 pub use choice::{Fast, choose};

@@ -1,11 +1,13 @@
 //! Choices of fast patterns, and candidates. Each row was worked out by hand from the manual's sections 3.2 and
 //! 3.5.
 
-use crate::Groups;
-use crate::choice::chosen;
+ghost use Rattle.std.specs.Prelude.{IfOk};
+ghost use Rattle.rule_parser.specs.Sound.{IsTriable};
+
 use conf_parser::Classes;
 use edge_io::crossing::{sendable, shareable};
 use edge_io::{Addr, Moment};
+use fast_pattern::{Fast, Groups, choose};
 use net_lists::Vars;
 use packet_decode::{Body, IpHead, ItemHead, ItemKind, SessionFacts};
 use rule_parser::{BitNames, Rule, read_rule};
@@ -13,21 +15,17 @@ use std::alloc::Global;
 use std::process::Abort;
 use std::test::Fail;
 
-/// Adds the rule that the line is.
-fn push_rule(
-    rt: &impl Abort,
-    alloc: Global,
-    line: &str,
-    rules: &mut Vec<Rule>,
-) -> Result<(), Fail> {
+/// The rule that the line is.
+fn rule_of(alloc: Global, line: &str) -> Result<Rule, Fail>
+    ensures { IfOk result IsTriable }
+{
     let mut bits = BitNames::new(alloc);
     let vars = Vars::new(alloc);
     let classes = Classes::new(alloc);
     match read_rule(alloc, line.as_bytes(), &vars, &classes, &mut bits) {
-        Ok(rule) => rules.push(rule)?,
-        Err(_) => assert!(rt; false, "{line}"),
+        Ok(rule) => Ok(rule),
+        Err(_) => Err(Fail::new("a rule")),
     }
-    Ok(())
 }
 
 /// An item that carries what the word says.
@@ -82,7 +80,7 @@ fn found(alloc: Global, groups: &Groups, head: &ItemHead, payload: &str) -> Resu
 fn check_rows(rt: &impl Abort, alloc: Global, lines: &str, rows: &str) -> Result<(), Fail> {
     let mut rules = Vec::new(alloc);
     for line in lines.lines() {
-        push_rule(rt, alloc, line, &mut rules)?;
+        rules.push(rule_of(alloc, line)?)?;
     }
     assert!(rt; rules.len() <= 65536);
     let groups = Groups::build(alloc, &rules)?;
@@ -176,18 +174,11 @@ fn choices(rt: HostRuntime) -> Result<(), Fail> {
         let options = cells.next().unwrap_or("");
         let wanted = cells.next().unwrap_or("");
         let line = format!(in alloc; "alert udp any any -> any any ({options} sid:1;)")?;
-        let mut rules = Vec::new(alloc);
-        push_rule(&rt, alloc, &line, &mut rules)?;
-        for rule in &rules {
-            let text = match chosen(rule.opts.as_slice()) {
-                Some(sought) => {
-                    let (place, from, len) = (sought.place, sought.from, sought.len);
-                    format!(in alloc; "{place} {from} {len}")?
-                }
-                None => String::from_str(alloc, "none")?,
-            };
-            assert!(rt; text.as_str() == wanted, "{row}");
-        }
+        let text = match choose(&rule_of(alloc, &line)?) {
+            Some(Fast { opt, from, len }) => format!(in alloc; "{opt} {from} {len}")?,
+            None => String::from_str(alloc, "none")?,
+        };
+        assert_eq!(rt; text.as_str(), wanted, "{row}");
     }
     Ok(())
 }
@@ -201,7 +192,7 @@ fn many_rules(rt: HostRuntime) -> Result<(), Fail> {
         let line = format!(in alloc;
             "alert udp any any -> any any (content:\"aaaaaaaa{number}\"; sid:1;)"
         )?;
-        push_rule(&rt, alloc, &line, &mut rules)?;
+        rules.push(rule_of(alloc, &line)?)?;
     }
     assert!(rt; rules.len() <= 65536);
     let groups = Groups::build(alloc, &rules)?;
@@ -224,7 +215,7 @@ fn many_ports(rt: HostRuntime) -> Result<(), Fail> {
     let mut rules = Vec::new(alloc);
     for port in 1..60001u32 {
         let line = format!(in alloc; "alert udp any {port} <> any any (sid:1;)")?;
-        push_rule(&rt, alloc, &line, &mut rules)?;
+        rules.push(rule_of(alloc, &line)?)?;
     }
     assert!(rt; rules.len() <= 65536);
     let groups = Groups::build(alloc, &rules)?;
