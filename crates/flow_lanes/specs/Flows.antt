@@ -23,6 +23,8 @@ use Rattle.flow_lanes.specs.declared.answer.JobHits.{JobHits}
 use Rattle.flow_lanes.specs.declared.job.Job.{Job}
 use Rattle.flow_lanes.specs.declared.job.Work.{Work}
 use Rattle.flow_lanes.specs.declared.job.Work.TheVariants as work
+pub use Rattle.flow_lanes.specs.declared.keeping.FlowState.{FlowState}
+pub use Rattle.flow_lanes.specs.declared.steering.SidesOn.{SidesOn}
 use Rattle.flow_lanes.specs.Engines.{Making}
 use Rattle.flow_lanes.specs.Hits.{Bits, Item}
 use Rattle.flow_lanes.specs.ItemHits.{Trying, bits_after_items, hits_of}
@@ -34,11 +36,6 @@ use Rattle.flow_lanes.specs.Sides.{turned}
 pub record Detection : Type 0 where
   pub making : Making
   pub trying : Trying
-
--- a session that stands between two jobs, and its bits
-pub record FlowState : Type 0 where
-  pub session : Session
-  pub bits : Bits
 
 -- The items of a job.
 
@@ -63,11 +60,6 @@ abbrev pub bits_found : JobItems → Option FlowState → Option Bits
 bits_found items found = if items.tracked then Some (if items.begun then empty else unwrap_or (bits_at_hand found) empty) else None
 
 -- What rules ask of reassembly.
-
--- whether each side is on
-pub record SidesOn : Type 0 where
-  pub client : Bool
-  pub server : Bool
 
 -- a side that is named is turned on or off
 abbrev pub with_side : Bool → Named → SidesOn → SidesOn

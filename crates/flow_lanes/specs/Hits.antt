@@ -17,11 +17,7 @@ use Rattle.rule_parser.specs.declared.rule.Rule.{Rule}
 use Rattle.header_eval.specs.Fields.{HeaderHolds, field_holds}
 use Rattle.option_eval.specs.Places.{Means, PayloadMatches}
 use Rattle.flowbit_state.specs.Changes.{changed}
-
--- an item: what rules see of it beside its payload, and the payload
-pub record Item : Type 0 where
-  pub head : ItemHead
-  pub payload : List ℕ
+pub use Rattle.flow_lanes.specs.declared.item.Item.{Item}
 
 -- the bits of a session that are set
 abbrev pub Bits : Type 0

@@ -15,6 +15,7 @@ use Rattle.packet_decode.specs.declared.item.ItemHead.{ItemHead}
 use Rattle.packet_decode.specs.declared.item.ItemKind.TheVariants as kind
 use Rattle.packet_decode.specs.declared.item.SessionFacts.{SessionFacts}
 use Rattle.packet_decode.specs.declared.packet.Body.TheVariants as body
+use Rattle.stream5_sessions.specs.declared.key.End.{End}
 use Rattle.stream5_sessions.specs.declared.state.State.{State}
 use Rattle.stream5_sessions.specs.declared.step.Step.{Step}
 use Rattle.flow_lanes.specs.Engines.{Making}
@@ -34,15 +35,20 @@ pub record JobItems : Type 0 where
 
 -- Stream items.
 
--- what rules see of a stretch of a side's data: its ends, its protocol (TCP is 6), and its session
-abbrev pub stream_head : Side → Bool → Moment → ℕ × ℕ → ItemHead
-stream_head side of_client moment sizes = record {
+-- what rules see of a stretch of the data that one end sends to another: the ends, the protocol (TCP is 6),
+-- and the session
+abbrev pub head_between : End → End → Bool → Moment → ℕ × ℕ → ItemHead
+head_between from to of_client moment sizes = record {
   kind = kind.Stream;
   moment = moment;
-  ip = record { src = side.from.addr; dst = side.to.addr; protocol = 6; ttl = 0; tos = 0; id = 0; reserved = false; dont = false; more = false; offset = 0 };
-  body = body.Stream side.from.port side.to.port;
+  ip = record { src = from.addr; dst = to.addr; protocol = 6; ttl = 0; tos = 0; id = 0; reserved = false; dont = false; more = false; offset = 0 };
+  body = body.Stream from.port to.port;
   session = record { tracked = true; established = true; from_client = Some of_client; sizes = Some sizes };
 }
+
+-- the same of a side's data
+abbrev pub stream_head : Side → Bool → Moment → ℕ × ℕ → ItemHead
+stream_head side of_client moment sizes = head_between side.from side.to of_client moment sizes
 
 -- the stream items of these payloads
 abbrev pub stream_items : Side → Bool → Moment → ℕ × ℕ → List (List ℕ) → List Item

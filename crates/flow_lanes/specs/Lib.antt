@@ -4,8 +4,17 @@ pub mod Engines
 pub mod Sessions
 pub mod Hits
 pub mod Items
+pub mod Given
+pub mod Reach
+pub mod Working
 pub mod Picking
 pub mod ItemHits
+pub mod Tried
 pub mod Flows
+pub mod Detecting
 pub mod Sound
 pub mod Standing
+pub mod Batching
+pub mod Course
+pub mod Kept
+pub mod Whole

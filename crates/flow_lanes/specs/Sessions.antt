@@ -19,6 +19,7 @@ use Rattle.stream5_sessions.specs.Keys.{same_end}
 use Rattle.stream5_sessions.specs.Phases.{no_session, segment_of, session_step}
 use Rattle.flow_lanes.specs.declared.job.Toward.{Toward}
 use Rattle.flow_lanes.specs.Engines.{Making, engine_for, is_listed, limits_to, timeout_to}
+pub use Rattle.flow_lanes.specs.declared.session.Session.{Session}
 use Rattle.flow_lanes.specs.Sides.{Side, side_after_ack, side_after_data, side_at_begin, with_base, without_left}
 
 -- a packet of a flow, with its moment and what goes by its two ends
@@ -28,13 +29,6 @@ pub record Packet : Type 0 where
   pub moment : Moment
   pub to_dst : Toward
   pub to_src : Toward
-
--- a session that stands: its phase, the end to which its first packet went, and its sides
-pub record Session : Type 0 where
-  pub state : State
-  pub opened_to : End
-  pub client : Side
-  pub server : Side
 
 -- the packet is of TCP
 abbrev pub is_tcp : Body → Bool

@@ -17,16 +17,7 @@ use Rattle.stream5_reassembly.specs.declared.limits.Limits.{Limits}
 use Rattle.stream5_reassembly.specs.Extents.{ExtentState, extent_after, extent_from, unknown}
 use Rattle.stream5_reassembly.specs.Segments.{DirectionState, ack_flushes, ack_place, after_fate, flushed_to, idle, segment_fate, started_at, top}
 use Rattle.flow_lanes.specs.Streams.{flushed_payloads}
-
--- the ends that send the data and receive them, whether the side is on, whether its stretch began with
--- the session, what is queued, and how far the data reach, put together or not
-pub record Side : Type 0 where
-  pub from : End
-  pub to : End
-  pub on : Bool
-  pub since_begin : Bool
-  pub direction : DirectionState
-  pub extent : ExtentState
+pub use Rattle.flow_lanes.specs.declared.side.Side.{Side}
 
 -- a side at its session's begin
 abbrev pub side_at_begin : End → End → Limits → Preference → Bool → Side
@@ -55,11 +46,15 @@ started_by direction seq = if direction.started then direction else started_at d
 abbrev pub with_data : DirectionState → ℕ → List ℕ → DirectionState
 with_data direction seq bytes = after_fate (segment_fate direction seq bytes) direction seq bytes
 
+-- the side's direction behind data that count
+abbrev pub direction_after_data : Side → ℕ → List ℕ → DirectionState
+direction_after_data side seq bytes = if side.on then with_data (started_by side.direction seq) seq bytes else side.direction
+
 -- the side behind data that count; no bytes are no data
 unfoldable pub side_after_data : Side → ℕ → List ℕ → Side
 side_after_data side seq [] = side
 side_after_data side seq bytes = record side {
-  direction = (if side.on then with_data (started_by side.direction seq) seq bytes else side.direction);
+  direction = direction_after_data side seq bytes;
   extent = extent_after side.extent seq (length bytes);
 }
 

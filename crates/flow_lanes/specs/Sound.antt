@@ -16,23 +16,10 @@ use Rattle.flow_lanes.specs.declared.job.Job.{Job}
 use Rattle.flow_lanes.specs.declared.job.Toward.{Toward}
 use Rattle.flow_lanes.specs.declared.job.Work.{Work}
 use Rattle.flow_lanes.specs.declared.job.Work.TheVariants as work
+pub use Rattle.flow_lanes.specs.declared.facts.EndWay.{EndWay}
+pub use Rattle.flow_lanes.specs.declared.facts.FlowEnds.{FlowEnds}
+pub use Rattle.flow_lanes.specs.declared.facts.FlowFacts.{FlowFacts}
 use Rattle.flow_lanes.specs.Sessions.{Packet, is_tcp, receiver, sender, toward}
-
--- the engine and the preference of an end
-pub record EndWay : Type 0 where
-  pub engine : ℕ
-  pub preference : Preference
-
--- the key of a flow, and what its lower and its higher end go by
-pub record FlowEnds : Type 0 where
-  pub key : Key
-  pub low : EndWay
-  pub high : EndWay
-
--- what is known of a flow that has not ended: its ends, and how many packets it had
-pub record FlowFacts : Type 0 where
-  pub ends : FlowEnds
-  pub packets : ℕ
 
 abbrev pub way_of : Toward → EndWay
 way_of to = record { engine = to.engine; preference = to.preference }

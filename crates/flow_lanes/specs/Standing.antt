@@ -99,6 +99,11 @@ abbrev pub AnswersJob : {P : Type 0} → (P → List ℕ → Option Span) → St
 AnswersJob finds stream set old job entry new =
     (means : Means) (d : Detection) (before : List Job) → DetectsBy finds means stream set d → Stands d old before → IsAnswered d before job entry new
 
+-- the number of candidates of a job is told: whatever jobs the lane stood for, it is the definition's
+abbrev pub CountsTries : {P : Type 0} → (P → List ℕ → Option Span) → StreamConfig → Rules P → LaneState → Job → ℕ → Type 0
+CountsTries finds stream set old job tries =
+    (means : Means) (d : Detection) (before : List Job) → DetectsBy finds means stream set d → Stands d old before → tries ≡ answer_tries d before job
+
 -- the lane has done a job, by what it keeps: the flow of the job has one job more, and no other flow changes
 pub record HasDone (d : Detection) (old : LaneState) (job : Job) (new : LaneState) : Type 0 where
   pub flush : new.flush ≡ old.flush

@@ -18,6 +18,14 @@ pub struct JobHits {
     pub items: Items<Hits>,
 }
 
+/// The answer to one job.
+#[derive(Debug, Drop)]
+pub struct JobOut {
+    pub hits: JobHits,
+    /// How many candidates the job's items had.
+    pub tries: u64,
+}
+
 /// Why a batch has no answer.
 #[derive(Clone, Copy, Debug, PartialEq, Eq)]
 pub enum BatchFault {

@@ -2,18 +2,44 @@
 //!
 //! A rule is tried on an item by `rule_matches`, which answers exactly what specs/Hits says: header,
 //! fields, bits of the session and payload. `matching_rules` finds all rules that match an item, each with
-//! the bits that those before it left, and tries no rule but the candidates of fast_pattern. What makes the
-//! answers of a whole run stands on it.
+//! the bits that those before it left, and tries no rule but the candidates of fast_pattern. A
+//! `Lane` goes on with its flows, job by job; `Lanes` answer batches of jobs in threads, as one lane would.
 #![tactic(auto)]
 
 mod answer;
+mod arrival;
+mod batch;
+#[cfg(test)]
+mod batch_tests;
+mod cutting;
+mod detecting;
+mod facts;
+mod flow;
 mod hits;
+mod item;
 mod job;
+mod keeping;
+mod lane;
 mod laws;
 mod matching;
+mod opening;
+mod parts;
+mod session;
+mod settings;
+mod side;
+mod steering;
+mod streams;
+mod taking;
+mod tally;
+mod told;
+mod worker;
+mod working;
 
-pub use answer::{BatchFault, BatchOut, Hits, JobHits};
+pub use answer::{BatchFault, BatchOut, Hits, JobHits, JobOut};
+pub use batch::Lanes;
+pub use facts::{EndWay, FlowEnds, FlowFacts};
 pub use hits::{Found, matching_rules};
 pub use job::{Job, Toward, Work};
+pub use lane::Lane;
 pub use laws::{lanes_change_nothing, other_flows_change_nothing, stream_items_are_short};
 pub use matching::{hits_are_one, matching_is_decided, rule_matches};

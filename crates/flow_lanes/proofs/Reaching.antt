@@ -1,0 +1,25 @@
+-- How far sides reach.
+use Rattle.std.proofs.Common.{◌≡◌, ℕ, ◌+◌, ◌-◌, ◌*◌, ◌^◌, ◌≤◌, ◌<◌, Bool, true, false, not, cond, Option, Some, None, refl, arith}
+use Rattle.std.specs.Prelude.{IfSome}
+use Rattle.flow_lanes.specs.Reach.{AreWithin, GrowsOne, IsWithin, KeepsWithin, Reaches}
+use Rattle.flow_lanes.specs.Sessions.{Session}
+use Rattle.flow_lanes.specs.Sides.{Side}
+
+pub Reaches-weaker : (side : Side) (a b : ℕ) → a ≤ b → Reaches side a → Reaches side b
+Reaches-weaker side a b more h = let base = h.base in let size = h.size in record { base = omega arith; size = omega arith }
+
+pub AreWithin-weaker : (session : Session) (a b c d : ℕ) → a ≤ c → b ≤ d → AreWithin session a b → AreWithin session c d
+AreWithin-weaker session a b c d more most h = record { client = Reaches-weaker session.client a c more h.client; server = Reaches-weaker session.server b d most h.server }
+
+pub IsWithin-weaker : (found : Option Session) (a b : ℕ) → a ≤ b → IsWithin found a → IsWithin found b
+IsWithin-weaker None a b more h = tt
+IsWithin-weaker (Some session) a b more h = AreWithin-weaker session a a b b more more h
+
+-- one side comes further, and then the other
+pub grow-both : (b : Bool) (old mid new : Session) → GrowsOne (not b) old mid → GrowsOne b mid new → (places : ℕ) → AreWithin old places places → AreWithin new (places + 2 ^ 31) (places + 2 ^ 31)
+grow-both true old mid new first second places h = second places (places + 2 ^ 31) (first places places h)
+grow-both false old mid new first second places h = second (places + 2 ^ 31) places (first places places h)
+
+pub IsWithin-if : (b : Bool) (found : Option Session) (places : ℕ) → IsWithin found places → IsWithin (cond b None found) places
+IsWithin-if true found places h = tt
+IsWithin-if false found places h = h

@@ -1,0 +1,55 @@
+-- Steps of one side of a session.
+use Rattle.std.proofs.Common.{◌≡◌, ℕ, suc, zero, ◌+◌, ◌-◌, ◌^◌, ◌<◌, ◌≤◌, Bool, true, false, ◌&&◌, cond, List, [], ◌∷◌, ◌++◌, length, map, Option, Some, None, Result, Ok, Err, refl, sym, ap, subst, ◌∙◌, arith}
+use Rattle.std.specs.List.{flat_map}
+use Rattle.std.proofs.lemmas.Bool.{false≢true}
+use Rattle.edge_io.specs.declared.fault.NoMemory.{NoMemory}
+use Rattle.overlap_core.specs.declared.segment.Run.{Run}
+use Rattle.overlap_core.specs.Runs.{AreRuns}
+use Rattle.stream5_reassembly.specs.Extents.{extent_after}
+use Rattle.stream5_reassembly.specs.Segments.{AppendsFlushed, DirectionState, Flushes, Stays, ack_flushes, ack_place, flushed_bytes, flushed_to, segment_fate, top}
+use Rattle.flow_lanes.specs.Sides.{Side, direction_after_data, is_held, queues, side_after_data, started_by}
+use Rattle.flow_lanes.specs.Streams.{flushed_payloads, item_size, parts_of}
+use Rattle.flow_lanes.proofs.Runs.{flushed_payloads-runs}
+
+-- no bytes are no data
+pub queues-none : (side : Side) (seq : ℕ) (bytes : List ℕ) → length bytes ≡ 0 → queues side seq bytes ≡ false
+unfolding queues
+queues-none side seq [] is = refl
+queues-none side seq (byte ∷ bytes) is = absurd (omega arith)
+
+pub side_after_data-none : (side : Side) (seq : ℕ) (bytes : List ℕ) → length bytes ≡ 0 → side_after_data side seq bytes ≡ side
+unfolding side_after_data
+side_after_data-none side seq [] is = refl
+side_after_data-none side seq (byte ∷ bytes) is = absurd (omega arith)
+
+pub queues-some : (side : Side) (seq : ℕ) (bytes : List ℕ) → 0 < length bytes → queues side seq bytes ≡ (side.on && is_held (segment_fate (started_by side.direction seq) seq bytes))
+unfolding queues
+queues-some side seq [] some = absurd (omega arith)
+queues-some side seq (byte ∷ bytes) some = refl
+
+pub side_after_data-some : (side : Side) (seq : ℕ) (bytes : List ℕ) → 0 < length bytes
+    → side_after_data side seq bytes ≡ record side { direction = direction_after_data side seq bytes; extent = extent_after side.extent seq (length bytes) }
+unfolding side_after_data
+side_after_data-some side seq [] some = absurd (omega arith)
+side_after_data-some side seq (byte ∷ bytes) some = refl
+
+-- the payloads of runs
+abbrev pub cut_of : List Run → List (List ℕ)
+cut_of runs = flat_map (parts_of item_size) (map (λ (run : Run). run.bytes) runs)
+
+-- what is appended to nothing, cut, are the payloads of the flush
+pub cut-flushed : (direction : DirectionState) (to : ℕ) (runs : List Run) → AppendsFlushed direction to [] runs → cut_of runs ≡ flushed_payloads direction to
+cut-flushed direction to runs appends =
+    ap cut_of appends.1 ∙ sym (flushed_payloads-runs direction to appends.0 appends.2)
+
+-- an acknowledgement: what it flushes, and the direction behind it
+pub acked-cut : (old new : DirectionState) (ack : ℕ) (runs : List Run) (flushed : Bool) → flushed ≡ ack_flushes old ack
+    → (flushed ≡ true → Flushes old new (ack_place old ack) [] runs) → (flushed ≡ false → Stays old new [] runs)
+    → (cut_of runs ≡ cond (ack_flushes old ack) (flushed_payloads old (ack_place old ack)) [])
+    × (new ≡ cond (ack_flushes old ack) (flushed_to old (ack_place old ack)) old)
+acked-cut old new ack runs flushed is flushes stays = subst (λ (b : Bool). (cut_of runs ≡ cond b (flushed_payloads old (ack_place old ack)) []) × (new ≡ cond b (flushed_to old (ack_place old ack)) old)) is (by_case flushed flushes stays)
+  where
+    by_case : (b : Bool) → (b ≡ true → Flushes old new (ack_place old ack) [] runs) → (b ≡ false → Stays old new [] runs)
+        → (cut_of runs ≡ cond b (flushed_payloads old (ack_place old ack)) []) × (new ≡ cond b (flushed_to old (ack_place old ack)) old)
+    by_case true flushes stays = (cut-flushed old (ack_place old ack) runs (flushes refl).runs, (flushes refl).state)
+    by_case false flushes stays = (ap cut_of (stays refl).runs, (stays refl).state)

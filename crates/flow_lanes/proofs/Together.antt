@@ -1,0 +1,177 @@
+-- What all lanes did of a batch, put together: the parts of their answers make the one list of answers, and
+-- the lanes stand for the batch.
+use Rattle.std.proofs.Common.{◌≡◌, ℕ, ◌+◌, ◌<◌, ◌==◌, Bool, true, false, List, [], ◌∷◌, ◌++◌, length, get_or, map, Option, Some, None, refl, sym, ap, subst, ◌∙◌, arith}
+use Rattle.std.specs.Prelude.{sum, sum_by, option_and_then, slice_get}
+use Rattle.std.specs.List.{AllPairs, filter, flat_map}
+use Rattle.std.specs.List.Sorted.{IsPermutation, IsStrictlyIncreasing}
+use Rattle.std.proofs.lemmas.Bool.Decides.{nat_tests}
+use Rattle.std.proofs.lemmas.List.{get_or-map, get_or_default, length-map, map-append}
+use Rattle.std.proofs.lemmas.List.Elements.{filter-append}
+use Rattle.std.proofs.lemmas.List.Kept.{AllPairs-filter, AllPairs-from_increasing}
+use Rattle.std.proofs.lemmas.List.Sums.{sum-map}
+use Rattle.std.proofs.lemmas.Option.{slice_get-get_or, slice_get_within}
+use Rattle.edge_io.specs.declared.pattern.Span.{Span}
+use Rattle.edge_io.specs.Along.{AscendsBy, IsLocal, along_from}
+use Rattle.edge_io.proofs.Along.{map-along_from}
+use Rattle.edge_io.proofs.AlongClasses.{joined_classes}
+use Rattle.conf_parser.specs.declared.config.StreamConfig.{StreamConfig}
+use Rattle.option_eval.specs.Places.{Means}
+use Rattle.option_eval.specs.RuleSet.{Rules}
+use Rattle.ordered_merge.specs.declared.numbered.Numbered.{Numbered}
+use Rattle.flow_lanes.specs.declared.answer.BatchOut.{BatchOut}
+use Rattle.flow_lanes.specs.declared.answer.JobOut.{JobOut}
+use Rattle.flow_lanes.specs.declared.job.Job.{Job}
+use Rattle.flow_lanes.specs.Flows.{Detection, answer, answer_tries, flow_of, same_flow}
+use Rattle.flow_lanes.specs.Sound.{FlowFacts, IsSoundFor, facts_after}
+use Rattle.flow_lanes.specs.Standing.{AnswersBatch, AreSoundFor, DetectsBy, LaneState, LanesState, Stands, is_in_lane, known_in, known_of, lane_of, new_lane}
+use Rattle.flow_lanes.specs.Batching.{AreParts, AreSoundIn, GoesOn, numbered_out, own_jobs}
+use Rattle.flow_lanes.proofs.Batches.{answers_joined}
+use Rattle.flow_lanes.proofs.Orders.{answer-local, is_in_lane-by_class, tries-local}
+use Rattle.flow_lanes.proofs.OwnJobs.{GoesOn-known}
+
+-- a lane that keeps nothing, where a place needs one
+idle : LaneState
+idle = new_lane 0 false
+
+in_own_lane : (count : ℕ) (flow : Option ℕ) → (lane_of count flow == lane_of count flow) ≡ true
+in_own_lane count flow = same (lane_of count flow)
+  where
+    same : (n : ℕ) → (n == n) ≡ true
+    same n = grind (arith, nat_tests)
+
+below_count : (count : ℕ) (flow : Option ℕ) → 0 < count → lane_of count flow < count
+below_count count None some = some
+below_count count (Some flow) some = omega arith
+
+-- the answers of two parts in one, mapped
+map-flat_map : {X A B : Type 0} (f : A → B) (g : X → List A) (xs : List X) → map f (flat_map g xs) ≡ flat_map (λ x. map f (g x)) xs
+map-flat_map f g [] = refl
+map-flat_map f g (x ∷ xs) = map-append f (g x) (flat_map g xs) ∙ ap (λ rest. map f (g x) ++ rest) (map-flat_map f g xs)
+
+-- what ascends does so still where some are left out
+pub AscendsBy-filter : {X : Type 0} (key : X → ℕ) (p : X → Bool) (xs : List X) → AscendsBy key xs → AscendsBy key (filter p xs)
+AscendsBy-filter {X} key p xs ascends = rising (filter p xs) (AllPairs-filter (λ (x y : X). key x < key y) p xs (λ i j d less within. read i j d less within))
+  where
+    read : (i j : ℕ) (d : X) → i < j → j < length xs → key (get_or xs i d) < key (get_or xs j d)
+    read i j d less within =
+        let size = length-map xs key in
+        let apart = AllPairs-from_increasing (map key xs) ascends i j 0 less (omega arith) in
+        let at_i = get_or-map key xs i d 0 (omega arith) in
+        let at_j = get_or-map key xs j d 0 within in
+        omega arith
+
+    rising : (ys : List X) → AllPairs (λ (x y : X). key x < key y) ys → AscendsBy key ys
+    rising [] pairs k within = absurd (omega arith)
+    rising (y ∷ ys) pairs k within =
+        let size = length-map (y ∷ ys) key in
+        let at_k = get_or-map key (y ∷ ys) k y 0 (omega arith) in
+        let at_next = get_or-map key (y ∷ ys) (k + 1) y 0 (omega arith) in
+        let apart = pairs k (k + 1) y (omega arith) (omega arith) in
+        omega arith
+
+-- an answer with its job's number goes by the jobs of its flow alone
+numbered_out-local : (d : Detection) → IsLocal same_flow (numbered_out d)
+numbered_out-local d before job =
+    ap (λ hits. record { number = job.number; value = record { hits = hits; tries = answer_tries d before job } }) (answer-local d before job)
+    ∙ ap (λ tries. record { number = job.number; value = record { hits = answer d (filter (same_flow job) before) job; tries = tries } }) (tries-local d before job)
+
+-- each lane's jobs are sound, where the batch's are
+pub AreSoundFor-in : (engines place : ℕ) (lanes : LanesState) (lane : LaneState) (jobs : List Job) → AreSoundFor engines lanes jobs → slice_get lanes.lanes place ≡ Some lane → AreSoundIn engines (length lanes.lanes) place lane jobs
+AreSoundFor-in engines place lanes lane jobs sound is front job rest whole here =
+    let same : lane_of (length lanes.lanes) (flow_of job) ≡ place = grind (arith, nat_tests) in
+    let known : known_in lanes job ≡ known_of lane job =
+    ap (λ at. option_and_then (λ (l : LaneState). known_of l job) (slice_get lanes.lanes at)) same ∙ ap (option_and_then (λ (l : LaneState). known_of l job)) is in
+    subst (λ facts. IsSoundFor engines (facts_after facts (filter (same_flow job) front)) job) known (sound front job rest whole)
+
+module _ {P : Type 0} (finds : P → List ℕ → Option Span) (stream : StreamConfig) (set : Rules P) (olds : List LaneState) (jobs : List Job) (parts : List (List (Numbered JobOut))) (news : List LaneState)
+    (are : AreParts finds stream set olds jobs parts news) where
+  -- the lane and the part at a place
+  at_place : (place : ℕ) → place < length olds → GoesOn finds stream set (get_or olds place idle) (own_jobs (length olds) place jobs) (get_or parts place []) (get_or news place idle)
+  at_place place within =
+      are.each place (get_or olds place idle) (get_or news place idle) (get_or parts place [])
+      (slice_get-get_or olds place idle within)
+      (slice_get-get_or parts place [] (omega (arith, are.parts_count)))
+      (slice_get-get_or news place idle (omega (arith, are.news_count)))
+
+  numbers_at : (place : ℕ) (part : List (Numbered JobOut)) → place < length parts → map (λ (out : Numbered JobOut). out.number) (get_or parts place part) ≡ map (λ (job : Job). job.number) (own_jobs (length parts) place jobs)
+  numbers_at place part within =
+      ap (map (λ (out : Numbered JobOut). out.number)) (get_or_default parts place part [] within)
+      ∙ (at_place place (omega (arith, are.parts_count))).numbers
+      ∙ ap (λ count. map (λ (job : Job). job.number) (own_jobs count place jobs)) (sym are.parts_count)
+
+  -- the answers of a lane bear ascending numbers
+  pub part_ascends : AscendsBy (λ (job : Job). job.number) jobs → (place : ℕ) (part : List (Numbered JobOut)) → place < length parts → AscendsBy (λ (out : Numbered JobOut). out.number) (get_or parts place part)
+  part_ascends ascend place part within =
+      subst IsStrictlyIncreasing (sym (numbers_at place part within)) (AscendsBy-filter (λ (job : Job). job.number) (is_in_lane (length parts) place) jobs ascend)
+
+  -- all parts have the numbers of the batch
+  pub numbers_joined : 0 < length olds → IsPermutation (map (λ (job : Job). job.number) jobs) (map (λ (out : Numbered JobOut). out.number) (flat_map (λ part. part) parts))
+  numbers_joined some =
+      subst (λ (numbers : List ℕ). IsPermutation (map (λ (job : Job). job.number) jobs) numbers) (sym (map-flat_map (λ (out : Numbered JobOut). out.number) (λ part. part) parts))
+      (joined_classes (λ (job : Job). lane_of (length parts) (flow_of job)) (λ (job : Job). job.number) (λ (part : List (Numbered JobOut)). map (λ (out : Numbered JobOut). out.number) part) jobs parts
+      (λ job. below_count (length parts) (flow_of job) (omega (arith, are.parts_count)))
+      numbers_at)
+
+  -- what the lanes know of a flow
+  pub parts_know : (old new : LanesState) → old.lanes ≡ olds → new.lanes ≡ news → 0 < length olds → (other : Job) → known_in new other ≡ facts_after (known_in old other) (filter (same_flow other) jobs)
+  parts_know old new is_old is_new some other =
+      let place : ℕ = lane_of (length olds) (flow_of other) in
+      let within : place < length olds = below_count (length olds) (flow_of other) some in
+      let here = GoesOn-known finds stream set (length olds) place (get_or olds place idle) (get_or news place idle) jobs (get_or parts place []) other (in_own_lane (length olds) (flow_of other)) (at_place place within) in
+      let known : List LaneState → ℕ → Option FlowFacts = λ lanes count. option_and_then (λ (lane : LaneState). known_of lane other) (slice_get lanes (lane_of count (flow_of other))) in
+      let after : known_in new other ≡ known_of (get_or news place idle) other =
+      ap (λ lanes. known lanes (length lanes)) is_new ∙ ap (known news) are.news_count ∙ ap (option_and_then (λ (lane : LaneState). known_of lane other)) (slice_get-get_or news place idle (omega (arith, are.news_count))) in
+      let before : known_in old other ≡ known_of (get_or olds place idle) other =
+      ap (λ lanes. known lanes (length lanes)) is_old ∙ ap (option_and_then (λ (lane : LaneState). known_of lane other)) (slice_get-get_or olds place idle within) in
+      after ∙ here ∙ ap (λ facts. facts_after facts (filter (same_flow other) jobs)) (sym before)
+
+  module _ (means : Means) (d : Detection) (before : List Job) (detects : DetectsBy finds means stream set d)
+      (stand : (place : ℕ) (lane : LaneState) → slice_get olds place ≡ Some lane → Stands d lane (own_jobs (length olds) place before)) where
+    -- the lanes stand for the batch too
+    pub parts_stand : (place : ℕ) (lane : LaneState) → slice_get news place ≡ Some lane → Stands d lane (own_jobs (length news) place (before ++ jobs))
+    parts_stand place lane is =
+        let within : place < length olds = omega (arith, are.news_count, slice_get_within news place lane is) in
+        let old = slice_get-get_or olds place idle within in
+        let done = are.each place (get_or olds place idle) lane (get_or parts place []) old (slice_get-get_or parts place [] (omega (arith, are.parts_count))) is in
+        let stands = (done.right means d (own_jobs (length olds) place before) detects (stand place (get_or olds place idle) old)).stands in
+        subst (λ count. Stands d lane (own_jobs count place (before ++ jobs))) (sym are.news_count)
+        (subst (λ all. Stands d lane all) (sym (filter-append (is_in_lane (length olds) place) before jobs)) stands)
+
+    -- an ascending list of all answers is that of the jobs taken one by one
+    pub parts_answer : 0 < length olds → AscendsBy (λ (job : Job). job.number) jobs → (merged : List (Numbered JobOut)) → IsPermutation (flat_map (λ part. part) parts) merged
+        → AscendsBy (λ (out : Numbered JobOut). out.number) merged → merged ≡ along_from (numbered_out d) before jobs
+    parts_answer some ascend merged whole ascending =
+        answers_joined same_flow (λ (job : Job). lane_of (length parts) (flow_of job)) (λ (job : Job). job.number) (λ (out : Numbered JobOut). out.number) (numbered_out d)
+        (numbered_out-local d) (is_in_lane-by_class (length parts)) (λ b job. refl) before jobs parts
+        (λ job. below_count (length parts) (flow_of job) (omega (arith, are.parts_count)))
+        answers_at ascend merged whole ascending
+      where
+        answers_at : (place : ℕ) (part : List (Numbered JobOut)) → place < length parts
+            → get_or parts place part ≡ along_from (numbered_out d) (own_jobs (length parts) place before) (own_jobs (length parts) place jobs)
+        answers_at place part within =
+            let inside : place < length olds = omega (arith, are.parts_count) in
+            let stands = stand place (get_or olds place idle) (slice_get-get_or olds place idle inside) in
+            get_or_default parts place part [] within
+            ∙ ((at_place place inside).right means d (own_jobs (length olds) place before) detects stands).right
+            ∙ ap (λ count. along_from (numbered_out d) (own_jobs count place before) (own_jobs count place jobs)) (sym are.parts_count)
+
+  -- so the batch is answered
+  pub parts_answer_batch : (old new : LanesState) → old.lanes ≡ olds → new.lanes ≡ news → 0 < length olds → AscendsBy (λ (job : Job). job.number) jobs
+      → (merged : List (Numbered JobOut)) → IsPermutation (flat_map (λ part. part) parts) merged → AscendsBy (λ (out : Numbered JobOut). out.number) merged
+      → (out : BatchOut) → out.hits ≡ map (λ (o : Numbered JobOut). o.value.hits) merged → out.tries ≡ sum_by (λ (o : Numbered JobOut). o.value.tries) merged
+      → AnswersBatch finds stream set old jobs out new
+  parts_answer_batch old new is_old is_new some ascend merged whole ascending out hits tries means d before detects stand =
+      let each : (place : ℕ) (lane : LaneState) → slice_get olds place ≡ Some lane → Stands d lane (own_jobs (length olds) place before) =
+      subst (λ (lanes : List LaneState). (place : ℕ) (lane : LaneState) → slice_get lanes place ≡ Some lane → Stands d lane (own_jobs (length lanes) place before)) is_old stand.each in
+      let answered : merged ≡ along_from (numbered_out d) before jobs = parts_answer means d before detects each some ascend merged whole ascending in
+      let counts : sum_by (λ (o : Numbered JobOut). o.value.tries) merged ≡ sum (along_from (answer_tries d) before jobs) =
+      sym (sum-map (λ (o : Numbered JobOut). o.value.tries) merged) ∙ ap (λ outs. sum (map (λ (o : Numbered JobOut). o.value.tries) outs)) answered
+      ∙ ap sum (map-along_from (λ (o : Numbered JobOut). o.value.tries) (numbered_out d) before jobs) in
+      record {
+        hits = hits ∙ ap (map (λ (o : Numbered JobOut). o.value.hits)) answered ∙ map-along_from (λ (o : Numbered JobOut). o.value.hits) (numbered_out d) before jobs;
+        tries = tries ∙ counts;
+        stands = record {
+          some = subst (λ (lanes : List LaneState). 0 < length lanes) (sym is_new) (omega (arith, are.news_count));
+          each = subst (λ (lanes : List LaneState). (place : ℕ) (lane : LaneState) → slice_get lanes place ≡ Some lane → Stands d lane (own_jobs (length lanes) place (before ++ jobs))) (sym is_new) (parts_stand means d before detects each);
+        };
+      }

@@ -1,0 +1,17 @@
+use Rattle.std.proofs.Common.{length, sym, subst, arith, rules}
+use Rattle.flow_lanes.specs.declared.worker.Worker.{Worker}
+use Rattle.flow_lanes.specs.Batching.{AreSoundIn}
+use Rattle.flow_lanes.proofs.batch.run_all.Goals as goal
+
+pub for_each_mut-requires-clause-accepts : goal.for_each_mut-requires-clause-accepts
+for_each_mut-requires-clause-accepts g c κs within = λ place worker below is. (
+  (
+    omega arith,
+    omega arith,
+    subst (λ (w : Worker). AreSoundIn (length c.args.detector.now.stream.now.engines) (length c.args.workers.now) place w.lane c.args.jobs.now) (sym is) (c.requires.sound place worker.now below),
+    c.requires.config,
+    c.requires.groups,
+    c.requires.triable,
+  ),
+  (search rules, search rules, search rules),
+)

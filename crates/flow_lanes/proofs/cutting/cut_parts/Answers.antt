@@ -1,0 +1,5 @@
+use Rattle.flow_lanes.proofs.CutLaws.{parts-more}
+use Rattle.flow_lanes.proofs.cutting.cut_parts.Goals as goal
+
+pub loop-part-preserved : goal.loop-part-preserved
+loop-part-preserved c = parts-more _ c.loop-part.part _ _ _ _ c.loop-part.invariant c.in_ok-text.ensures c.in_ok-push.ensures.items

@@ -1,0 +1,7 @@
+use Rattle.std.proofs.Common.{arith, sym, ◌∙◌}
+use Rattle.conf_parser.specs.Stream5.{default_ports}
+use Rattle.flow_lanes.proofs.DefaultPorts.{has_port-any}
+use Rattle.flow_lanes.proofs.settings.is_default_port.Goals as goal
+
+pub returns : goal.returns
+returns c = c.contains.ensures.value ∙ sym (has_port-any c.args.port default_ports (omega arith))

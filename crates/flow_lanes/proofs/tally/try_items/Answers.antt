@@ -1,0 +1,30 @@
+use Rattle.std.proofs.Common.{◌<◌, length, arith, sym, add-zero, subst, take, List}
+use Rattle.std.proofs.lemmas.List.{take_all}
+use Rattle.flow_lanes.specs.Hits.{Item}
+use Rattle.flow_lanes.specs.Tried.{TriesAll}
+use Rattle.flow_lanes.proofs.TryingLaws.{candidates-more, tries-more, tries-none}
+use Rattle.flow_lanes.proofs.tally.try_items.Goals as goal
+
+pub loop-item-init : goal.loop-item-init
+loop-item-init g c = record {
+  hits = λ means trying by. tries-none trying c.args.bits.now c.args.tally.now.hits.items;
+  tries = sym (add-zero c.args.tally.now.tries);
+}
+
+pub loop-item-preserved : goal.loop-item-preserved
+loop-item-preserved g c =
+    let below : c.loop-item.item-index < length c.args.items.now = omega arith in
+    record {
+      hits = λ means trying by.
+          tries-more trying c.args.items.now c.loop-item.item-index c.item-item.result c.bytes.result.now c.args.bits.now c.loop-item.bits c.try_item.new.bits
+          c.args.tally.now.hits.items c.loop-item.tally.hits.items c.try_item.new.tally.hits.items below c.item-item.is c.bytes.ensures
+          (c.loop-item.invariant.hits means trying by) (c.in_ok-try_item.ensures.hits means trying by);
+      tries =
+          candidates-more c.args.set.now.rules c.args.items.now c.loop-item.item-index c.item-item.result c.bytes.result.now c.args.tally.now.tries c.loop-item.tally.tries c.try_item.new.tally.tries
+          below c.item-item.is c.bytes.ensures c.loop-item.invariant.tries c.in_ok-try_item.ensures.tries;
+    }
+
+pub returns-clause-hits : goal.returns-clause-hits
+returns-clause-hits g c = λ means trying by.
+    subst (λ (xs : List Item). TriesAll trying xs c.args.bits.now c.loop-item.bits c.args.tally.now.hits.items c.loop-item.tally.hits.items)
+    (take_all c.loop-item.item-index c.args.items.now (omega arith)) (c.loop-item.invariant.hits means trying by)

@@ -1,0 +1,12 @@
+use Rattle.std.proofs.Common.{◌≡◌, ◌+◌, take}
+use Rattle.option_eval.specs.Places.{Means}
+use Rattle.flow_lanes.specs.ItemHits.{Trying}
+use Rattle.flow_lanes.specs.Tried.{TriesAll, TriesBy, candidates_of}
+use Rattle.flow_lanes.proofs.tally.try_items.Given as goal
+
+-- the items so far were tried
+abbrev pub invariant-loop-item : goal.invariant-loop-item
+invariant-loop-item g l = record {
+  hits : (means : Means) (trying : Trying) → TriesBy g.P.Pattern.finds means l.set trying → TriesAll trying (take l.item-index l.items) l.fn.bits l.bits l.fn.tally.hits.items l.tally.hits.items;
+  tries : l.tally.tries ≡ l.fn.tally.tries + candidates_of l.set.rules (take l.item-index l.items);
+}

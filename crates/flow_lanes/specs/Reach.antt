@@ -1,0 +1,43 @@
+-- How far the data of a session and its bases have come.
+--
+-- A packet moves each of them by at most 2^31 places. A flow has fewer than 2^32 packets, so none passes
+-- 2^63.
+-- To try it on: behind the first packet of a flow, no side's size is above 2147483648.
+use Rattle.std.specs.Prelude.{ℕ, ◌+◌, ◌^◌, ◌≤◌, Bool, Option, IfSome, if◌then◌else◌}
+use Rattle.conf_parser.specs.Sound.{IsStreamConfig}
+use Rattle.stream5_reassembly.specs.Segments.{passed}
+use Rattle.flow_lanes.specs.Engines.{Making}
+use Rattle.flow_lanes.specs.Sessions.{Session}
+use Rattle.flow_lanes.specs.Sides.{Side}
+
+-- a side's base has moved by at most so many places, and its size is at most so much
+pub record Reaches (side : Side) (places : ℕ) : Type 0 where
+  pub base : passed side.direction ≤ places
+  pub size : side.extent.size ≤ places
+
+-- one packet has done its part with a side
+abbrev pub Grows : Side → Side → Type 0
+Grows old new = (places : ℕ) → Reaches old places → Reaches new (places + 2 ^ 31)
+
+-- the client's side reaches so far, and the server's side so far
+pub record AreWithin (session : Session) (most_client most_server : ℕ) : Type 0 where
+  pub client : Reaches session.client most_client
+  pub server : Reaches session.server most_server
+
+-- a session of which both sides reach so far, if it stands
+abbrev pub IsWithin : Option Session → ℕ → Type 0
+IsWithin found places = IfSome found (λ (session : Session). AreWithin session places places)
+
+-- neither side comes further
+abbrev pub KeepsWithin : Session → Session → Type 0
+KeepsWithin old new = (client server : ℕ) → AreWithin old client server → AreWithin new client server
+
+-- one side alone comes further: the client's, or the server's
+abbrev pub GrowsOne : Bool → Session → Session → Type 0
+GrowsOne of_client old new = (client server : ℕ) → AreWithin old client server
+    → AreWithin new (if of_client then client + 2 ^ 31 else client) (if of_client then server else server + 2 ^ 31)
+
+-- the settings give sides limits in their ranges
+pub record HasLimits (making : Making) : Type 0 where
+  pub flush : 1 ≤ making.flush
+  pub stream : IsStreamConfig making.stream

@@ -1,0 +1,274 @@
+//! Lanes: the jobs of a batch, dealt out by their flows.
+
+ghost use Rattle.std.specs.Prelude.{◌≡◌, ℕ, ◌<◌, ◌≤◌, ◌^◌, ◌↔◌, List, Option, Some, Ok, false, All, IfOk, OnErr, OnOk, fold, length, map, replicate, sum_by};
+ghost use Rattle.edge_io.specs.Along.{AscendsBy};
+ghost use Rattle.conf_parser.specs.Sound.{IsStreamConfig};
+ghost use Rattle.fast_pattern.specs.Grouping.{StandFor};
+ghost use Rattle.rule_parser.specs.Sound.{IsTriable};
+ghost use Rattle.flow_lanes.specs.declared.job.Job.{Job};
+ghost use Rattle.flow_lanes.specs.Standing.{AnswersBatch, AreNew, AreNext, AreSoundFor, HasFailed, LearnsBatch, new_lane};
+ghost use Rattle.flow_lanes.specs.Batching.{AllGoOn, AreSoundAmong, AreSoundIn, GoesOn, HaveAnswered, lanes_of, own_jobs};
+
+use crate::answer::{BatchFault, BatchOut, JobOut};
+use crate::job::{Job, Work};
+use crate::worker::{Detector, Share, Worker};
+use conf_parser::StreamConfig;
+use edge_io::{Gate, Items, NoMemory, Pattern};
+use fast_pattern::Groups;
+use option_eval::RuleSet;
+use ordered_merge::{Numbered, merge};
+use std::alloc::Global;
+use std::marker::Model;
+use std::thread;
+use std::thread::Threads;
+
+/// About so much work as a job is whatever its data, in bytes that are looked at.
+const JOB_WORK: usize = 256;
+
+/// For less work than this a thread is not worth its start.
+const THREAD_WORK: usize = 32768;
+
+/// The work of a job.
+fn job_work(job: &Job) -> usize {
+    match &job.work {
+        Work::Alone { payload, .. } => payload.bytes().len().saturating_add(JOB_WORK),
+        Work::Packet { payload, .. } => payload.bytes().len().saturating_add(JOB_WORK),
+        Work::Finish { .. } => JOB_WORK,
+    }
+}
+
+/// How many threads a batch is worth among so many lanes: one alone is the caller's own.
+fn thread_count(count: usize, jobs: &[Job]) -> usize
+    ensures { 1 ≤ result }
+{
+    let mut work = 0usize;
+    for job in jobs {
+        work = work.saturating_add(job_work(job));
+    }
+    (work / THREAD_WORK).min(count).max(1)
+}
+
+/// The greatest number behind these jobs.
+fn greatest_number(before: Option<u64>, jobs: &[Job]) -> Option<u64>
+    ensures { result ≡ fold (λ most (job : Job). Some job.number) before jobs.now }
+{
+    let mut greatest = before;
+    for job in jobs {
+        greatest = Some(job.number);
+    }
+    greatest
+}
+
+/// So many lanes that stand for no job.
+fn new_workers(
+    alloc: Global,
+    count: u32,
+    flush: u32,
+    inserts: bool,
+) -> Result<Vec<Worker>, NoMemory>
+    requires least { 1 ≤ flush }
+    requires most { flush ≤ 65536 }
+    ensures { IfOk result (λ workers. lanes_of workers.items ≡ replicate count (new_lane flush inserts)) }
+{
+    let mut workers = Vec::new(alloc);
+    for _place in 0..count {
+        workers.push(Worker::new(alloc, flush, inserts))?;
+    }
+    Ok(workers)
+}
+
+/// All lanes do their own jobs of a batch, in threads of their own where that is worth it.
+fn run_all<P: Pattern, G: Gate, R: Threads + Sync>(
+    rt: &R,
+    alloc: Global,
+    workers: &mut [Worker],
+    jobs: &[Job],
+    detector: &Detector<'_, P>,
+    gate: &G,
+)
+    requires few { length workers.old ≤ 64 }
+    requires sound { AreSoundAmong (length detector.now.stream.now.engines) workers.old jobs.now }
+    requires config { IsStreamConfig detector.now.stream.now }
+    requires groups { StandFor detector.now.groups.now detector.now.set.now.rules }
+    requires triable { All IsTriable detector.now.set.now.rules }
+    ensures { AllGoOn P.finds detector.now.stream.now detector.now.set.now workers.old jobs.now workers.new }
+{
+    let count = workers.len();
+    let threads = thread_count(count, jobs);
+    thread::for_each_mut(
+        rt,
+        workers,
+        threads,
+        &|place: usize, worker: &mut Worker|
+            requires { (0 < count) × (place < 2 ^ 32)
+                × AreSoundIn (length detector.now.stream.now.engines) count place worker.old.lane jobs.now
+                × IsStreamConfig detector.now.stream.now × StandFor detector.now.groups.now detector.now.set.now.rules
+                × All IsTriable detector.now.set.now.rules }
+            ensures { IfOk worker.new.outs (λ outs. GoesOn P.finds detector.entry.now.stream.now detector.entry.now.set.now
+                worker.old.lane (own_jobs count place jobs.entry.now) outs.items worker.new.lane) }
+        { worker.run(alloc, Share { count, place }, jobs, detector, gate) },
+    );
+}
+
+/// The answers of each lane, taken out of the workers.
+fn taken_parts(
+    alloc: Global,
+    workers: &mut [Worker],
+) -> Result<Vec<Vec<Numbered<JobOut>>>, NoMemory>
+    ensures lanes { lanes_of workers.new ≡ lanes_of workers.old }
+    ensures parts { IfOk result (λ parts. map (λ worker. worker.outs) workers.old ≡ map (λ part. Ok part) parts.items) }
+{
+    let mut parts = Vec::new(alloc);
+    for worker in workers.iter_mut() {
+        parts.push(worker.take_outs(alloc)?)?;
+    }
+    Ok(parts)
+}
+
+/// The entries of a batch and the sum of its candidates, of the answers in the order of the jobs.
+fn batch_out(alloc: Global, merged: Vec<Numbered<JobOut>>) -> Result<BatchOut, NoMemory>
+    ensures hits { IfOk result (λ out. out.hits ≡ map (λ answer. answer.value.hits) merged.items) }
+    ensures tries { IfOk result (λ out. out.tries ≡ sum_by (λ answer. answer.value.tries) merged.items) }
+{
+    let mut hits = Vec::with_capacity(alloc, merged.len())?;
+    let mut tries = 0u128;
+    for answer in merged {
+        tries += u128::from(answer.value.tries);
+        hits.push(answer.value.hits)?;
+    }
+    Ok(BatchOut {
+        hits: Items::from_vec(hits),
+        tries,
+    })
+}
+
+/// The answers of all lanes to a batch.
+fn answer_batch<P: Pattern, G: Gate, R: Threads + Sync>(
+    rt: &R,
+    alloc: Global,
+    workers: &mut [Worker],
+    jobs: &[Job],
+    detector: &Detector<'_, P>,
+    gate: &G,
+) -> Result<BatchOut, NoMemory>
+    requires some { 0 < length workers.old }
+    requires few { length workers.old ≤ 64 }
+    requires ascend { AscendsBy (λ (job : Job). job.number) jobs.now }
+    requires sound { AreSoundAmong (length detector.now.stream.now.engines) workers.old jobs.now }
+    requires config { IsStreamConfig detector.now.stream.now }
+    requires groups { StandFor detector.now.groups.now detector.now.set.now.rules }
+    requires triable { All IsTriable detector.now.set.now.rules }
+    ensures { IfOk result (λ out. HaveAnswered P.finds detector.now.stream.now detector.now.set.now
+        (lanes_of workers.old) jobs.now out (lanes_of workers.new)) }
+{
+    run_all(rt, alloc, workers, jobs, detector, gate);
+    let parts = taken_parts(alloc, workers)?;
+    let merged = merge(alloc, parts)?;
+    batch_out(alloc, merged)
+}
+
+/// Lanes, each with flows of its own: flow f is in lane f modulo their number. Contracts see each lane,
+/// the greatest number of a job so far, and whether memory was lacking (`LanesState` of specs/Standing).
+#[derive(Drop)]
+pub struct Lanes {
+    workers: Vec<Worker>,
+    greatest: Option<u64>,
+    failed: bool,
+}
+
+impl Model for Lanes {
+    ghost use Rattle.std.specs.Prelude.{◌<◌, ◌≤◌, length};
+    ghost use Rattle.std.specs.Coded.{coded_ℕ, codes};
+    ghost use Rattle.std.specs.FinSet.{code};
+    ghost use Rattle.std.specs.Ordering.{nat_cmp};
+    ghost use Rattle.flow_lanes.specs.Standing.{LanesState};
+    ghost use Rattle.flow_lanes.specs.Batching.{lanes_of};
+
+    ghost Value = { LanesState };
+
+    ghost coded = { Prim.hlevel (codes, code {R = nat_cmp} coded_ℕ) };
+
+    ghost view = { λ lanes. record {
+      lanes = lanes_of lanes.workers.items;
+      greatest = lanes.greatest;
+      failed = lanes.failed;
+    } };
+
+    ghost invariant = { λ lanes. (0 < length lanes.workers.items) × (length lanes.workers.items ≤ 64) };
+}
+
+impl Lanes {
+    /// So many lanes, 1 to 64, that stand for no job. `flush` is how many places are acknowledged at least
+    /// before they are flushed, 1 to 65536; with `inserts`, a packet whose data were queued is an item
+    /// itself as well.
+    pub fn new(alloc: Global, count: u32, flush: u32, inserts: bool) -> Result<Lanes, NoMemory>
+        requires some { 1 ≤ count }
+        requires few { count ≤ 64 }
+        requires least { 1 ≤ flush }
+        requires most { flush ≤ 65536 }
+        ensures { IfOk result (AreNew count flush inserts) }
+    {
+        Ok(Lanes {
+            workers: new_workers(alloc, count, flush, inserts)?,
+            greatest: None,
+            failed: false,
+        })
+    }
+
+    /// The answers to a batch of jobs: an entry for each job, in the order of the jobs, and how many
+    /// candidates their items had (specs/Standing). The numbers of the jobs ascend, and are above those of
+    /// all earlier jobs; each job is sound behind the earlier jobs of its flow; `groups` are those of the
+    /// set's rules.
+    ///
+    /// The answers are those of one list of jobs, taken one by one, for any number of lanes and any cut of
+    /// the list into batches. The lanes run in threads of their own, unless there is one lane or little to
+    /// do; each passes the gate at the start of its work.
+    ///
+    /// # Errors
+    ///
+    /// `NoMemory` where memory is lacking. From then on, and only then, the answer is `Failed`.
+    pub fn batch<P: Pattern, G: Gate, R: Threads + Sync>(
+        &mut self,
+        rt: &R,
+        alloc: Global,
+        jobs: &[Job],
+        stream: &StreamConfig,
+        set: &RuleSet<P>,
+        groups: &Groups,
+        gate: &G,
+    ) -> Result<BatchOut, BatchFault>
+        requires sound { AreSoundFor (length stream.now.engines) self.old jobs.now }
+        requires next { AreNext self.old jobs.now }
+        requires config { IsStreamConfig stream.now }
+        requires groups { StandFor groups.now set.now.rules }
+        requires triable { All IsTriable set.now.rules }
+
+        // Each entry is the definition's, and the lanes have learnt of each job.
+        ensures answers { IfOk result (λ out. AnswersBatch P.finds stream.now set.now self.old jobs.now out self.new) }
+        ensures learns { OnOk result (LearnsBatch self.old jobs.now self.new) }
+
+        // Want of memory is kept in mind, and is all that is.
+        ensures failed { (result ≡ Err BatchFault.Failed) ↔ HasFailed self.old }
+        ensures fails { OnErr result (HasFailed self.new) }
+        ensures works { OnOk result (self.new.failed ≡ false) }
+    {
+        if self.failed {
+            return Err(BatchFault::Failed);
+        }
+        let detector = Detector {
+            stream,
+            set,
+            groups,
+        };
+        match answer_batch(rt, alloc, &mut self.workers, jobs, &detector, gate) {
+            Ok(out) => {
+                self.greatest = greatest_number(self.greatest, jobs);
+                Ok(out)
+            }
+            Err(_) => {
+                self.failed = true;
+                Err(BatchFault::NoMemory)
+            }
+        }
+    }
+}

@@ -1,0 +1,111 @@
+//! A lane: some flows, job by job.
+
+ghost use Rattle.std.specs.Prelude.{◌≡◌, ◌≤◌, All, IfOk, OnOk, length};
+ghost use Rattle.conf_parser.specs.Sound.{IsStreamConfig};
+ghost use Rattle.fast_pattern.specs.Grouping.{StandFor};
+ghost use Rattle.rule_parser.specs.Sound.{IsTriable};
+ghost use Rattle.flow_lanes.specs.Sound.{IsSoundFor};
+ghost use Rattle.flow_lanes.specs.Standing.{AnswersJob, CountsTries, LearnsJob, known_of, new_lane};
+
+use crate::answer::{JobHits, JobOut};
+use crate::job::Job;
+use crate::keeping::Flows;
+use crate::settings::Settings;
+use crate::tally::Tally;
+use crate::working::do_work;
+use conf_parser::StreamConfig;
+use edge_io::{Items, NoMemory, Pattern};
+use fast_pattern::Groups;
+use option_eval::RuleSet;
+use std::alloc::Global;
+use std::collections::HashMap;
+use std::marker::Model;
+
+/// The flows that one thread at a time goes on with. Contracts see the settings and the flows that have
+/// not ended, by their numbers (`LaneState` of specs/Standing).
+#[derive(Drop)]
+pub struct Lane {
+    flush: u32,
+    inserts: bool,
+    flows: Flows,
+}
+
+impl Model for Lane {
+    ghost use Rattle.std.specs.Prelude.{◌≤◌};
+    ghost use Rattle.flow_lanes.specs.Standing.{LaneState};
+    ghost use Rattle.flowbit_state.specs.contracts.bits.Bits as bits;
+    ghost use Rattle.std.specs.Coded.{codes};
+
+    ghost Value = { LaneState };
+
+    ghost coded = { Prim.hlevel (codes, bits.the_row.coded) };
+
+    ghost view = { λ lane. record { flush = lane.flush; inserts = lane.inserts; flows = lane.flows.entries } };
+
+    ghost invariant = { λ lane. 1 ≤ lane.flush };
+}
+
+/// The answer to a job.
+fn answered(job: &Job, tally: Tally) -> JobOut
+    ensures number { result.hits.number ≡ job.now.number }
+    ensures items { result.hits.items ≡ tally.hits.items }
+    ensures tries { result.tries ≡ tally.tries }
+{
+    let Tally { hits, tries } = tally;
+    JobOut {
+        hits: JobHits {
+            number: job.number,
+            items: Items::from_vec(hits),
+        },
+        tries,
+    }
+}
+
+impl Lane {
+    /// A lane without a flow. `flush` is how many places are acknowledged at least before they are
+    /// flushed, 1 to 65536; with `inserts`, a packet whose data were queued is an item itself as well.
+    /// Takes no memory.
+    pub fn new(alloc: Global, flush: u32, inserts: bool) -> Lane
+        requires least { 1 ≤ flush }
+        requires most { flush ≤ 65536 }
+        ensures { result ≡ new_lane flush inserts }
+    {
+        Lane {
+            flush,
+            inserts,
+            flows: HashMap::new(alloc),
+        }
+    }
+
+    /// The items of one job in order, each with all rules of the set that match it (specs/Flows), and how
+    /// many candidates they had. The job must be sound behind what the lane knows of its flow, and
+    /// `groups` be those of the set's rules. The answer goes by the earlier jobs of the job's flow and by
+    /// nothing else; afterwards the lane stands for those and this job.
+    ///
+    /// Where memory is lacking, nothing is said of the lane afterwards.
+    pub fn job<P: Pattern>(
+        &mut self,
+        alloc: Global,
+        job: &Job,
+        stream: &StreamConfig,
+        set: &RuleSet<P>,
+        groups: &Groups,
+    ) -> Result<JobOut, NoMemory>
+        requires sound { IsSoundFor (length stream.now.engines) (known_of self.old job.now) job.now }
+        requires config { IsStreamConfig stream.now }
+        requires groups { StandFor groups.now set.now.rules }
+        requires triable { All IsTriable set.now.rules }
+        ensures answers { IfOk result (λ out. AnswersJob P.finds stream.now set.now self.old job.now out.hits self.new) }
+        ensures learns { OnOk result (LearnsJob self.old job.now self.new) }
+        ensures tries { IfOk result (λ out. CountsTries P.finds stream.now set.now self.old job.now out.tries) }
+    {
+        let settings = Settings {
+            flush: self.flush,
+            inserts: self.inserts,
+            stream,
+        };
+        let flows = &mut self.flows;
+        let tally = do_work(alloc, &settings, set, groups, job.moment, &job.work, flows)?;
+        Ok(answered(job, tally))
+    }
+}

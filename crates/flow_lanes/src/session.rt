@@ -1,0 +1,214 @@
+//! A session between two packets, and what a packet does to it (specs/Sessions).
+
+ghost use Rattle.std.specs.Prelude.{◌≡◌, ◌^◌, ◌≤◌, length, not, Some, IfOk, OnOk};
+ghost use Rattle.flow_lanes.specs.Given.{making_of, packet_of};
+ghost use Rattle.flow_lanes.specs.Items.{is_queued};
+ghost use Rattle.flow_lanes.specs.Reach.{AreWithin, GrowsOne, HasLimits, KeepsWithin};
+ghost use Rattle.flow_lanes.specs.Sessions.{after_ack, after_data, begun_session, client_at_begin, client_end, is_from_client, server_at_begin, server_end, settled, sizes_of, with_bases};
+ghost use Rattle.flow_lanes.specs.Sides.{acked_payloads, held_payloads, left_payloads, queues, side_after_ack, side_after_data};
+ghost use Rattle.flow_lanes.specs.Working.{acked_stretch, side_of, stretch_of, stretches_of, with_side};
+
+use crate::arrival::Arrival;
+use crate::cutting::Stretch;
+use crate::settings::Settings;
+use crate::side::Side;
+use edge_io::NoMemory;
+use std::alloc::Global;
+use stream5_sessions::{End, Session as Phases, Step};
+
+/// A session that stands: its phase, the end to which its first packet went, and its sides.
+#[derive(Drop)]
+pub(crate) struct Session {
+    pub state: Phases,
+    pub opened_to: End,
+    pub client: Side,
+    pub server: Side,
+}
+
+/// Payloads of both sides.
+#[derive(Drop)]
+pub(crate) struct Stretches {
+    pub client: Stretch,
+    pub server: Stretch,
+}
+
+/// The client sent the packet. Where no client is known, neither data nor acknowledgements count.
+pub(crate) fn is_from_client(step: &Step) -> bool
+    ensures { result ≡ is_from_client step.now }
+{
+    step.from_client.unwrap_or(true)
+}
+
+/// The client's end of a session that the packet begins.
+fn client_end(p: &Arrival, step: &Step) -> End
+    ensures { result ≡ client_end (packet_of p.now) step.now }
+{
+    if is_from_client(step) {
+        p.sender()
+    } else {
+        p.receiver()
+    }
+}
+
+/// The server's end of a session that the packet begins.
+fn server_end(p: &Arrival, step: &Step) -> End
+    ensures { result ≡ server_end (packet_of p.now) step.now }
+{
+    if is_from_client(step) {
+        p.receiver()
+    } else {
+        p.sender()
+    }
+}
+
+/// The client's side at the begin.
+fn client_side(alloc: Global, settings: &Settings, p: &Arrival, client: End, server: End) -> Side
+    requires { HasLimits (making_of settings.now) }
+    ensures { result ≡ client_at_begin (making_of settings.now) (packet_of p.now) client server }
+{
+    let to = p.toward(server);
+    let on = settings.has_client_port(to.engine, server.port);
+    let limits = settings.limits_to(to.engine);
+    Side::at_begin(alloc, client, server, limits, to.preference, on)
+}
+
+/// The server's side at the begin.
+fn server_side(alloc: Global, settings: &Settings, p: &Arrival, client: End, server: End) -> Side
+    requires { HasLimits (making_of settings.now) }
+    ensures { result ≡ server_at_begin (making_of settings.now) (packet_of p.now) client server }
+{
+    let to = p.toward(client);
+    let on = settings.has_server_port(to.engine, server.port);
+    let limits = settings.limits_to(to.engine);
+    Side::at_begin(alloc, server, client, limits, to.preference, on)
+}
+
+impl Session {
+    /// A session that the packet begins. Takes no memory.
+    #[tactic(auto, unfolding(crate::specs::Sessions::begun_session))]
+    pub fn begin(
+        alloc: Global,
+        settings: &Settings,
+        p: &Arrival,
+        step: &Step,
+        state: Phases,
+    ) -> Session
+        requires { HasLimits (making_of settings.now) }
+        ensures state { result ≡ begun_session (making_of settings.now) (packet_of p.now) step.now state }
+        ensures within { AreWithin result 0 0 }
+    {
+        let client = client_end(p, step);
+        let server = server_end(p, step);
+        Session {
+            state,
+            opened_to: p.receiver(),
+            client: client_side(alloc, settings, p, client, server),
+            server: server_side(alloc, settings, p, client, server),
+        }
+    }
+
+    /// The packet sets bases.
+    pub fn set_bases(&mut self, step: &Step)
+        ensures state { self.new ≡ with_bases step.now self.old }
+        ensures within { KeepsWithin self.old self.new }
+    {
+        self.client.set_base(step.client_base);
+        self.server.set_base(step.server_base);
+    }
+
+    /// How far the data of the client and of the server reach.
+    pub fn sizes(&self) -> (u64, u64)
+        ensures { result ≡ sizes_of self.now }
+    {
+        (self.client.extent.size(), self.server.extent.size())
+    }
+
+    /// Takes what is left of stretches that have ended.
+    pub fn take_left(&mut self, alloc: Global) -> Result<Stretches, NoMemory>
+        requires { AreWithin self.old (2 ^ 63) (2 ^ 63) }
+        ensures stretches { IfOk result (λ both. both ≡ stretches_of left_payloads self.old) }
+        ensures state { OnOk result (self.new ≡ settled self.old) }
+        ensures within { OnOk result (KeepsWithin self.old self.new) }
+    {
+        let client = self.client.take_left(alloc)?;
+        let server = self.server.take_left(alloc)?;
+        Ok(Stretches { client, server })
+    }
+
+    /// Takes all that is held; what stands of the session then is not said.
+    pub fn take_held(&mut self, alloc: Global) -> Result<Stretches, NoMemory>
+        requires { AreWithin self.old (2 ^ 63) (2 ^ 63) }
+        ensures { IfOk result (λ both. both ≡ stretches_of held_payloads self.old) }
+    {
+        let client = self.client.take_held(alloc)?;
+        let server = self.server.take_held(alloc)?;
+        Ok(Stretches { client, server })
+    }
+
+    /// One side takes an acknowledgement of its data: the client's, or the server's.
+    fn ack_side(&mut self, alloc: Global, of_client: bool, ack: u32) -> Result<Stretch, NoMemory>
+        requires { AreWithin self.old (2 ^ 63) (2 ^ 63) }
+        ensures stretch { IfOk result (λ acked. acked ≡ stretch_of (side_of of_client self.old) (acked_payloads (side_of of_client self.old) ack)) }
+        ensures state { OnOk result (self.new ≡ with_side of_client (side_after_ack (side_of of_client self.old) ack) self.old) }
+        ensures grows { OnOk result (GrowsOne of_client self.old self.new) }
+    {
+        if of_client {
+            self.client.take_ack(alloc, ack)
+        } else {
+            self.server.take_ack(alloc, ack)
+        }
+    }
+
+    /// Takes the packet's acknowledgement, where that counts: the stretch of the other side that this
+    /// flushes.
+    #[tactic(auto, unfolding(crate::specs::Sessions::after_ack))]
+    pub fn take_ack(
+        &mut self,
+        alloc: Global,
+        p: &Arrival,
+        step: &Step,
+    ) -> Result<Option<Stretch>, NoMemory>
+        requires { AreWithin self.old (2 ^ 63) (2 ^ 63) }
+        ensures stretch { IfOk result (λ acked. acked ≡ acked_stretch (packet_of p.now) step.now self.old) }
+        ensures state { OnOk result (self.new ≡ after_ack (packet_of p.now) step.now self.old) }
+        ensures grows { OnOk result (GrowsOne (not (is_from_client step.now)) self.old self.new) }
+    {
+        if !step.counts_ack {
+            return Ok(None);
+        }
+        let of_client = !is_from_client(step);
+        let acked = self.ack_side(alloc, of_client, p.ack())?;
+        Ok(Some(acked))
+    }
+
+    /// One side takes data: the client's, or the server's. True exactly where they are held.
+    fn data_side(&mut self, of_client: bool, seq: u32, bytes: &[u8]) -> Result<bool, NoMemory>
+        requires within { AreWithin self.old (2 ^ 63) (2 ^ 63) }
+        requires size { length bytes.now ≤ 65535 }
+        ensures held { IfOk result (λ queued. queued ≡ queues (side_of of_client self.old) seq bytes.now) }
+        ensures state { OnOk result (self.new ≡ with_side of_client (side_after_data (side_of of_client self.old) seq bytes.now) self.old) }
+        ensures grows { OnOk result (GrowsOne of_client self.old self.new) }
+    {
+        if of_client {
+            self.client.take_data(seq, bytes)
+        } else {
+            self.server.take_data(seq, bytes)
+        }
+    }
+
+    /// Takes the packet's data, where those count. True exactly where they are held.
+    #[tactic(auto, unfolding(crate::specs::Sessions::after_data))]
+    pub fn take_data(&mut self, p: &Arrival, step: &Step) -> Result<bool, NoMemory>
+        requires within { AreWithin self.old (2 ^ 63) (2 ^ 63) }
+        requires size { length p.now.payload.now ≤ 65535 }
+        ensures held { IfOk result (λ queued. queued ≡ is_queued (packet_of p.now) step.now (Some self.old)) }
+        ensures state { OnOk result (self.new ≡ after_data (packet_of p.now) step.now self.old) }
+        ensures grows { OnOk result (GrowsOne (is_from_client step.now) self.old self.new) }
+    {
+        if !step.takes_data {
+            return Ok(false);
+        }
+        let queued = self.data_side(is_from_client(step), p.seq(), p.payload)?;
+        Ok(queued)
+    }
+}

@@ -1,0 +1,181 @@
+//! A lane at work on a batch: the jobs of its own flows, in their order.
+
+ghost use Rattle.std.specs.Prelude.{◌≡◌, ℕ, ◌<◌, ◌≤◌, ◌^◌, ◌++◌, List, true, All, IfOk, OnOk, Ok, length};
+ghost use Rattle.conf_parser.specs.Sound.{IsStreamConfig};
+ghost use Rattle.fast_pattern.specs.Grouping.{StandFor};
+ghost use Rattle.rule_parser.specs.Sound.{IsTriable};
+ghost use Rattle.flow_lanes.specs.declared.job.Job.{Job};
+ghost use Rattle.flow_lanes.specs.Flows.{flow_of};
+ghost use Rattle.flow_lanes.specs.Sound.{IsSoundFor};
+ghost use Rattle.flow_lanes.specs.Standing.{LaneState, is_in_lane, known_of, lane_of, new_lane};
+ghost use Rattle.flow_lanes.specs.Batching.{AddsOut, AddsOwn, AreSoundIn, GoesOn, own_jobs};
+
+use crate::answer::JobOut;
+use crate::job::{Job, Work};
+use crate::lane::Lane;
+use conf_parser::StreamConfig;
+use edge_io::{Gate, NoMemory, Pattern};
+use fast_pattern::Groups;
+use option_eval::RuleSet;
+use ordered_merge::Numbered;
+use std::alloc::Global;
+use std::mem;
+
+/// By what the jobs of a batch are answered, the same for all lanes.
+#[derive(Drop)]
+pub(crate) struct Detector<'a, P> {
+    pub stream: &'a StreamConfig,
+    pub set: &'a RuleSet<P>,
+    pub groups: &'a Groups,
+}
+
+/// A lane among so many, by its place.
+#[derive(Clone, Copy)]
+pub(crate) struct Share {
+    pub count: usize,
+    pub place: usize,
+}
+
+/// The flow of a job, if it is of one.
+fn flow_of(job: &Job) -> Option<u64>
+    ensures { result ≡ flow_of job.now }
+{
+    match &job.work {
+        Work::Alone { .. } => None,
+        Work::Packet { flow, .. } => Some(*flow),
+        Work::Finish { flow } => Some(*flow),
+    }
+}
+
+/// The lane of a job among so many: a job of no flow is in the first.
+fn lane_of(count: usize, flow: Option<u64>) -> usize
+    requires { 0 < count }
+    ensures { result ≡ lane_of count flow }
+{
+    match flow {
+        None => 0,
+        Some(flow) => (flow % count as u64) as usize,
+    }
+}
+
+/// Answers a job of the lane.
+fn answer<P: Pattern>(
+    alloc: Global,
+    lane: &mut Lane,
+    job: &Job,
+    detector: &Detector<'_, P>,
+    outs: &mut Vec<Numbered<JobOut>>,
+) -> Result<(), NoMemory>
+    requires sound { IsSoundFor (length detector.now.stream.now.engines) (known_of lane.old job.now) job.now }
+    requires config { IsStreamConfig detector.now.stream.now }
+    requires groups { StandFor detector.now.groups.now detector.now.set.now.rules }
+    requires triable { All IsTriable detector.now.set.now.rules }
+    ensures { OnOk result (AddsOut P.finds detector.now.stream.now detector.now.set.now job.now
+        lane.old outs.old.items lane.new outs.new.items) }
+{
+    let value = lane.job(alloc, job, detector.stream, detector.set, detector.groups)?;
+    outs.push(Numbered {
+        number: job.number,
+        value,
+    })?;
+    Ok(())
+}
+
+/// Answers a job where it is of the lane.
+fn answer_own<P: Pattern>(
+    alloc: Global,
+    lane: &mut Lane,
+    share: Share,
+    job: &Job,
+    detector: &Detector<'_, P>,
+    outs: &mut Vec<Numbered<JobOut>>,
+) -> Result<(), NoMemory>
+    requires some { 0 < share.count }
+    requires sound { is_in_lane share.count share.place job.now ≡ true
+        → IsSoundFor (length detector.now.stream.now.engines) (known_of lane.old job.now) job.now }
+    requires config { IsStreamConfig detector.now.stream.now }
+    requires groups { StandFor detector.now.groups.now detector.now.set.now.rules }
+    requires triable { All IsTriable detector.now.set.now.rules }
+    ensures { OnOk result (AddsOwn P.finds detector.now.stream.now detector.now.set.now share.count share.place job.now
+        lane.old outs.old.items lane.new outs.new.items) }
+{
+    if lane_of(share.count, flow_of(job)) == share.place {
+        answer(alloc, lane, job, detector, outs)?;
+    }
+    Ok(())
+}
+
+/// The answers to the lane's own jobs of a batch.
+fn own_outs<P: Pattern>(
+    alloc: Global,
+    lane: &mut Lane,
+    share: Share,
+    jobs: &[Job],
+    detector: &Detector<'_, P>,
+) -> Result<Vec<Numbered<JobOut>>, NoMemory>
+    requires some { 0 < share.count }
+    requires sound { AreSoundIn (length detector.now.stream.now.engines) share.count share.place lane.old jobs.now }
+    requires config { IsStreamConfig detector.now.stream.now }
+    requires groups { StandFor detector.now.groups.now detector.now.set.now.rules }
+    requires triable { All IsTriable detector.now.set.now.rules }
+    ensures { IfOk result (λ outs. GoesOn P.finds detector.now.stream.now detector.now.set.now
+        lane.old (own_jobs share.count share.place jobs.now) outs.items lane.new) }
+{
+    let mut outs = Vec::new(alloc);
+    for job in jobs {
+        answer_own(alloc, lane, share, job, detector, &mut outs)?;
+    }
+    Ok(outs)
+}
+
+/// A lane, and its answers of the batch at hand, where there was memory for them.
+#[derive(Drop)]
+pub(crate) struct Worker {
+    pub lane: Lane,
+    pub outs: Result<Vec<Numbered<JobOut>>, NoMemory>,
+}
+
+impl Worker {
+    /// A lane that stands for no job.
+    pub fn new(alloc: Global, flush: u32, inserts: bool) -> Worker
+        requires least { 1 ≤ flush }
+        requires most { flush ≤ 65536 }
+        ensures { result.lane ≡ new_lane flush inserts }
+    {
+        Worker {
+            lane: Lane::new(alloc, flush, inserts),
+            outs: Ok(Vec::new(alloc)),
+        }
+    }
+
+    /// Does the lane's own jobs of a batch.
+    pub fn run<P: Pattern, G: Gate>(
+        &mut self,
+        alloc: Global,
+        share: Share,
+        jobs: &[Job],
+        detector: &Detector<'_, P>,
+        gate: &G,
+    )
+        requires some { 0 < share.count }
+        requires place { share.place < 2 ^ 32 }
+        requires sound { AreSoundIn (length detector.now.stream.now.engines) share.count share.place
+            self.old.lane jobs.now }
+        requires config { IsStreamConfig detector.now.stream.now }
+        requires groups { StandFor detector.now.groups.now detector.now.set.now.rules }
+        requires triable { All IsTriable detector.now.set.now.rules }
+        ensures { IfOk self.new.outs (λ outs. GoesOn P.finds detector.now.stream.now detector.now.set.now
+            self.old.lane (own_jobs share.count share.place jobs.now) outs.items self.new.lane) }
+    {
+        gate.pass(share.place as u32);
+        self.outs = own_outs(alloc, &mut self.lane, share, jobs, detector);
+    }
+
+    /// Gives the answers away.
+    pub fn take_outs(&mut self, alloc: Global) -> Result<Vec<Numbered<JobOut>>, NoMemory>
+        ensures taken { result ≡ self.old.outs }
+        ensures lane { self.new.lane ≡ self.old.lane }
+    {
+        mem::replace(&mut self.outs, Ok(Vec::new(alloc)))
+    }
+}
