@@ -9,7 +9,8 @@ use Rattle.std.proofs.lemmas.List.FromFn.{get_or-range_with_len, length-range_wi
 use Rattle.std.proofs.lemmas.List.Sums.{fold-append}
 use Rattle.flow_lanes.specs.declared.job.Job.{Job}
 use Rattle.flow_lanes.specs.Flows.{flow_of, same_flow}
-use Rattle.flow_lanes.specs.Sound.{FlowFacts, IsSoundFor, facts_after, facts_behind}
+use Rattle.flow_lanes.specs.declared.facts.FlowFacts.{FlowFacts}
+use Rattle.flow_lanes.specs.Sound.{IsSoundFor, facts_after, facts_behind}
 use Rattle.flow_lanes.specs.Standing.{AreNew, LaneState, LanesState, LearnsBatch, facts_kept, kept_of, known_in, known_of, lane_of, new_lane}
 use Rattle.record_jobs.specs.Ready.{AreNumbered, AreReady, AreSound, HaveLearnt}
 use Rattle.record_jobs.proofs.Running.{head_is, range_with_len-append, tail_is}

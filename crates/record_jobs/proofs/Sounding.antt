@@ -1,10 +1,9 @@
 -- Jobs of a capture are sound behind the earlier jobs of their flows.
-use Rattle.std.proofs.Common.{◌≡◌, ℕ, ◌+◌, ◌^◌, ◌<◌, ◌≤◌, Bool, true, false, cond, eqb, List, [], ◌∷◌, ◌++◌, length, Option, Some, None, refl, sym, ap, ◌∙◌, subst, IfSome, append_assoc, arith, inl, inr, ◌⊎◌, ◌&&◌, ltb}
+use Rattle.std.proofs.Common.{◌≡◌, ℕ, ◌+◌, ◌^◌, ◌<◌, ◌≤◌, Bool, true, false, cond, eqb, List, [], ◌∷◌, ◌++◌, length, Option, Some, None, refl, sym, ap, ◌∙◌, subst, IfSome, append_assoc, arith, inl, inr, ◌⊎◌, ◌&&◌}
 use Rattle.std.specs.Bool.{⊤}
 use Rattle.std.specs.Prelude.{filter}
-use Rattle.std.specs.List.{position_or_len}
-use Rattle.std.specs.Option.{is_none, option_map_or, option_or, option_to_list, unwrap_or}
-use Rattle.std.proofs.lemmas.Bool.{eq-eqb, eqb-true, false≢true, ltb-true}
+use Rattle.std.specs.Option.{option_map_or, option_to_list}
+use Rattle.std.proofs.lemmas.Bool.{eq-eqb, eqb-true, false≢true}
 use Rattle.std.proofs.lemmas.List.{append-nil}
 use Rattle.std.proofs.lemmas.List.Elements.{filter-append}
 use Rattle.std.proofs.lemmas.List.Sums.{fold_push}
@@ -14,7 +13,6 @@ use Rattle.edge_io.specs.declared.moment.Moment.{Moment}
 use Rattle.packet_decode.specs.declared.packet.Body.{Body}
 use Rattle.packet_decode.specs.declared.packet.Body.TheVariants as body
 use Rattle.packet_decode.specs.declared.packet.IpHead.{IpHead}
-use Rattle.conf_parser.specs.declared.config.StreamEngine.{StreamEngine}
 use Rattle.stream5_sessions.specs.declared.key.End.{End}
 use Rattle.stream5_sessions.specs.declared.key.Key.{Key}
 use Rattle.stream5_sessions.specs.Keys.{is_end_before, key_of, same_addr, same_end}
@@ -24,13 +22,16 @@ use Rattle.flow_lanes.specs.declared.job.Job.{Job}
 use Rattle.flow_lanes.specs.declared.job.Work.TheVariants as work
 use Rattle.flow_lanes.specs.Flows.{same_flow}
 use Rattle.flow_lanes.specs.Sessions.{Packet, is_tcp, receiver, sender, toward}
-use Rattle.flow_lanes.specs.Sound.{EndWay, FlowEnds, FlowFacts, HasSessions, IsSoundFor, IsSoundPacket, ends_of, facts_after, facts_behind, key_of_packet, way_of}
+use Rattle.flow_lanes.specs.declared.facts.EndWay.{EndWay}
+use Rattle.flow_lanes.specs.declared.facts.FlowEnds.{FlowEnds}
+use Rattle.flow_lanes.specs.declared.facts.FlowFacts.{FlowFacts}
+use Rattle.flow_lanes.specs.Sound.{HasSessions, IsSoundFor, IsSoundPacket, ends_of, facts_after, facts_behind, key_of_packet, way_of}
 use Rattle.flow_lanes.specs.Standing.{is_of_flow}
 use Rattle.record_jobs.specs.declared.item.Item.{Item}
 use Rattle.record_jobs.specs.declared.time.Time.{Time}
 use Rattle.record_jobs.specs.Jobs.{alone, flow_packet, numbered}
 use Rattle.record_jobs.specs.Touches.{item_key, key_between, most_flows, tracked_key}
-use Rattle.record_jobs.specs.Way.{Way, is_bound, stream_place, stream_preference_at, toward_address}
+use Rattle.record_jobs.specs.Way.{Way, stream_place, stream_preference_at, toward_address}
 use Rattle.record_jobs.proofs.Bound.{stream_place-within}
 use Rattle.record_jobs.proofs.Knowing.{HadFlow, had_apart, number_at}
 

@@ -15,8 +15,6 @@ mod engines;
 mod front;
 mod item;
 mod laws;
-#[cfg(test)]
-mod tests;
 mod time;
 mod touches;
 
