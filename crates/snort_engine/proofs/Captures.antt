@@ -26,19 +26,23 @@ use Rattle.snort_engine.specs.declared.status.Status.TheVariants as status
 use Rattle.snort_engine.specs.declared.stop.Stop.{Stop}
 use Rattle.snort_engine.specs.declared.stop.Stop.TheVariants as stop
 use Rattle.snort_engine.specs.Course.{Plan, Goes, Course}
-use Rattle.snort_engine.specs.Records.{LinkedRecord, Recording, linked, recording_of, recording_in, records_of}
-use Rattle.snort_engine.specs.Trace.{CaptureState, Open, Closed}
+use Rattle.record_jobs.specs.Way.{LinkedRecord, linked}
+use Rattle.snort_engine.specs.Records.{Recording, recording_of, recording_in, records_of}
+use Rattle.snort_engine.specs.declared.counts.Counts.{Counts}
+use Rattle.snort_engine.specs.Trace.{Open, Closed}
+use Rattle.snort_engine.specs.Counts.{counts_of, no_counts, told_counts, with_counts}
 use Rattle.snort_engine.specs.Lines.{lines}
-use Rattle.snort_engine.specs.Answer.{Answer, answer_of, way_answer, capture_answer, recording_answer, fault_text, fault_status, ending_text, ending_status}
+use Rattle.snort_engine.specs.Answer.{Answer, answer_of, way_answer, capture_answer, recording_answer, fault_text, fault_status, ending_text, ending_status, recording_text}
 use Rattle.snort_engine.specs.Messages.{cannot_read_text, cannot_write_text, no_memory_text}
 use Rattle.snort_engine.specs.Outside.{Work, WritesPart}
 use Rattle.snort_engine.specs.ReadAhead.{batch, all_but, lines_due, IsShut, IsReadAhead, ReadsAhead}
 use Rattle.snort_engine.specs.Ending.{IsAnswered, IsTakenOf, lines_within, IsCutShort, Ends}
 use Rattle.snort_engine.specs.Stop.{capture_stop, stop_status, stop_text, outcome_status, outcome_text}
-use Rattle.snort_engine.specs.Watching.{Streams, cut_by, lines_of, lines_left, IsWatched, IsCutOff, IsCloseBehind, WatchesTo, WritesSome, Watches}
+use Rattle.snort_engine.specs.Reporting.{counts_due}
+use Rattle.snort_engine.specs.Watching.{Streams, cut_by, counts_left, lines_of, lines_left, IsWatched, IsCutOff, IsCloseBehind, WatchesTo, WritesSome, Watches}
 use Rattle.snort_engine.proofs.Prefixes.{IsPrefix-nil, WritesPart-none}
 use Rattle.snort_engine.proofs.Limits.{within_limit, room_first}
-use Rattle.snort_engine.proofs.LinesLaws.{lines_join, lines-nil}
+use Rattle.snort_engine.proofs.LinesLaws.{lines_join, lines-nil, lines-none, no_counts-are}
 use Rattle.snort_engine.proofs.Finishing.{IsPlain, ends_met, ends_unread, ends_unwritten, ends_lacking, ahead_goes, ahead_cut}
 
 -- ---- what a plan reads of bytes
@@ -66,11 +70,11 @@ no_records plan bytes few = none_by plan bytes (head_of bytes) refl (drop_of_len
 
 none_within : (plan : Plan) (bytes : List ℕ) → length bytes ≤ 24 → lines_within plan bytes ≡ []
 unfolding lines_within
-none_within plan bytes few = ap (λ (x : List LinkedRecord). lines plan [] x Open) (no_records plan bytes few) ∙ lines-nil plan [] Open
+none_within plan bytes few = ap (λ (x : List LinkedRecord). lines plan [] x Open) (no_records plan bytes few) ∙ lines-nil plan []
 
 none_due : (plan : Plan) (bytes : List ℕ) → length bytes ≤ 24 → lines_due plan bytes ≡ []
 unfolding lines_due
-none_due plan bytes few = ap (λ (x : List LinkedRecord). lines plan [] (all_but batch x) Open) (no_records plan bytes few) ∙ lines-nil plan [] Open
+none_due plan bytes few = ap (λ (x : List LinkedRecord). lines plan [] (all_but batch x) Open) (no_records plan bytes few) ∙ lines-nil plan []
 
 -- ---- the head
 
@@ -124,6 +128,10 @@ joined_behind_head : (bytes taken rest : List ℕ) → drop 24 bytes ≡ taken +
 joined_behind_head bytes taken rest joined = append_assoc (take 24 bytes) taken rest ∙ ap (λ (x : List ℕ). take 24 bytes ++ x) (sym joined) ∙ take-append-drop 24 bytes
 
 -- ---- the answer
+
+-- what is said of an outcome, with what was counted
+abbrev pub said : {A : Type 0} → Plan → Result A Stop → Counts → List ℕ
+said plan outcome counts = with_counts (outcome_text plan.source outcome) (counts_due plan.counted outcome counts)
 
 -- all warnings of a course
 abbrev pub warned : Course → List ℕ
@@ -236,15 +244,16 @@ open_ahead plan files course before after goes same answer takes =
     takes
 
 -- a head that is refused
-refused_ends : (plan : Plan) (files : Files) (course : Course) (why : CaptureFault) (before after : Work) → course.way ≡ Goes plan → after.alerts ≡ before.alerts
+refused_ends : (plan : Plan) (files : Files) (course : Course) (why : CaptureFault) (before after : Work) (counts : Counts) → course.way ≡ Goes plan → after.alerts ≡ before.alerts → counts ≡ counts_of plan []
     → IsPlain (fault_status why) → TakesHead (Some files) plan.source (Err why) after.left → ((bytes : List ℕ) → get files plan.source ≡ Some bytes → head_of bytes ≡ Err why)
-    → Ends files course before after (fault_status why) (warned course ++ fault_text plan.source why)
-refused_ends plan files course why before after goes same plain takes gives =
+    → Ends files course before after (fault_status why) (warned course ++ with_counts (fault_text plan.source why) (told_counts plan.counted counts))
+refused_ends plan files course why before after counts goes same counted plain takes gives =
     let held = held_opened files plan.source takes.whole takes.opened in
     let is = answer_goes files course plan goes ∙ answer-err plan (warned course) held.0 why (get files plan.source) held.1 (gives held.0 held.1) in
-    ends_met files course before after (fault_status why) (lines plan [] [] Closed) (warned course ++ fault_text plan.source why) plain
-    (same ∙ sym (behind-nil before.alerts) ∙ ap (behind before.alerts) (sym (lines-nil plan [] Closed)))
-    (answered (answer_of files course) _ is)
+    let text : Counts → List ℕ = λ (c : Counts). warned course ++ with_counts (fault_text plan.source why) (told_counts plan.counted c) in
+    ends_met files course before after (fault_status why) (lines plan [] [] Closed) (text counts) plain
+    (same ∙ sym (behind-nil before.alerts) ∙ ap (behind before.alerts) (sym (lines-none plan)))
+    (subst (λ (m : List ℕ). IsAnswered (answer_of files course) (fault_status why) (lines plan [] [] Closed) m) (ap text (sym counted)) (answered (answer_of files course) _ is))
     (ahead_goes files course plan before after (fault_status why) goes (head_ahead plan files (Err why) before after same takes))
 
 -- a refusal of an opening
@@ -256,21 +265,22 @@ lacking_answered : (plan : Plan) (files : Files) (course : Course) → course.wa
 lacking_answered plan files course goes lacks = answered (answer_of files course) _ (answer_goes files course plan goes ∙ answer-lacking plan (warned course) (get files plan.source) lacks)
 
 -- the head was refused or not read
-pub open_ends : (plan : Plan) (files : Files) (course : Course) (why : CaptureFault) (before after : Work) → course.way ≡ Goes plan → after.alerts ≡ before.alerts
+open_ends : (plan : Plan) (files : Files) (course : Course) (why : CaptureFault) (before after : Work) (counts : Counts) → course.way ≡ Goes plan → after.alerts ≡ before.alerts → counts ≡ counts_of plan []
     → ((bytes : List ℕ) → get files plan.source ≡ Some bytes → Opens (Err why) (head_of bytes))
     → TakesOr files plan.source (refusing_open why) after.left
     → IsOfHead why → (refusing_open why ≡ Err fault.Failed → Rose before.host_faults after.host_faults ⊎ (get files plan.source ≡ None))
-    → Ends files course before after (fault_status why) (warned course ++ fault_text plan.source why)
-open_ends plan files course fault.NotPcap before after goes same gives takes kind failed =
-    refused_ends plan files course fault.NotPcap before after goes same tt (head_taken files plan.source (Err fault.NotPcap) after.left (λ e. cc) takes) gives
-open_ends plan files course (fault.LinkType link_type) before after goes same gives takes kind failed =
-    refused_ends plan files course (fault.LinkType link_type) before after goes same tt (head_taken files plan.source (Err (fault.LinkType link_type)) after.left (λ e. cc) takes) gives
-open_ends plan files course (fault.Truncated at) before after goes same gives takes kind failed =
-    refused_ends plan files course (fault.Truncated at) before after goes same tt (head_taken files plan.source (Err (fault.Truncated at)) after.left (λ e. cc) takes) gives
-open_ends plan files course (fault.TooLong at len) before after goes same gives takes kind failed = absurd kind
-open_ends plan files course fault.TooMany before after goes same gives takes kind failed = absurd kind
-open_ends plan files course fault.NoMemory before after goes same gives takes kind failed = absurd kind
-open_ends plan files course fault.Failed before after goes same gives takes kind failed =
+    → Ends files course before after (stop_status (capture_stop why)) (warned course ++ said {A = Unit {0}} plan (Err (capture_stop why)) counts)
+unfolding stop_text
+open_ends plan files course fault.NotPcap before after counts goes same counted gives takes kind failed =
+    refused_ends plan files course fault.NotPcap before after counts goes same counted tt (head_taken files plan.source (Err fault.NotPcap) after.left (λ e. cc) takes) gives
+open_ends plan files course (fault.LinkType link_type) before after counts goes same counted gives takes kind failed =
+    refused_ends plan files course (fault.LinkType link_type) before after counts goes same counted tt (head_taken files plan.source (Err (fault.LinkType link_type)) after.left (λ e. cc) takes) gives
+open_ends plan files course (fault.Truncated at) before after counts goes same counted gives takes kind failed =
+    refused_ends plan files course (fault.Truncated at) before after counts goes same counted tt (head_taken files plan.source (Err (fault.Truncated at)) after.left (λ e. cc) takes) gives
+open_ends plan files course (fault.TooLong at len) before after counts goes same counted gives takes kind failed = absurd kind
+open_ends plan files course fault.TooMany before after counts goes same counted gives takes kind failed = absurd kind
+open_ends plan files course fault.NoMemory before after counts goes same counted gives takes kind failed = absurd kind
+open_ends plan files course fault.Failed before after counts goes same counted gives takes kind failed =
     ends_unread files course before after [] (warned course ++ cannot_read_text plan.source)
     (same ∙ sym (behind-nil before.alerts))
     (IsPrefix-nil (answer_of files course).alerts)
@@ -350,19 +360,22 @@ answer_open : (plan : Plan) (files : Files) (course : Course) (left_first : Opti
 answer_open plan files course left_first bytes head o = answer_goes files course plan o.goes ∙ answer-ok plan (warned course) bytes head (get files plan.source) o.held o.is
 
 -- watched to an ending
-watched_ends : (plan : Plan) (files : Files) (course : Course) (left_first : Option (List ℕ)) (bytes : List ℕ) (head : CaptureHead) (ending : Ending) (before after : Work) → IsOpenCapture plan files course left_first bytes head
+watched_ends : (plan : Plan) (files : Files) (course : Course) (left_first : Option (List ℕ)) (bytes : List ℕ) (head : CaptureHead) (ending : Ending) (before after : Work) (counts : Counts) → IsOpenCapture plan files course left_first bytes head
     → IsPlain (ending_status ending)
-    → WatchesTo plan (new_reader head) ending (record { left = left_first; written = before.alerts }) (record { left = after.left; written = after.alerts })
+    → WatchesTo plan (new_reader head) ending (record { left = left_first; written = before.alerts }) (record { left = after.left; written = after.alerts }) counts
     → ReadsAhead files course before after (ending_status ending)
-    → Ends files course before after (ending_status ending) (warned course ++ ending_text plan.source ending)
+    → Ends files course before after (ending_status ending) (warned course ++ with_counts (ending_text plan.source ending) (told_counts plan.counted counts))
 unfolding lines_of
-watched_ends plan files course left_first bytes head ending before after o plain watches ahead =
+watched_ends plan files course left_first bytes head ending before after counts o plain watches ahead =
     let watched = watches (drop 24 bytes) o.told in
     let link = head.link in
-    let meant : answer_of files course ≡ recording_answer plan (warned course) (record { records = map (linked link) (cut_by plan (new_reader head) (drop 24 bytes)).records; ending = ending }) =
+    let records = map (linked link) (cut_by plan (new_reader head) (drop 24 bytes)).records in
+    let meant : answer_of files course ≡ recording_answer plan (warned course) (record { records = records; ending = ending }) =
     answer_open plan files course left_first bytes head o
-    ∙ ap (λ (e : Ending). recording_answer plan (warned course) (record { records = map (linked link) (cut_by plan (new_reader head) (drop 24 bytes)).records; ending = e })) watched.ends in
-    ends_met files course before after (ending_status ending) _ (warned course ++ ending_text plan.source ending) plain watched.wrote (answered (answer_of files course) _ meant) ahead
+    ∙ ap (λ (e : Ending). recording_answer plan (warned course) (record { records = records; ending = e })) watched.ends in
+    let text : Counts → List ℕ = λ (c : Counts). warned course ++ with_counts (ending_text plan.source ending) (told_counts plan.counted c) in
+    ends_met files course before after (ending_status ending) (lines plan [] records Closed) (text counts) plain watched.wrote
+    (subst (λ (m : List ℕ). IsAnswered (answer_of files course) (ending_status ending) (lines plan [] records Closed) m) (ap text (sym watched.counted)) (answered (answer_of files course) _ meant)) ahead
 
 -- a part of its lines
 part_of_watch : (plan : Plan) (files : Files) (course : Course) (left_first : Option (List ℕ)) (bytes : List ℕ) (head : CaptureHead) (before after : Work) → IsOpenCapture plan files course left_first bytes head
@@ -373,69 +386,73 @@ part_of_watch plan files course left_first bytes head before after o some =
     subst (λ (a : Answer). WritesPart before.alerts a.alerts after.alerts) (sym (answer_open plan files course left_first bytes head o)) (some (drop 24 bytes) o.told)
 
 -- the watching of a capture that was opened
-watched_by : (plan : Plan) (files : Files) (course : Course) (left_first : Option (List ℕ)) (bytes : List ℕ) (head : CaptureHead) (before after : Work) (outcome : Result (Unit {0}) Stop)
+watched_by : (plan : Plan) (files : Files) (course : Course) (left_first : Option (List ℕ)) (bytes : List ℕ) (head : CaptureHead) (before after : Work) (counts : Counts) (outcome : Result (Unit {0}) Stop)
     → IsOpenCapture plan files course left_first bytes head
-    → Watches plan (new_reader head) (record { left = left_first; written = before.alerts }) (record { left = after.left; written = after.alerts }) outcome
+    → Watches plan (new_reader head) (record { left = left_first; written = before.alerts }) (record { left = after.left; written = after.alerts }) counts outcome
     → (outcome_status outcome ≡ status.HostFault → Rose before.host_faults after.host_faults)
     → IsReadAhead plan (get files plan.source) before after
-    → Ends files course before after (outcome_status outcome) (warned course ++ outcome_text plan.source outcome)
+    → Ends files course before after (outcome_status outcome) (warned course ++ said plan outcome counts)
 unfolding WritesPart stop_text
-watched_by plan files course left_first bytes head before after (Ok done) o watches risen read =
-    watched_ends plan files course left_first bytes head Clean before after o tt watches (ahead_goes files course plan before after status.Done o.goes read)
-watched_by plan files course left_first bytes head before after (Err stop.CannotRead) o (cut, some) risen read =
+watched_by plan files course left_first bytes head before after counts (Ok done) o watches risen read =
+    watched_ends plan files course left_first bytes head Clean before after counts o tt watches (ahead_goes files course plan before after status.Done o.goes read)
+watched_by plan files course left_first bytes head before after counts (Err stop.CannotRead) o (cut, some) risen read =
     let part = part_of_watch plan files course left_first bytes head before after o some in
     ends_unread files course before after part.0 (warned course ++ cannot_read_text plan.source) part.2 part.1
     (λ still. absurd (still (risen refl)))
     (inr (cut_behind_head plan files course bytes head left_first before after o.goes o.held o.is o.told cut))
     (ahead_goes files course plan before after status.HostFault o.goes read)
-watched_by plan files course left_first bytes head before after (Err stop.CannotWrite) o some risen read =
+watched_by plan files course left_first bytes head before after counts (Err stop.CannotWrite) o some risen read =
     ends_unwritten files course before after (part_of_watch plan files course left_first bytes head before after o some) (ahead_goes files course plan before after status.WriteFault o.goes read)
-watched_by plan files course left_first bytes head before after (Err stop.NoMemory) o some risen read =
+watched_by plan files course left_first bytes head before after counts (Err stop.NoMemory) o some risen read =
     ends_lacking files course before after (part_of_watch plan files course left_first bytes head before after o some) (ahead_goes files course plan before after status.NoMemory o.goes read)
-watched_by plan files course left_first bytes head before after (Err (stop.CannotReadFile name)) o (fault_then, is, watches) risen read = absurd (no_other_file fault_then name is)
-watched_by plan files course left_first bytes head before after (Err why) o seen risen read =
+watched_by plan files course left_first bytes head before after counts (Err (stop.CannotReadFile name)) o (fault_then, is, watches) risen read = absurd (no_other_file fault_then name is)
+watched_by plan files course left_first bytes head before after counts (Err why) o seen risen read =
     let fault_then = seen.0 in
     let is = seen.1 in
     let state : fault_status fault_then ≡ stop_status why = sym (ap stop_status is ∙ status_of_stop fault_then) in
     let says : fault_text plan.source fault_then ≡ stop_text plan.source why = sym (text_of_stop plan.source fault_then) ∙ sym (ap (stop_text plan.source) is) in
     let plain : IsPlain (fault_status fault_then) = subst IsPlain (sym state) tt in
-    subst (λ (s : Status). Ends files course before after s (warned course ++ stop_text plan.source why)) state
-    (subst (λ (text : List ℕ). Ends files course before after (fault_status fault_then) (warned course ++ text)) says
-    (watched_ends plan files course left_first bytes head (Refused fault_then) before after o plain seen.2 (ahead_goes files course plan before after (fault_status fault_then) o.goes read)))
+    subst (λ (s : Status). Ends files course before after s (warned course ++ with_counts (stop_text plan.source why) (told_counts plan.counted counts))) state
+    (subst (λ (text : List ℕ). Ends files course before after (fault_status fault_then) (warned course ++ with_counts text (told_counts plan.counted counts))) says
+    (watched_ends plan files course left_first bytes head (Refused fault_then) before after counts o plain seen.2 (ahead_goes files course plan before after (fault_status fault_then) o.goes read)))
 
 -- a capture that was opened and watched
-pub capture_ends : (plan : Plan) (files : Files) (course : Course) (reader : Reading) (left_first : Option (List ℕ)) (before after : Work) (outcome : Result (Unit {0}) Stop)
+pub capture_ends : (plan : Plan) (files : Files) (course : Course) (reader : Reading) (left_first : Option (List ℕ)) (before after : Work) (counts : Counts) (outcome : Result (Unit {0}) Stop)
     → course.way ≡ Goes plan
     → TakesOr files plan.source (Ok reader) left_first
     → ((bytes : List ℕ) → get files plan.source ≡ Some bytes → Opens (Ok reader) (head_of bytes))
     → ((bytes : List ℕ) → get files plan.source ≡ Some bytes → left_first ≡ Some (drop 24 bytes))
-    → Watches plan reader (record { left = left_first; written = before.alerts }) (record { left = after.left; written = after.alerts }) outcome
+    → Watches plan reader (record { left = left_first; written = before.alerts }) (record { left = after.left; written = after.alerts }) counts outcome
     → IsCloseBehind plan reader (record { left = left_first; written = before.alerts }) (record { left = after.left; written = after.alerts })
     → (outcome_status outcome ≡ status.HostFault → Rose before.host_faults after.host_faults)
-    → Ends files course before after (outcome_status outcome) (warned course ++ outcome_text plan.source outcome)
-capture_ends plan files course reader left_first before after outcome goes takes gives rest watches close risen =
+    → Ends files course before after (outcome_status outcome) (warned course ++ said plan outcome counts)
+capture_ends plan files course reader left_first before after counts outcome goes takes gives rest watches close risen =
     let head_of_it = head_taken files plan.source (Ok reader) left_first (λ e. cc) takes in
     let held = held_opened files plan.source head_of_it.whole head_of_it.opened in
     let opened = opened_by held.0 reader (head_of held.0) refl (gives held.0 held.1) in
     let told = rest held.0 held.1 in
     let o : IsOpenCapture plan files course left_first held.0 opened.0 = record { goes = goes; held = held.1; is = opened.1; told = told } in
-    watched_by plan files course left_first held.0 opened.0 before after outcome o
-    (subst (λ (r : Reading). Watches plan r (record { left = left_first; written = before.alerts }) (record { left = after.left; written = after.alerts }) outcome) opened.2 watches)
+    watched_by plan files course left_first held.0 opened.0 before after counts outcome o
+    (subst (λ (r : Reading). Watches plan r (record { left = left_first; written = before.alerts }) (record { left = after.left; written = after.alerts }) counts outcome) opened.2 watches)
     risen
     (ahead_behind_head plan (get files plan.source) held.0 opened.0 left_first before after held.1 opened.1 told
     (subst (λ (r : Reading). IsCloseBehind plan r (record { left = left_first; written = before.alerts }) (record { left = after.left; written = after.alerts })) opened.2 close))
 
 -- the head was refused or not read, and a run is stopped by that
-pub open_stops : (plan : Plan) (files : Files) (course : Course) (why : CaptureFault) (before after : Work) (outcome : Result (Unit {0}) Stop) (stopped : Stop)
-    → outcome ≡ Err stopped → stopped ≡ capture_stop why
+pub open_stops : (plan : Plan) (files : Files) (course : Course) (why : CaptureFault) (before after : Work) (counts : Counts) (outcome : Result (Unit {0}) Stop) (stopped : Stop)
+    → counts ≡ no_counts → outcome ≡ Err stopped → stopped ≡ capture_stop why
     → course.way ≡ Goes plan → after.alerts ≡ before.alerts
     → ((bytes : List ℕ) → get files plan.source ≡ Some bytes → Opens (Err why) (head_of bytes))
     → TakesOr files plan.source (refusing_open why) after.left
     → IsOfHead why → (refusing_open why ≡ Err fault.Failed → Rose before.host_faults after.host_faults ⊎ (get files plan.source ≡ None))
-    → Ends files course before after (outcome_status outcome) (warned course ++ outcome_text plan.source outcome)
-open_stops plan files course why before after outcome stopped is from goes same gives takes kind failed =
+    → Ends files course before after (outcome_status outcome) (warned course ++ said plan outcome counts)
+open_stops plan files course why before after counts outcome stopped none is from goes same gives takes kind failed =
     let by : outcome ≡ Err (capture_stop why) = is ∙ ap Err from in
-    subst (λ (o : Result (Unit {0}) Stop). Ends files course before after (outcome_status o) (warned course ++ outcome_text plan.source o)) (sym by)
-    (subst (λ (s : Status). Ends files course before after s (warned course ++ stop_text plan.source (capture_stop why))) (sym (status_of_stop why))
-    (subst (λ (text : List ℕ). Ends files course before after (fault_status why) (warned course ++ text)) (sym (text_of_stop plan.source why))
-    (open_ends plan files course why before after goes same gives takes kind failed)))
+    subst (λ (o : Result (Unit {0}) Stop). Ends files course before after (outcome_status o) (warned course ++ said plan o counts)) (sym by)
+    (open_ends plan files course why before after counts goes same (none ∙ no_counts-are plan) gives takes kind failed)
+
+-- a reader that was opened has given no record
+pub opened_fresh : {contents : Option Files} (name : List ℕ) (reader : Reading) (left : Option (List ℕ)) → TakesHead contents name (Ok reader) left → (reader.refused ≡ None) × (reader.number ≡ 0)
+opened_fresh name reader left takes =
+    let opened = opened_by takes.taken reader (head_of takes.taken) refl takes.answers in
+    (ap (λ (r : Reading). r.refused) opened.2, ap (λ (r : Reading). r.number) opened.2)

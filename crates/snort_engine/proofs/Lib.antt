@@ -3,6 +3,8 @@ pub mod Prefixes
 pub mod Limits
 pub mod LinesLaws
 pub mod Showing
+pub mod Learning
+pub mod Detecting
 pub mod Batches
 pub mod Watched
 pub mod Finishing

@@ -1,40 +1,66 @@
--- The laws of the lines: joined records, beginnings, and one record more.
-use Rattle.std.proofs.Common.{◌≡◌, ℕ, ◌≤◌, List, [], ◌∷◌, ◌++◌, map, take, drop, refl, sym, ap, subst, append_assoc, ◌∙◌, arith}
+-- The laws of the lines: joined records, beginnings, the end of a capture, and a batch of jobs.
+use Rattle.std.proofs.Common.{◌≡◌, ℕ, ◌≤◌, List, [], ◌∷◌, ◌++◌, map, take, drop, refl, sym, ap, append_assoc, ◌∙◌}
 use Rattle.std.specs.List.{flat_map}
 use Rattle.std.proofs.lemmas.List.{append-nil, take-append-drop, take-take, map-append}
 use Rattle.std.proofs.lemmas.List.Concat.{flat_map-append}
 use mathlib.Core.List.{IsPrefix}
-use Rattle.edge_io.specs.Along.{trail_from}
+use Rattle.edge_io.specs.Along.{trail, trail_from, chained}
 use Rattle.edge_io.specs.declared.link.Link.{Link}
-use Rattle.edge_io.proofs.Along.{trail_from-append}
+use Rattle.edge_io.proofs.Along.{trail_from-append, trail_from-chained, trail-chained}
 use Rattle.pcap_input.specs.declared.capture.Record.{Record}
+use Rattle.flow_lanes.specs.declared.answer.Hits.{Hits}
+use Rattle.record_jobs.specs.Way.{LinkedRecord, linked}
+use Rattle.record_jobs.specs.Jobs.{jobs, finishes}
+use Rattle.record_jobs.specs.Touches.{touches}
+use Rattle.record_jobs.specs.Counts.{counts}
+use Rattle.stream5_sessions.specs.Liveness.{live_flows}
 use Rattle.snort_engine.specs.Course.{Plan}
-use Rattle.snort_engine.specs.Records.{LinkedRecord, linked}
-use Rattle.snort_engine.specs.Trace.{CaptureState, Open, Closed, record_alerts, trace}
+use Rattle.snort_engine.specs.Trace.{Alert, CaptureState, Open, Closed, closing_alerts, closing_items, detection_of, item_alerts, items_of, job_items, jobs_of, record_alerts, trace, way_of}
 use Rattle.snort_engine.specs.Lines.{text_of, lines, LinesJoin, PrefixLaw}
-use Rattle.snort_engine.specs.Watching.{record_lines, records_lines, lines_of}
+use Rattle.snort_engine.specs.Counts.{counts_of, no_counts}
+use Rattle.snort_engine.specs.Showing.{items_lines}
+use Rattle.snort_engine.specs.Detecting.{closing_lines, jobs_lines}
+use Rattle.snort_engine.specs.Watching.{lines_of}
+
+-- what is shown of joined records, whatever follows
+trace-join : (plan : Plan) (before first others : List LinkedRecord) (state : CaptureState)
+    → trace plan before (first ++ others) state ≡ trace plan before first Open ++ trace plan (before ++ first) others state
+unfolding trace
+trace-join plan before first others Open = trail_from-append (record_alerts plan) before first others
+trace-join plan before first others Closed =
+    ap (λ (x : List Alert). x ++ closing_alerts plan (before ++ (first ++ others))) (trail_from-append (record_alerts plan) before first others)
+    ∙ append_assoc (trail_from (record_alerts plan) before first) (trail_from (record_alerts plan) (before ++ first) others) (closing_alerts plan (before ++ (first ++ others)))
+    ∙ ap (λ (x : List LinkedRecord). trail_from (record_alerts plan) before first ++ (trail_from (record_alerts plan) (before ++ first) others ++ closing_alerts plan x)) (sym (append_assoc before first others))
 
 -- the law of joined records
 pub lines_join : LinesJoin
-unfolding lines trace
+unfolding lines
 lines_join plan before first others state =
-    ap (flat_map (text_of plan.classes)) (trail_from-append (record_alerts plan) before first others)
-    ∙ flat_map-append (text_of plan.classes) (trail_from (record_alerts plan) before first) (trail_from (record_alerts plan) (before ++ first) others)
+    ap (flat_map (text_of plan.config.classes)) (trace-join plan before first others state)
+    ∙ flat_map-append (text_of plan.config.classes) (trace plan before first Open) (trace plan (before ++ first) others state)
 
 -- no records have no lines
-pub lines-nil : (plan : Plan) (before : List LinkedRecord) (state : CaptureState) → lines plan before [] state ≡ []
+pub lines-nil : (plan : Plan) (before : List LinkedRecord) → lines plan before [] Open ≡ []
 unfolding lines trace
-lines-nil plan before state = refl
+lines-nil plan before = refl
 
--- a capture that has ended has no more lines than one that goes on
-pub lines-closed : (plan : Plan) (before records : List LinkedRecord) → lines plan before records Closed ≡ lines plan before records Open
-unfolding lines trace
-lines-closed plan before records = refl
+-- behind no records no flow lives that could end
+pub closing_lines-nil : (plan : Plan) → closing_lines plan [] ≡ []
+unfolding closing_lines closing_alerts closing_items finishes live_flows touches
+closing_lines-nil plan = refl
 
--- the lines of one record
-pub lines-one : (plan : Plan) (before : List LinkedRecord) (shown : LinkedRecord) (state : CaptureState) → lines plan before (shown ∷ []) state ≡ record_lines plan shown
-unfolding lines trace record_lines record_alerts
-lines-one plan before shown state = ap (flat_map (text_of plan.classes)) (append-nil (record_alerts plan before shown))
+-- a capture that has ended has the lines of its records, and then those of the flows that end with it
+pub lines-closed : (plan : Plan) (records : List LinkedRecord) → lines plan [] records Closed ≡ lines plan [] records Open ++ closing_lines plan records
+unfolding lines trace closing_lines
+lines-closed plan records = flat_map-append (text_of plan.config.classes) (trail_from (record_alerts plan) [] records) (closing_alerts plan records)
+
+pub lines-none : (plan : Plan) → lines plan [] [] Closed ≡ []
+lines-none plan = lines-closed plan [] ∙ ap (λ (x : List ℕ). lines plan [] [] Open ++ x) (closing_lines-nil plan) ∙ append-nil (lines plan [] [] Open) ∙ lines-nil plan []
+
+-- nothing is counted of no records
+pub no_counts-are : (plan : Plan) → no_counts ≡ counts_of plan []
+unfolding counts_of counts trace items_of closing_items closing_alerts finishes live_flows touches
+no_counts-are plan = refl
 
 -- the first records, and then more of them
 take_split : (records : List LinkedRecord) (r s : ℕ) → r ≤ s → take s records ≡ take r records ++ drop r (take s records)
@@ -49,13 +75,13 @@ prefix_law plan records r s state within = (
 
 -- ---- records of one link layer
 
-pub lines_of-nil : (plan : Plan) (link : Link) (state : CaptureState) → lines_of plan link [] state ≡ []
+pub lines_of-nil : (plan : Plan) (link : Link) → lines_of plan link [] Open ≡ []
 unfolding lines_of
-lines_of-nil plan link state = lines-nil plan [] state
+lines_of-nil plan link = lines-nil plan []
 
-pub lines_of-closed : (plan : Plan) (link : Link) (records : List Record) → lines_of plan link records Closed ≡ lines_of plan link records Open
+pub lines_of-closed : (plan : Plan) (link : Link) (records : List Record) → lines_of plan link records Closed ≡ lines_of plan link records Open ++ closing_lines plan (map (linked link) records)
 unfolding lines_of
-lines_of-closed plan link records = lines-closed plan [] (map (linked link) records)
+lines_of-closed plan link records = lines-closed plan (map (linked link) records)
 
 -- the lines of records joined to others
 pub lines_of-append : (plan : Plan) (link : Link) (front back : List Record) (state : CaptureState)
@@ -65,17 +91,32 @@ lines_of-append plan link front back state =
     ap (λ (x : List LinkedRecord). lines plan [] x state) (map-append (linked link) front back)
     ∙ lines_join plan [] (map (linked link) front) (map (linked link) back) state
 
--- the lines of records are those of each by itself: none of those before matters yet
-lines-each : (plan : Plan) (before : List LinkedRecord) (link : Link) (records : List Record) → lines plan before (map (linked link) records) Open ≡ records_lines plan link records
-unfolding lines trace records_lines record_lines record_alerts
-lines-each plan before link [] = refl
-lines-each plan before link (captured ∷ records) =
-    let shown = linked link captured in
-    flat_map-append (text_of plan.classes) (record_alerts plan before shown) (trail_from (record_alerts plan) (before ++ shown ∷ []) (map (linked link) records))
-    ∙ ap (λ (x : List ℕ). record_lines plan shown ++ x) (lines-each plan (before ++ shown ∷ []) link records)
+-- ---- jobs
 
--- a batch more
-pub lines_of-batch : (plan : Plan) (link : Link) (front batch : List Record) → lines_of plan link (front ++ batch) Open ≡ lines_of plan link front Open ++ records_lines plan link batch
-lines_of-batch plan link front batch =
-    lines_of-append plan link front batch Open
-    ∙ ap (λ (x : List ℕ). lines_of plan link front Open ++ x) (lines-each plan (map (linked link) front) link batch)
+-- all items of records are those of their jobs
+pub items_of-jobs : (plan : Plan) (records : List LinkedRecord) → items_of plan records ≡ trail (chained (job_items (detection_of plan)) (jobs (way_of plan))) records
+unfolding items_of
+items_of-jobs plan records = trail-chained (job_items (detection_of plan)) (jobs (way_of plan)) records
+
+-- a batch of records through all stages: its lines are those of its jobs
+pub jobs_lines-records : (plan : Plan) (before records : List LinkedRecord) → jobs_lines plan (jobs_of plan before) (trail_from (jobs (way_of plan)) before records) ≡ lines plan before records Open
+unfolding jobs_lines items_lines lines trace record_alerts
+jobs_lines-records plan before records =
+    let found = job_items (detection_of plan) in
+    let made = jobs (way_of plan) in
+    let shown = item_alerts plan.config plan.rules in
+    ap (λ (items : List Hits). flat_map (text_of plan.config.classes) (trail_from shown items (trail_from found (trail made before) (trail_from made before records)))) (trail-chained found made before)
+    ∙ ap (λ (items : List Hits). flat_map (text_of plan.config.classes) (trail_from shown (trail (chained found made) before) items)) (trail_from-chained found made before records)
+    ∙ ap (flat_map (text_of plan.config.classes)) (trail_from-chained shown (chained found made) before records)
+
+-- the lines of the flows that end with a capture are those of the jobs behind its records
+pub jobs_lines-closing : (plan : Plan) (records : List LinkedRecord) → jobs_lines plan (jobs_of plan records) (finishes (way_of plan) records) ≡ closing_lines plan records
+unfolding jobs_lines items_lines closing_lines closing_alerts closing_items items_of
+jobs_lines-closing plan records = refl
+
+-- all alerts of records are those of their items
+pub alerts-items : (plan : Plan) (records : List LinkedRecord) → trail (item_alerts plan.config plan.rules) (items_of plan records) ≡ trail (record_alerts plan) records
+unfolding record_alerts
+alerts-items plan records =
+    ap (trail (item_alerts plan.config plan.rules)) (items_of-jobs plan records)
+    ∙ trail-chained (item_alerts plan.config plan.rules) (chained (job_items (detection_of plan)) (jobs (way_of plan))) records

@@ -8,7 +8,7 @@ use Rattle.edge_io.specs.Told.{behind, Rose, one_more, count_end}
 use Rattle.edge_io.proofs.Told.{behind-nil, behind-behind}
 use Rattle.snort_engine.specs.declared.stop.Stop.{Stop}
 use Rattle.snort_engine.specs.Outside.{WritesPart}
-use Rattle.snort_engine.specs.Watching.{Gathering, Gathers}
+use Rattle.snort_engine.specs.Gathering.{Gathering, Gathers}
 
 -- a text is a beginning of itself
 pub IsPrefix-same : (whole : List ℕ) → IsPrefix whole whole
@@ -104,6 +104,11 @@ pub gathers_stopped : (text : List ℕ) (old middle : Gathering) (new : Option (
 gathers_stopped text old middle new empty one part =
     subst (λ (x : List ℕ). WritesPart old.written x new) (sym one.joined ∙ ap (λ (x : List ℕ). x ++ text) empty)
     (WritesPart-behind old.written middle.written new one.part middle.block one.wrote part)
+
+-- a text came: a part of it and of what waited was written
+pub gathers_some : (text : List ℕ) (old new : Gathering) → Gathers text old new → WritesPart old.written (old.block ++ text) new.written
+unfolding WritesPart
+gathers_some text old new came = (came.part, (new.block, sym came.joined), came.wrote)
 
 -- ---- by the answer of the last step
 

@@ -4,6 +4,7 @@ use Rattle.std.specs.Prelude.{MatchBool, All, IfOk, IfErr}
 use Rattle.edge_io.specs.declared.pattern.Span.{Span}
 use Rattle.option_eval.specs.Places.{Means}
 use Rattle.option_eval.specs.RuleSet.{FindWhatIsMeant}
+use Rattle.conf_parser.specs.Sound as conf
 use Rattle.rule_parser.specs.Sound.{IsSound}
 use Rattle.std.specs.Option.{option_map}
 use Rattle.edge_io.specs.Files.{Files}
@@ -24,6 +25,7 @@ use Rattle.snort_engine.specs.declared.status.Status.TheVariants as status
 use Rattle.snort_engine.specs.declared.stop.Stop.{Stop}
 use Rattle.snort_engine.specs.declared.stop.Stop.TheVariants as stop
 use Rattle.snort_engine.specs.Course.{Plan, Way, Stops, Goes, Course, Given, given, IsCourse, HasOneCourse, IsRunCourse, Reads, AreRefused, setup_words, told_warnings, is_for_later, way_of, course_by, stopping}
+use Rattle.snort_engine.specs.Detecting.{IsRanged}
 use Rattle.snort_engine.specs.Messages.{usage_text, version_text, command_line_text}
 use Rattle.snort_engine.specs.Stop.{stop_status, stop_text, setup_stop}
 use Rattle.snort_engine.specs.Preparing.{HasWay, stops, way_by, Prepares, IsPrepared, IsSetUp, KeepsSetup, HasCause, plan_by, told_of}
@@ -184,6 +186,16 @@ kept_cause rose host setup (Ok prepared) kept = tt
 kept_cause rose host setup (Err (stop.Accepted rules)) kept = tt
 kept_cause rose host setup (Err stop.CommandLine) kept = tt
 kept_cause rose host setup (Err why) kept = absurd kept
+
+-- its configuration stays sound
+pub kept_config : {P : Type 0} (setup : Setup P) (answer : Result (Prepared P) Stop) → KeepsSetup setup answer → conf.IsSound setup.config → IfOk answer (λ ready. conf.IsSound ready.setup.config)
+kept_config {P} setup (Ok prepared) kept sound = subst (λ (s : Setup P). conf.IsSound s.config) (sym kept) sound
+kept_config setup (Err why) kept sound = tt
+
+-- its numbers are those of the words
+pub kept_ranges : {P : Type 0} (answer : Result (Prepared P) Stop) (lanes flush : ℕ) → IfOk answer (λ ready. (ready.lanes ≡ lanes) × (ready.flush ≡ flush)) → IsRanged lanes flush → IfOk answer (λ ready. IsRanged ready.lanes ready.flush)
+kept_ranges (Ok prepared) lanes flush (same, too) ranged = subst (λ (n : ℕ). IsRanged n prepared.flush) (sym same) (subst (λ (n : ℕ). IsRanged lanes n) (sym too) ranged)
+kept_ranges (Err why) lanes flush same ranged = tt
 
 -- its rules stay sound
 pub kept_rules : {P : Type 0} (setup : Setup P) (answer : Result (Prepared P) Stop) → KeepsSetup setup answer → All (IsSound setup.config.classes) setup.set.rules → IfOk answer (λ ready. All (IsSound ready.setup.config.classes) ready.setup.set.rules)

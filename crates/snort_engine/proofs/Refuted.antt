@@ -11,7 +11,8 @@ use Rattle.edge_io.specs.Files.{Files}
 use Rattle.option_eval.specs.Places.{Means}
 use Rattle.snort_engine.specs.declared.status.Status.TheVariants as status
 use Rattle.snort_engine.specs.Course.{Plan, Way, Stops, Goes, Course}
-use Rattle.snort_engine.specs.Records.{LinkedRecord, records_of}
+use Rattle.record_jobs.specs.Way.{LinkedRecord}
+use Rattle.snort_engine.specs.Records.{records_of}
 use Rattle.snort_engine.specs.Trace.{Open}
 use Rattle.snort_engine.specs.Lines.{lines}
 use Rattle.snort_engine.specs.Answer.{answer_of}
@@ -19,8 +20,6 @@ use Rattle.snort_engine.specs.Outside.{Outside, Work}
 use Rattle.snort_engine.specs.ReadAhead.{batch, all_but, lines_due, IsReadAhead, ReadsAhead, ReadsAheadOn}
 use Rattle.snort_engine.specs.Ending.{Ends}
 use Rattle.snort_engine.specs.Headline.{Headline}
-use Rattle.snort_engine.specs.Watching.{record_lines}
-use Rattle.snort_engine.proofs.LinesLaws.{lines-one}
 
 -- behind what is told, a text and no text differ
 behind_apart : (old text : List ℕ) (byte : ℕ) (rest : List ℕ) → behind (Some old) text ≡ behind (Some old) (text ++ byte ∷ rest) → ⊥
@@ -39,14 +38,13 @@ one_line_short files course before after message old first byte second told answ
     ∙ ap (behind (Some old)) ((ends.ended_as_stated tt).alerts_are ∙ answers))
 
 -- the lines due of a record and a batch are those of the record
-due_of_first : (plan : Plan) (taken : List ℕ) (first : LinkedRecord) (others : List LinkedRecord) → (records_of plan taken).records ≡ first ∷ others → length others ≡ batch → lines_due plan taken ≡ record_lines plan first
+due_of_first : (plan : Plan) (taken : List ℕ) (first : LinkedRecord) (others : List LinkedRecord) → (records_of plan taken).records ≡ first ∷ others → length others ≡ batch → lines_due plan taken ≡ lines plan [] (first ∷ []) Open
 unfolding lines_due
 due_of_first plan taken first others are size =
     let count : length (first ∷ others) - batch ≡ 1 = omega (arith, size) in
     ap (λ (x : List LinkedRecord). lines plan [] (all_but batch x) Open) are
     ∙ ap (λ (n : ℕ). lines plan [] (take n (first ∷ others)) Open) count
     ∙ ap (λ (x : List LinkedRecord). lines plan [] x Open) (take_at (first ∷ []) others 1 refl)
-    ∙ lines-one plan [] first Open
 
 -- fronts of one text before one rest are the same
 same_front : (front other rest other_rest : List ℕ) → rest ≡ other_rest → front ++ rest ≡ other ++ other_rest → front ≡ other
@@ -60,7 +58,7 @@ same_front front other rest other_rest rests wholes =
 -- write fault
 pub one_record_too_far : (files : Files) (course : Course) (plan : Plan) (before after : Work) (message old taken rest : List ℕ) (first : LinkedRecord) (others : List LinkedRecord) (byte : ℕ) (line : List ℕ)
     → course.way ≡ Goes plan → get files plan.source ≡ Some (taken ++ rest) → after.left ≡ Some rest
-    → (records_of plan taken).records ≡ first ∷ others → length others ≡ batch → record_lines plan first ≡ byte ∷ line
+    → (records_of plan taken).records ≡ first ∷ others → length others ≡ batch → lines plan [] (first ∷ []) Open ≡ byte ∷ line
     → before.alerts ≡ Some old → after.alerts ≡ Some old → Ends files course before after status.WriteFault message → ⊥
 unfolding ReadsAhead behind
 one_record_too_far files course plan before after message old taken rest first others byte line goes held left are size alerts told wrote ends =

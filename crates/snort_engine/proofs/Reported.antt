@@ -11,7 +11,7 @@ use Rattle.snort_engine.specs.declared.status.Status.TheVariants as status
 use Rattle.snort_engine.specs.declared.stop.Stop.{Stop}
 use Rattle.snort_engine.specs.Messages.{no_memory_text}
 use Rattle.snort_engine.specs.Outside.{WritesPart}
-use Rattle.snort_engine.specs.Stop.{stop_status, stop_text, outcome_status, outcome_text}
+use Rattle.snort_engine.specs.Stop.{outcome_status}
 use Rattle.snort_engine.specs.Reporting.{Tells, TellsOn, TellsLast, Reports}
 use Rattle.snort_engine.proofs.Prefixes.{WritesPart-none, WritesPart-all, WritesPart-longer, WritesPart-behind, rose_since, rose_on}
 
@@ -85,11 +85,6 @@ tells_last text true true old new rose told = record { part = told.part; whole =
 tells_last text true false old new rose told = record { part = told.part; whole = inr told.failed; silent = tt }
 tells_last text false still old new rose told = record { part = told.part; whole = tt; silent = told.silent.0 }
 
--- no text, as the last one
-last_none : (well : Bool) (old : Option (List ℕ)) (rose : Type 0) → TellsLast [] well old old rose
-last_none true old rose = record { part = WritesPart-none old []; whole = inl (sym (behind-nil old)); silent = tt }
-last_none false old rose = record { part = WritesPart-none old []; whole = tt; silent = refl }
-
 -- warnings, and then the last text, are one message
 pub tells_message : (warnings text : List ℕ) (first middle last : Option (List ℕ)) (at_first at_middle at_last : ℕ) (well : Bool) → at_first ≤ at_middle → at_middle ≤ at_last
     → TellsOn warnings true first middle (Rose at_first at_middle) well → TellsLast text well middle last (Rose at_middle at_last)
@@ -109,21 +104,14 @@ tells_message warnings text first middle last at_first at_middle at_last false l
 
 -- what is told of an outcome, where the errors change so
 abbrev pub ReportsOn : List ℕ → Result (Unit {0}) Stop → Status → Bool → Option (List ℕ) → Option (List ℕ) → Type 0 → Type 0
-ReportsOn source outcome ended well old new rose = Reports source outcome ended (λ text. TellsLast text well old new rose)
+ReportsOn text outcome ended well old new rose = Reports text outcome ended (λ t. TellsLast t well old new rose)
 
--- nothing is told of work that is done
-pub reports_done : (source : List ℕ) (outcome : Result (Unit {0}) Stop) (well : Bool) (old : Option (List ℕ)) (rose : Type 0) → ((why : Stop) → outcome ≡ Err why → ⊥) → ReportsOn source outcome status.Done well old old rose
-reports_done source (Ok done) well old rose other = inl (refl, last_none well old rose)
-reports_done source (Err why) well old rose other = absurd (other why refl)
+-- the text of an outcome was told
+pub reports_told : (text made : List ℕ) (outcome : Result (Unit {0}) Stop) (ended : Status) (well still : Bool) (old new : Option (List ℕ)) (rose : Type 0)
+    → ended ≡ outcome_status outcome → made ≡ text → TellsOn made well old new rose still → ReportsOn text outcome ended well old new rose
+reports_told text made outcome ended well still old new rose is same told =
+    inl (is, subst (λ (t : List ℕ). TellsLast t well old new rose) same (tells_last made well still old new rose told))
 
--- the message of a stop was told
-pub reports_stop : (source : List ℕ) (outcome : Result (Unit {0}) Stop) (why : Stop) (ended : Status) (text : List ℕ) (well still : Bool) (old new : Option (List ℕ)) (rose : Type 0)
-    → outcome ≡ Err why → ended ≡ stop_status why → text ≡ stop_text source why
-    → TellsOn text well old new rose still → ReportsOn source outcome ended well old new rose
-reports_stop source outcome why ended text well still old new rose is status_is text_is told =
-    subst (λ (o : Result (Unit {0}) Stop). ReportsOn source o ended well old new rose) (sym is)
-    (inl (status_is, subst (λ (t : List ℕ). TellsLast t well old new rose) text_is (tells_last text well still old new rose told)))
-
--- memory was lacking for the message
-pub reports_untold : (source : List ℕ) (outcome : Result (Unit {0}) Stop) (well still : Bool) (old new : Option (List ℕ)) (rose : Type 0) → TellsOn no_memory_text well old new rose still → ReportsOn source outcome status.NoMemory well old new rose
-reports_untold source outcome well still old new rose told = inr (refl, tells_last no_memory_text well still old new rose told)
+-- memory was lacking for it
+pub reports_untold : (text : List ℕ) (outcome : Result (Unit {0}) Stop) (well still : Bool) (old new : Option (List ℕ)) (rose : Type 0) → TellsOn no_memory_text well old new rose still → ReportsOn text outcome status.NoMemory well old new rose
+reports_untold text outcome well still old new rose told = inr (refl, tells_last no_memory_text well still old new rose told)

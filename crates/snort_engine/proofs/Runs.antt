@@ -243,32 +243,32 @@ faulty_status (Err stop.NoMemory) faulty = inr refl
 faulty_status (Err why) faulty = absurd faulty
 
 -- what is told of a run: its warnings, and then what is reported of its outcome
-pub record IsTold (warnings : List (List ℕ)) (source : List ℕ) (outcome : Result (Unit {0}) Stop) (before after : Outside) (ended : Status) : Type 0 where
+pub record IsTold (warnings : List (List ℕ)) (text : List ℕ) (outcome : Result (Unit {0}) Stop) (before after : Outside) (ended : Status) : Type 0 where
   pub middle : Option (List ℕ)
   pub at_middle : ℕ
   pub well : Bool
   pub later : before.error_faults ≤ at_middle
   pub on : at_middle ≤ after.error_faults
   pub warned : TellsOn (concat warnings) true before.errors middle (Rose before.error_faults at_middle) well
-  pub reports : ReportsOn source outcome ended well middle after.errors (Rose at_middle after.error_faults)
+  pub reports : ReportsOn text outcome ended well middle after.errors (Rose at_middle after.error_faults)
 
 -- a status other than NoMemory is that of the outcome
-by_outcome : (warnings : List (List ℕ)) (source : List ℕ) (outcome : Result (Unit {0}) Stop) (before after : Outside) (ended other : Status) → IsTold warnings source outcome before after ended → (status.NoMemory ≡ other → ⊥) → ended ≡ other → outcome_status outcome ≡ other
-by_outcome warnings source outcome before after ended other told apart is =
+by_outcome : (warnings : List (List ℕ)) (text : List ℕ) (outcome : Result (Unit {0}) Stop) (before after : Outside) (ended other : Status) → IsTold warnings text outcome before after ended → (status.NoMemory ≡ other → ⊥) → ended ≡ other → outcome_status outcome ≡ other
+by_outcome warnings text outcome before after ended other told apart is =
     ⊎_elim (λ said. sym said.0 ∙ is) (λ untold. absurd (apart (sym untold.0 ∙ is))) told.reports
 
 -- a run that ends so by its outcome, and so where memory is lacking for the message
-ends_told : (asked : Option Asked) (here : Given) (warnings : List (List ℕ)) (source : List ℕ) (outcome : Result (Unit {0}) Stop) (before after : Outside) (ended : Status) → IsTold warnings source outcome before after ended
-    → EndsRun asked here (work_of before) (work_of after) (outcome_status outcome) (concat warnings ++ outcome_text source outcome)
+ends_told : (asked : Option Asked) (here : Given) (warnings : List (List ℕ)) (text : List ℕ) (outcome : Result (Unit {0}) Stop) (before after : Outside) (ended : Status) → IsTold warnings text outcome before after ended
+    → EndsRun asked here (work_of before) (work_of after) (outcome_status outcome) (concat warnings ++ text)
     → EndsRun asked here (work_of before) (work_of after) status.NoMemory (concat warnings ++ no_memory_text)
     → EndsSo asked here before after ended
-ends_told asked here warnings source outcome before after ended told ends untold =
+ends_told asked here warnings text outcome before after ended told ends untold =
     ⊎_elim
-    (λ (said : (ended ≡ outcome_status outcome) × TellsLast (outcome_text source outcome) told.well told.middle after.errors (Rose told.at_middle after.error_faults)).
+    (λ (said : (ended ≡ outcome_status outcome) × TellsLast (text) told.well told.middle after.errors (Rose told.at_middle after.error_faults)).
     record {
-      message = concat warnings ++ outcome_text source outcome;
-      tells = tells_message (concat warnings) (outcome_text source outcome) before.errors told.middle after.errors before.error_faults told.at_middle after.error_faults told.well told.later told.on told.warned said.1;
-      ends = subst (λ (s : Status). EndsRun asked here (work_of before) (work_of after) s (concat warnings ++ outcome_text source outcome)) (sym said.0) ends;
+      message = concat warnings ++ text;
+      tells = tells_message (concat warnings) (text) before.errors told.middle after.errors before.error_faults told.at_middle after.error_faults told.well told.later told.on told.warned said.1;
+      ends = subst (λ (s : Status). EndsRun asked here (work_of before) (work_of after) s (concat warnings ++ text)) (sym said.0) ends;
     })
     (λ (lacking : (ended ≡ status.NoMemory) × TellsLast no_memory_text told.well told.middle after.errors (Rose told.at_middle after.error_faults)).
     record {
@@ -288,7 +288,7 @@ pub record IsStopped {A : Type 0} (plans : Test → A → Plan) (asked : Option 
   pub counts : NoCountFell before after
 
 pub stopped_run : {A : Type 0} (plans : Test → A → Plan) (asked : Option Asked) (means : Means) (before after : Outside) (why : Stop) (warnings : List (List ℕ)) (ended : Status) → (test : Test) × Tells means test
-    → IsStopped plans asked before after why warnings → IsTold warnings [] (Err why) before after ended → IsRun asked means before after ended
+    → IsStopped plans asked before after why warnings → IsTold warnings (stop_text [] why) (Err why) before after ended → IsRun asked means before after ended
 stopped_run {A} plans asked means before after why warnings ended decided run told = record {
   matches = decided.0;
   tells = decided.1;
@@ -299,14 +299,14 @@ stopped_run {A} plans asked means before after why warnings ended decided run to
         p.refused,
         (
           p.are_refused,
-          ends_told asked here warnings [] (Err why) before after ended told
+          ends_told asked here warnings (stop_text [] why) (Err why) before after ended told
               (stop_ends (plans decided.0) asked here (work_of before) (work_of after) warnings run.unopened before.files why run.cause has)
               (stop_untold (plans decided.0) asked here (work_of before) (work_of after) warnings run.unopened before.files why run.cause has),
-          λ failed. stop_answered (plans decided.0) asked here (Rose before.host_faults after.host_faults) before.files why warnings run.cause has (by_outcome warnings [] (Err why) before after ended status.HostFault told (λ e. cc) failed),
+          λ failed. stop_answered (plans decided.0) asked here (Rose before.host_faults after.host_faults) before.files why warnings run.cause has (by_outcome warnings (stop_text [] why) (Err why) before after ended status.HostFault told (λ e. cc) failed),
         ),
       );
-  untold = λ failed none. stop_untold_rose (Rose before.host_faults after.host_faults) before.files why run.cause (by_outcome warnings [] (Err why) before after ended status.HostFault told (λ e. cc) failed) none;
-  write_fault = λ failed. absurd (no_write_stop (Rose before.host_faults after.host_faults) before.files why run.cause (by_outcome warnings [] (Err why) before after ended status.WriteFault told (λ e. cc) failed));
+  untold = λ failed none. stop_untold_rose (Rose before.host_faults after.host_faults) before.files why run.cause (by_outcome warnings (stop_text [] why) (Err why) before after ended status.HostFault told (λ e. cc) failed) none;
+  write_fault = λ failed. absurd (no_write_stop (Rose before.host_faults after.host_faults) before.files why run.cause (by_outcome warnings (stop_text [] why) (Err why) before after ended status.WriteFault told (λ e. cc) failed));
   faulty_words = λ none.
       ⊎_elim
       (λ said. ⊎_elim (λ refused. inl (said.0 ∙ refused)) (λ lacking. inr (said.0 ∙ lacking)) (faulty_status {A = A} (Err why) (run.faulty_words none)))
@@ -323,13 +323,13 @@ one_more_most : (count : ℕ) → one_more count ≤ count + 1
 one_more_most count = grind (arith, nat_tests)
 
 -- what is known of a run that watched its capture
-pub record IsWatching {A : Type 0} (plans : Test → A → Plan) (asked : Option Asked) (means : Means) (before after : Outside) (ready : A) (source : List ℕ) (outcome : Result (Unit {0}) Stop) (warnings : List (List ℕ)) : Type 0 where
+pub record IsWatching {A : Type 0} (plans : Test → A → Plan) (asked : Option Asked) (means : Means) (before after : Outside) (ready : A) (source text : List ℕ) (outcome : Result (Unit {0}) Stop) (warnings : List (List ℕ)) : Type 0 where
   pub middle : Work
   pub prepared : (files : Files) → before.files ≡ Some files → IsPrepared plans asked files (Rose before.host_faults middle.host_faults) (refused_since before after) (Ok ready) warnings
   pub faulty_words : asked ≡ None → ⊥
   pub since : IsLater (work_of before) middle
   pub ends : (matches : Test) → Tells means matches → (files : Files) (course : Course) → before.files ≡ Some files → course.way ≡ Goes (plans matches ready)
-      → Ends files course middle (work_of after) (outcome_status outcome) (concat course.warnings ++ outcome_text source outcome)
+      → Ends files course middle (work_of after) (outcome_status outcome) (concat course.warnings ++ text)
   pub source_is : (matches : Test) → (plans matches ready).source ≡ source
   pub write_fault : outcome_status outcome ≡ status.WriteFault → Rose before.alert_faults after.alert_faults
   pub read_fault : outcome_status outcome ≡ status.HostFault → Rose middle.host_faults after.host_faults ⊎ Lacks before.files source
@@ -338,16 +338,16 @@ pub record IsWatching {A : Type 0} (plans : Test → A → Plan) (asked : Option
   pub counts : NoCountFell before after
 
 -- the run on its course
-watching_on : {A : Type 0} (plans : Test → A → Plan) (asked : Option Asked) (means : Means) (before after : Outside) (ready : A) (source : List ℕ) (outcome : Result (Unit {0}) Stop) (warnings : List (List ℕ)) (matches : Test) (files : Files) (here : Given)
-    → here.files ≡ files → IsWatching plans asked means before after ready source outcome warnings → Tells means matches → before.files ≡ Some files → HasWay asked here warnings (Goes (plans matches ready))
-    → (course : Course) × IsCourse asked here course × (course.warnings ≡ warnings) × (course.way ≡ Goes (plans matches ready)) × Ends files course (work_of before) (work_of after) (outcome_status outcome) (concat warnings ++ outcome_text source outcome)
-watching_on plans asked means before after ready source outcome warnings matches files here over run tells is has = (
+watching_on : {A : Type 0} (plans : Test → A → Plan) (asked : Option Asked) (means : Means) (before after : Outside) (ready : A) (source text : List ℕ) (outcome : Result (Unit {0}) Stop) (warnings : List (List ℕ)) (matches : Test) (files : Files) (here : Given)
+    → here.files ≡ files → IsWatching plans asked means before after ready source text outcome warnings → Tells means matches → before.files ≡ Some files → HasWay asked here warnings (Goes (plans matches ready))
+    → (course : Course) × IsCourse asked here course × (course.warnings ≡ warnings) × (course.way ≡ Goes (plans matches ready)) × Ends files course (work_of before) (work_of after) (outcome_status outcome) (concat warnings ++ text)
+watching_on plans asked means before after ready source text outcome warnings matches files here over run tells is has = (
   has.course,
   has.is,
   has.warnings_are,
   has.way_is,
-  subst (λ (w : List (List ℕ)). Ends files has.course (work_of before) (work_of after) (outcome_status outcome) (concat w ++ outcome_text source outcome)) has.warnings_are
-      (ends_since files has.course (work_of before) run.middle (work_of after) (outcome_status outcome) (concat has.course.warnings ++ outcome_text source outcome) run.since (run.ends matches tells files has.course is has.way_is)),
+  subst (λ (w : List (List ℕ)). Ends files has.course (work_of before) (work_of after) (outcome_status outcome) (concat w ++ text)) has.warnings_are
+      (ends_since files has.course (work_of before) run.middle (work_of after) (outcome_status outcome) (concat has.course.warnings ++ text) run.since (run.ends matches tells files has.course is has.way_is)),
 )
 
 -- the answer of a capture that is lacking
@@ -360,37 +360,37 @@ lacking_capture asked here plan warnings has lacks = record {
       ∙ ap (λ (held : Option (List ℕ)). (capture_answer plan (concat has.course.warnings) held).status) lacks);
 }
 
-pub watched_run : {A : Type 0} (plans : Test → A → Plan) (asked : Option Asked) (means : Means) (before after : Outside) (ready : A) (source : List ℕ) (outcome : Result (Unit {0}) Stop) (warnings : List (List ℕ)) (ended : Status) → (test : Test) × Tells means test
-    → IsWatching plans asked means before after ready source outcome warnings → IsTold warnings source outcome before after ended → IsRun asked means before after ended
-watched_run plans asked means before after ready source outcome warnings ended decided run told = record {
+pub watched_run : {A : Type 0} (plans : Test → A → Plan) (asked : Option Asked) (means : Means) (before after : Outside) (ready : A) (source text : List ℕ) (outcome : Result (Unit {0}) Stop) (warnings : List (List ℕ)) (ended : Status) → (test : Test) × Tells means test
+    → IsWatching plans asked means before after ready source text outcome warnings → IsTold warnings text outcome before after ended → IsRun asked means before after ended
+watched_run plans asked means before after ready source text outcome warnings ended decided run told = record {
   matches = decided.0;
   tells = decided.1;
   told = λ files is.
       let p = run.prepared files is in
       let here = given files decided.0 p.refused in
       let has = p.prepares decided.0 in
-      let on = watching_on plans asked means before after ready source outcome warnings decided.0 files here refl run decided.1 is has in
+      let on = watching_on plans asked means before after ready source text outcome warnings decided.0 files here refl run decided.1 is has in
       let on_untold : Ends files on.0 (work_of before) (work_of after) status.NoMemory (concat warnings ++ no_memory_text) =
       subst (λ (w : List (List ℕ)). Ends files on.0 (work_of before) (work_of after) status.NoMemory (concat w ++ no_memory_text)) on.2
-      (ends_untold files on.0 (work_of before) (work_of after) (outcome_status outcome) (concat warnings ++ outcome_text source outcome) on.4) in (
+      (ends_untold files on.0 (work_of before) (work_of after) (outcome_status outcome) (concat warnings ++ text) on.4) in (
         p.refused,
         (
           p.are_refused,
-          ends_told asked here warnings source outcome before after ended told
+          ends_told asked here warnings text outcome before after ended told
               (inl (record { course = on.0; is = on.1; ends = on.4 }))
               (inl (record { course = on.0; is = on.1; ends = on_untold })),
           λ failed. ⊎_elim
               (λ (rose : Rose run.middle.host_faults after.host_faults). inl (rose_since before.host_faults run.middle.host_faults after.host_faults run.since.later rose))
               (λ (lacks : Lacks before.files source).
               inr (lacking_capture asked here (plans decided.0 ready) warnings has (ap (get files) (run.source_is decided.0) ∙ subst (λ (t : Option Files). Lacks t source) is lacks)))
-              (run.read_fault (by_outcome warnings source outcome before after ended status.HostFault told (λ e. cc) failed)),
+              (run.read_fault (by_outcome warnings text outcome before after ended status.HostFault told (λ e. cc) failed)),
         ),
       );
   untold = λ failed none. ⊎_elim
       (λ (rose : Rose run.middle.host_faults after.host_faults). rose_since before.host_faults run.middle.host_faults after.host_faults run.since.later rose)
       (λ (lacks : Lacks before.files source). absurd (subst (λ (t : Option Files). Lacks t source) none lacks))
-      (run.read_fault (by_outcome warnings source outcome before after ended status.HostFault told (λ e. cc) failed));
-  write_fault = λ failed. run.write_fault (by_outcome warnings source outcome before after ended status.WriteFault told (λ e. cc) failed);
+      (run.read_fault (by_outcome warnings text outcome before after ended status.HostFault told (λ e. cc) failed));
+  write_fault = λ failed. run.write_fault (by_outcome warnings text outcome before after ended status.WriteFault told (λ e. cc) failed);
   faulty_words = λ none. absurd (run.faulty_words none);
   opened_once = let is = run.opened in omega (arith, is, one_more_most before.opens);
   same_files = run.same_files;

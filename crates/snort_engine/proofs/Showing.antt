@@ -1,141 +1,127 @@
--- Lines that are made one behind another.
-use Rattle.std.proofs.Common.{◌≡◌, ℕ, ◌+◌, ◌<◌, Bool, true, false, not, ◌&&◌, cond, List, [], ◌∷◌, ◌++◌, Option, Result, Ok, Err, length, get_or, take, drop, map, refl, sym, ap, subst, append_assoc, ◌∙◌, ◌↔◌}
-use Rattle.std.specs.Prelude.{filter, IsTrue, All, IfOk, ⊤}
-use Rattle.std.specs.Option.{ForSome}
+-- Lines of items that are made one behind another.
+use Rattle.std.proofs.Common.{◌≡◌, ℕ, ◌+◌, ◌<◌, List, [], ◌∷◌, ◌++◌, Option, Some, None, length, get_or, take, drop, map, refl, sym, ap, subst, append_assoc, ◌∙◌, arith, slice_get, length-append, zero-add}
+use Rattle.std.specs.Prelude.{All, ⊤}
+use Rattle.std.specs.Option.{ForSome, option_map, option_to_list}
 use Rattle.std.specs.List.{flat_map}
-use Rattle.std.specs.FinSet.{empty}
+use Rattle.std.specs.Borrow.{Bor}
+use Rattle.std.specs.Slice.{IsItemAt}
 use Rattle.std.proofs.lemmas.List.{append-nil, map-append, take-append-drop, take_more}
 use Rattle.std.proofs.lemmas.List.Concat.{flat_map-append}
-use Rattle.std.proofs.lemmas.List.Elements.{filter-append}
-use Rattle.std.proofs.lemmas.Option.{MatchOption-at_some}
-use Rattle.edge_io.specs.declared.link.Link.{Link}
-use Rattle.edge_io.specs.declared.moment.Moment.{Moment}
+use Rattle.std.proofs.lemmas.List.Sums.{sum_by-append}
+use Rattle.std.proofs.lemmas.Option.{MatchOption-at_some, slice_get_past, slice_get_read}
+use Rattle.edge_io.specs.Along.{trail, trail_from}
+use Rattle.edge_io.proofs.Along.{trail_from-append, trail-more}
 use Rattle.packet_decode.specs.declared.item.ItemHead.{ItemHead}
-use Rattle.packet_decode.specs.declared.skip.Skip.{Skip}
-use Rattle.packet_decode.specs.Decoding.{Fields, decoded}
-use Rattle.pcap_input.specs.declared.capture.Record.{Record}
 use Rattle.conf_parser.specs.declared.classes.Class.{Class}
+use Rattle.conf_parser.specs.declared.config.Config.{Config}
 use Rattle.rule_parser.specs.declared.rule.Rule.{Rule}
 use Rattle.rule_parser.specs.Sound.{IsSound}
-use Rattle.flow_lanes.specs.Hits.{Item}
-use Rattle.flow_lanes.specs.Hits.{Test, Tells, Bits, RuleMatches}
-use Rattle.option_eval.specs.Places.{Means}
-use Rattle.snort_engine.specs.Course.{Plan}
-use Rattle.snort_engine.specs.Records.{linked}
+use Rattle.flow_lanes.specs.declared.answer.Hits.{Hits}
+use Rattle.flow_lanes.specs.declared.answer.JobHits.{JobHits}
+use Rattle.event_filters.specs.Events.{Item, kept}
+use Rattle.event_filters.specs.Standing.{FiltersState, IsGiven, Passes}
+use Rattle.snort_engine.specs.declared.events.Tally.{Tally}
 use Rattle.snort_engine.specs.Outside.{WritesPart}
-use Rattle.snort_engine.specs.Trace.{Alert, alert_of, is_told, is_shown, item_alerts, item_of, alerts_on, head_of, record_alerts}
+use Rattle.snort_engine.specs.Trace.{Alert, alert_of, alert_at, filtered_item, item_alerts}
 use Rattle.snort_engine.specs.Lines.{text_of}
-use Rattle.snort_engine.specs.Watching.{Gathering, Gathers, item_lines, record_lines, records_lines}
-use Rattle.snort_engine.proofs.Prefixes.{WritesPart-none, WritesPart-longer, gathers_none, gathers_both, gathers_part}
+use Rattle.snort_engine.specs.Counts.{hit_count}
+use Rattle.snort_engine.specs.Gathering.{Gathering, Gathers}
+use Rattle.snort_engine.specs.Showing.{places_lines, places_count, ShowsPlaces, items_lines, tally_of, EventsStand, Showing, gathering_of, IsShown, Shows, ShowsPart, hits_in}
+use Rattle.snort_engine.proofs.Prefixes.{WritesPart-none, WritesPart-longer, gathers_none, gathers_both, gathers_part, gathers_some}
 
--- the lines of rules, and then those of more rules
-item_lines-append : (plan : Plan) (front back : List Rule) (item : Item) → item_lines plan (front ++ back) item ≡ item_lines plan front item ++ item_lines plan back item
-unfolding item_lines item_alerts
-item_lines-append plan front back item =
-    ap (λ (x : List Rule). flat_map (text_of plan.classes) (map (alert_of item.head) x)) (filter-append (is_shown plan.matches item) front back)
-    ∙ ap (flat_map (text_of plan.classes)) (map-append (alert_of item.head) (filter (is_shown plan.matches item) front) (filter (is_shown plan.matches item) back))
-    ∙ flat_map-append (text_of plan.classes) (map (alert_of item.head) (filter (is_shown plan.matches item) front)) (map (alert_of item.head) (filter (is_shown plan.matches item) back))
+-- ---- the rules at some places
 
--- one rule
-item_lines-yes : (plan : Plan) (rule : Rule) (item : Item) → is_shown plan.matches item rule ≡ true → item_lines plan (rule ∷ []) item ≡ text_of plan.classes (alert_of item.head rule)
-unfolding item_lines item_alerts
-item_lines-yes plan rule item hit =
-    ap (λ (b : Bool). flat_map (text_of plan.classes) (map (alert_of item.head) (cond b (rule ∷ []) []))) hit ∙ append-nil (text_of plan.classes (alert_of item.head rule))
+places_lines-append : (classes : List Class) (rules : List Rule) (head : ItemHead) (front back : List ℕ) → places_lines classes rules head (front ++ back) ≡ places_lines classes rules head front ++ places_lines classes rules head back
+unfolding places_lines
+places_lines-append classes rules head front back =
+    ap (flat_map (text_of classes)) (flat_map-append (alert_at rules head) front back)
+    ∙ flat_map-append (text_of classes) (flat_map (alert_at rules head) front) (flat_map (alert_at rules head) back)
 
-item_lines-no : (plan : Plan) (rule : Rule) (item : Item) → is_shown plan.matches item rule ≡ false → item_lines plan (rule ∷ []) item ≡ []
-unfolding item_lines item_alerts
-item_lines-no plan rule item miss = ap (λ (b : Bool). flat_map (text_of plan.classes) (map (alert_of item.head) (cond b (rule ∷ []) []))) miss
+places_count-append : (rules : List Rule) (head : ItemHead) (front back : List ℕ) → places_count rules head (front ++ back) ≡ places_count rules head front + places_count rules head back
+unfolding places_count
+places_count-append rules head front back =
+    ap length (flat_map-append (alert_at rules head) front back)
+    ∙ length-append (flat_map (alert_at rules head) front) (flat_map (alert_at rules head) back)
 
-pub item_lines-none : (plan : Plan) (item : Item) → item_lines plan [] item ≡ []
-unfolding item_lines item_alerts
-item_lines-none plan item = refl
+-- a rule that is there has its line, and one that isn't has none
+place_lines-some : (classes : List Class) (rules : List Rule) (head : ItemHead) (place : ℕ) (rule : Rule) → slice_get rules place ≡ Some rule → places_lines classes rules head (place ∷ []) ≡ text_of classes (alert_of head rule)
+unfolding places_lines
+place_lines-some classes rules head place rule is =
+    ap (λ (found : Option Rule). flat_map (text_of classes) (option_to_list (option_map (alert_of head) found) ++ [])) is
+    ∙ append-nil (text_of classes (alert_of head rule))
 
--- the lines of one rule more
-one_rule_more : (plan : Plan) (rules : List Rule) (i : ℕ) (rule : Rule) (item : Item) → i < length rules → rule ≡ get_or rules i rule
-    → item_lines plan (take (i + 1) rules) item ≡ item_lines plan (take i rules) item ++ item_lines plan (rule ∷ []) item
-one_rule_more plan rules i rule item lt is =
-    ap (λ (some : List Rule). item_lines plan some item) (take_more rules i rule lt) ∙ item_lines-append plan (take i rules) (get_or rules i rule ∷ []) item
-    ∙ ap (λ (r : Rule). item_lines plan (take i rules) item ++ item_lines plan (r ∷ []) item) (sym is)
+place_lines-none : (classes : List Class) (rules : List Rule) (head : ItemHead) (place : ℕ) → slice_get rules place ≡ None → places_lines classes rules head (place ∷ []) ≡ []
+unfolding places_lines
+place_lines-none classes rules head place is = ap (λ (found : Option Rule). flat_map (text_of classes) (option_to_list (option_map (alert_of head) found) ++ [])) is
 
--- the lines so far came, and then that of the next rule, which alerts
-pub shown_step : (old middle new : Gathering) (plan : Plan) (rules : List Rule) (i : ℕ) (rule : Rule) (item : Item) → i < length rules → rule ≡ get_or rules i rule
-    → Gathers (item_lines plan (take i rules) item) old middle → is_shown plan.matches item rule ≡ true → Gathers (text_of plan.classes (alert_of item.head rule)) middle new
-    → Gathers (item_lines plan (take (i + 1) rules) item) old new
-shown_step old middle new plan rules i rule item lt is so_far hit more =
-    subst (λ (x : List ℕ). Gathers x old new)
-    (ap (λ (x : List ℕ). item_lines plan (take i rules) item ++ x) (sym (item_lines-yes plan rule item hit)) ∙ sym (one_rule_more plan rules i rule item lt is))
-    (gathers_both _ _ old middle new so_far more)
+place_count-some : (rules : List Rule) (head : ItemHead) (place : ℕ) (rule : Rule) → slice_get rules place ≡ Some rule → places_count rules head (place ∷ []) ≡ 1
+unfolding places_count
+place_count-some rules head place rule is = ap (λ (found : Option Rule). length (option_to_list (option_map (alert_of head) found) ++ [])) is
 
--- the lines so far came, and the next rule doesn't alert
-pub passed_step : (old middle : Gathering) (plan : Plan) (rules : List Rule) (i : ℕ) (rule : Rule) (item : Item) → i < length rules → rule ≡ get_or rules i rule
-    → Gathers (item_lines plan (take i rules) item) old middle → is_shown plan.matches item rule ≡ false
-    → Gathers (item_lines plan (take (i + 1) rules) item) old middle
-passed_step old middle plan rules i rule item lt is so_far miss =
-    subst (λ (x : List ℕ). Gathers x old middle)
-    (sym (append-nil (item_lines plan (take i rules) item))
-    ∙ ap (λ (x : List ℕ). item_lines plan (take i rules) item ++ x) (sym (item_lines-no plan rule item miss))
-    ∙ sym (one_rule_more plan rules i rule item lt is))
-    so_far
+place_count-none : (rules : List Rule) (head : ItemHead) (place : ℕ) → slice_get rules place ≡ None → places_count rules head (place ∷ []) ≡ 0
+unfolding places_count
+place_count-none rules head place is = ap (λ (found : Option Rule). length (option_to_list (option_map (alert_of head) found) ++ [])) is
 
--- the lines so far came, and then a part of what waits was written
-pub part_so_far : (old middle : Gathering) (new : Option (List ℕ)) (plan : Plan) (rules : List Rule) (i : ℕ) (item : Item)
-    → Gathers (item_lines plan (take i rules) item) old middle → WritesPart middle.written middle.block new
-    → WritesPart old.written (old.block ++ item_lines plan rules item) new
-part_so_far old middle new plan rules i item so_far part =
-    let front = item_lines plan (take i rules) item in
-    let others = item_lines plan (drop i rules) item in
-    let whole : front ++ others ≡ item_lines plan rules item =
-    sym (item_lines-append plan (take i rules) (drop i rules) item) ∙ ap (λ (some : List Rule). item_lines plan some item) (take-append-drop i rules) in
-    let P : List ℕ → Type 0 = λ x. WritesPart old.written x new in
-    let none : WritesPart old.written (old.block ++ (front ++ [])) new =
-    gathers_part front [] old middle new so_far (subst (λ (x : List ℕ). WritesPart middle.written x new) (sym (append-nil middle.block)) part) in
-    let own : WritesPart old.written (old.block ++ front) new = subst (λ (x : List ℕ). WritesPart old.written (old.block ++ x) new) (append-nil front) none in
-    subst P (append_assoc old.block front others ∙ ap (λ (x : List ℕ). old.block ++ x) whole) (WritesPart-longer old.written new (old.block ++ front) others own)
+-- what a look at a place tells of the rule there
+pub place_there : (rules : List Rule) (place : ℕ) (rule : Bor Rule) → IsItemAt rules place (Some rule) → slice_get rules place ≡ Some rule.now
+place_there rules place rule found = slice_get_read rules (length rules) place rule.now refl found.3.0 found.1
 
--- the lines so far came, and then a part of what waits and of that of the next rule was written
-pub part_step : (old middle : Gathering) (new : Option (List ℕ)) (plan : Plan) (rules : List Rule) (i : ℕ) (rule : Rule) (item : Item) → i < length rules → rule ≡ get_or rules i rule
-    → Gathers (item_lines plan (take i rules) item) old middle → is_shown plan.matches item rule ≡ true → WritesPart middle.written (middle.block ++ text_of plan.classes (alert_of item.head rule)) new
-    → WritesPart old.written (old.block ++ item_lines plan rules item) new
-part_step old middle new plan rules i rule item lt is so_far hit part =
-    let front = item_lines plan (take i rules) item in
-    let own = text_of plan.classes (alert_of item.head rule) in
-    let others = item_lines plan (drop (i + 1) rules) item in
-    let to_next : front ++ own ≡ item_lines plan (take (i + 1) rules) item =
-    ap (λ (x : List ℕ). front ++ x) (sym (item_lines-yes plan rule item hit)) ∙ sym (one_rule_more plan rules i rule item lt is) in
-    let whole : (front ++ own) ++ others ≡ item_lines plan rules item =
-    ap (λ (x : List ℕ). x ++ others) to_next
-    ∙ sym (item_lines-append plan (take (i + 1) rules) (drop (i + 1) rules) item) ∙ ap (λ (some : List Rule). item_lines plan some item) (take-append-drop (i + 1) rules) in
-    let P : List ℕ → Type 0 = λ x. WritesPart old.written x new in
-    subst P (append_assoc old.block (front ++ own) others ∙ ap (λ (x : List ℕ). old.block ++ x) whole)
-    (WritesPart-longer old.written new (old.block ++ (front ++ own)) others (gathers_part front own old middle new so_far part))
+pub place_absent : (rules : List Rule) (place : ℕ) (answer : Option (Bor Rule)) → IsItemAt rules place answer → ((rule : Bor Rule) → answer ≡ Some rule → ⊥) → slice_get rules place ≡ None
+place_absent rules place None found absent = slice_get_past rules place found.3
+place_absent rules place (Some rule) found absent = absurd (absent rule refl)
 
--- what waits was written, and nothing of a text that came
-pub part_before : (old : Option (List ℕ)) (block text : List ℕ) (new : Option (List ℕ)) → WritesPart old block new → WritesPart old (block ++ text) new
-part_before old block text new part = WritesPart-longer old new block text part
+-- the line of a rule came, or there is none
+pub place_shown : (classes : List Class) (rules : List Rule) (head : ItemHead) (place : ℕ) (rule : Rule) (old new : Gathering) → slice_get rules place ≡ Some rule
+    → Gathers (text_of classes (alert_of head rule)) old new → ShowsPlaces classes rules head (place ∷ []) 1 old new
+place_shown classes rules head place rule old new is came = record {
+  came = subst (λ (x : List ℕ). Gathers x old new) (sym (place_lines-some classes rules head place rule is)) came;
+  counted = sym (place_count-some rules head place rule is);
+}
 
--- the lines of no rule came
-pub none_came : (old : Gathering) (plan : Plan) (item : Item) → Gathers (item_lines plan [] item) old old
-none_came old plan item = subst (λ (x : List ℕ). Gathers x old old) (sym (item_lines-none plan item)) (gathers_none old)
+pub place_passed : (classes : List Class) (rules : List Rule) (head : ItemHead) (place : ℕ) (old : Gathering) → slice_get rules place ≡ None → ShowsPlaces classes rules head (place ∷ []) 0 old old
+place_passed classes rules head place old is = record {
+  came = subst (λ (x : List ℕ). Gathers x old old) (sym (place_lines-none classes rules head place is)) (gathers_none old);
+  counted = sym (place_count-none rules head place is);
+}
 
--- ---- whether a rule alerts
+-- or a part of it was written
+pub place_part : (classes : List Class) (rules : List Rule) (head : ItemHead) (place : ℕ) (rule : Rule) (old : Option (List ℕ)) (block : List ℕ) (new : Option (List ℕ)) → slice_get rules place ≡ Some rule
+    → WritesPart old (block ++ text_of classes (alert_of head rule)) new → WritesPart old (block ++ places_lines classes rules head (place ∷ [])) new
+place_part classes rules head place rule old block new is part =
+    subst (λ (x : List ℕ). WritesPart old (block ++ x) new) (sym (place_lines-some classes rules head place rule is)) part
 
--- two tests of one fact agree
-tests_agree : (a b : Bool) (P : Type 0) → (IsTrue a ↔ P) → (IsTrue b ↔ P) → a ≡ b
-tests_agree true true P one two = refl
-tests_agree true false P one two = sym (two.1 (one.0 refl))
-tests_agree false true P one two = one.1 (two.0 refl)
-tests_agree false false P one two = refl
+-- no rule
+pub places_none : (classes : List Class) (rules : List Rule) (head : ItemHead) (old : Gathering) → ShowsPlaces classes rules head [] 0 old old
+unfolding places_lines places_count
+places_none classes rules head old = record { came = gathers_none old; counted = refl }
 
--- a rule that alerts where it matches, by its match
-pub shown_by : (told answer test : Bool) (P : Type 0) → told ≡ true → (IsTrue answer ↔ P) → (IsTrue test ↔ P) → answer ≡ (told && test)
-shown_by told answer test P is one two = tests_agree answer test P one two ∙ ap (λ (b : Bool). b && test) (sym is)
+-- one rule more
+pub places_step : (classes : List Class) (rules : List Rule) (head : ItemHead) (places : List ℕ) (i count one : ℕ) (old middle new : Gathering) → i < length places
+    → ShowsPlaces classes rules head (take i places) count old middle → ShowsPlaces classes rules head (get_or places i 0 ∷ []) one middle new
+    → ShowsPlaces classes rules head (take (i + 1) places) (count + one) old new
+places_step classes rules head places i count one old middle new lt so_far more =
+    let front = take i places in
+    let place = get_or places i 0 in
+    let both : ShowsPlaces classes rules head (front ++ place ∷ []) (count + one) old new = record {
+      came = subst (λ (x : List ℕ). Gathers x old new) (sym (places_lines-append classes rules head front (place ∷ []))) (gathers_both _ _ old middle new so_far.came more.came);
+      counted = let first = so_far.counted in let second = more.counted in let joined = places_count-append rules head front (place ∷ []) in omega (arith, first, second, joined);
+    } in
+    subst (λ (x : List ℕ). ShowsPlaces classes rules head x (count + one) old new) (sym (take_more places i 0 lt)) both
 
--- the answer of one try, as the test has it
-pub shown_answer : {E : Type 0} (answer : Result Bool E) (matches : Test) (means : Means) (rule : Rule) (item : Item) (bits : Bits) → bits ≡ empty → is_told rule ≡ true → Tells means matches
-    → IfOk answer (λ hit. IsTrue hit ↔ RuleMatches means rule item bits) → IfOk answer (λ shown. shown ≡ is_shown matches item rule)
-shown_answer (Ok hit) matches means rule item bits none told tells tried =
-    shown_by (is_told rule) hit (matches rule item empty) (RuleMatches means rule item empty) told (subst (λ (b : Bits). IsTrue hit ↔ RuleMatches means rule item b) none tried) (tells rule item empty)
-shown_answer (Err why) matches means rule item bits none told tells tried = tt
+-- the lines so far came, and then a part of that of the next rule was written
+pub places_part : (classes : List Class) (rules : List Rule) (head : ItemHead) (places : List ℕ) (i count : ℕ) (old middle : Gathering) (new : Option (List ℕ)) → i < length places
+    → ShowsPlaces classes rules head (take i places) count old middle → WritesPart middle.written (middle.block ++ places_lines classes rules head (get_or places i 0 ∷ [])) new
+    → WritesPart old.written (old.block ++ places_lines classes rules head places) new
+places_part classes rules head places i count old middle new lt so_far part =
+    let front = take i places in
+    let place = get_or places i 0 in
+    let back = drop (i + 1) places in
+    let text : List ℕ → List ℕ = places_lines classes rules head in
+    let whole : (text front ++ text (place ∷ [])) ++ text back ≡ text places =
+    ap (λ (x : List ℕ). x ++ text back) (sym (places_lines-append classes rules head front (place ∷ [])) ∙ ap text (sym (take_more places i 0 lt)))
+    ∙ sym (places_lines-append classes rules head (take (i + 1) places) back) ∙ ap text (take-append-drop (i + 1) places) in
+    subst (λ (x : List ℕ). WritesPart old.written x new) (append_assoc old.block (text front ++ text (place ∷ [])) (text back) ∙ ap (λ (x : List ℕ). old.block ++ x) whole)
+    (WritesPart-longer old.written new (old.block ++ (text front ++ text (place ∷ []))) (text back) (gathers_part (text front) (text (place ∷ [])) old middle new so_far.came part))
 
 -- a rule's class is one of the classes
 pub class_there : (classes : List Class) (rules : List Rule) (i : ℕ) (rule : Rule) → i < length rules → rule ≡ get_or rules i rule → All (IsSound classes) rules
@@ -144,78 +130,166 @@ class_there classes rules i rule lt is sound = λ place named.
     let own : IsSound classes rule = subst (λ (r : Rule). IsSound classes r) (sym is) (sound i rule lt) in
     MatchOption-at_some ⊤ (λ (p : ℕ). p < length classes) place named own.class
 
--- ---- the lines of a record
+-- ---- items
 
--- the lines of a record by what the decoder found in it
-pub record_lines-by : (plan : Plan) (link : Link) (captured : Record) (bytes : List ℕ) (answer : Result Fields Skip) → answer ≡ decoded link bytes plan.checks → bytes ≡ captured.bytes
-    → record_lines plan (linked link captured) ≡ flat_map (text_of plan.classes) (alerts_on plan.matches plan.rules (item_of captured.moment answer))
-unfolding record_lines record_alerts
-record_lines-by plan link captured bytes answer is same =
-    sym (ap (λ (d : Result Fields Skip). flat_map (text_of plan.classes) (alerts_on plan.matches plan.rules (item_of captured.moment d))) is
-    ∙ ap (λ (b : List ℕ). flat_map (text_of plan.classes) (alerts_on plan.matches plan.rules (item_of captured.moment (decoded link b plan.checks)))) same)
+-- no item was given
+pub events_new : (config : Config) (rules : List Rule) (filters : FiltersState) (tally : Tally) → IsGiven config rules [] filters → tally ≡ record { items = 0; hits = 0; alerts = 0 }
+    → tally ≡ tally_of config rules []
+unfolding tally_of
+events_new config rules filters tally given is = is
 
--- a record that is skipped has no lines
-pub skipped_lines : (plan : Plan) (link : Link) (captured : Record) (bytes : List ℕ) (skip : Skip) → Err skip ≡ decoded link bytes plan.checks → bytes ≡ captured.bytes
-    → record_lines plan (linked link captured) ≡ []
-skipped_lines plan link captured bytes skip is same = record_lines-by plan link captured bytes (Err skip) is same
+items_lines-append : (config : Config) (rules : List Rule) (before front back : List Hits) → items_lines config rules before (front ++ back) ≡ items_lines config rules before front ++ items_lines config rules (before ++ front) back
+unfolding items_lines
+items_lines-append config rules before front back =
+    ap (flat_map (text_of config.classes)) (trail_from-append (item_alerts config rules) before front back)
+    ∙ flat_map-append (text_of config.classes) (trail_from (item_alerts config rules) before front) (trail_from (item_alerts config rules) (before ++ front) back)
 
--- the lines of a packet or fragment are those of its item
-pub record_lines-item : (plan : Plan) (link : Link) (captured : Record) (bytes : List ℕ) (fields : Fields) (head : ItemHead) → Ok fields ≡ decoded link bytes plan.checks → bytes ≡ captured.bytes → head ≡ head_of captured.moment fields
-    → record_lines plan (linked link captured) ≡ item_lines plan plan.rules (record { head = head; payload = fields.payload })
-unfolding item_lines
-record_lines-item plan link captured bytes fields head is same made =
-    record_lines-by plan link captured bytes (Ok fields) is same
-    ∙ ap (λ (h : ItemHead). flat_map (text_of plan.classes) (item_alerts plan.matches plan.rules (record { head = h; payload = fields.payload }))) (sym made)
+-- the lines of an item are those of the rules whose events are kept
+items_lines-one : (config : Config) (rules : List Rule) (before : List Hits) (hits : Hits)
+    → items_lines config rules before (hits ∷ []) ≡ places_lines config.classes rules hits.head (kept config rules (map filtered_item before) (filtered_item hits))
+unfolding items_lines places_lines item_alerts
+items_lines-one config rules before hits = ap (flat_map (text_of config.classes)) (append-nil (flat_map (alert_at rules hits.head) (kept config rules (map filtered_item before) (filtered_item hits))))
 
--- a record without lines leaves all as it was
-pub no_lines : (old : Gathering) (plan : Plan) (link : Link) (captured : Record) (bytes : List ℕ) (skip : Skip) → Err skip ≡ decoded link bytes plan.checks → bytes ≡ captured.bytes
-    → Gathers (record_lines plan (linked link captured)) old old
-no_lines old plan link captured bytes skip is same =
-    subst (λ (x : List ℕ). Gathers x old old) (sym (skipped_lines plan link captured bytes skip is same)) (gathers_none old)
+-- a tally by its numbers
+same_tally : (items items' hits hits' alerts alerts' : ℕ) → items ≡ items' → hits ≡ hits' → alerts ≡ alerts'
+    → ◌≡◌ {A = Tally} (record { items = items; hits = hits; alerts = alerts }) (record { items = items'; hits = hits'; alerts = alerts' })
+same_tally items items' hits hits' alerts alerts' a b c = cc
 
--- ---- the lines of a batch
+-- what is counted of one item more
+tally_of-more : (config : Config) (rules : List Rule) (before : List Hits) (hits : Hits) (count : ℕ) (old : Tally) → old ≡ tally_of config rules before
+    → count ≡ places_count rules hits.head (kept config rules (map filtered_item before) (filtered_item hits))
+    → ◌≡◌ {A = Tally} (record { items = old.items + 1; hits = old.hits + length hits.rules; alerts = old.alerts + count }) (tally_of config rules (before ++ hits ∷ []))
+unfolding tally_of places_count item_alerts
+tally_of-more config rules before hits count old is counted =
+    let items : old.items ≡ length before = ap (λ (t : Tally). t.items) is in
+    let found : old.hits ≡ hit_count before = ap (λ (t : Tally). t.hits) is in
+    let alerts : old.alerts ≡ length (trail (item_alerts config rules) before) = ap (λ (t : Tally). t.alerts) is in
+    let own : List Alert = item_alerts config rules before hits in
+    let joined = ap length (sym (trail-more (item_alerts config rules) before hits)) ∙ length-append (trail (item_alerts config rules) before) own in
+    same_tally (old.items + 1) (length (before ++ hits ∷ [])) (old.hits + length hits.rules) (hit_count (before ++ hits ∷ [])) (old.alerts + count) (length (trail (item_alerts config rules) (before ++ hits ∷ [])))
+    (let l = length-append before (hits ∷ []) in omega (arith, items, l))
+    (ap (λ (n : ℕ). n + length hits.rules) found ∙ ap (λ (n : ℕ). hit_count before + n) (sym (zero-add (length hits.rules)))
+    ∙ sym (sum_by-append (λ (h : Hits). length h.rules) before (hits ∷ [])))
+    (omega (arith, alerts, counted, joined))
 
--- the lines of no record came
-pub none_shown : (old : Gathering) (plan : Plan) (link : Link) → Gathers (records_lines plan link []) old old
-unfolding records_lines
-none_shown old plan link = gathers_none old
+-- a tally with one item more
+abbrev tally_with : Tally → ℕ → ℕ → Tally
+tally_with old size count = record { items = old.items + 1; hits = old.hits + size; alerts = old.alerts + count }
 
--- the lines of records, and then those of more records
-records_lines-append : (plan : Plan) (link : Link) (front back : List Record) → records_lines plan link (front ++ back) ≡ records_lines plan link front ++ records_lines plan link back
-unfolding records_lines
-records_lines-append plan link front back = flat_map-append (λ captured. record_lines plan (linked link captured)) front back
+-- an item was given to the filters, and the lines of what they keep of it came
+pub shows_one : (config : Config) (rules : List Rule) (hits : Hits) (old new : Showing) (places : List ℕ) (count size : ℕ)
+    → Passes config rules old.events.filters [] (filtered_item hits) new.events.filters places
+    → ShowsPlaces config.classes rules hits.head places count (gathering_of old) (gathering_of new)
+    → new.events.tally ≡ record { items = old.events.tally.items + 1; hits = old.events.tally.hits + size; alerts = old.events.tally.alerts + count } → size ≡ length hits.rules
+    → Shows config rules (hits ∷ []) old new
+unfolding Shows
+shows_one config rules hits old new places count size passes shown tally is = λ before stands.
+    let passed = passes (map filtered_item before) stands.given in
+    let own = kept config rules (map filtered_item before) (filtered_item hits) in record {
+      stands = record {
+        given = subst (λ (x : List Item). IsGiven config rules x new.events.filters) (sym (map-append filtered_item before (hits ∷ []))) passed.0;
+        tally = tally
+            ∙ ap (λ (n : ℕ). tally_with old.events.tally n count) is
+            ∙ tally_of-more config rules before hits count old.events.tally stands.tally (shown.counted ∙ ap (places_count rules hits.head) passed.1);
+      };
+      came = subst (λ (x : List ℕ). Gathers x (gathering_of old) (gathering_of new)) (ap (places_lines config.classes rules hits.head) passed.1 ∙ sym (items_lines-one config rules before hits)) shown.came;
+    }
 
--- the lines of one record
-records_lines-one : (plan : Plan) (link : Link) (captured : Record) → records_lines plan link (captured ∷ []) ≡ record_lines plan (linked link captured)
-unfolding records_lines
-records_lines-one plan link captured = append-nil (record_lines plan (linked link captured))
+-- nothing was written of it
+pub shows_nothing : (config : Config) (rules : List Rule) (items : List Hits) (old : Showing) → ShowsPart config rules items old old.written
+unfolding ShowsPart
+shows_nothing config rules items old = λ before stands. WritesPart-none old.written _
 
--- the lines of one record more
-one_record_more : (plan : Plan) (link : Link) (records : List Record) (i : ℕ) (captured : Record) → i < length records → captured ≡ get_or records i captured
-    → records_lines plan link (take (i + 1) records) ≡ records_lines plan link (take i records) ++ record_lines plan (linked link captured)
-one_record_more plan link records i captured lt is =
-    ap (records_lines plan link) (take_more records i captured lt) ∙ records_lines-append plan link (take i records) (get_or records i captured ∷ [])
-    ∙ ap (λ (r : Record). records_lines plan link (take i records) ++ records_lines plan link (r ∷ [])) (sym is)
-    ∙ ap (λ (x : List ℕ). records_lines plan link (take i records) ++ x) (records_lines-one plan link captured)
+-- a part of its lines was written
+pub shows_part_of : (config : Config) (rules : List Rule) (hits : Hits) (old : Showing) (after : FiltersState) (places : List ℕ) (new : Option (List ℕ))
+    → Passes config rules old.events.filters [] (filtered_item hits) after places
+    → WritesPart old.written (old.events.block.items ++ places_lines config.classes rules hits.head places) new
+    → ShowsPart config rules (hits ∷ []) old new
+unfolding ShowsPart
+shows_part_of config rules hits old after places new passes part = λ before stands.
+    let passed = passes (map filtered_item before) stands.given in
+    subst (λ (x : List ℕ). WritesPart old.written (old.events.block.items ++ x) new) (ap (places_lines config.classes rules hits.head) passed.1 ∙ sym (items_lines-one config rules before hits)) part
 
--- the lines so far came, and then those of the next record
-pub record_step : (old middle new : Gathering) (plan : Plan) (link : Link) (records : List Record) (i : ℕ) (captured : Record) → i < length records → captured ≡ get_or records i captured
-    → Gathers (records_lines plan link (take i records)) old middle → Gathers (record_lines plan (linked link captured)) middle new
-    → Gathers (records_lines plan link (take (i + 1) records)) old new
-record_step old middle new plan link records i captured lt is so_far more =
-    subst (λ (x : List ℕ). Gathers x old new) (sym (one_record_more plan link records i captured lt is)) (gathers_both _ _ old middle new so_far more)
+-- its lines came, and it couldn't be counted
+pub shows_uncounted : (config : Config) (rules : List Rule) (hits : Hits) (old : Showing) (after : FiltersState) (places : List ℕ) (count : ℕ) (new : Gathering)
+    → Passes config rules old.events.filters [] (filtered_item hits) after places
+    → ShowsPlaces config.classes rules hits.head places count (gathering_of old) new
+    → ShowsPart config rules (hits ∷ []) old new.written
+shows_uncounted config rules hits old after places count new passes shown =
+    shows_part_of config rules hits old after places new.written passes (gathers_some _ (gathering_of old) new shown.came)
 
--- the lines so far came, and then a part of what waits and of those of the next record was written
-pub record_part : (old middle : Gathering) (new : Option (List ℕ)) (plan : Plan) (link : Link) (records : List Record) (i : ℕ) (captured : Record) → i < length records → captured ≡ get_or records i captured
-    → Gathers (records_lines plan link (take i records)) old middle → WritesPart middle.written (middle.block ++ record_lines plan (linked link captured)) new
-    → WritesPart old.written (old.block ++ records_lines plan link records) new
-record_part old middle new plan link records i captured lt is so_far part =
-    let front = records_lines plan link (take i records) in
-    let own = record_lines plan (linked link captured) in
-    let others = records_lines plan link (drop (i + 1) records) in
-    let whole : (front ++ own) ++ others ≡ records_lines plan link records =
-    ap (λ (x : List ℕ). x ++ others) (sym (one_record_more plan link records i captured lt is))
-    ∙ sym (records_lines-append plan link (take (i + 1) records) (drop (i + 1) records)) ∙ ap (records_lines plan link) (take-append-drop (i + 1) records) in
-    let P : List ℕ → Type 0 = λ x. WritesPart old.written x new in
-    subst P (append_assoc old.block (front ++ own) others ∙ ap (λ (x : List ℕ). old.block ++ x) whole)
-    (WritesPart-longer old.written new (old.block ++ (front ++ own)) others (gathers_part front own old middle new so_far part))
+-- no item came
+pub shows_none : (config : Config) (rules : List Rule) (old : Showing) → Shows config rules [] old old
+unfolding Shows items_lines
+shows_none config rules old = λ before stands. record {
+  stands = subst (λ (x : List Hits). EventsStand config rules x old.events) (sym (append-nil before)) stands;
+  came = gathers_none (gathering_of old);
+}
+
+-- items came, and then others
+pub shows_both : (config : Config) (rules : List Rule) (front back : List Hits) (old middle new : Showing) → Shows config rules front old middle → Shows config rules back middle new → Shows config rules (front ++ back) old new
+unfolding Shows
+shows_both config rules front back old middle new one two = λ before stands.
+    let first = one before stands in
+    let second = two (before ++ front) first.stands in record {
+      stands = subst (λ (x : List Hits). EventsStand config rules x new.events) (append_assoc before front back) second.stands;
+      came = subst (λ (x : List ℕ). Gathers x (gathering_of old) (gathering_of new)) (sym (items_lines-append config rules before front back))
+          (gathers_both _ _ (gathering_of old) (gathering_of middle) (gathering_of new) first.came second.came);
+    }
+
+-- items came, and then a part of the lines of others was written
+pub shows_then_part : (config : Config) (rules : List Rule) (front back : List Hits) (old middle : Showing) (new : Option (List ℕ)) → Shows config rules front old middle → ShowsPart config rules back middle new → ShowsPart config rules (front ++ back) old new
+unfolding Shows ShowsPart
+shows_then_part config rules front back old middle new one part = λ before stands.
+    let first = one before stands in
+    subst (λ (x : List ℕ). WritesPart old.written (old.events.block.items ++ x) new) (sym (items_lines-append config rules before front back))
+    (gathers_part (items_lines config rules before front) (items_lines config rules (before ++ front) back) (gathering_of old) (gathering_of middle) new first.came (part (before ++ front) first.stands))
+
+-- a part of the lines of items is one of those of more items
+pub shows_part_longer : (config : Config) (rules : List Rule) (front back : List Hits) (old : Showing) (new : Option (List ℕ)) → ShowsPart config rules front old new → ShowsPart config rules (front ++ back) old new
+unfolding ShowsPart
+shows_part_longer config rules front back old new part = λ before stands.
+    subst (λ (x : List ℕ). WritesPart old.written x new)
+    (append_assoc old.events.block.items (items_lines config rules before front) (items_lines config rules (before ++ front) back)
+    ∙ ap (λ (x : List ℕ). old.events.block.items ++ x) (sym (items_lines-append config rules before front back)))
+    (WritesPart-longer old.written new (old.events.block.items ++ items_lines config rules before front) (items_lines config rules (before ++ front) back) (part before stands))
+
+-- the items so far came, and then the next one
+pub items_step : (config : Config) (rules : List Rule) (items : List Hits) (i : ℕ) (hits : Hits) (old middle new : Showing) → i < length items → hits ≡ get_or items i hits
+    → Shows config rules (take i items) old middle → Shows config rules (hits ∷ []) middle new → Shows config rules (take (i + 1) items) old new
+items_step config rules items i hits old middle new lt is so_far more =
+    subst (λ (x : List Hits). Shows config rules x old new) (ap (λ (h : Hits). take i items ++ h ∷ []) is ∙ sym (take_more items i hits lt))
+    (shows_both config rules (take i items) (hits ∷ []) old middle new so_far more)
+
+pub items_part : (config : Config) (rules : List Rule) (items : List Hits) (i : ℕ) (hits : Hits) (old middle : Showing) (new : Option (List ℕ)) → i < length items → hits ≡ get_or items i hits
+    → Shows config rules (take i items) old middle → ShowsPart config rules (hits ∷ []) middle new → ShowsPart config rules items old new
+items_part config rules items i hits old middle new lt is so_far part =
+    let own : take i items ++ hits ∷ [] ≡ take (i + 1) items = ap (λ (h : Hits). take i items ++ h ∷ []) is ∙ sym (take_more items i hits lt) in
+    subst (λ (x : List Hits). ShowsPart config rules x old new) (ap (λ (x : List Hits). x ++ drop (i + 1) items) own ∙ take-append-drop (i + 1) items)
+    (shows_part_longer config rules (take i items ++ hits ∷ []) (drop (i + 1) items) old new (shows_then_part config rules (take i items) (hits ∷ []) old middle new so_far part))
+
+-- ---- the items of jobs
+
+hits_in-one : (job : JobHits) → hits_in (job ∷ []) ≡ job.items
+hits_in-one job = append-nil job.items
+
+hits_in-more : (jobs : List JobHits) (i : ℕ) (job : JobHits) → i < length jobs → job ≡ get_or jobs i job → hits_in (take i jobs) ++ job.items ≡ hits_in (take (i + 1) jobs)
+hits_in-more jobs i job lt is =
+    ap (λ (x : List Hits). hits_in (take i jobs) ++ x) (sym (hits_in-one job))
+    ∙ sym (flat_map-append (λ (j : JobHits). j.items) (take i jobs) (job ∷ []))
+    ∙ ap hits_in (ap (λ (j : JobHits). take i jobs ++ j ∷ []) is ∙ sym (take_more jobs i job lt))
+
+pub jobs_step : (config : Config) (rules : List Rule) (jobs : List JobHits) (i : ℕ) (job : JobHits) (old middle new : Showing) → i < length jobs → job ≡ get_or jobs i job
+    → Shows config rules (hits_in (take i jobs)) old middle → Shows config rules job.items middle new → Shows config rules (hits_in (take (i + 1) jobs)) old new
+jobs_step config rules jobs i job old middle new lt is so_far more =
+    subst (λ (x : List Hits). Shows config rules x old new) (hits_in-more jobs i job lt is)
+    (shows_both config rules (hits_in (take i jobs)) job.items old middle new so_far more)
+
+pub jobs_part : (config : Config) (rules : List Rule) (jobs : List JobHits) (i : ℕ) (job : JobHits) (old middle : Showing) (new : Option (List ℕ)) → i < length jobs → job ≡ get_or jobs i job
+    → Shows config rules (hits_in (take i jobs)) old middle → ShowsPart config rules job.items middle new → ShowsPart config rules (hits_in jobs) old new
+jobs_part config rules jobs i job old middle new lt is so_far part =
+    subst (λ (x : List Hits). ShowsPart config rules x old new)
+    (ap (λ (x : List Hits). x ++ hits_in (drop (i + 1) jobs)) (hits_in-more jobs i job lt is)
+    ∙ sym (flat_map-append (λ (j : JobHits). j.items) (take (i + 1) jobs) (drop (i + 1) jobs)) ∙ ap hits_in (take-append-drop (i + 1) jobs))
+    (shows_part_longer config rules (hits_in (take i jobs) ++ job.items) (hits_in (drop (i + 1) jobs)) old new
+    (shows_then_part config rules (hits_in (take i jobs)) job.items old middle new so_far part))

@@ -1,71 +1,52 @@
 -- The steps of watching a capture.
-use Rattle.std.proofs.Common.{◌≡◌, ℕ, ◌<◌, ◌≤◌, false, List, [], ◌∷◌, ◌++◌, length, map, Option, Some, None, Result, Ok, Err, refl, sym, ap, subst, ◌∙◌, arith}
-use Rattle.std.specs.Option.{IfNone}
-use Rattle.std.proofs.lemmas.List.{append-nil}
+use Rattle.std.proofs.Common.{◌≡◌, ℕ, ◌+◌, ◌<◌, ◌≤◌, Bool, true, false, List, [], ◌∷◌, ◌++◌, length, map, Option, Some, None, Result, Ok, Err, refl, sym, ap, subst, ◌∙◌, append_assoc, arith, inl, inr, ◌⊎◌, ⊎_elim}
+use Rattle.std.proofs.lemmas.List.{append-nil, map-append}
 use Rattle.edge_io.specs.declared.link.Link.{Link}
-use Rattle.edge_io.specs.Told.{behind}
-use Rattle.edge_io.proofs.Told.{behind-nil, behind-behind}
+use Rattle.edge_io.specs.Told.{before, behind}
+use Rattle.edge_io.proofs.Told.{before-nil, behind-nil, behind-behind}
 use Rattle.pcap_input.specs.declared.capture.Record.{Record}
 use Rattle.pcap_input.specs.declared.capture.CaptureFault.{CaptureFault}
 use Rattle.pcap_input.specs.Savefile.{Cut, Ending, Clean, Refused, first_records}
 use Rattle.pcap_input.specs.declared.capture.CaptureFault.TheVariants as fault
 use Rattle.pcap_input.specs.declared.capture.CaptureHead.{CaptureHead}
-use Rattle.pcap_input.specs.Reader.{Reading, after_next, Gives, TakesRecord, TakesNone}
-use Rattle.pcap_input.specs.Reading.{cut_for, with_front, HasRead, AreWhole, EndsWith, IsRefusedBy}
-use Rattle.pcap_input.proofs.Reading.{reading-start, reading-more, reading-told, reading-whole, reading-stopped, reading-refused, reading-ended}
-use Rattle.pcap_input.proofs.Laws.{next_means}
+use Rattle.pcap_input.specs.Reader.{Reading}
+use Rattle.pcap_input.specs.Reading.{cut_for, HasRead, AreWhole, EndsWith, IsRefusedBy}
+use Rattle.pcap_input.proofs.Reading.{reading-start, reading-told, reading-whole}
+use Rattle.record_jobs.specs.Way.{LinkedRecord, linked}
+use Rattle.snort_engine.specs.declared.counts.Counts.{Counts}
+use Rattle.snort_engine.specs.declared.detect.Detector.{Detector}
 use Rattle.snort_engine.specs.declared.stop.Stop.{Stop}
 use Rattle.snort_engine.specs.declared.stop.Stop.TheVariants as stop
 use Rattle.snort_engine.specs.Course.{Plan}
 use Rattle.snort_engine.specs.Outside.{WritesPart}
-use Rattle.snort_engine.specs.Records.{linked}
-use Rattle.snort_engine.specs.Stop.{capture_stop}
+use Rattle.snort_engine.specs.Stop.{capture_stop, is_whole}
 use Rattle.snort_engine.specs.Trace.{Open, Closed}
 use Rattle.snort_engine.specs.Lines.{lines}
+use Rattle.snort_engine.specs.Counts.{counts_of}
 use Rattle.snort_engine.specs.Batch.{Place, HasStopped, Reaches, ReadsOn, more_of}
 use Rattle.snort_engine.specs.declared.batch.Reached.{Reached}
 use Rattle.snort_engine.specs.declared.batch.Reached.TheVariants.{More, End, Fault}
 use Rattle.snort_engine.specs.ReadAhead.{batch}
-use Rattle.snort_engine.specs.Watching.{Streams, Standing, lines_of, lines_left, cut_by, records_lines, IsRoom, most_at, room_behind, IsUnderWay, IsWatched, IsCutOff, IsCloseBehind, WritesSome, WatchesTo, Watches, GoesOn, IsShowStop}
-use Rattle.snort_engine.proofs.Prefixes.{WritesPart-all, WritesPart-behind, WritesPart-longer}
+use Rattle.snort_engine.specs.Detecting.{AreShown, Closes, ClosesPart, Detecting, DetectorStands, ShowsRecords, ShowsRecordsPart, closing_lines}
+use Rattle.snort_engine.specs.Watching.{Streams, Standing, lines_of, lines_left, cut_by, counts_left, IsRoom, most_at, room_behind, IsUnderWay, IsAtEnd, IsWatched, IsCutOff, IsCloseBehind, WritesSome, WatchesTo, Watches, Comes, ComesOver, GoesOn, IsShowStop, IsLeft, IsClosedWhole, IsClosedInPart, ClosesWatched}
+use Rattle.snort_engine.proofs.Prefixes.{WritesPart-all, WritesPart-behind, WritesPart-longer, WritesPart-none}
 use Rattle.snort_engine.proofs.Limits.{first_records-front, below_limit, at_limit, within_limit, room_first, room_further, room_left}
-use Rattle.snort_engine.proofs.LinesLaws.{lines_of-nil, lines_of-closed, lines_of-append, lines_of-batch}
+use Rattle.snort_engine.proofs.LinesLaws.{lines_of-nil, lines_of-closed, lines_of-append}
 
 -- nothing was done yet
-pub under_way-start : (plan : Plan) (reader : Reading) (room : Option ℕ) (old : Streams) → reader.refused ≡ None → room ≡ plan.limit → IsUnderWay plan reader old (record { reader = reader; room = room; streams = old })
-under_way-start plan reader room old fresh all = record {
+pub under_way-start : (plan : Plan) (reader : Reading) (room : Option ℕ) (detector : Detector) (old : Streams) → reader.refused ≡ None → room ≡ plan.limit → DetectorStands plan [] detector
+    → IsUnderWay plan reader old (record { reader = reader; room = room; detector = detector; streams = old })
+under_way-start plan reader room detector old fresh all stands = record {
   given = [];
   read = reading-start reader old.left fresh;
   room_is = subst (λ (r : Option ℕ). IsRoom plan.limit 0 r) (sym all) (room_first plan.limit);
-  wrote = sym (behind-nil old.written) ∙ ap (behind old.written) (sym (lines_of-nil plan reader.head.link Open));
+  stands = stands;
+  wrote = sym (behind-nil old.written) ∙ ap (behind old.written) (sym (lines_of-nil plan reader.head.link));
 }
 
--- the lines of some records were written, and then those of a batch
-more_shown : (plan : Plan) (link : Link) (given records : List Record) (old now after : Option (List ℕ)) → now ≡ behind old (lines_of plan link given Open) → after ≡ behind now (records_lines plan link records)
-    → after ≡ behind old (lines_of plan link (given ++ records) Open)
-more_shown plan link given records old now after so_far wrote =
-    let shown = lines_of plan link given Open in
-    let own = records_lines plan link records in
-    wrote ∙ ap (λ (x : Option (List ℕ)). behind x own) so_far ∙ behind-behind old shown own ∙ ap (behind old) (sym (lines_of-batch plan link given records))
-
--- all records that may be read were given: all lines were written
-watched_by : (plan : Plan) (first : Reading) (given : List Record) (old after : Streams) (ending : Ending) → after.written ≡ behind old.written (lines_of plan first.head.link given Open)
-    → ((whole : List ℕ) → old.left ≡ Some whole → cut_by plan first whole ≡ record { records = given; ending = ending }) → WatchesTo plan first ending old after
-watched_by plan first given old after ending wrote ends whole told =
-    let cut = ends whole told in
-    record {
-      ends = ap (λ (c : Cut). c.ending) cut;
-      wrote = wrote
-          ∙ ap (behind old.written) (sym (ap (λ (c : Cut). lines_of plan first.head.link c.records Closed) cut ∙ lines_of-closed plan first.head.link given));
-    }
-
--- all records were given, where more might have been read
-watched-ends : (plan : Plan) (first : Reading) (room : Option ℕ) (given : List Record) (old after : Streams) (ending : Ending) → IsRoom plan.limit (length given) room → 0 < most_at room
-    → after.written ≡ behind old.written (lines_of plan first.head.link given Open)
-    → EndsWith first given old.left ending → WatchesTo plan first ending old after
-watched-ends plan first room given old after ending is some wrote ends =
-    watched_by plan first given old after ending wrote
-    (λ whole told. ap (first_records plan.limit) (ends whole told) ∙ below_limit plan.limit room given ending is some)
+-- the lines of a batch behind those of the records before it
+lines_of-batch : (plan : Plan) (link : Link) (given records : List Record) → lines_of plan link (given ++ records) Open ≡ lines_of plan link given Open ++ lines plan (map (linked link) given) (map (linked link) records) Open
+lines_of-batch plan link given records = lines_of-append plan link given records Open
 
 -- the records that are whole within the bytes taken are those so far
 cut_off : (plan : Plan) (first : Reading) (room : Option ℕ) (given : List Record) (old after : Streams) → IsRoom plan.limit (length given) room
@@ -111,11 +92,7 @@ reached_behind : (plan : Plan) (first : Reading) (start : Streams) (old : Standi
 reached_behind plan first start old now reached going reads =
     reads first going.given start.left (subst (λ (given : List Record). HasRead first old.reader given start.left old.streams.left) (sym (append-nil going.given)) going.read)
 
--- the lines of a batch, by the link layer of the first reader
-own_lines : (plan : Plan) (first : Reading) (start : Streams) (old : Standing) (link : Link) (records : List Record) → IsUnderWay plan first start old → link ≡ old.reader.head.link
-    → records_lines plan link records ≡ records_lines plan first.head.link records
-own_lines plan first start old link records going is =
-    ap (λ (l : Link). records_lines plan l records) (is ∙ ap (λ (head : CaptureHead). head.link) going.read.head)
+-- ---- the end of all batches
 
 -- the lines of all whole records were written: they are close behind
 close_by : (plan : Plan) (first : Reading) (room : Option ℕ) (given : List Record) (old after : Streams) → IsRoom plan.limit (length given) room
@@ -132,19 +109,32 @@ close_by plan first room given old after is wrote whole = record {
   wrote = wrote ∙ ap (behind old.written) (sym (append-nil (lines_of plan first.head.link given Open)));
 }
 
--- a refusal of the capture, behind records whose lines were written
-fault_stops : (plan : Plan) (first : Reading) (room : Option ℕ) (given : List Record) (old after : Streams) (why : CaptureFault) → IsRoom plan.limit (length given) room → 0 < most_at room
+-- all records were given, where more might have been read
+at_end : (plan : Plan) (first : Reading) (room : Option ℕ) (given : List Record) (old after : Streams) (detector : Detector) (ending : Ending) → IsRoom plan.limit (length given) room → 0 < most_at room
+    → DetectorStands plan (map (linked first.head.link) given) detector
     → after.written ≡ behind old.written (lines_of plan first.head.link given Open)
-    → HasStopped first given old.left after.left → IsRefusedBy first given old.left why → Watches plan first old after (Err (capture_stop why))
-fault_stops plan first room given old after why is some wrote stopped ends = by_fault why ends
+    → EndsWith first given old.left ending → IsAtEnd plan first old after detector ending
+at_end plan first room given old after detector ending is some stands wrote ends = record {
+  given = given;
+  ends = λ whole told. ap (first_records plan.limit) (ends whole told) ∙ below_limit plan.limit room given ending is some;
+  stands = stands;
+  wrote = wrote;
+}
+
+-- a refusal of the capture, behind records whose lines were written
+fault_comes : (plan : Plan) (first : Reading) (room : Option ℕ) (given : List Record) (old after : Streams) (detector : Detector) (why : CaptureFault) → IsRoom plan.limit (length given) room → 0 < most_at room
+    → DetectorStands plan (map (linked first.head.link) given) detector
+    → after.written ≡ behind old.written (lines_of plan first.head.link given Open)
+    → HasStopped first given old.left after.left → IsRefusedBy first given old.left why → Comes plan first old after detector (Err (capture_stop why))
+fault_comes plan first room given old after detector why is some stands wrote stopped ends = by_fault why ends
   where
     part : WritesSome plan first old after
     part = part_of_all plan first stopped.behind room given old stopped.still after.written is stopped.read (WritesPart-all old.written after.written _ wrote)
 
-    to : (f : CaptureFault) → EndsWith first given old.left (Refused f) → WatchesTo plan first (Refused f) old after
-    to f ends_so = watched-ends plan first room given old after (Refused f) is some wrote ends_so
+    to : (f : CaptureFault) → EndsWith first given old.left (Refused f) → IsAtEnd plan first old after detector (Refused f)
+    to f ends_so = at_end plan first room given old after detector (Refused f) is some stands wrote ends_so
 
-    by_fault : (f : CaptureFault) → IsRefusedBy first given old.left f → Watches plan first old after (Err (capture_stop f))
+    by_fault : (f : CaptureFault) → IsRefusedBy first given old.left f → Comes plan first old after detector (Err (capture_stop f))
     by_fault fault.NotPcap ends = (fault.NotPcap, refl, to fault.NotPcap ends)
     by_fault (fault.LinkType link_type) ends = (fault.LinkType link_type, refl, to (fault.LinkType link_type) ends)
     by_fault (fault.Truncated place) ends = (fault.Truncated place, refl, to (fault.Truncated place) ends)
@@ -154,10 +144,10 @@ fault_stops plan first room given old after why is some wrote stopped ends = by_
     by_fault fault.NoMemory ends = part
 
 -- the lines were not all written
-showing_stops : (plan : Plan) (first : Reading) (old after : Streams) (why : Stop) → IsShowStop why → WritesSome plan first old after → Watches plan first old after (Err why)
-showing_stops plan first old after stop.CannotWrite kind some = some
-showing_stops plan first old after stop.NoMemory kind some = some
-showing_stops plan first old after why kind some = absurd kind
+showing_stops : (plan : Plan) (first : Reading) (old after : Streams) (detector : Detector) (why : Stop) → IsShowStop why → WritesSome plan first old after → Comes plan first old after detector (Err why)
+showing_stops plan first old after detector stop.CannotWrite kind some = some
+showing_stops plan first old after detector stop.NoMemory kind some = some
+showing_stops plan first old after detector why kind some = absurd kind
 
 -- ---- a batch
 
@@ -165,29 +155,48 @@ showing_stops plan first old after why kind some = absurd kind
 pub nothing_left : (plan : Plan) (old : Standing) → most_at old.room ≡ 0 → GoesOn plan old old (Ok false)
 nothing_left plan old none = λ first start going.
     let stopped = reading-whole first old.reader going.given start.left old.streams.left going.read in (
-      watched_by plan first going.given start old.streams Clean going.wrote
-          (λ whole told.
-          let found = reading-told first old.reader going.given start.left old.streams.left whole going.read told in
-          ap (first_records plan.limit) found.2 ∙ at_limit plan.limit old.room going.given (cut_for old.reader found.0) going.room_is none),
+      record {
+        given = going.given;
+        ends = λ whole told.
+            let found = reading-told first old.reader going.given start.left old.streams.left whole going.read told in
+            ap (first_records plan.limit) found.2 ∙ at_limit plan.limit old.room going.given (cut_for old.reader found.0) going.room_is none;
+        stands = going.stands;
+        wrote = going.wrote;
+      },
       close_by plan first old.room going.given start old.streams going.room_is going.wrote stopped,
+    )
+
+-- records of the link layer of the first reader
+own_records : (plan : Plan) (first : Reading) (start : Streams) (old : Standing) (link : Link) (records : List Record) → IsUnderWay plan first start old → link ≡ old.reader.head.link
+    → map (linked link) records ≡ map (linked first.head.link) records
+own_records plan first start old link records going is =
+    ap (λ (l : Link). map (linked l) records) (is ∙ ap (λ (head : CaptureHead). head.link) going.read.head)
+
+-- a batch was shown behind the records that were given
+batch_is : (plan : Plan) (link : Link) (records : List Record) (old new : Standing) (first : Reading) (start : Streams) (going : IsUnderWay plan first start old) → link ≡ old.reader.head.link
+    → ShowsRecords plan (map (linked link) records) (record { detector = old.detector; written = old.streams.written }) (record { detector = new.detector; written = new.streams.written })
+    → DetectorStands plan (map (linked first.head.link) (going.given ++ records)) new.detector × (new.streams.written ≡ behind start.written (lines_of plan first.head.link (going.given ++ records) Open))
+unfolding ShowsRecords
+batch_is plan link records old new first start going is shows =
+    let own = first.head.link in
+    let earlier = map (linked own) going.given in
+    let shown : AreShown plan earlier (map (linked own) records) (record { detector = old.detector; written = old.streams.written }) (record { detector = new.detector; written = new.streams.written }) =
+    subst (λ (x : List LinkedRecord). AreShown plan earlier x (record { detector = old.detector; written = old.streams.written }) (record { detector = new.detector; written = new.streams.written }))
+    (own_records plan first start old link records going is) (shows earlier going.stands) in (
+      subst (λ (x : List LinkedRecord). DetectorStands plan x new.detector) (sym (map-append (linked own) going.given records)) shown.stands,
+      shown.wrote ∙ ap (λ (x : Option (List ℕ)). behind x (lines plan earlier (map (linked own) records) Open)) going.wrote
+          ∙ behind-behind start.written (lines_of plan own going.given Open) (lines plan earlier (map (linked own) records) Open)
+          ∙ ap (behind start.written) (sym (lines_of-batch plan own going.given records)),
     )
 
 -- a batch was read and shown
 pub batch_shown : (plan : Plan) (link : Link) (records : List Record) (old new : Standing) (reached : Reached) → link ≡ old.reader.head.link
     → length records ≤ most_at old.room → new.room ≡ room_behind old.room (length records) → ((reached ≡ More → ⊥) → length records < most_at old.room)
     → ReadsOn (record { reader = old.reader; records = []; left = old.streams.left }) (record { reader = new.reader; records = records; left = new.streams.left }) reached
-    → new.streams.written ≡ behind old.streams.written (records_lines plan link records)
+    → ShowsRecords plan (map (linked link) records) (record { detector = old.detector; written = old.streams.written }) (record { detector = new.detector; written = new.streams.written })
     → GoesOn plan old new (more_of reached)
-batch_shown plan link records old new reached is few room_is fewer reads wrote = by_case reached fewer reads
+batch_shown plan link records old new reached is few room_is fewer reads shows = by_case reached fewer reads
   where
-    place : Place
-    place = record { reader = new.reader; records = records; left = new.streams.left }
-
-    all_wrote : (first : Reading) (start : Streams) (going : IsUnderWay plan first start old) → new.streams.written ≡ behind start.written (lines_of plan first.head.link (going.given ++ records) Open)
-    all_wrote first start going =
-        more_shown plan first.head.link going.given records start.written old.streams.written new.streams.written going.wrote
-        (wrote ∙ ap (behind old.streams.written) (own_lines plan first start old link records going is))
-
     room_now : (first : Reading) (start : Streams) (going : IsUnderWay plan first start old) → IsRoom plan.limit (length (going.given ++ records)) new.room
     room_now first start going =
         subst (λ (r : Option ℕ). IsRoom plan.limit (length (going.given ++ records)) r) (sym room_is) (room_further plan.limit old.room going.given records going.room_is few)
@@ -197,25 +206,29 @@ batch_shown plan link records old new reached is few room_is fewer reads wrote =
 
     by_case : (r : Reached) → ((r ≡ More → ⊥) → length records < most_at old.room)
         → ReadsOn (record { reader = old.reader; records = []; left = old.streams.left }) (record { reader = new.reader; records = records; left = new.streams.left }) r → GoesOn plan old new (more_of r)
-    by_case More short on = λ first start going. record {
-      given = going.given ++ records;
-      read = reached_behind plan first start old (record { reader = new.reader; records = records; left = new.streams.left }) More going on;
-      room_is = room_now first start going;
-      wrote = all_wrote first start going;
-    }
+    by_case More short on = λ first start going.
+        let own = batch_is plan link records old new first start going is shows in record {
+          given = going.given ++ records;
+          read = reached_behind plan first start old (record { reader = new.reader; records = records; left = new.streams.left }) More going on;
+          room_is = room_now first start going;
+          stands = own.0;
+          wrote = own.1;
+        }
     by_case End short on = λ first start going.
         let given = going.given ++ records in
+        let own = batch_is plan link records old new first start going is shows in
         let came = reached_behind plan first start old (record { reader = new.reader; records = records; left = new.streams.left }) End going on in
         let some = some_left (short (λ e. cc)) in (
-          watched-ends plan first new.room given start new.streams Clean (room_now first start going) some (all_wrote first start going) came.1,
-          close_by plan first new.room given start new.streams (room_now first start going) (all_wrote first start going) came.0.whole,
+          at_end plan first new.room given start new.streams new.detector Clean (room_now first start going) some own.0 own.1 came.1,
+          close_by plan first new.room given start new.streams (room_now first start going) own.1 came.0.whole,
         )
     by_case (Fault why) short on = λ first start going.
         let given = going.given ++ records in
+        let own = batch_is plan link records old new first start going is shows in
         let came = reached_behind plan first start old (record { reader = new.reader; records = records; left = new.streams.left }) (Fault why) going on in
         let some = some_left (short (λ e. cc)) in (
-          fault_stops plan first new.room given start new.streams why (room_now first start going) some (all_wrote first start going) came.0 came.1,
-          close_by plan first new.room given start new.streams (room_now first start going) (all_wrote first start going) came.0.whole,
+          fault_comes plan first new.room given start new.streams new.detector why (room_now first start going) some own.0 own.1 came.0 came.1,
+          close_by plan first new.room given start new.streams (room_now first start going) own.1 came.0.whole,
         )
 
 -- no batch is larger than a batch may be
@@ -227,20 +240,24 @@ batch_few (Some room) count few = omega (arith, few)
 pub batch_stops : (plan : Plan) (link : Link) (records : List Record) (old new : Standing) (reached : Reached) (why : Stop) → link ≡ old.reader.head.link
     → length records ≤ most_at old.room
     → ReadsOn (record { reader = old.reader; records = []; left = old.streams.left }) (record { reader = new.reader; records = records; left = new.streams.left }) reached
-    → IsShowStop why → WritesPart old.streams.written (records_lines plan link records) new.streams.written
+    → IsShowStop why → ShowsRecordsPart plan (map (linked link) records) (record { detector = old.detector; written = old.streams.written }) new.streams.written
     → GoesOn plan old new (Err why)
-unfolding WritesPart
-batch_stops plan link records old new reached why is few reads kind (part, prefix, wrote) = λ first start going.
+unfolding WritesPart ShowsRecordsPart
+batch_stops plan link records old new reached why is few reads kind shown = λ first start going.
     let given = going.given ++ records in
+    let own_link = first.head.link in
+    let earlier = map (linked own_link) going.given in
+    let text = lines plan earlier (map (linked own_link) records) Open in
     let now : Place = record { reader = new.reader; records = records; left = new.streams.left } in
     let room_is = room_further plan.limit old.room going.given records going.room_is few in
     let stopped = stopped_at first given start.left now reached (reached_behind plan first start old now reached going reads) in
-    let own : WritesPart old.streams.written (records_lines plan first.head.link records) new.streams.written =
-    subst (λ (x : List ℕ). WritesPart old.streams.written x new.streams.written) (own_lines plan first start old link records going is) (part, prefix, wrote) in
-    let some : WritesPart start.written (lines_of plan first.head.link given Open) new.streams.written =
-    subst (λ (x : List ℕ). WritesPart start.written x new.streams.written) (sym (lines_of-batch plan first.head.link going.given records))
+    let own : WritesPart old.streams.written text new.streams.written =
+    subst (λ (x : List LinkedRecord). WritesPart old.streams.written (lines plan earlier x Open) new.streams.written) (own_records plan first start old link records going is) (shown earlier going.stands) in
+    let part = own.0 in
+    let some : WritesPart start.written (lines_of plan own_link given Open) new.streams.written =
+    subst (λ (x : List ℕ). WritesPart start.written x new.streams.written) (sym (lines_of-batch plan own_link going.given records))
     (WritesPart-behind start.written old.streams.written new.streams.written _ _ going.wrote own) in (
-      showing_stops plan first start new.streams why kind (part_of_all plan first stopped.behind (room_behind old.room (length records)) given start stopped.still new.streams.written room_is stopped.read some),
+      showing_stops plan first start new.streams new.detector why kind (part_of_all plan first stopped.behind (room_behind old.room (length records)) given start stopped.still new.streams.written room_is stopped.read some),
       record {
         taken = stopped.whole.taken;
         took = stopped.whole.took;
@@ -249,6 +266,139 @@ batch_stops plan link records old new reached why is few reads kind (part, prefi
         are = within_limit plan.limit (room_behind old.room (length records)) given (cut_for first stopped.whole.taken) room_is stopped.whole.are;
         few = batch_few old.room (length records) few;
         more = part;
-        wrote = wrote ∙ ap (λ (x : Option (List ℕ)). behind x part) going.wrote ∙ behind-behind start.written (lines_of plan first.head.link going.given Open) part;
+        wrote = own.2 ∙ ap (λ (x : Option (List ℕ)). behind x part) going.wrote ∙ behind-behind start.written (lines_of plan own_link going.given Open) part;
       },
     )
+
+-- ---- the closing
+
+-- where nothing was read yet, the lines are close behind the records
+pub close-start : (plan : Plan) (reader : Reading) (old : Streams) → reader.refused ≡ None → IsCloseBehind plan reader old old
+close-start plan reader old fresh =
+    close_by plan reader plan.limit [] old old (room_first plan.limit)
+    (sym (behind-nil old.written) ∙ ap (behind old.written) (sym (lines_of-nil plan reader.head.link)))
+    (reading-whole reader reader [] old.left old.left (reading-start reader old.left fresh))
+
+-- a capture at its end was closed
+closed_to : (plan : Plan) (first : Reading) (start now : Streams) (detector : Detector) (ending : Ending) (written : Option (List ℕ)) (counts : Counts) → IsAtEnd plan first start now detector ending
+    → Closes plan (record { detector = detector; written = now.written }) written counts
+    → (left : Option (List ℕ)) → WatchesTo plan first ending start (record { left = left; written = written }) counts
+unfolding Closes
+closed_to plan first start now detector ending written counts came closes left = λ whole told.
+    let own = first.head.link in
+    let cut = came.ends whole told in
+    let shut = closes (map (linked own) came.given) came.stands in record {
+      ends = ap (λ (c : Cut). c.ending) cut;
+      wrote = shut.wrote ∙ ap (λ (x : Option (List ℕ)). behind x (closing_lines plan (map (linked own) came.given))) came.wrote
+          ∙ behind-behind start.written (lines_of plan own came.given Open) (closing_lines plan (map (linked own) came.given))
+          ∙ ap (behind start.written) (sym (ap (λ (c : Cut). lines_of plan own c.records Closed) cut ∙ lines_of-closed plan own came.given));
+      counted = shut.counted ∙ sym (ap (λ (c : Cut). counts_of plan (map (linked own) c.records)) cut);
+    }
+
+-- or in part
+closed_some : (plan : Plan) (first : Reading) (start now : Streams) (detector : Detector) (ending : Ending) (written : Option (List ℕ)) → IsAtEnd plan first start now detector ending
+    → ClosesPart plan (record { detector = detector; written = now.written }) written
+    → (left : Option (List ℕ)) → WritesSome plan first start (record { left = left; written = written })
+unfolding ClosesPart
+closed_some plan first start now detector ending written came part left = λ whole told.
+    let own = first.head.link in
+    subst (λ (x : List ℕ). WritesPart start.written x written)
+    (sym (ap (λ (c : Cut). lines_of plan own c.records Closed) (came.ends whole told) ∙ lines_of-closed plan own came.given))
+    (WritesPart-behind start.written now.written written (lines_of plan own came.given Open) (closing_lines plan (map (linked own) came.given)) came.wrote (part (map (linked own) came.given) came.stands))
+
+-- a part of lines stopped the showing of them
+stopped_some : (plan : Plan) (first : Reading) (start after : Streams) (counts : Counts) (why : Stop) → IsShowStop why → WritesSome plan first start after → Watches plan first start after counts (Err why)
+stopped_some plan first start after counts stop.CannotWrite kind some = some
+stopped_some plan first start after counts stop.NoMemory kind some = some
+stopped_some plan first start after counts why kind some = absurd kind
+
+-- a test has one answer
+not_both : (b : Bool) → b ≡ true → b ≡ false → ⊥
+not_both b yes_ no_ = let e : true ≡ false = sym yes_ ∙ no_ in cc
+
+-- how the watching ends, by how the batches ended and how it was closed
+module _ (plan : Plan) (first : Reading) (start now : Streams) (detector : Detector) (written : Option (List ℕ)) (counts : Counts) where
+  abbrev after_it : Streams
+  after_it = record { left = now.left; written = written }
+
+  -- cut short before it was closed
+  left_so : (watched : Result (Unit {0}) Stop) → is_whole watched ≡ false → Comes plan first start now detector watched → written ≡ now.written → Watches plan first start after_it counts watched
+  left_so (Ok done) cut came same = absurd cc
+  left_so (Err stop.CannotRead) cut came same = (
+    record { taken = came.0.taken; took = came.0.took; wrote = same ∙ came.0.wrote },
+    λ whole told. subst (λ (w : Option (List ℕ)). WritesPart start.written (lines_left plan first whole Closed) w) (sym same) (came.1 whole told),
+  )
+  left_so (Err stop.CannotWrite) cut came same = λ whole told. subst (λ (w : Option (List ℕ)). WritesPart start.written (lines_left plan first whole Closed) w) (sym same) (came whole told)
+  left_so (Err stop.NoMemory) cut came same = λ whole told. subst (λ (w : Option (List ℕ)). WritesPart start.written (lines_left plan first whole Closed) w) (sym same) (came whole told)
+  left_so (Err why) cut came same = absurd cc
+
+  -- closed
+  closed_so : (watched : Result (Unit {0}) Stop) → is_whole watched ≡ true → Comes plan first start now detector watched → Closes plan (record { detector = detector; written = now.written }) written counts → Watches plan first start after_it counts watched
+  closed_so (Ok done) whole came closes = closed_to plan first start now detector Clean written counts came closes now.left
+  closed_so (Err stop.CannotRead) whole came closes = absurd cc
+  closed_so (Err stop.CannotWrite) whole came closes = absurd cc
+  closed_so (Err stop.NoMemory) whole came closes = absurd cc
+  closed_so (Err why) whole (fault_then, is, came) closes = (fault_then, is, closed_to plan first start now detector (Refused fault_then) written counts came closes now.left)
+
+  -- closed in part
+  closed_part_so : (watched : Result (Unit {0}) Stop) (why : Stop) → is_whole watched ≡ true → IsShowStop why → Comes plan first start now detector watched → ClosesPart plan (record { detector = detector; written = now.written }) written
+      → Watches plan first start after_it counts (Err why)
+  closed_part_so (Ok done) why whole kind came part = stopped_some plan first start after_it counts why kind (closed_some plan first start now detector Clean written came part now.left)
+  closed_part_so (Err stop.CannotRead) why whole kind came part = absurd cc
+  closed_part_so (Err stop.CannotWrite) why whole kind came part = absurd cc
+  closed_part_so (Err stop.NoMemory) why whole kind came part = absurd cc
+  closed_part_so (Err other) why whole kind (fault_then, is, came) part = stopped_some plan first start after_it counts why kind (closed_some plan first start now detector (Refused fault_then) written came part now.left)
+
+  pub closed_watch : (watched result_then : Result (Unit {0}) Stop) → Comes plan first start now detector watched → ClosesWatched plan detector watched now.written written counts result_then
+      → Watches plan first start (record { left = now.left; written = written }) counts result_then
+  unfolding ClosesWatched
+  closed_watch watched result_then came how =
+      ⊎_elim
+      (λ (left : IsLeft watched result_then now.written written).
+      subst (λ (r : Result (Unit {0}) Stop). Watches plan first start after_it counts r) (sym left.1) (left_so watched left.0 came left.2))
+      (λ shut. ⊎_elim
+      (λ (whole : IsClosedWhole plan detector watched result_then now.written written counts).
+      subst (λ (r : Result (Unit {0}) Stop). Watches plan first start after_it counts r) (sym whole.1) (closed_so watched whole.0 came whole.2))
+      (λ (part : IsClosedInPart plan detector watched result_then now.written written).
+      subst (λ (r : Result (Unit {0}) Stop). Watches plan first start after_it counts r) (sym part.1.1) (closed_part_so watched part.1.0 part.0 part.1.2 came part.2))
+      shut)
+      how
+
+  -- what was written in the closing comes behind
+  wrote_more : (watched : Result (Unit {0}) Stop) → is_whole watched ≡ true → Comes plan first start now detector watched → ((records : List LinkedRecord) → DetectorStands plan records detector → (more : List ℕ) × (written ≡ behind now.written more))
+      → (more : List ℕ) × (written ≡ behind now.written more)
+  wrote_more (Ok done) whole came more = more (map (linked first.head.link) came.given) came.stands
+  wrote_more (Err stop.CannotRead) whole came more = absurd cc
+  wrote_more (Err stop.CannotWrite) whole came more = absurd cc
+  wrote_more (Err stop.NoMemory) whole came more = absurd cc
+  wrote_more (Err why) whole (fault_then, is, came) more = more (map (linked first.head.link) came.given) came.stands
+
+  closer : IsCloseBehind plan first start now → (more : List ℕ) → written ≡ behind now.written more → IsCloseBehind plan first start after_it
+  closer close more wrote = record {
+    taken = close.taken;
+    took = close.took;
+    given = close.given;
+    last = close.last;
+    are = close.are;
+    few = close.few;
+    more = close.more ++ more;
+    wrote = wrote ∙ ap (λ (x : Option (List ℕ)). behind x more) close.wrote
+        ∙ behind-behind start.written (lines_of plan first.head.link close.given Open ++ close.more) more
+        ∙ ap (behind start.written) (append_assoc (lines_of plan first.head.link close.given Open) close.more more);
+  }
+
+  pub closed_behind : (watched result_then : Result (Unit {0}) Stop) → ComesOver plan first start now detector watched → ClosesWatched plan detector watched now.written written counts result_then
+      → IsCloseBehind plan first start (record { left = now.left; written = written })
+  unfolding ClosesWatched Closes ClosesPart WritesPart
+  closed_behind watched result_then (came, close) how =
+      ⊎_elim
+      (λ (left : IsLeft watched result_then now.written written). closer close [] (left.2 ∙ sym (behind-nil now.written)))
+      (λ shut. ⊎_elim
+      (λ (whole : IsClosedWhole plan detector watched result_then now.written written counts).
+      let more = wrote_more watched whole.0 came (λ records stands. (closing_lines plan records, (whole.2 records stands).wrote)) in
+      closer close more.0 more.1)
+      (λ (part : IsClosedInPart plan detector watched result_then now.written written).
+      let more = wrote_more watched part.0 came (λ records stands. let own = part.2 records stands in (own.0, own.2)) in
+      closer close more.0 more.1)
+      shut)
+      how

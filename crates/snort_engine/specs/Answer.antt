@@ -1,5 +1,5 @@
 -- What a run answers: the alert bytes, the error bytes and the status, as one thread gives them that
--- tries every rule on each packet.
+-- tries every rule on each packet and stream.
 --
 -- The cases go in the order of the work: the course of the words and files, the capture's name, its
 -- records. To try it on: where the configuration has one rule and the capture is the 24 bytes of its
@@ -18,6 +18,7 @@ use Rattle.snort_engine.specs.Course.{Plan, Way, Stops, Goes, Course}
 use Rattle.snort_engine.specs.Records.{Recording, records_of}
 use Rattle.snort_engine.specs.Trace.{Closed}
 use Rattle.snort_engine.specs.Lines.{lines}
+use Rattle.snort_engine.specs.Counts.{counts_of, told_counts, with_counts}
 use Rattle.snort_engine.specs.Messages.{cannot_read_text, no_memory_text, not_pcap_text, link_type_text, truncated_text, too_long_text, too_many_text}
 
 -- the bytes of the alerts and of the errors, and the status
@@ -52,11 +53,16 @@ abbrev pub ending_status : Ending → Status
 ending_status Clean = status.Done
 ending_status (Refused why) = fault_status why
 
+-- what a recording says in the errors: its ending, and the counts where they are asked for
+abbrev pub recording_text : Plan → Recording → List ℕ
+recording_text plan recording =
+    with_counts (ending_text plan.source recording.ending) (told_counts plan.counted (counts_of plan recording.records))
+
 -- the answer for the records of a capture
 abbrev pub recording_answer : Plan → List ℕ → Recording → Answer
 recording_answer plan warnings recording = record {
   alerts = lines plan [] recording.records Closed;
-  errors = warnings ++ ending_text plan.source recording.ending;
+  errors = warnings ++ recording_text plan recording;
   status = ending_status recording.ending;
 }
 

@@ -13,7 +13,8 @@ use Rattle.std.specs.Prelude.{◌≡◌, ℕ, ◌==◌, ◌||◌, Bool, true, fa
 use Rattle.std.specs.Option.{option_map, option_map_or}
 use Rattle.edge_io.specs.Files.{Files}
 use Rattle.packet_decode.specs.declared.checks.Checks.{Checks}
-use Rattle.conf_parser.specs.declared.classes.Class.{Class}
+use Rattle.host_table.specs.declared.host_line.HostLine.{HostLine}
+use Rattle.conf_parser.specs.declared.config.Config.{Config}
 use Rattle.rule_parser.specs.declared.rule.Rule.{Rule}
 use Rattle.command_words.specs.declared.asked.ChecksumMode.{ChecksumMode}
 use Rattle.command_words.specs.declared.asked.ChecksumMode.TheVariants as mode
@@ -28,16 +29,20 @@ use Rattle.snort_engine.specs.declared.status.Status.{Status}
 use Rattle.snort_engine.specs.declared.status.Status.TheVariants as status
 use Rattle.snort_engine.specs.Messages.{usage_text, version_text, accepted_text, command_line_text, cannot_read_text}
 
--- what is done with a capture: the name of its file, how many records are read at most, which checksums
--- are verified, the rules that are tried, the test that says which of them match, and the classes that
--- they name
+-- what is done with a capture: the name of its file; how many records are read at most; which checksums
+-- are verified; the configuration of fragments, streams and events; the table of hosts; how many bytes of
+-- a stream are acknowledged at least before they are an item; the rules that are tried, and the test that
+-- says which of them match; and whether counts are told. How many lanes do the work is no part of it.
 pub record Plan : Type 0 where
   pub source : List ℕ
   pub limit : Option ℕ
   pub checks : Checks
+  pub config : Config
+  pub hosts : List HostLine
+  pub flush : ℕ
   pub rules : List Rule
   pub matches : Test
-  pub classes : List Class
+  pub counted : Bool
 
 -- a run stops with a message and a status, or goes on with a plan
 pub data Way : Type 0 where
@@ -73,10 +78,9 @@ checks_of mode.NoTcp = record { ip = true; tcp = false; udp = true; icmp = true 
 checks_of mode.NoUdp = record { ip = true; tcp = true; udp = false; icmp = true }
 checks_of mode.NoIcmp = record { ip = true; tcp = true; udp = true; icmp = false }
 
--- what isn't done yet: counts, captures that are made up, and more than one lane or another flush point
+-- what isn't done yet: captures that are made up
 abbrev pub is_for_later : Run → Bool
-is_for_later wanted =
-    wanted.stats || is_some wanted.generate || not (wanted.lanes == 1) || not (wanted.flush_point == 1024) || not (wanted.seed == 1)
+is_for_later wanted = is_some wanted.generate || not (wanted.seed == 1)
 
 -- the plan for a capture of this name: `-k` stands in place of the configuration's mode
 abbrev pub plan_for : Test → Run → Ready → List ℕ → Plan
@@ -84,9 +88,12 @@ plan_for matches wanted ready source = record {
   source = source;
   limit = wanted.limit;
   checks = option_map_or checks_of wanted.checks ready.config.checks;
+  config = ready.config;
+  hosts = ready.hosts;
+  flush = wanted.flush_point;
   rules = ready.rules;
   matches = matches;
-  classes = ready.config.classes;
+  counted = wanted.stats;
 }
 
 -- ---- the course

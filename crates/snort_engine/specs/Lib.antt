@@ -5,6 +5,10 @@ pub mod Course
 pub mod Records
 pub mod Trace
 pub mod Lines
+pub mod Counts
+pub mod Gathering
+pub mod Showing
+pub mod Detecting
 pub mod Answer
 pub mod Outside
 pub mod ReadAhead

@@ -5,8 +5,8 @@
 use Rattle.std.specs.Prelude.{◌≡◌, ℕ, ◌≤◌, List, [], ◌++◌, take}
 use Rattle.std.specs.List.{flat_map}
 use mathlib.Core.List.{IsPrefix}
+use Rattle.record_jobs.specs.Way.{LinkedRecord}
 use Rattle.snort_engine.specs.Course.{Plan}
-use Rattle.snort_engine.specs.Records.{LinkedRecord}
 use Rattle.alert_fast.specs.Line.{line_text}
 use Rattle.conf_parser.specs.declared.classes.Class.{Class}
 use Rattle.snort_engine.specs.Trace.{Alert, CaptureState, Open, trace}
@@ -17,7 +17,7 @@ text_of classes alert = line_text alert.head alert.rule classes
 
 -- the lines of records behind these records
 unfoldable pub lines : Plan → List LinkedRecord → List LinkedRecord → CaptureState → List ℕ
-lines plan before records state = flat_map (text_of plan.classes) (trace plan before records state)
+lines plan before records state = flat_map (text_of plan.config.classes) (trace plan before records state)
 
 -- the one law: the lines of records joined to others are those of the first, while the capture goes
 -- on, and then those of the others behind the first

@@ -32,9 +32,12 @@ plan_by matches prepared = record {
   source = prepared.source.now;
   limit = prepared.limit;
   checks = prepared.checks;
+  config = prepared.setup.config;
+  hosts = prepared.setup.hosts;
+  flush = prepared.flush;
   rules = prepared.setup.set.rules;
   matches = matches;
-  classes = prepared.setup.config.classes;
+  counted = prepared.counted;
 }
 
 -- the way of a stop; no stop before a capture is opened tells its name

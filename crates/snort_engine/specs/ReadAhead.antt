@@ -12,8 +12,9 @@ use Rattle.edge_io.specs.Told.{behind}
 use Rattle.edge_io.specs.Files.{Files}
 use Rattle.snort_engine.specs.declared.status.Status.{Status}
 use Rattle.snort_engine.specs.declared.status.Status.TheVariants as status
+use Rattle.record_jobs.specs.Way.{LinkedRecord}
 use Rattle.snort_engine.specs.Course.{Plan, Way, Stops, Goes, Course}
-use Rattle.snort_engine.specs.Records.{LinkedRecord, records_of}
+use Rattle.snort_engine.specs.Records.{records_of}
 use Rattle.snort_engine.specs.Trace.{Open}
 use Rattle.snort_engine.specs.Lines.{lines}
 use Rattle.snort_engine.specs.Outside.{Work}

@@ -6,24 +6,15 @@
 -- last of them the ending is Truncated at 0.
 use Rattle.std.specs.Prelude.{ℕ, List, [], map, Result, Ok, Err}
 use Rattle.edge_io.specs.declared.link.Link.{Link}
-use Rattle.pcap_input.specs.declared.capture.Record.{Record}
 use Rattle.pcap_input.specs.declared.capture.CaptureFault.{CaptureFault}
 use Rattle.pcap_input.specs.Savefile.{Capture, Cut, Ending, Refused, savefile}
+use Rattle.record_jobs.specs.Way.{LinkedRecord, linked}
 use Rattle.snort_engine.specs.Course.{Plan}
-
--- a record and the link layer of its bytes
-pub record LinkedRecord : Type 0 where
-  pub link : Link
-  pub captured : Record
 
 -- records in order, and the ending behind them
 pub record Recording : Type 0 where
   pub records : List LinkedRecord
   pub ending : Ending
-
--- a record of this link layer
-abbrev pub linked : Link → Record → LinkedRecord
-linked link captured = record { link = link; captured = captured }
 
 -- records of one link layer, and their ending
 abbrev pub recording_of : Link → Cut → Recording

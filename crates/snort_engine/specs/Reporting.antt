@@ -3,14 +3,16 @@
 -- Nothing is written to a sink that has failed once. To try it on: where the configuration `r` is lacking,
 -- `ERROR: cannot read r` is told and the status is HostFault; where memory is lacking for that text,
 -- `ERROR: no memory` and NoMemory.
-use Rattle.std.specs.Prelude.{◌≡◌, ℕ, Bool, List, Option, Result, ◌⊎◌}
+use Rattle.std.specs.Prelude.{◌≡◌, ℕ, Bool, ◌&&◌, List, Option, Result, ◌⊎◌}
 use Rattle.std.specs.Bool.{OnTrue, OnFalse}
 use Rattle.edge_io.specs.Told.{behind}
 use Rattle.snort_engine.specs.declared.status.Status.{Status}
 use Rattle.snort_engine.specs.declared.status.Status.TheVariants as status
 use Rattle.snort_engine.specs.declared.stop.Stop.{Stop}
 use Rattle.snort_engine.specs.Outside.{WritesPart}
-use Rattle.snort_engine.specs.Stop.{outcome_status, outcome_text}
+use Rattle.snort_engine.specs.Stop.{is_whole, outcome_status}
+use Rattle.snort_engine.specs.declared.counts.Counts.{Counts}
+use Rattle.snort_engine.specs.Counts.{told_counts}
 use Rattle.snort_engine.specs.Messages.{no_memory_text}
 
 -- the message was written, or a part of it where that sink's count rose
@@ -31,8 +33,13 @@ pub record TellsLast (text : List ℕ) (well : Bool) (old new : Option (List ℕ
   pub whole : OnTrue well ((new ≡ behind old text) ⊎ rose)
   pub silent : OnFalse well (new ≡ old)
 
--- the outcome's message and status, or those of want of memory, behind what was told before
+-- the counts that are told of a capture: none where they aren't asked for, and none where the work on it
+-- was cut short
+abbrev pub counts_due : {A : Type 0} → Bool → Result A Stop → Counts → Option Counts
+counts_due counted outcome counts = told_counts (is_whole outcome && counted) counts
+
+-- this text and the outcome's status, or those of want of memory, behind what was told before
 abbrev pub Reports : {A : Type 0} → List ℕ → Result A Stop → Status → (List ℕ → Type 0) → Type 0
-Reports source outcome ended Told =
-    ((ended ≡ outcome_status outcome) × Told (outcome_text source outcome))
+Reports text outcome ended Told =
+    ((ended ≡ outcome_status outcome) × Told text)
     ⊎ ((ended ≡ status.NoMemory) × Told no_memory_text)

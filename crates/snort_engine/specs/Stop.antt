@@ -2,7 +2,7 @@
 --
 -- To try it on: a capture that is no savefile ends a run as BadCapture, with
 -- `ERROR: capture is not a pcap file`.
-use Rattle.std.specs.Prelude.{◌≡◌, ℕ, List, [], Result, Ok, Err}
+use Rattle.std.specs.Prelude.{◌≡◌, ℕ, Bool, true, false, List, [], Result, Ok, Err}
 use Rattle.pcap_input.specs.declared.capture.CaptureFault.{CaptureFault}
 use Rattle.pcap_input.specs.declared.capture.CaptureFault.TheVariants as fault
 use Rattle.snort_setup.specs.declared.stop.SetupStop.{SetupStop}
@@ -62,6 +62,15 @@ abbrev pub setup_stop : SetupStop → Stop
 setup_stop (setup.Refused message) = stop.Refused message
 setup_stop (setup.CannotRead name) = stop.CannotReadFile name
 setup_stop setup.NoMemory = stop.NoMemory
+
+-- work on a capture came to its end, or to where the capture is refused: neither the host nor the alert
+-- sink failed, and memory was there
+abbrev pub is_whole : {A : Type 0} → Result A Stop → Bool
+is_whole (Ok done) = true
+is_whole (Err stop.CannotRead) = false
+is_whole (Err stop.CannotWrite) = false
+is_whole (Err stop.NoMemory) = false
+is_whole (Err why) = true
 
 -- the status of a run that is stopped or done
 abbrev pub outcome_status : {A : Type 0} → Result A Stop → Status

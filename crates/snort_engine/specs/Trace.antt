@@ -1,89 +1,103 @@
--- What a plan shows of a capture's records: each rule that matches.
+-- What a plan shows of a capture's records, stage by stage.
 --
--- Each packet and each fragment that the decoder finds in a record is an item without a session, and is
--- tried against every rule in the order of the rules. A rule that alerts, and has no `noalert`, shows an
--- alert for each item that it matches (flow_lanes specs/Hits). The alerts stand in the order of the
--- records, and for one record in the order of the rules. A record that is skipped shows nothing.
--- (Snort Users Manual 2.9, section 3.2.1, for `alert`; section 3.6.10 for `noalert`.)
+-- Each record makes jobs: of packets, of datagrams that its fragment makes whole, of flows that end
+-- (record_jobs specs/Jobs). Each job has items, packets and stretches of streams, each with all rules
+-- that match it (flow_lanes specs/Flows). Each item has events, of which some are kept (event_filters
+-- specs/Events); each that is kept is an alert. A stage depends on what came to it before, and on nothing
+-- else: not on lanes or batches. Where the capture has ended, the flows that live then end too, and the
+-- last stages go on over these jobs.
+-- (Snort Users Manual 2.9, sections 2.2.1 and 2.2.2 for what is put together, 2.4 and 3 for events.)
 -- To try it on: a packet with payload `abc` and the rules for `bc`, `x` and `a` shows the alerts of
 -- the first and of the third.
-use Rattle.std.specs.Prelude.{ℕ, Bool, true, false, not, ◌&&◌, List, [], ◌∷◌, Option, Some, None, Result, Ok, Err, filter, map}
-use Rattle.std.specs.FinSet.{empty}
-use Rattle.edge_io.specs.Along.{trail_from}
-use Rattle.edge_io.specs.declared.moment.Moment.{Moment}
+use Rattle.std.specs.Prelude.{ℕ, List, [], ◌++◌, map, slice_get, option_map}
+use Rattle.std.specs.Option.{option_to_list}
+use Rattle.std.specs.List.{flat_map}
+use Rattle.edge_io.specs.Along.{trail, trail_from, chained}
 use Rattle.packet_decode.specs.declared.item.ItemHead.{ItemHead}
-use Rattle.packet_decode.specs.declared.item.ItemKind.{ItemKind}
-use Rattle.packet_decode.specs.declared.item.ItemKind.TheVariants as kind
-use Rattle.packet_decode.specs.declared.item.SessionFacts.{SessionFacts}
-use Rattle.packet_decode.specs.declared.packet.Body.{Body}
-use Rattle.packet_decode.specs.declared.packet.Body.TheVariants as body
-use Rattle.packet_decode.specs.declared.skip.Skip.{Skip}
-use Rattle.packet_decode.specs.Decoding.{Fields, decoded}
-use Rattle.rule_parser.specs.declared.rule.Action.{Action}
-use Rattle.rule_parser.specs.declared.rule.Action.TheVariants as action
+use Rattle.packet_decode.specs.declared.checks.Checks.{Checks}
+use Rattle.conf_parser.specs.declared.config.Config.{Config}
 use Rattle.rule_parser.specs.declared.rule.Rule.{Rule}
-use Rattle.flow_lanes.specs.Hits.{Item}
-use Rattle.flow_lanes.specs.Hits.{Test}
+use Rattle.host_table.specs.declared.host_line.HostLine.{HostLine}
+use Rattle.record_jobs.specs.Way.{LinkedRecord, Way}
+use Rattle.record_jobs.specs.Jobs.{jobs, finishes}
+use Rattle.flow_lanes.specs.declared.answer.Hits.{Hits}
+use Rattle.flow_lanes.specs.declared.job.Job.{Job}
+use Rattle.flow_lanes.specs.Flows.{Detection, answer}
+use Rattle.event_filters.specs.Events.{Item, kept}
 use Rattle.snort_engine.specs.Course.{Plan}
-use Rattle.snort_engine.specs.Records.{LinkedRecord}
 
--- an item and a rule that matches it
+-- an item and a rule that alerts on it
 pub record Alert : Type 0 where
   pub head : ItemHead
   pub rule : Rule
 
--- ---- the item of a record
+-- ---- from records to jobs
 
--- a fragment is one of its own kind
-abbrev pub kind_of : Body → ItemKind
-kind_of body.Fragment = kind.Fragment
-kind_of _ = kind.Packet
+-- what records are read by
+abbrev pub way_by : Checks → List HostLine → Config → Way
+way_by checks hosts config = record { checks = checks; hosts = hosts; frag = config.frag; stream = config.stream }
 
--- nothing is known of a session
-abbrev pub untracked : SessionFacts
-untracked = record { tracked = false; established = false; from_client = None; sizes = None }
+abbrev pub way_of : Plan → Way
+way_of plan = way_by plan.checks plan.hosts plan.config
 
--- what rules see of a packet or fragment beside its payload
-abbrev pub head_of : Moment → Fields → ItemHead
-head_of moment fields = record { kind = kind_of fields.body; moment = moment; ip = fields.ip; body = fields.body; session = untracked }
+-- all jobs of records
+abbrev pub jobs_of : Plan → List LinkedRecord → List Job
+jobs_of plan records = trail (jobs (way_of plan)) records
 
--- the item of what was decoded; a skipped record has none
-abbrev pub item_of : Moment → Result Fields Skip → Option Item
-item_of moment (Ok fields) = Some (record { head = head_of moment fields; payload = fields.payload })
-item_of moment (Err skip) = None
+-- ---- from jobs to items with the rules that match
 
--- ---- its alerts
+-- what items are made by, and which rules are tried on them
+abbrev pub detection_of : Plan → Detection
+detection_of plan = record {
+  making = record { flush = plan.flush; inserts = plan.config.inserts; stream = plan.config.stream };
+  trying = record { rules = plan.rules; matches = plan.matches };
+}
 
--- a rule that alerts where it matches
-abbrev pub is_told : Rule → Bool
-is_told rule = elim rule.action [ action.Alert ↦ not rule.noalert | action.Pass ↦ false ]
+-- the items of a job behind earlier jobs
+unfoldable pub job_items : Detection → List Job → Job → List Hits
+job_items d before job = (answer d before job).items
 
--- a rule that matches the item, which has no bits, and alerts
-abbrev pub is_shown : Test → Item → Rule → Bool
-is_shown matches item rule = is_told rule && matches rule item empty
+-- all items of records
+unfoldable pub items_of : Plan → List LinkedRecord → List Hits
+items_of plan records = trail (job_items (detection_of plan)) (jobs_of plan records)
+
+-- ---- from items to alerts
+
+-- an item as the filters of events see it
+abbrev pub filtered_item : Hits → Item
+filtered_item hits = record { head = hits.head; hits = hits.rules }
 
 abbrev pub alert_of : ItemHead → Rule → Alert
 alert_of head rule = record { head = head; rule = rule }
 
--- the alerts of an item, in the order of the rules: `matches` says which rules match
-unfoldable pub item_alerts : Test → List Rule → Item → List Alert
-item_alerts matches rules item = map (alert_of item.head) (filter (is_shown matches item) rules)
+-- the alert of the rule at a place
+abbrev pub alert_at : List Rule → ItemHead → ℕ → List Alert
+alert_at rules head place = option_to_list (option_map (alert_of head) (slice_get rules place))
 
--- the alerts of the item, if there is one
-abbrev pub alerts_on : Test → List Rule → Option Item → List Alert
-alerts_on matches rules None = []
-alerts_on matches rules (Some item) = item_alerts matches rules item
+-- the alerts of an item behind earlier items, in the order of their lines
+unfoldable pub item_alerts : Config → List Rule → List Hits → Hits → List Alert
+item_alerts config rules before hits =
+    flat_map (alert_at rules hits.head) (kept config rules (map filtered_item before) (filtered_item hits))
 
--- the alerts of a record behind these records, of which none matters yet
+-- ---- all stages
+
+-- the alerts of a record behind earlier records
 unfoldable pub record_alerts : Plan → List LinkedRecord → LinkedRecord → List Alert
-record_alerts plan before shown =
-    alerts_on plan.matches plan.rules (item_of shown.captured.moment (decoded shown.link shown.captured.bytes plan.checks))
+record_alerts plan = chained (item_alerts plan.config plan.rules) (chained (job_items (detection_of plan)) (jobs (way_of plan)))
+
+-- behind all records of a capture the flows that live then end: their items, and the alerts of these
+unfoldable pub closing_items : Plan → List LinkedRecord → List Hits
+closing_items plan records = trail_from (job_items (detection_of plan)) (jobs_of plan records) (finishes (way_of plan) records)
+
+unfoldable pub closing_alerts : Plan → List LinkedRecord → List Alert
+closing_alerts plan records = trail_from (item_alerts plan.config plan.rules) (items_of plan records) (closing_items plan records)
 
 -- whether more records may follow, or the capture has ended
 pub data CaptureState : Type 0 where
   Open : CaptureState
   Closed : CaptureState
 
--- what is shown of records behind these records; a capture that has ended shows nothing more yet
+-- what is shown of records behind these records, and of the flows that end with the capture
 unfoldable pub trace : Plan → List LinkedRecord → List LinkedRecord → CaptureState → List Alert
-trace plan before records state = trail_from (record_alerts plan) before records
+trace plan before records Open = trail_from (record_alerts plan) before records
+trace plan before records Closed = trail_from (record_alerts plan) before records ++ closing_alerts plan (before ++ records)

@@ -3,32 +3,32 @@
 -- What is left for a reader are the records that it has yet to give. To try it on: where a write fails
 -- in the lines of the second batch, the lines of the first were written, a part of those of the second
 -- may be, and the bytes of two batches were taken.
-use Rattle.std.specs.Prelude.{◌≡◌, ℕ, ◌+◌, ◌-◌, ◌≤◌, min, Bool, true, false, List, [], ◌++◌, length, map, Option, None, Some, Result, Ok, Err, ⊤}
-use Rattle.std.specs.List.{flat_map}
+use Rattle.std.specs.Prelude.{◌≡◌, ℕ, ◌+◌, ◌-◌, ◌≤◌, min, ◌⊎◌, Bool, true, false, List, [], ◌++◌, length, map, Option, None, Some, Result, Ok, Err, ⊤}
 use Rattle.edge_io.specs.Told.{before, behind}
 use Rattle.edge_io.specs.declared.link.Link.{Link}
+use Rattle.edge_io.specs.declared.pattern.Span.{Span}
 use Rattle.pcap_input.specs.declared.capture.Record.{Record}
 use Rattle.pcap_input.specs.declared.capture.CaptureFault.{CaptureFault}
-use Rattle.pcap_input.specs.Savefile.{Cut, Ending, Clean, Refused, first_records}
+use Rattle.pcap_input.specs.Savefile.{Cut, Ending, Clean, Refused, first_records, most_records}
 use Rattle.pcap_input.specs.Reader.{Reading}
 use Rattle.pcap_input.specs.Reading.{cut_for, HasRead}
-use Rattle.snort_engine.specs.declared.plan.Plan as code
-use Rattle.snort_engine.specs.declared.stop.Stop.{Stop}
-use Rattle.snort_engine.specs.declared.stop.Stop.TheVariants as stop
-use Rattle.edge_io.specs.declared.pattern.Span.{Span}
 use Rattle.option_eval.specs.Places.{Means}
 use Rattle.option_eval.specs.RuleSet.{Rules, FindWhatIsMeant}
 use Rattle.flow_lanes.specs.Hits.{Test, Tells}
-use Rattle.flow_lanes.specs.Hits.{Item}
-use Rattle.conf_parser.specs.declared.classes.Class.{Class}
-use Rattle.rule_parser.specs.declared.rule.Rule.{Rule}
+use Rattle.record_jobs.specs.Way.{linked}
+use Rattle.snort_engine.specs.declared.counts.Counts.{Counts}
+use Rattle.snort_engine.specs.declared.detect.Detector.{Detector}
+use Rattle.snort_engine.specs.declared.plan.Plan as code
+use Rattle.snort_engine.specs.declared.stop.Stop.{Stop}
+use Rattle.snort_engine.specs.declared.stop.Stop.TheVariants as stop
 use Rattle.snort_engine.specs.Course.{Plan}
-use Rattle.snort_engine.specs.Records.{LinkedRecord, linked}
-use Rattle.snort_engine.specs.Trace.{Open, Closed, CaptureState, item_alerts, record_alerts}
-use Rattle.snort_engine.specs.Lines.{text_of, lines}
+use Rattle.snort_engine.specs.Trace.{Open, Closed, CaptureState}
+use Rattle.snort_engine.specs.Lines.{lines}
+use Rattle.snort_engine.specs.Counts.{counts_of}
 use Rattle.snort_engine.specs.ReadAhead.{batch}
 use Rattle.snort_engine.specs.Outside.{WritesPart}
-use Rattle.snort_engine.specs.Stop.{capture_stop}
+use Rattle.snort_engine.specs.Stop.{capture_stop, is_whole}
+use Rattle.snort_engine.specs.Detecting.{Detecting, DetectorStands, Knows, Closes, ClosesPart}
 
 -- the test says which rules of a set match, by what its patterns find
 pub record IsTest {P : Type 0} (finds : P → List ℕ → Option Span) (set : Rules P) (test : Test) : Type 0 where
@@ -42,35 +42,13 @@ plan_of matches plan = record {
   source = plan.source.now;
   limit = plan.limit;
   checks = plan.checks;
+  config = plan.config.now;
+  hosts = plan.hosts.now;
+  flush = plan.flush;
   rules = plan.set.now.rules;
   matches = matches;
-  classes = plan.classes.now;
+  counted = plan.counted;
 }
-
--- ---- lines on their way to the sink
-
--- what was written, where it is told, and the block in which lines wait
-pub record Gathering : Type 0 where
-  pub written : Option (List ℕ)
-  pub block : List ℕ
-
--- a text came behind the block: a front of both was written, and the rest waits
-pub record Gathers (text : List ℕ) (old new : Gathering) : Type 0 where
-  pub part : List ℕ
-  pub joined : old.block ++ text ≡ part ++ new.block
-  pub wrote : new.written ≡ behind old.written part
-
--- the lines of an item
-unfoldable pub item_lines : Plan → List Rule → Item → List ℕ
-item_lines plan rules item = flat_map (text_of plan.classes) (item_alerts plan.matches rules item)
-
--- the lines of a record
-unfoldable pub record_lines : Plan → LinkedRecord → List ℕ
-record_lines plan shown = flat_map (text_of plan.classes) (record_alerts plan [] shown)
-
--- the lines of records of one link layer, each by itself
-unfoldable pub records_lines : Plan → Link → List Record → List ℕ
-records_lines plan link records = flat_map (λ captured. record_lines plan (linked link captured)) records
 
 -- what may stop the showing of lines
 abbrev pub IsShowStop : Stop → Type 0
@@ -97,10 +75,15 @@ cut_by plan reader rest = first_records plan.limit (cut_for reader rest)
 abbrev pub lines_left : Plan → Reading → List ℕ → CaptureState → List ℕ
 lines_left plan reader rest state = lines_of plan reader.head.link (cut_by plan reader rest).records state
 
--- all lines of the bytes that were left were written, and they end so
-pub record IsWatched (plan : Plan) (reader : Reading) (rest : List ℕ) (ending : Ending) (old new : Streams) : Type 0 where
+-- the counts of the records that these bytes hold for a reader
+abbrev pub counts_left : Plan → Reading → List ℕ → Counts
+counts_left plan reader rest = counts_of plan (map (linked reader.head.link) (cut_by plan reader rest).records)
+
+-- all lines of the bytes that were left were written, they end so, and all was counted
+pub record IsWatched (plan : Plan) (reader : Reading) (rest : List ℕ) (ending : Ending) (old new : Streams) (counts : Counts) : Type 0 where
   pub ends : (cut_by plan reader rest).ending ≡ ending
   pub wrote : new.written ≡ behind old.written (lines_left plan reader rest Closed)
+  pub counted : counts ≡ counts_left plan reader rest
 
 -- the lines of the records that are whole within the bytes taken were written
 pub record IsCutOff (plan : Plan) (reader : Reading) (old new : Streams) : Type 0 where
@@ -125,18 +108,18 @@ abbrev pub WritesSome : Plan → Reading → Streams → Streams → Type 0
 WritesSome plan reader old new = (rest : List ℕ) → old.left ≡ Some rest → WritesPart old.written (lines_left plan reader rest Closed) new.written
 
 -- the capture was watched to an ending
-abbrev pub WatchesTo : Plan → Reading → Ending → Streams → Streams → Type 0
-WatchesTo plan reader ending old new = (rest : List ℕ) → old.left ≡ Some rest → IsWatched plan reader rest ending old new
+abbrev pub WatchesTo : Plan → Reading → Ending → Streams → Streams → Counts → Type 0
+WatchesTo plan reader ending old new counts = (rest : List ℕ) → old.left ≡ Some rest → IsWatched plan reader rest ending old new counts
 
 -- how the watching ends: at the end of the capture; cut off by the host; stopped by the sink or for
 -- want of memory; or at what can't be read
-abbrev pub Watches : Plan → Reading → Streams → Streams → Result (Unit {0}) Stop → Type 0
-Watches plan reader old new (Ok done) = WatchesTo plan reader Clean old new
-Watches plan reader old new (Err stop.CannotRead) = IsCutOff plan reader old new × WritesSome plan reader old new
-Watches plan reader old new (Err stop.CannotWrite) = WritesSome plan reader old new
-Watches plan reader old new (Err stop.NoMemory) = WritesSome plan reader old new
-Watches plan reader old new (Err why) =
-    (fault : CaptureFault) × (why ≡ capture_stop fault) × WatchesTo plan reader (Refused fault) old new
+abbrev pub Watches : Plan → Reading → Streams → Streams → Counts → Result (Unit {0}) Stop → Type 0
+Watches plan reader old new counts (Ok done) = WatchesTo plan reader Clean old new counts
+Watches plan reader old new counts (Err stop.CannotRead) = IsCutOff plan reader old new × WritesSome plan reader old new
+Watches plan reader old new counts (Err stop.CannotWrite) = WritesSome plan reader old new
+Watches plan reader old new counts (Err stop.NoMemory) = WritesSome plan reader old new
+Watches plan reader old new counts (Err why) =
+    (fault : CaptureFault) × (why ≡ capture_stop fault) × WatchesTo plan reader (Refused fault) old new counts
 
 -- ---- batch by batch
 
@@ -156,28 +139,78 @@ abbrev pub room_behind : Option ℕ → ℕ → Option ℕ
 room_behind None count = None
 room_behind (Some room) count = Some (room - count)
 
--- where a watching stands: the reader, how many records may still be read, and what is told
+-- where a watching stands: the reader, how many records may still be read, the detector, and what is told
 pub record Standing : Type 0 where
   pub reader : Reading
   pub room : Option ℕ
+  pub detector : Detector
   pub streams : Streams
 
--- from the first reader on some records were given, and the lines of these were written
+-- from the first reader on some records were given, the detector stands for them, and their lines were
+-- written
 pub record IsUnderWay (plan : Plan) (first : Reading) (start : Streams) (now : Standing) : Type 0 where
   pub given : List Record
   pub read : HasRead first now.reader given start.left now.streams.left
   pub room_is : IsRoom plan.limit (length given) now.room
+  pub stands : DetectorStands plan (map (linked first.head.link) given) now.detector
   pub wrote : now.streams.written ≡ behind start.written (lines_of plan first.head.link given Open)
 
--- the watching is over, with its lines close behind its records
-abbrev pub WatchesOver : Plan → Reading → Streams → Streams → Result (Unit {0}) Stop → Type 0
-WatchesOver plan first start now outcome = Watches plan first start now outcome × IsCloseBehind plan first start now
+-- all records were given, up to this ending, the detector stands for them, and their lines were written:
+-- nothing is closed yet
+pub record IsAtEnd (plan : Plan) (first : Reading) (start : Streams) (now : Streams) (detector : Detector) (ending : Ending) : Type 0 where
+  pub given : List Record
+  pub ends : (rest : List ℕ) → start.left ≡ Some rest → cut_by plan first rest ≡ record { records = given; ending = ending }
+  pub stands : DetectorStands plan (map (linked first.head.link) given) detector
+  pub wrote : now.written ≡ behind start.written (lines_of plan first.head.link given Open)
 
--- a watching that was under way is so still, behind one more batch, or is over
+-- how the reading of all batches ends
+abbrev pub Comes : Plan → Reading → Streams → Streams → Detector → Result (Unit {0}) Stop → Type 0
+Comes plan first start now detector (Ok done) = IsAtEnd plan first start now detector Clean
+Comes plan first start now detector (Err stop.CannotRead) = IsCutOff plan first start now × WritesSome plan first start now
+Comes plan first start now detector (Err stop.CannotWrite) = WritesSome plan first start now
+Comes plan first start now detector (Err stop.NoMemory) = WritesSome plan first start now
+Comes plan first start now detector (Err why) =
+    (fault : CaptureFault) × (why ≡ capture_stop fault) × IsAtEnd plan first start now detector (Refused fault)
+
+-- and its lines are close behind its records
+abbrev pub ComesOver : Plan → Reading → Streams → Streams → Detector → Result (Unit {0}) Stop → Type 0
+ComesOver plan first start now detector outcome = Comes plan first start now detector outcome × IsCloseBehind plan first start now
+
+-- a watching that was under way is so still, behind one more batch, or all batches are read
 abbrev pub GoesOn : Plan → Standing → Standing → Result Bool Stop → Type 0
 GoesOn plan old new (Ok true) =
     (first : Reading) (start : Streams) → IsUnderWay plan first start old → IsUnderWay plan first start new
 GoesOn plan old new (Ok false) =
-    (first : Reading) (start : Streams) → IsUnderWay plan first start old → WatchesOver plan first start new.streams (Ok tt)
+    (first : Reading) (start : Streams) → IsUnderWay plan first start old → ComesOver plan first start new.streams new.detector (Ok tt)
 GoesOn plan old new (Err why) =
-    (first : Reading) (start : Streams) → IsUnderWay plan first start old → WatchesOver plan first start new.streams (Err why)
+    (first : Reading) (start : Streams) → IsUnderWay plan first start old → ComesOver plan first start new.streams new.detector (Err why)
+
+-- ---- the end
+
+-- what a capture is closed with, where the work on it came to its end so: a detector that is known, and
+-- was given no more records than a capture has
+abbrev pub StaysKnown : {P A : Type 0} → code.Plan P → Detector → Result A Stop → Type 0
+StaysKnown plan detector outcome = is_whole outcome ≡ true → Knows plan detector
+
+abbrev pub StaysFew : {A : Type 0} → Detector → Result A Stop → Type 0
+StaysFew detector outcome = is_whole outcome ≡ true → detector.front.counts.records ≤ most_records
+
+-- what was cut short is left as it was
+abbrev pub IsLeft : Result (Unit {0}) Stop → Result (Unit {0}) Stop → Option (List ℕ) → Option (List ℕ) → Type 0
+IsLeft watched result old new = (is_whole watched ≡ false) × (result ≡ watched) × (new ≡ old)
+
+-- what came to its end is closed
+abbrev pub IsClosedWhole : Plan → Detector → Result (Unit {0}) Stop → Result (Unit {0}) Stop → Option (List ℕ) → Option (List ℕ) → Counts → Type 0
+IsClosedWhole plan detector watched result old new counts =
+    (is_whole watched ≡ true) × (result ≡ watched) × Closes plan (record { detector = detector; written = old }) new counts
+
+-- or its closing was stopped
+abbrev pub IsClosedInPart : Plan → Detector → Result (Unit {0}) Stop → Result (Unit {0}) Stop → Option (List ℕ) → Option (List ℕ) → Type 0
+IsClosedInPart plan detector watched result old new =
+    (is_whole watched ≡ true) × ((why : Stop) × (result ≡ Err why) × IsShowStop why) × ClosesPart plan (record { detector = detector; written = old }) new
+
+-- how a capture whose batches ended so is closed
+unfoldable pub ClosesWatched : Plan → Detector → Result (Unit {0}) Stop → Option (List ℕ) → Option (List ℕ) → Counts → Result (Unit {0}) Stop → Type 0
+ClosesWatched plan detector watched old new counts result =
+    IsLeft watched result old new
+    ⊎ (IsClosedWhole plan detector watched result old new counts ⊎ IsClosedInPart plan detector watched result old new)

@@ -97,6 +97,8 @@ pub(crate) fn read_batch<H: Host>(
     ensures further { result ≡ Reached.More → reader.old.number < reader.new.number }
     ensures goes_on { result ≡ Reached.More → reader.new.refused ≡ None }
     ensures within { result ≡ Reached.More → reader.new.number ≤ most_records }
+    ensures numbered { result ≡ Reached.More → reader.new.number ≡ reader.old.number + vec_len records.new }
+    ensures filled { 0 < vec_len records.new → reader.old.number + vec_len records.new ≤ most_records }
     ensures failed { result ≡ Reached.Fault CaptureFault.Failed → Rose (H.faults host.old) (H.faults host.new) }
     ensures same_opens { H.opens host.new ≡ H.opens host.old }
     ensures same_contents { H.contents host.new ≡ H.contents host.old }

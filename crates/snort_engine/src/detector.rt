@@ -4,8 +4,9 @@ ghost use Rattle.snort_setup.specs.Steps.{Grows};
 ghost use Rattle.snort_engine.specs.Headline.{Headline};
 
 use crate::Status;
+use crate::counts::Counts;
 use crate::prepare::{plan_for, prepare};
-use crate::report::{report, tell_all};
+use crate::report::{counts_due, report, tell_all};
 use crate::watch::watch_capture;
 use edge_io::{Gate, Host, Items, PatternMaker, Sink};
 use flow_lanes::matching_is_decided;
@@ -17,18 +18,19 @@ use std::thread::Threads;
 /// that they name; to `errors` the warnings, and a message where the run ends otherwise than well.
 ///
 /// The order is words, configuration, rules, host table, warnings, capture header, records; the lines of
-/// a batch of records are written before the next is read. `maker` makes the patterns of rules. `gate` is
-/// not asked yet. Each warning and the message is offered to `errors` once, whole; after a fault of that
-/// sink nothing more is written to it, and the run ends as it would have.
+/// a batch of records are written before the next is read. `maker` makes the patterns of rules. The flows
+/// are dealt to so many lanes as the words say, each in a thread of its own, which passes `gate` at the
+/// start of its work on a batch. Each warning, and the message with the counts, is offered to `errors`
+/// once, whole; after a fault of that sink nothing more is written to it, and the run ends as it would have.
 pub fn run<H: Host, M: PatternMaker, A: Sink, E: Sink, G: Gate, R: Threads + Sync>(
-    _rt: &R,
+    rt: &R,
     alloc: Global,
     words: &[String],
     host: &mut H,
     maker: &mut M,
     alerts: &mut A,
     errors: &mut E,
-    _gate: &G,
+    gate: &G,
 ) -> Status
     ensures headline { Headline (map string_bytes words.now) (M.means maker.old)
         (record {
@@ -66,9 +68,11 @@ pub fn run<H: Host, M: PatternMaker, A: Sink, E: Sink, G: Gate, R: Threads + Syn
     match prepared {
         Ok(ready) => {
             let plan = plan_for(&ready);
-            let outcome = watch_capture(alloc, host, &plan, alerts);
-            report(alloc, errors, well, plan.source, &outcome)
+            let mut counts = Counts::NONE;
+            let outcome = watch_capture(rt, alloc, host, &plan, gate, alerts, &mut counts);
+            let told = counts_due(plan.counted, &outcome, counts);
+            report(alloc, errors, well, plan.source, &outcome, told)
         }
-        Err(stop) => report(alloc, errors, well, "", &Err(stop)),
+        Err(stop) => report(alloc, errors, well, "", &Err(stop), None),
     }
 }

@@ -1,6 +1,12 @@
-use conf_parser::Classes;
+ghost use Rattle.std.specs.Prelude.{◌≡◌};
+ghost use Rattle.record_jobs.specs.Way as ways;
+ghost use Rattle.snort_engine.specs.Trace.{way_by};
+
+use conf_parser::Config;
+use host_table::Hosts;
 use option_eval::RuleSet;
 use packet_decode::Checks;
+use record_jobs::FrontConfig;
 
 /// What is done with a capture.
 #[derive(Clone, Copy)]
@@ -11,8 +17,28 @@ pub(crate) struct Plan<'a, P> {
     pub limit: Option<u32>,
     /// The checksums that are verified.
     pub checks: Checks,
+    /// How fragments, streams and events are dealt with, and the classes that rules name.
+    pub config: &'a Config,
+    /// What is known of hosts.
+    pub hosts: &'a Hosts,
     /// The rules, in the order in which they were read, with their patterns.
     pub set: &'a RuleSet<P>,
-    /// The classes that the rules name.
-    pub classes: &'a Classes,
+    /// How many lanes do the work, 1 to 64.
+    pub lanes: u32,
+    /// How many bytes of a stream are acknowledged at least before they are an item, 1 to 65536.
+    pub flush: u32,
+    /// The counts of the run are told.
+    pub counted: bool,
+}
+
+/// What records are made into jobs by.
+pub(crate) fn front_config<'a, P>(plan: &Plan<'a, P>) -> FrontConfig<'a>
+    ensures way { ways.way_of result ≡ way_by plan.entry.now.checks plan.entry.now.hosts.now plan.entry.now.config.now }
+    ensures config { result.config.now ≡ plan.entry.now.config.now }
+{
+    FrontConfig {
+        checks: plan.checks,
+        hosts: plan.hosts,
+        config: plan.config,
+    }
 }

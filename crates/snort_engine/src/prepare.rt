@@ -3,6 +3,7 @@ ghost use Rattle.std.specs.Prelude.{◌≡◌, ◌≤◌, [], None, Some, Ok, ma
 ghost use Rattle.edge_io.specs.Files.{Files};
 ghost use Rattle.edge_io.specs.Told.{Rose};
 ghost use Rattle.option_eval.specs.RuleSet.{FindWhatIsMeant, SameMeaning};
+ghost use Rattle.conf_parser.specs.Sound as conf;
 ghost use Rattle.rule_parser.specs.Sound.{IsSound};
 ghost use Rattle.command_words.specs.CommandLine.{command_line, run};
 ghost use Rattle.command_words.specs.Told.{run_of};
@@ -14,6 +15,7 @@ ghost use Rattle.snort_setup.specs.Whole.{ready_of};
 ghost use Rattle.snort_engine.specs.Course.{setup_words, checks_of, is_for_later, way_of};
 ghost use Rattle.snort_engine.specs.Preparing.{IsPrepared, IsSetUp, KeepsSetup, HasCause, IsForFaultyWords, plan_by, told_of, way_by};
 ghost use Rattle.snort_engine.specs.Watching.{plan_of};
+ghost use Rattle.snort_engine.specs.Detecting.{IsRanged};
 
 use crate::plan::Plan;
 use crate::stop::Stop;
@@ -32,6 +34,12 @@ pub(crate) struct Prepared<'a, P> {
     pub limit: Option<u32>,
     /// The checksums that are verified.
     pub checks: Checks,
+    /// How many lanes do the work, 1 to 64.
+    pub lanes: u32,
+    /// How many bytes of a stream are acknowledged at least before they are an item, 1 to 65536.
+    pub flush: u32,
+    /// The counts of the run are told.
+    pub counted: bool,
     pub setup: Setup<P>,
 }
 
@@ -39,15 +47,22 @@ pub(crate) struct Prepared<'a, P> {
 pub(crate) fn plan_for<'a, P>(prepared: &'a Prepared<'_, P>) -> Plan<'a, P>
     ensures plan { (matches : Test) → plan_of matches result ≡ plan_by matches prepared.now }
     ensures set { result.set.now ≡ prepared.now.setup.set }
-    ensures classes { result.classes.now ≡ prepared.now.setup.config.classes }
+    ensures config { result.config.now ≡ prepared.now.setup.config }
     ensures source { result.source.now ≡ prepared.now.source.now }
+    ensures lanes { result.lanes ≡ prepared.now.lanes }
+    ensures flush { result.flush ≡ prepared.now.flush }
+    ensures counted { result.counted ≡ prepared.now.counted }
 {
     Plan {
         source: prepared.source,
         limit: prepared.limit,
         checks: prepared.checks,
+        config: &prepared.setup.config,
+        hosts: &prepared.setup.hosts,
         set: &prepared.setup.set,
-        classes: &prepared.setup.config.classes,
+        lanes: prepared.lanes,
+        flush: prepared.flush,
+        counted: prepared.counted,
     }
 }
 
@@ -80,11 +95,7 @@ fn checks_of(mode: ChecksumMode) -> Checks
 fn is_for_later(wanted: &Words<'_>) -> bool
     ensures { result ≡ is_for_later (run_of wanted.now) }
 {
-    wanted.stats
-        || wanted.generate.is_some()
-        || wanted.lanes != 1
-        || wanted.flush_point != 1024
-        || wanted.seed != 1
+    wanted.generate.is_some() || wanted.seed != 1
 }
 
 /// What the words say of the setup.
@@ -138,6 +149,7 @@ fn set_up<H: Host, M: PatternMaker>(
         → IsSetUp ready_of (run_of wanted.now) files (Rose (H.faults host.old) (H.faults host.new))
         (grown_by (M.refusals maker.old) (M.refusals maker.new)) result warnings.new }
     ensures cause { IfErr result (setup_specs.HasCause (Rose (H.faults host.old) (H.faults host.new)) (H.contents host.old)) }
+    ensures config { IfOk result (λ setup. conf.IsSound setup.config) }
     ensures rules { IfOk result (λ setup. All (IsSound setup.config.classes) setup.set.rules) }
     ensures meant { IfOk result (λ setup. FindWhatIsMeant M.Made.finds (M.means maker.old) setup.set) }
     ensures same_contents { H.contents host.new ≡ H.contents host.old }
@@ -158,6 +170,7 @@ fn ready<'a, P: Pattern>(wanted: &Words<'a>, setup: Setup<P>) -> Result<Prepared
     ensures way { (matches : Test) → way_by (plan_by matches) result
         ≡ way_of matches (run_of wanted.now) (Ok (ready_of setup)) }
     ensures kept { KeepsSetup setup result }
+    ensures ranges { IfOk result (λ ready. (ready.lanes ≡ wanted.now.lanes) × (ready.flush ≡ wanted.now.flush_point)) }
 {
     if wanted.test {
         return Err(Stop::Accepted {
@@ -175,6 +188,9 @@ fn ready<'a, P: Pattern>(wanted: &Words<'a>, setup: Setup<P>) -> Result<Prepared
         source,
         limit: wanted.limit,
         checks,
+        lanes: wanted.lanes,
+        flush: wanted.flush_point,
+        counted: wanted.stats,
         setup,
     })
 }
@@ -188,12 +204,15 @@ fn prepare_run<'a, H: Host, M: PatternMaker>(
     warnings: &mut Items<Text>,
 ) -> Result<Prepared<'a, M::Made>, Stop>
     requires named { HasName (setup_words (run_of wanted.now)).definition }
+    requires ranged { IsRanged wanted.now.lanes wanted.now.flush_point }
     requires silent { warnings.old ≡ [] }
     ensures prepared { (files : Files) → H.contents host.old ≡ Some files
         → IsPrepared plan_by (Some (run (run_of wanted.now))) files (Rose (H.faults host.old) (H.faults host.new))
         (grown_by (M.refusals maker.old) (M.refusals maker.new)) result warnings.new }
     ensures cause { IfErr result (HasCause (Rose (H.faults host.old) (H.faults host.new)) (H.contents host.old)) }
+    ensures config { IfOk result (λ ready. conf.IsSound ready.setup.config) }
     ensures rules { IfOk result (λ ready. All (IsSound ready.setup.config.classes) ready.setup.set.rules) }
+    ensures ranges { IfOk result (λ ready. IsRanged ready.lanes ready.flush) }
     ensures meant { IfOk result (λ ready. FindWhatIsMeant M.Made.finds (M.means maker.old) ready.setup.set) }
     ensures same_contents { H.contents host.new ≡ H.contents host.old }
     ensures same_left { H.left host.new ≡ H.left host.old }
@@ -228,7 +247,9 @@ pub(crate) fn prepare<'a, H: Host, M: PatternMaker>(
         (grown_by (M.refusals maker.old) (M.refusals maker.new)) result warnings.new }
     ensures faulty_words { command_line (map string_bytes words.entry.now) ≡ None → IsForFaultyWords result }
     ensures cause { IfErr result (HasCause (Rose (H.faults host.old) (H.faults host.new)) (H.contents host.old)) }
+    ensures config { IfOk result (λ ready. conf.IsSound ready.setup.config) }
     ensures rules { IfOk result (λ ready. All (IsSound ready.setup.config.classes) ready.setup.set.rules) }
+    ensures ranges { IfOk result (λ ready. IsRanged ready.lanes ready.flush) }
     ensures meant { IfOk result (λ ready. FindWhatIsMeant M.Made.finds (M.means maker.old) ready.setup.set) }
 
     // The host is as before, but for its count, and the maker but for what it refused.

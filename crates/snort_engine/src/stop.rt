@@ -1,5 +1,5 @@
 ghost use Rattle.std.specs.Prelude.{◌≡◌};
-ghost use Rattle.snort_engine.specs.Stop.{stop_status, stop_text};
+ghost use Rattle.snort_engine.specs.Stop.{is_whole, stop_status, stop_text};
 ghost use Rattle.snort_engine.specs.Messages.{cannot_read_text};
 ghost use Rattle.snort_engine.specs.Pieces.{pieces_text};
 
@@ -7,6 +7,7 @@ use crate::Status;
 use crate::pieces::Piece;
 use crate::pieces::Piece::{Bytes, Number};
 use edge_io::{NoMemory, Text, WriteStop};
+use flow_lanes::BatchFault;
 use pcap_input::CaptureFault;
 use snort_setup::SetupStop;
 use std::alloc::AllocFailed;
@@ -45,6 +46,17 @@ pub(crate) enum Stop {
 }
 
 const NOTHING: Piece<'static> = Bytes(b"");
+
+/// Whether the work on a capture came to its end: it was read to its end, or to where it is refused.
+pub(crate) fn is_whole(outcome: &Result<(), Stop>) -> bool
+    ensures { result ≡ is_whole outcome.now }
+{
+    match outcome {
+        Ok(()) => true,
+        Err(Stop::CannotRead | Stop::CannotWrite | Stop::NoMemory) => false,
+        Err(_) => true,
+    }
+}
 
 impl Stop {
     /// The status with which it ends a run.
@@ -147,6 +159,16 @@ impl<T: Drop> From<AllocFailed<T>> for Stop {
     ghost from_gives = { λ _ stop. stop ≡ out_of_memory };
 
     fn from(_error: AllocFailed<T>) -> Stop {
+        Stop::NoMemory
+    }
+}
+
+impl From<BatchFault> for Stop {
+    ghost use Rattle.snort_engine.specs.declared.stop.Stop.TheVariants.{NoMemory as out_of_memory};
+
+    ghost from_gives = { λ _ stop. stop ≡ out_of_memory };
+
+    fn from(_fault: BatchFault) -> Stop {
         Stop::NoMemory
     }
 }

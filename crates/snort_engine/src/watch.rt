@@ -3,57 +3,69 @@ ghost use Rattle.std.specs.List.{concat};
 ghost use Rattle.edge_io.specs.Files.{Files, Lacks};
 ghost use Rattle.edge_io.specs.Told.{one_more, Rose};
 ghost use Rattle.pcap_input.specs.Savefile.{most_records};
-ghost use Rattle.rule_parser.specs.Sound.{IsSound};
 ghost use Rattle.flow_lanes.specs.Hits.{Test};
 ghost use Rattle.snort_engine.specs.Course.{Course, Goes};
 ghost use Rattle.snort_engine.specs.Ending.{Ends};
 ghost use Rattle.snort_engine.specs.Stop.{outcome_status, outcome_text};
-ghost use Rattle.snort_engine.specs.Watching.{plan_of, IsTest, Watches, IsCloseBehind, GoesOn};
+ghost use Rattle.snort_engine.specs.Reporting.{counts_due};
+ghost use Rattle.snort_engine.specs.Counts.{no_counts, with_counts};
+ghost use Rattle.snort_engine.specs.Detecting.{IsSoundPlan, Knows, DetectorStands};
+ghost use Rattle.snort_engine.specs.Watching.{plan_of, IsTest, Watches, ComesOver, IsCloseBehind, GoesOn, StaysKnown, StaysFew, ClosesWatched};
 
 use crate::Status;
 use crate::batch::{give_back, more, most_at, read_batch, room_behind};
+use crate::counts::Counts;
+use crate::detect::{Detector, close, show_records};
 use crate::plan::Plan;
-use crate::show::show_batch;
-use crate::stop::Stop;
-use edge_io::{Host, Pattern, Sink};
+use crate::stop::{Stop, is_whole};
+use edge_io::{Gate, Host, Pattern, Sink};
 use pcap_input::{CaptureReader, Record};
 use std::alloc::Global;
+use std::thread::Threads;
 
 /// Reads a batch of records and writes their lines. Ok(true) where more records may follow, Ok(false)
 /// at the capture's end, and where no record may be read any more. `room` is how many may be.
 #[tactic(auto, using(crate::proofs::Prefixes::rising))]
-fn watch_batch<H: Host, P: Pattern, A: Sink>(
+fn watch_batch<H: Host, P: Pattern, G: Gate, A: Sink, R: Threads + Sync>(
+    rt: &R,
     alloc: Global,
     host: &mut H,
     reader: &mut CaptureReader,
     plan: &Plan<'_, P>,
+    gate: &G,
     room: &mut Option<u32>,
     records: &mut Vec<Record>,
-    block: &mut Vec<u8>,
+    detector: &mut Detector,
     alerts: &mut A,
 ) -> Result<bool, Stop>
-    requires sound { All (IsSound plan.now.classes.now) plan.now.set.now.rules }
+    requires plan { IsSoundPlan plan.now }
+    requires known { Knows plan.now detector.old }
+    requires behind { detector.old.front.counts.records ≤ reader.old.number }
+    requires within { reader.old.number ≤ most_records }
     requires fresh { reader.old.refused ≡ None }
     requires no_records { records.old.items ≡ [] }
-    requires no_lines { block.old.items ≡ [] }
     ensures goes_on { (matches : Test) → IsTest P.finds plan.now.set.now matches
         → GoesOn (plan_of matches plan.now)
         (record {
           reader = reader.old;
           room = room.old;
+          detector = detector.old;
           streams = record { left = H.left host.old; written = A.written alerts.old };
         })
         (record {
           reader = reader.new;
           room = room.new;
+          detector = detector.new;
           streams = record { left = H.left host.new; written = A.written alerts.new };
         })
         result }
     ensures further { result ≡ Ok true → reader.old.number < reader.new.number }
     ensures within { result ≡ Ok true → reader.new.number ≤ most_records }
     ensures fresh { result ≡ Ok true → reader.new.refused ≡ None }
+    ensures behind { result ≡ Ok true → detector.new.front.counts.records ≤ reader.new.number }
     ensures shown { OnOk result (records.new.items ≡ []) }
-    ensures offered { OnOk result (block.new.items ≡ []) }
+    ensures known { StaysKnown plan.now detector.new result }
+    ensures few { StaysFew detector.new result }
     ensures write_fault { IsErrOf result Stop.CannotWrite → Rose (A.faults alerts.old) (A.faults alerts.new) }
     ensures read_fault { outcome_status result ≡ Status.HostFault → Rose (H.faults host.old) (H.faults host.new) }
     ensures same_opens { H.opens host.new ≡ H.opens host.old }
@@ -68,26 +80,109 @@ fn watch_batch<H: Host, P: Pattern, A: Sink>(
     let link = reader.head().link;
     let reached = read_batch(alloc, host, reader, most, records);
     *room = room_behind(*room, records.len());
-    show_batch(alloc, plan, link, records, block, alerts)?;
+    show_records(rt, alloc, plan, gate, link, records, detector, alerts)?;
     give_back(alloc, reader, records);
     more(reached)
 }
 
-/// Reads one batch of records after another, and writes the lines of each before the next is read.
+/// Reads one batch of records after another, and writes the lines of each before the next is read. What
+/// it ends with is not closed yet.
 #[tactic(auto, using(crate::proofs::Prefixes::rising))]
-pub(crate) fn watch_records<H: Host, P: Pattern, A: Sink>(
+fn watch_batches<H: Host, P: Pattern, G: Gate, A: Sink, R: Threads + Sync>(
+    rt: &R,
     alloc: Global,
     host: &mut H,
     reader: &mut CaptureReader,
     plan: &Plan<'_, P>,
+    gate: &G,
+    detector: &mut Detector,
     alerts: &mut A,
 ) -> Result<(), Stop>
-    requires sound { All (IsSound plan.now.classes.now) plan.now.set.now.rules }
+    requires plan { IsSoundPlan plan.now }
+    requires known { Knows plan.now detector.old }
+    requires none { detector.old.front.counts.records ≡ 0 }
+    requires within { reader.old.number ≤ most_records }
+    requires fresh { reader.old.refused ≡ None }
+    ensures comes { (matches : Test) → IsTest P.finds plan.now.set.now matches
+        → DetectorStands (plan_of matches plan.now) [] detector.old
+        → ComesOver (plan_of matches plan.now) reader.old
+        (record { left = H.left host.old; written = A.written alerts.old })
+        (record { left = H.left host.new; written = A.written alerts.new }) detector.new result }
+    ensures known { StaysKnown plan.now detector.new result }
+    ensures few { StaysFew detector.new result }
+    ensures write_fault { IsErrOf result Stop.CannotWrite → Rose (A.faults alerts.old) (A.faults alerts.new) }
+    ensures read_fault { outcome_status result ≡ Status.HostFault → Rose (H.faults host.old) (H.faults host.new) }
+    ensures same_opens { H.opens host.new ≡ H.opens host.old }
+    ensures same_contents { H.contents host.new ≡ H.contents host.old }
+    ensures later { H.faults host.old ≤ H.faults host.new }
+    ensures later_alerts { A.faults alerts.old ≤ A.faults alerts.new }
+{
+    let mut room = plan.limit;
+    let mut records = Vec::new(alloc);
+    'batches: while watch_batch(
+        rt,
+        alloc,
+        host,
+        reader,
+        plan,
+        gate,
+        &mut room,
+        &mut records,
+        detector,
+        alerts,
+    )? {}
+    Ok(())
+}
+
+/// Closes a capture whose batches ended so, where it is to be closed.
+#[tactic(auto, using(crate::proofs::Prefixes::rising))]
+fn close_watched<P: Pattern, G: Gate, A: Sink, R: Threads + Sync>(
+    rt: &R,
+    alloc: Global,
+    plan: &Plan<'_, P>,
+    gate: &G,
+    detector: Detector,
+    watched: Result<(), Stop>,
+    alerts: &mut A,
+    counts: &mut Counts,
+) -> Result<(), Stop>
+    requires plan { IsSoundPlan plan.now }
+    requires known { StaysKnown plan.now detector watched }
+    requires few { StaysFew detector watched }
+    ensures closes { (matches : Test) → IsTest P.finds plan.now.set.now matches
+        → ClosesWatched (plan_of matches plan.now) detector watched
+        (A.written alerts.old) (A.written alerts.new) counts.new result }
+    ensures write_fault { IsErrOf result Stop.CannotWrite → IsErrOf watched Stop.CannotWrite ⊎ Rose (A.faults alerts.old) (A.faults alerts.new) }
+    ensures read_fault { outcome_status result ≡ Status.HostFault → outcome_status watched ≡ Status.HostFault }
+    ensures later_alerts { A.faults alerts.old ≤ A.faults alerts.new }
+{
+    if !is_whole(&watched) {
+        return watched;
+    }
+    *counts = close(rt, alloc, plan, gate, detector, alerts)?;
+    watched
+}
+
+/// Reads all records of a capture that was opened, batch by batch, and writes their lines and those of the
+/// flows that end with it; `counts` is then what was counted, where it was read to its end.
+#[tactic(auto, using(crate::proofs::Prefixes::rising))]
+pub(crate) fn watch_records<H: Host, P: Pattern, G: Gate, A: Sink, R: Threads + Sync>(
+    rt: &R,
+    alloc: Global,
+    host: &mut H,
+    reader: &mut CaptureReader,
+    plan: &Plan<'_, P>,
+    gate: &G,
+    alerts: &mut A,
+    counts: &mut Counts,
+) -> Result<(), Stop>
+    requires plan { IsSoundPlan plan.now }
+    requires within { reader.old.number ≤ most_records }
     requires fresh { reader.old.refused ≡ None }
     ensures watches { (matches : Test) → IsTest P.finds plan.now.set.now matches
         → Watches (plan_of matches plan.now) reader.old
         (record { left = H.left host.old; written = A.written alerts.old })
-        (record { left = H.left host.new; written = A.written alerts.new }) result }
+        (record { left = H.left host.new; written = A.written alerts.new }) counts.new result }
     ensures close { (matches : Test) → IsTest P.finds plan.now.set.now matches
         → IsCloseBehind (plan_of matches plan.now) reader.old
         (record { left = H.left host.old; written = A.written alerts.old })
@@ -99,31 +194,25 @@ pub(crate) fn watch_records<H: Host, P: Pattern, A: Sink>(
     ensures later { H.faults host.old ≤ H.faults host.new }
     ensures later_alerts { A.faults alerts.old ≤ A.faults alerts.new }
 {
-    let mut room = plan.limit;
-    let mut records = Vec::new(alloc);
-    let mut block = Vec::new(alloc);
-    'batches: while watch_batch(
-        alloc,
-        host,
-        reader,
-        plan,
-        &mut room,
-        &mut records,
-        &mut block,
-        alerts,
-    )? {}
-    Ok(())
+    let mut detector = Detector::new(alloc, plan)?;
+    let watched = watch_batches(rt, alloc, host, reader, plan, gate, &mut detector, alerts);
+    close_watched(rt, alloc, plan, gate, detector, watched, alerts, counts)
 }
 
-/// Opens the plan's capture and writes the lines of its records.
+/// Opens the plan's capture and writes the lines of its records; `counts` is then what was counted, where
+/// it was read to its end, or is refused.
 #[tactic(auto, using(crate::proofs::Prefixes::rising))]
-pub(crate) fn watch_capture<H: Host, P: Pattern, A: Sink>(
+pub(crate) fn watch_capture<H: Host, P: Pattern, G: Gate, A: Sink, R: Threads + Sync>(
+    rt: &R,
     alloc: Global,
     host: &mut H,
     plan: &Plan<'_, P>,
+    gate: &G,
     alerts: &mut A,
+    counts: &mut Counts,
 ) -> Result<(), Stop>
-    requires { All (IsSound plan.now.classes.now) plan.now.set.now.rules }
+    requires plan { IsSoundPlan plan.now }
+    requires none { counts.old ≡ no_counts }
     ensures ends { (matches : Test) → IsTest P.finds plan.now.set.now matches
         → (files : Files) (course : Course) → H.contents host.old ≡ Some files
         → course.way ≡ Goes (plan_of matches plan.now)
@@ -140,7 +229,8 @@ pub(crate) fn watch_capture<H: Host, P: Pattern, A: Sink>(
           host_faults = H.faults host.new;
           alerts = A.written alerts.new;
         })
-        (outcome_status result) (concat course.warnings ++ outcome_text plan.now.source.now result) }
+        (outcome_status result)
+        (concat course.warnings ++ with_counts (outcome_text plan.now.source.now result) (counts_due plan.now.counted result counts.new)) }
     ensures write_fault { outcome_status result ≡ Status.WriteFault → Rose (A.faults alerts.old) (A.faults alerts.new) }
     ensures read_fault { outcome_status result ≡ Status.HostFault
         → Rose (H.faults host.old) (H.faults host.new) ⊎ Lacks (H.contents host.old) plan.now.source.now }
@@ -150,5 +240,5 @@ pub(crate) fn watch_capture<H: Host, P: Pattern, A: Sink>(
     ensures later_alerts { A.faults alerts.old ≤ A.faults alerts.new }
 {
     let mut reader = CaptureReader::open(host, plan.source)?;
-    watch_records(alloc, host, &mut reader, plan, alerts)
+    watch_records(rt, alloc, host, &mut reader, plan, gate, alerts, counts)
 }

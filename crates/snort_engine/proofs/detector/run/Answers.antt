@@ -5,15 +5,20 @@ use Rattle.snort_engine.specs.Preparing.{plan_by}
 use Rattle.snort_engine.proofs.Runs.{headline, stopped_run, watched_run}
 use Rattle.snort_engine.proofs.detector.run.Goals as goal
 
-pub watch_capture-outcome-requires-after_bounds : goal.watch_capture-outcome-requires-after_bounds
-watch_capture-outcome-requires-after_bounds g c κs within =
-    let sound = c.in-Ok.ensures.rules in
-    rw (c.plan_for-plan.ensures.set, c.plan_for-plan.ensures.classes) sound
+pub watch_capture-outcome-requires-clause-plan : goal.watch_capture-outcome-requires-clause-plan
+watch_capture-outcome-requires-clause-plan g c κs within =
+    let rules = c.in-Ok.ensures.rules in
+    let config = c.in-Ok.ensures.config in
+    record {
+      config = rw c.plan_for-plan.ensures.config config;
+      rules = rw (c.plan_for-plan.ensures.set, c.plan_for-plan.ensures.config) rules;
+      ranges = rw (c.plan_for-plan.ensures.lanes, c.plan_for-plan.ensures.flush) c.in-Ok.ensures.ranges;
+    }
 
 pub returns-in-Ok-clause-headline : goal.returns-in-Ok-clause-headline
 returns-in-Ok-clause-headline g c =
     headline _ _ _ _ _
-    (watched_run (plan_by {P = g.row.M-Made.Denot}) _ _ _ _ c.in-Ok.ready c.plan_for-plan.result.source.now c.watch_capture-outcome.result c.prepare-prepared.new.warnings _ (c.matching_is_decided.ensures _)
+    (watched_run (plan_by {P = g.row.M-Made.Denot}) _ _ _ _ c.in-Ok.ready c.plan_for-plan.result.source.now _ c.watch_capture-outcome.result c.prepare-prepared.new.warnings _ (c.matching_is_decided.ensures _)
     (record {
       middle = record {
         left = g.H.Host.left c.prepare-prepared.new.host;
@@ -46,7 +51,7 @@ returns-in-Ok-clause-headline g c =
       later = c.tell_all-well.ensures.later;
       on = c.report.ensures.later;
       warned = rw c.as_slice.ensures at c.tell_all-well.ensures.tells;
-      reports = c.report.ensures.reports;
+      reports = rw c.counts_due-told.ensures at c.report.ensures.reports;
     }))
 
 pub returns-clause-headline : goal.returns-clause-headline

@@ -1,11 +1,14 @@
 use Rattle.command_words.specs.Told.{run_of}
 use Rattle.snort_engine.specs.Preparing.{plan_by}
-use Rattle.snort_engine.proofs.Named.{command_named}
+use Rattle.snort_engine.proofs.Named.{command_named, command_ranged}
 use Rattle.snort_engine.proofs.Prepared.{prepared_faulty, prepared_help, prepared_version, prepared_lacking}
 use Rattle.snort_engine.proofs.prepare.prepare.Goals as goal
 
 pub prepare_run-requires-clause-named : goal.prepare_run-requires-clause-named
 prepare_run-requires-clause-named g c κs within = command_named _ (run_of c.in-Ok-Run.wanted) (rw c.in-Ok-Run.field-0-is at c.in-Ok-Run.ensures)
+
+pub prepare_run-requires-clause-ranged : goal.prepare_run-requires-clause-ranged
+prepare_run-requires-clause-ranged g c κs within = command_ranged _ (run_of c.in-Ok-Run.wanted) (rw c.in-Ok-Run.field-0-is at c.in-Ok-Run.ensures)
 
 pub returns-in-Ok-Help-clause-prepared : goal.returns-in-Ok-Help-clause-prepared
 returns-in-Ok-Help-clause-prepared g c = λ files told. prepared_help plan_by _ files _ _ _ (rw c.in-Ok-Help.field-0-is at c.in-Ok-Help.ensures) c.requires

@@ -4,7 +4,7 @@ use Rattle.command_words.specs.Told.{run_of}
 use Rattle.snort_setup.specs.Whole.{ready_of}
 use Rattle.snort_engine.specs.Course.{is_for_later}
 use Rattle.snort_engine.specs.Preparing.{plan_by}
-use Rattle.snort_engine.proofs.Prepared.{prepared_later, setup_stopped, setup_ready, setup_cause, kept_cause, kept_rules, kept_meant}
+use Rattle.snort_engine.proofs.Prepared.{prepared_later, setup_stopped, setup_ready, setup_cause, kept_cause, kept_config, kept_ranges, kept_rules, kept_meant}
 use Rattle.snort_engine.proofs.prepare.prepare_run.Goals as goal
 
 pub returns-then-is_for_later-clause-prepared : goal.returns-then-is_for_later-clause-prepared
@@ -36,3 +36,9 @@ returns-clause-rules g c = kept_rules c.in_ok-setup.setup c.ready.result c.ready
 
 pub returns-clause-meant : goal.returns-clause-meant
 returns-clause-meant g c = kept_meant _ _ c.in_ok-setup.setup c.ready.result c.ready.ensures.kept c.in_ok-setup.ensures.meant
+
+pub returns-clause-config : goal.returns-clause-config
+returns-clause-config g c = kept_config c.in_ok-setup.setup c.ready.result c.ready.ensures.kept c.in_ok-setup.ensures.config
+
+pub returns-clause-ranges : goal.returns-clause-ranges
+returns-clause-ranges g c = kept_ranges c.ready.result c.args.wanted.now.lanes c.args.wanted.now.flush_point c.ready.ensures.ranges c.requires.ranged

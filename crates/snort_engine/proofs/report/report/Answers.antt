@@ -1,10 +1,14 @@
+use Rattle.std.proofs.Common.{ℕ, List, ◌++◌, ap, ◌∙◌}
+use Rattle.snort_engine.specs.Counts.{with_counts}
+use Rattle.snort_engine.specs.Stop.{outcome_text}
 use Rattle.snort_engine.specs.Messages.{no_memory_text}
-use Rattle.snort_engine.proofs.Reported.{reports_done, reports_untold}
+use Rattle.snort_engine.proofs.Reported.{reports_told, reports_untold}
 use Rattle.snort_engine.proofs.report.report.Goals as goal
 
-pub returns-in_default-clause-reports : goal.returns-in_default-clause-reports
-returns-in_default-clause-reports g c = reports_done c.args.source.now c.args.outcome.now c.args.well _ _ (λ why is. c.in_default.not-Err why is)
+pub returns-in-Ok-clause-reports : goal.returns-in-Ok-clause-reports
+returns-in-Ok-clause-reports g c =
+    reports_told _ c.deref.result.now c.args.outcome.now c.status_of.result c.args.well c.tell-still.result _ _ _ c.status_of.ensures (c.deref.ensures.value ∙ c.in-Ok.ensures ∙ ap (λ (x : List ℕ). x ++ with_counts (outcome_text c.args.source.now c.args.outcome.now) c.args.told) c.new-text.ensures.items) c.tell-still.ensures.tells
 
 pub returns-clause-reports : goal.returns-clause-reports
 unfolding no_memory_text
-returns-clause-reports g c = reports_untold c.args.source.now c.args.outcome.now c.args.well c.tell-still-in-Err-push_pieces.result _ _ _ c.tell-still-in-Err-push_pieces.ensures.tells
+returns-clause-reports g c = reports_untold _ c.args.outcome.now c.args.well c.tell-still-in-Err.result _ _ _ c.tell-still-in-Err.ensures.tells

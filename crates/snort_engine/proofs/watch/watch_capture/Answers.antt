@@ -1,5 +1,5 @@
-use Rattle.std.proofs.lemmas.Result.{err_from_is_err_and}
 use Rattle.std.proofs.Common.{refl}
+use Rattle.std.proofs.lemmas.Result.{err_from_is_err_and}
 use Rattle.snort_engine.specs.Watching.{plan_of}
 use Rattle.snort_engine.proofs.Prefixes.{rose_since}
 use Rattle.snort_engine.proofs.Captures.{open_stops, capture_ends}
@@ -11,7 +11,7 @@ returns-in_err-reader-clause-ends g c = λ matches test files course told goes.
     let gives = rw told at c.in_err-reader.ensures.gives in
     let takes = rw told at c.in_err-reader.ensures.takes in
     let failed = rw told at c.in_err-reader.ensures.failed in
-    open_stops (plan_of matches c.args.plan.now) files course c.in_err-reader.field-0.0 _ _ c.from_residual.result p.0 p.1 p.2
+    open_stops (plan_of matches c.args.plan.now) files course c.in_err-reader.field-0.0 _ _ _ c.from_residual.result p.0 c.requires.none p.1 p.2
     goes refl gives takes c.in_err-reader.ensures.kinds failed
 
 pub returns-clause-ends : goal.returns-clause-ends
@@ -20,6 +20,6 @@ returns-clause-ends g c = λ matches test files course told goes.
     let rest = rw told at c.in_ok-reader.ensures.rest in
     let takes = rw told at c.in_ok-reader.ensures.takes in
     let watches = c.watch_records.ensures.watches matches test in
-    capture_ends (plan_of matches c.args.plan.now) files course c.in_ok-reader.reader _ _ _ c.watch_records.result
+    capture_ends (plan_of matches c.args.plan.now) files course c.in_ok-reader.reader _ _ _ _ c.watch_records.result
     goes takes gives rest watches (c.watch_records.ensures.close matches test)
     (λ is. rose_since _ _ _ c.in_ok-reader.ensures.later (c.watch_records.ensures.read_fault is))

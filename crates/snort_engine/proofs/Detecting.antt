@@ -1,0 +1,401 @@
+-- The steps from records to lines.
+use Rattle.std.proofs.Common.{◌≡◌, ℕ, ◌+◌, ◌*◌, ◌^◌, ◌<◌, ◌≤◌, List, [], ◌∷◌, ◌++◌, Option, Some, None, Result, Ok, Err, length, map, take, get_or, refl, sym, ap, subst, ◌∙◌, append_assoc, arith, length-append, inl, inr, ◌⊎◌}
+use Rattle.std.specs.Prelude.{All, IfOk, OnOk, OnErr, sum, ⊤}
+use Rattle.std.specs.List.{flat_map}
+use Rattle.std.proofs.lemmas.List.{append-nil, map-append, take_more}
+use Rattle.std.proofs.lemmas.List.Sums.{sum_by-append}
+use Rattle.edge_io.specs.declared.link.Link.{Link}
+use Rattle.edge_io.specs.declared.pattern.Span.{Span}
+use Rattle.edge_io.specs.Told.{behind}
+use Rattle.edge_io.specs.Along.{along, along_from, trail, trail_from}
+use Rattle.edge_io.proofs.Told.{behind-nil, behind-behind}
+use Rattle.edge_io.proofs.Along.{along-append, flat_map-along_from, pipe_more, trail-append, trail-more, trail_from-append}
+use Rattle.pcap_input.specs.declared.capture.Record.{Record}
+use Rattle.conf_parser.specs.declared.config.StreamConfig.{StreamConfig}
+use Rattle.rule_parser.specs.declared.rule.Rule.{Rule}
+use Rattle.fast_pattern.specs.Grouping.{StandFor}
+use Rattle.fast_pattern.specs.declared.groups.Groups.{Groups}
+use Rattle.event_filters.specs.Standing.{FiltersState, IsGiven}
+use Rattle.option_eval.specs.RuleSet.{Rules}
+use Rattle.flow_lanes.specs.declared.answer.BatchOut.{BatchOut}
+use Rattle.flow_lanes.specs.declared.answer.Hits.{Hits}
+use Rattle.flow_lanes.specs.declared.answer.JobHits.{JobHits}
+use Rattle.flow_lanes.specs.declared.job.Job.{Job}
+use Rattle.flow_lanes.specs.Flows.{Detection, answer, answer_tries}
+use Rattle.flow_lanes.specs.Hits.{Test}
+use Rattle.flow_lanes.specs.Standing.{AnswersBatch, DetectsBy, IsBatchAnswered, LanesStand, LanesState, LearnsBatch}
+use Rattle.record_jobs.specs.declared.counts.RecordCounts.{RecordCounts}
+use Rattle.record_jobs.specs.Way.{LinkedRecord, Way, linked}
+use Rattle.record_jobs.specs.Jobs.{finishes, jobs}
+use Rattle.record_jobs.specs.Counts.{counts}
+use Rattle.record_jobs.specs.Fronts.{FrontState, GivesFinishes, StandsFor, TakesRecord, TellsCounts}
+use Rattle.record_jobs.proofs.Counting.{records-counted}
+use Rattle.record_jobs.proofs.Learning.{learnt, new_learnt, ready}
+use Rattle.record_jobs.proofs.Running.{in_order}
+use Rattle.record_jobs.specs.Ready.{AreNumbered, AreReady, AreSound, HaveLearnt, all_jobs}
+use Rattle.snort_engine.specs.declared.counts.Counts.{Counts}
+use Rattle.snort_engine.specs.declared.detect.Detector.{Detector}
+use Rattle.snort_engine.specs.declared.detect.Inspection.{Inspection}
+use Rattle.snort_engine.specs.declared.events.Tally.{Tally}
+use Rattle.snort_engine.specs.declared.plan.Plan as code
+use Rattle.snort_engine.specs.declared.stop.Stop.{Stop}
+use Rattle.snort_engine.specs.Course.{Plan}
+use Rattle.snort_engine.specs.Trace.{Alert, Closed, Open, closing_alerts, closing_items, detection_of, filtered_item, item_alerts, items_of, job_items, jobs_of, record_alerts, trace, way_by, way_of}
+use Rattle.snort_engine.specs.Lines.{lines}
+use Rattle.snort_engine.specs.Counts.{counts_of, hit_count, try_count}
+use Rattle.snort_engine.specs.Outside.{WritesPart}
+use Rattle.snort_engine.specs.Gathering.{Gathering, Gathers}
+use Rattle.snort_engine.specs.Showing.{EventsStand, Showing, Shows, ShowsPart, hits_in, items_lines, tally_of}
+use Rattle.snort_engine.specs.Detecting.{AreShown, Closes, ClosesPart, Detecting, DetectorStands, InspectionStands, IsClosed, IsKnown, IsNewInspection, IsRun, IsSoundPlan, MakesJobs, Running, Runs, RunsPart, ShowsRecords, ShowsRecordsPart, closing_lines, counted, jobs_lines, waiting}
+use Rattle.snort_engine.specs.Watching.{IsTest, plan_of}
+use Rattle.snort_engine.proofs.Prefixes.{WritesPart-none, WritesPart-behind, gathers_written, gathers_stopped, gathers_some}
+use Rattle.snort_engine.proofs.LinesLaws.{alerts-items, jobs_lines-closing, jobs_lines-records}
+use Rattle.snort_engine.proofs.Learning.{stand-new}
+
+-- ---- jobs
+
+-- what is detected by goes by this configuration and these rules
+pub detects_by : {P : Type 0} (finds : P → List ℕ → Option Span) (plan : code.Plan P) (matches : Test) (test : IsTest finds plan.set.now matches) → DetectsBy finds test.means plan.config.now.stream plan.set.now (detection_of (plan_of matches plan))
+detects_by finds plan matches test = record { config = refl; rules = refl; made = test.find; told = test.tells }
+
+-- the items of the answers to a batch
+items_found : (d : Detection) (before batch : List Job) (hits : List JobHits) → hits ≡ along_from (answer d) before batch → hits_in hits ≡ trail_from (job_items d) before batch
+unfolding job_items
+items_found d before batch hits is = ap hits_in is ∙ flat_map-along_from (λ (job : JobHits). job.items) (answer d) before batch
+
+-- the tries of a batch come behind those so far
+tries_found : (d : Detection) (before batch : List Job) (old new more : ℕ) → old ≡ try_count d before → new ≡ old + more → more ≡ sum (along_from (answer_tries d) before batch) → new ≡ try_count d (before ++ batch)
+tries_found d before batch old new more so_far is found =
+    is ∙ ap (λ (n : ℕ). n + more) so_far ∙ ap (λ (n : ℕ). try_count d before + n) found
+    ∙ sym (ap sum (along-append (answer_tries d) before batch) ∙ sum_by-append (λ (x : ℕ). x) (along (answer_tries d) before) (along_from (answer_tries d) before batch))
+
+-- how the events of a running inspection are shown
+abbrev pub showing_of : Running → Showing
+showing_of running = record { events = running.inspection.events; written = running.written }
+
+-- the jobs of a batch were run, and the items that were found shown
+pub runs_found : (plan : Plan) (batch : List Job) (old new : Running) (out : BatchOut)
+    → ((before : List Job) → LanesStand (detection_of plan) old.inspection.lanes before → IsBatchAnswered (detection_of plan) before batch out new.inspection.lanes)
+    → new.inspection.tries ≡ old.inspection.tries + out.tries
+    → Shows plan.config plan.rules (hits_in out.hits) (showing_of old) (showing_of new)
+    → Runs plan batch old new
+unfolding Runs Shows jobs_lines
+runs_found plan batch old new out answers tries shows = λ before stands.
+    let d = detection_of plan in
+    let answered = answers before stands.lanes in
+    let items = items_found d before batch out.hits answered.hits in
+    let shown = shows (trail (job_items d) before) stands.events in record {
+      stands = record {
+        lanes = answered.stands;
+        events = subst (λ (x : List Hits). EventsStand plan.config plan.rules x new.inspection.events)
+            (ap (λ (x : List Hits). trail (job_items d) before ++ x) items ∙ pipe_more (job_items d) before batch) shown.stands;
+        tries = tries_found d before batch old.inspection.tries new.inspection.tries out.tries stands.tries tries answered.tries;
+      };
+      came = subst (λ (x : List Hits). Gathers (items_lines plan.config plan.rules (trail (job_items d) before) x) (waiting old) (waiting new)) items shown.came;
+    }
+
+-- or a part of their lines was written
+pub runs_part_found : (plan : Plan) (batch : List Job) (old : Running) (new : Option (List ℕ)) (out : BatchOut) (lanes : LanesState)
+    → ((before : List Job) → LanesStand (detection_of plan) old.inspection.lanes before → IsBatchAnswered (detection_of plan) before batch out lanes)
+    → ShowsPart plan.config plan.rules (hits_in out.hits) (showing_of old) new
+    → RunsPart plan batch old new
+unfolding RunsPart ShowsPart jobs_lines
+runs_part_found plan batch old new out lanes answers part = λ before stands.
+    let d = detection_of plan in
+    let items = items_found d before batch out.hits (answers before stands.lanes).hits in
+    subst (λ (x : List Hits). WritesPart old.written (old.inspection.events.block.items ++ items_lines plan.config plan.rules (trail (job_items d) before) x) new) items
+    (part (trail (job_items d) before) stands.events)
+
+-- or nothing was
+pub runs_nothing : (plan : Plan) (batch : List Job) (old : Running) → RunsPart plan batch old old.written
+unfolding RunsPart
+runs_nothing plan batch old = λ before stands. WritesPart-none old.written _
+
+-- by the answer of the last step
+pub runs_by : (answer : Result (Unit {0}) Stop) (plan : Plan) (batch : List Job) (old new : Running) (out : BatchOut)
+    → ((before : List Job) → LanesStand (detection_of plan) old.inspection.lanes before → IsBatchAnswered (detection_of plan) before batch out new.inspection.lanes)
+    → new.inspection.tries ≡ old.inspection.tries + out.tries
+    → OnOk answer (Shows plan.config plan.rules (hits_in out.hits) (showing_of old) (showing_of new))
+    → OnOk answer (Runs plan batch old new)
+runs_by (Ok done) plan batch old new out answers tries shows = runs_found plan batch old new out answers tries shows
+runs_by (Err why) plan batch old new out answers tries shows = tt
+
+pub runs_part_by : (answer : Result (Unit {0}) Stop) (plan : Plan) (batch : List Job) (old : Running) (new : Option (List ℕ)) (out : BatchOut) (lanes : LanesState)
+    → ((before : List Job) → LanesStand (detection_of plan) old.inspection.lanes before → IsBatchAnswered (detection_of plan) before batch out lanes)
+    → OnErr answer (ShowsPart plan.config plan.rules (hits_in out.hits) (showing_of old) new)
+    → OnErr answer (RunsPart plan batch old new)
+runs_part_by (Ok done) plan batch old new out lanes answers part = tt
+runs_part_by (Err why) plan batch old new out lanes answers part = runs_part_found plan batch old new out lanes answers part
+
+-- what holds anyhow holds of any answer
+pub on_ok : {A E : Type 0} {P : Type 0} (answer : Result A E) → P → OnOk answer P
+on_ok (Ok done) holds = holds
+on_ok (Err why) holds = tt
+
+pub on_err : {A E : Type 0} {P : Type 0} (answer : Result A E) → P → OnErr answer P
+on_err (Ok done) holds = tt
+on_err (Err why) holds = holds
+
+-- ---- the jobs of records
+
+-- no record was taken
+pub makes_none : (way : Way) (front : FrontState) → MakesJobs way [] front front []
+makes_none way front = λ before stands. record {
+  jobs_are = refl;
+  stands = subst (λ (x : List LinkedRecord). StandsFor way front x) (sym (append-nil before)) stands;
+}
+
+-- one record more was taken
+pub makes_step : (way : Way) (link : Link) (records : List Record) (i : ℕ) (captured : Record) (old middle new : FrontState) (made next : List Job) → i < length records → captured ≡ get_or records i captured
+    → MakesJobs way (map (linked link) (take i records)) old middle made → TakesRecord way middle (linked link captured) new made next
+    → MakesJobs way (map (linked link) (take (i + 1) records)) old new next
+makes_step way link records i captured old middle new made next lt is so_far more =
+    let front = map (linked link) (take i records) in
+    let own = linked link captured in
+    let joined : front ++ own ∷ [] ≡ map (linked link) (take (i + 1) records) =
+    sym (map-append (linked link) (take i records) (captured ∷ [])) ∙ ap (map (linked link)) (ap (λ (r : Record). take i records ++ r ∷ []) is ∙ sym (take_more records i captured lt)) in
+    subst (λ (x : List LinkedRecord). MakesJobs way x old new next) joined
+    (λ before stands.
+    let one = so_far before stands in
+    let two = more (before ++ front) one.stands in record {
+      jobs_are = two.added ∙ ap (λ (x : List Job). x ++ jobs way (before ++ front) own) one.jobs_are
+          ∙ ap (λ (x : List Job). trail_from (jobs way) before front ++ x) (sym (append-nil (jobs way (before ++ front) own)))
+          ∙ sym (trail_from-append (jobs way) before front (own ∷ []));
+      stands = subst (λ (x : List LinkedRecord). StandsFor way new x) (append_assoc before front (own ∷ [])) two.stands;
+    })
+
+-- ---- records
+
+-- the same inspection, whatever waits in its block
+pub stands_on : (plan : Plan) (before : List Job) (old new : Inspection) → new.lanes ≡ old.lanes → new.events.filters ≡ old.events.filters → new.events.tally ≡ old.events.tally → new.tries ≡ old.tries
+    → InspectionStands plan before old → InspectionStands plan before new
+stands_on plan before old new lanes filters tally tries stands = record {
+  lanes = subst (λ (x : LanesState). LanesStand (detection_of plan) x before) (sym lanes) stands.lanes;
+  events = record {
+    given = subst (λ (f : FiltersState). IsGiven plan.config plan.rules (map filtered_item (trail (job_items (detection_of plan)) before)) f) (sym filters) stands.events.given;
+    tally = tally ∙ stands.events.tally;
+  };
+  tries = tries ∙ stands.tries;
+}
+
+-- a batch of records was taken and run, and its lines written whole
+pub records_shown : (plan : Plan) (records : List LinkedRecord) (old new : Detecting) (made : List Job) (middle : Running)
+    → MakesJobs (way_of plan) records old.detector.front new.detector.front made
+    → Runs plan made (record { inspection = old.detector.inspection; written = old.written }) middle
+    → old.detector.inspection.events.block.items ≡ [] → new.written ≡ behind middle.written middle.inspection.events.block.items
+    → ((before : List Job) → InspectionStands plan before middle.inspection → InspectionStands plan before new.detector.inspection)
+    → ShowsRecords plan records old new
+unfolding ShowsRecords Runs
+records_shown plan records old new made middle makes runs empty offered on = λ before stands.
+    let taken = makes before stands.front in
+    let run = runs (jobs_of plan before) stands.inspection in
+    let way = way_of plan in record {
+      stands = record {
+        front = taken.stands;
+        inspection = subst (λ (x : List Job). InspectionStands plan x new.detector.inspection)
+            (ap (λ (x : List Job). jobs_of plan before ++ x) taken.jobs_are ∙ pipe_more (jobs way) before records) (on (jobs_of plan before ++ made) run.stands);
+      };
+      wrote = gathers_written (jobs_lines plan (jobs_of plan before) made) (waiting (record { inspection = old.detector.inspection; written = old.written })) (waiting middle) new.written empty run.came offered
+          ∙ ap (behind old.written) (ap (jobs_lines plan (jobs_of plan before)) taken.jobs_are ∙ jobs_lines-records plan before records);
+    }
+
+-- the lines of a batch, by its jobs
+lines_made : (plan : Plan) (records : List LinkedRecord) (before : List LinkedRecord) (old : FrontState) (new : FrontState) (made : List Job) → MakesJobs (way_of plan) records old new made → StandsFor (way_of plan) old before
+    → jobs_lines plan (jobs_of plan before) made ≡ lines plan before records Open
+lines_made plan records before old new made makes stands = ap (jobs_lines plan (jobs_of plan before)) (makes before stands).jobs_are ∙ jobs_lines-records plan before records
+
+-- or a part of its lines was
+pub records_part : (plan : Plan) (records : List LinkedRecord) (old : Detecting) (front : FrontState) (new : Option (List ℕ)) (made : List Job)
+    → MakesJobs (way_of plan) records old.detector.front front made
+    → old.detector.inspection.events.block.items ≡ []
+    → RunsPart plan made (record { inspection = old.detector.inspection; written = old.written }) new
+    → ShowsRecordsPart plan records old new
+unfolding ShowsRecordsPart RunsPart
+records_part plan records old front new made makes empty part = λ before stands.
+    let own = part (jobs_of plan before) stands.inspection in
+    subst (λ (x : List ℕ). WritesPart old.written x new)
+    (ap (λ (x : List ℕ). x ++ jobs_lines plan (jobs_of plan before) made) empty ∙ lines_made plan records before old.detector.front front made makes stands.front) own
+
+pub records_offered_part : (plan : Plan) (records : List LinkedRecord) (old : Detecting) (front : FrontState) (middle : Running) (new : Option (List ℕ)) (made : List Job)
+    → MakesJobs (way_of plan) records old.detector.front front made
+    → Runs plan made (record { inspection = old.detector.inspection; written = old.written }) middle
+    → old.detector.inspection.events.block.items ≡ [] → WritesPart middle.written middle.inspection.events.block.items new
+    → ShowsRecordsPart plan records old new
+unfolding ShowsRecordsPart Runs
+records_offered_part plan records old front middle new made makes runs empty part = λ before stands.
+    let run = runs (jobs_of plan before) stands.inspection in
+    subst (λ (x : List ℕ). WritesPart old.written x new) (lines_made plan records before old.detector.front front made makes stands.front)
+    (gathers_stopped (jobs_lines plan (jobs_of plan before) made) (waiting (record { inspection = old.detector.inspection; written = old.written })) (waiting middle) new empty run.came part)
+
+-- by the answer of the last offer
+pub records_shown_by : (answer : Result (Unit {0}) Stop) (plan : Plan) (records : List LinkedRecord) (old new : Detecting) (made : List Job) (middle : Running)
+    → MakesJobs (way_of plan) records old.detector.front new.detector.front made
+    → Runs plan made (record { inspection = old.detector.inspection; written = old.written }) middle
+    → old.detector.inspection.events.block.items ≡ []
+    → new.detector.inspection.lanes ≡ middle.inspection.lanes → new.detector.inspection.events.filters ≡ middle.inspection.events.filters
+    → new.detector.inspection.events.tally ≡ middle.inspection.events.tally → new.detector.inspection.tries ≡ middle.inspection.tries
+    → OnOk answer (new.written ≡ behind middle.written middle.inspection.events.block.items)
+    → OnOk answer (ShowsRecords plan records old new)
+records_shown_by (Ok done) plan records old new made middle makes runs empty lanes filters tally tries offered =
+    records_shown plan records old new made middle makes runs empty offered (λ before stands. stands_on plan before middle.inspection new.detector.inspection lanes filters tally tries stands)
+records_shown_by (Err why) plan records old new made middle makes runs empty lanes filters tally tries offered = tt
+
+pub records_offered_by : (answer : Result (Unit {0}) Stop) (plan : Plan) (records : List LinkedRecord) (old : Detecting) (front : FrontState) (middle : Running) (new : Option (List ℕ)) (made : List Job)
+    → MakesJobs (way_of plan) records old.detector.front front made
+    → Runs plan made (record { inspection = old.detector.inspection; written = old.written }) middle
+    → old.detector.inspection.events.block.items ≡ [] → OnErr answer (WritesPart middle.written middle.inspection.events.block.items new)
+    → OnErr answer (ShowsRecordsPart plan records old new)
+records_offered_by (Ok done) plan records old front middle new made makes runs empty part = tt
+records_offered_by (Err why) plan records old front middle new made makes runs empty part = records_offered_part plan records old front middle new made makes runs empty part
+
+pub records_nothing : (plan : Plan) (records : List LinkedRecord) (old : Detecting) → ShowsRecordsPart plan records old old.written
+unfolding ShowsRecordsPart
+records_nothing plan records old = λ before stands. WritesPart-none old.written _
+
+-- ---- what is known, whatever the host tells
+
+-- the front's law, for a batch among all jobs
+ready_among : (engines : ℕ) (way : Way) (front : FrontState) (records : List LinkedRecord) (lanes : LanesState) (earlier batch more : List Job) → engines ≡ length way.stream.engines → HaveLearnt lanes earlier
+    → all_jobs way records ≡ earlier ++ (batch ++ more) → length records ≤ 2 ^ 32 → StandsFor way front records → AreReady engines lanes batch
+ready_among engines way front records lanes earlier batch more is know joined few stands =
+    let order = in_order way records in
+    let sound : AreSound engines (all_jobs way records) = subst (λ (n : ℕ). AreSound n (all_jobs way records)) (sym is) (order.sound few stands.short) in
+    ready engines lanes earlier batch more know (subst (λ (x : List Job). AreSound engines x) joined sound) (subst (λ (x : List Job). AreNumbered x) joined order.numbered)
+
+-- the jobs of a batch may be run
+pub ready_records : (engines : ℕ) (way : Way) (rules : List Rule) (detector : Detector) (records : List LinkedRecord) (front : FrontState) (made : List Job) → engines ≡ length way.stream.engines
+    → IsKnown way rules detector → MakesJobs way records detector.front front made → detector.front.counts.records + length records ≤ 2 ^ 32
+    → AreReady engines detector.inspection.lanes made
+ready_records engines way rules detector records front made is known makes few =
+    let taken = makes known.records known.front in
+    let all = known.records ++ records in
+    let earlier = trail (jobs way) known.records in
+    let joined : trail (jobs way) all ≡ earlier ++ made = sym (ap (λ (x : List Job). earlier ++ x) taken.jobs_are ∙ pipe_more (jobs way) known.records records) in
+    let l = length-append known.records records in
+    let c = records-counted way detector.front known.records known.front in
+    ready_among engines way front all detector.inspection.lanes earlier made (finishes way all) is known.learnt
+    (ap (λ (x : List Job). x ++ finishes way all) joined ∙ append_assoc earlier made (finishes way all)) (omega (arith, l, c, few)) taken.stands
+
+-- those behind all records, too
+pub ready_closing : (engines : ℕ) (way : Way) (rules : List Rule) (detector : Detector) (made : List Job) → engines ≡ length way.stream.engines
+    → IsKnown way rules detector → GivesFinishes detector.front [] made → detector.front.counts.records ≤ 2 ^ 32
+    → AreReady engines detector.inspection.lanes made
+ready_closing engines way rules detector made is known gives few =
+    let last : made ≡ finishes way known.records = gives way known.records known.front in
+    let earlier = trail (jobs way) known.records in
+    let c = records-counted way detector.front known.records known.front in
+    ready_among engines way detector.front known.records detector.inspection.lanes earlier made [] is known.learnt
+    (ap (λ (x : List Job). earlier ++ x) (sym last ∙ sym (append-nil made))) (omega (arith, c, few)) known.front
+
+-- what is known goes on with a batch
+pub known_records : (way : Way) (rules : List Rule) (old new : Detector) (records : List LinkedRecord) (made : List Job) → IsKnown way rules old → MakesJobs way records old.front new.front made
+    → LearnsBatch old.inspection.lanes made new.inspection.lanes → new.inspection.groups ≡ old.inspection.groups → new.inspection.events.block.items ≡ [] → IsKnown way rules new
+known_records way rules old new records made known makes learns groups none =
+    let taken = makes known.records known.front in
+    let all = known.records ++ records in
+    let earlier = trail (jobs way) known.records in
+    let joined : earlier ++ made ≡ trail (jobs way) all = ap (λ (x : List Job). earlier ++ x) taken.jobs_are ∙ pipe_more (jobs way) known.records records in
+    record {
+      records = all;
+      front = taken.stands;
+      learnt = subst (λ (x : List Job). HaveLearnt new.inspection.lanes x) joined (learnt old.inspection.lanes new.inspection.lanes earlier made known.learnt learns);
+      groups = subst (λ (g : Groups). StandFor g rules) (sym groups) known.groups;
+      none = none;
+    }
+
+pub known_by : (answer : Result (Unit {0}) Stop) (way : Way) (rules : List Rule) (old new : Detector) (records : List LinkedRecord) (made : List Job) → IsKnown way rules old → MakesJobs way records old.front new.front made
+    → LearnsBatch old.inspection.lanes made new.inspection.lanes → new.inspection.groups ≡ old.inspection.groups → OnOk answer (new.inspection.events.block.items ≡ []) → OnOk answer (IsKnown way rules new)
+known_by (Ok done) way rules old new records made known makes learns groups none = known_records way rules old new records made known makes learns groups none
+known_by (Err why) way rules old new records made known makes learns groups none = tt
+
+-- ---- a detector that was given nothing
+
+pub inspection_stands-new : {P : Type 0} (plan : code.Plan P) (matches : Test) (inspection : Inspection) → IsSoundPlan plan → IsNewInspection plan inspection → InspectionStands (plan_of matches plan) [] inspection
+inspection_stands-new plan matches inspection sound new = record {
+  lanes = stand-new (detection_of (plan_of matches plan)) plan.lanes inspection.lanes sound.ranges.some new.lanes;
+  events = new.events;
+  tries = new.tries;
+}
+
+pub known-new : {P : Type 0} (plan : code.Plan P) (detector : Detector) → StandsFor (way_by plan.checks plan.hosts.now plan.config.now) detector.front [] → IsNewInspection plan detector.inspection
+    → IsKnown (way_by plan.checks plan.hosts.now plan.config.now) plan.set.now.rules detector
+known-new plan detector front new = record {
+  records = [];
+  front = front;
+  learnt = new_learnt plan.lanes plan.flush plan.config.now.inserts detector.inspection.lanes new.lanes;
+  groups = new.groups;
+  none = new.none;
+}
+
+-- ---- the end
+
+same_counts : (seen seen' : RecordCounts) (items items' hits hits' alerts alerts' tries tries' : ℕ) → seen ≡ seen' → items ≡ items' → hits ≡ hits' → alerts ≡ alerts' → tries ≡ tries'
+    → ◌≡◌ {A = Counts} (record { seen = seen; items = items; hits = hits; alerts = alerts; tries = tries }) (record { seen = seen'; items = items'; hits = hits'; alerts = alerts'; tries = tries' })
+same_counts seen seen' items items' hits hits' alerts alerts' tries tries' a b c d e = cc
+
+-- all was counted
+counted_all : (plan : Plan) (records : List LinkedRecord) (seen : RecordCounts) (inspection : Inspection) → seen ≡ counts (way_of plan) records
+    → InspectionStands plan (jobs_of plan records ++ finishes (way_of plan) records) inspection → counted seen inspection ≡ counts_of plan records
+unfolding counts_of trace tally_of items_of closing_items closing_alerts
+counted_all plan records seen inspection is stands =
+    let d = detection_of plan in
+    let made = jobs_of plan records in
+    let last = finishes (way_of plan) records in
+    let shown = item_alerts plan.config plan.rules in
+    let items = items_of plan records in
+    let behind_all = closing_items plan records in
+    let found : trail (job_items d) (made ++ last) ≡ items ++ behind_all = trail-append (job_items d) made last in
+    let tally : inspection.events.tally ≡ tally_of plan.config plan.rules (items ++ behind_all) = stands.events.tally ∙ ap (tally_of plan.config plan.rules) found in
+    let alerts : trail shown (items ++ behind_all) ≡ trace plan [] records Closed =
+    trail-append shown items behind_all ∙ ap (λ (x : List Alert). x ++ closing_alerts plan records) (alerts-items plan records) in
+    same_counts seen (counts (way_of plan) records)
+    inspection.events.tally.items (length (items ++ behind_all)) inspection.events.tally.hits (hit_count (items ++ behind_all))
+    inspection.events.tally.alerts (length (trace plan [] records Closed)) inspection.tries (try_count d (made ++ last))
+    is (ap (λ (t : Tally). t.items) tally) (ap (λ (t : Tally). t.hits) tally)
+    (ap (λ (t : Tally). t.alerts) tally ∙ ap length alerts) stands.tries
+
+-- the jobs behind all records were run, and their lines written whole
+pub closed_whole : (plan : Plan) (old : Detecting) (made : List Job) (middle : Running) (last : Inspection) (written : Option (List ℕ)) (seen : RecordCounts)
+    → GivesFinishes old.detector.front [] made → TellsCounts old.detector.front seen
+    → Runs plan made (record { inspection = old.detector.inspection; written = old.written }) middle
+    → old.detector.inspection.events.block.items ≡ [] → written ≡ behind middle.written middle.inspection.events.block.items
+    → ((before : List Job) → InspectionStands plan before middle.inspection → InspectionStands plan before last)
+    → Closes plan old written (counted seen last)
+unfolding Closes Runs
+closed_whole plan old made middle last written seen gives tells runs empty offered on = λ records stands.
+    let way = way_of plan in
+    let are : made ≡ finishes way records = gives way records stands.front in
+    let run = runs (jobs_of plan records) stands.inspection in record {
+      wrote = gathers_written (jobs_lines plan (jobs_of plan records) made) (waiting (record { inspection = old.detector.inspection; written = old.written })) (waiting middle) written empty run.came offered
+          ∙ ap (behind old.written) (ap (jobs_lines plan (jobs_of plan records)) are ∙ jobs_lines-closing plan records);
+      counted = counted_all plan records seen last (tells way records stands.front)
+          (subst (λ (x : List Job). InspectionStands plan (jobs_of plan records ++ x) last) are (on (jobs_of plan records ++ made) run.stands));
+    }
+
+-- or a part of them was
+pub closed_part : (plan : Plan) (old : Detecting) (made : List Job) (written : Option (List ℕ))
+    → GivesFinishes old.detector.front [] made → old.detector.inspection.events.block.items ≡ []
+    → RunsPart plan made (record { inspection = old.detector.inspection; written = old.written }) written
+    → ClosesPart plan old written
+unfolding ClosesPart RunsPart
+closed_part plan old made written gives empty part = λ records stands.
+    subst (λ (x : List ℕ). WritesPart old.written x written)
+    (ap (λ (x : List ℕ). x ++ jobs_lines plan (jobs_of plan records) made) empty
+    ∙ ap (jobs_lines plan (jobs_of plan records)) (gives (way_of plan) records stands.front) ∙ jobs_lines-closing plan records)
+    (part (jobs_of plan records) stands.inspection)
+
+pub closed_offered_part : (plan : Plan) (old : Detecting) (made : List Job) (middle : Running) (written : Option (List ℕ))
+    → GivesFinishes old.detector.front [] made
+    → Runs plan made (record { inspection = old.detector.inspection; written = old.written }) middle
+    → old.detector.inspection.events.block.items ≡ [] → WritesPart middle.written middle.inspection.events.block.items written
+    → ClosesPart plan old written
+unfolding ClosesPart Runs
+closed_offered_part plan old made middle written gives runs empty part = λ records stands.
+    let run = runs (jobs_of plan records) stands.inspection in
+    subst (λ (x : List ℕ). WritesPart old.written x written)
+    (ap (jobs_lines plan (jobs_of plan records)) (gives (way_of plan) records stands.front) ∙ jobs_lines-closing plan records)
+    (gathers_stopped (jobs_lines plan (jobs_of plan records) made) (waiting (record { inspection = old.detector.inspection; written = old.written })) (waiting middle) written empty run.came part)
+
+pub closed_nothing : (plan : Plan) (old : Detecting) → ClosesPart plan old old.written
+unfolding ClosesPart
+closed_nothing plan old = λ records stands. WritesPart-none old.written _

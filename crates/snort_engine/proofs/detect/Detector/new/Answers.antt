@@ -1,0 +1,12 @@
+use Rattle.snort_engine.specs.Watching.{plan_of}
+use Rattle.snort_engine.proofs.Detecting.{inspection_stands-new, known-new}
+use Rattle.snort_engine.proofs.detect.Detector.new.Goals as goal
+
+pub returns-clause-stands : goal.returns-clause-stands
+returns-clause-stands g c = λ matches. record {
+  front = rw c.front_config.ensures.way at c.in_ok-front.ensures.stands;
+  inspection = inspection_stands-new c.args.plan.now matches c.in_ok-inspection.inspection c.requires c.in_ok-inspection.ensures;
+}
+
+pub returns-clause-known : goal.returns-clause-known
+returns-clause-known g c = known-new c.args.plan.now _ (rw c.front_config.ensures.way at c.in_ok-front.ensures.stands) c.in_ok-inspection.ensures

@@ -1,0 +1,27 @@
+use Rattle.std.proofs.Common.{◌≡◌, take, arith}
+use Rattle.std.proofs.lemmas.List.{take_all}
+use Rattle.std.proofs.lemmas.Result.{err_from_is_err_and}
+use Rattle.snort_engine.specs.Showing.{hits_in}
+use Rattle.snort_engine.proofs.Showing.{shows_none, jobs_step, jobs_part}
+use Rattle.snort_engine.proofs.events.show_hits.Goals as goal
+
+pub loop-job-init : goal.loop-job-init
+loop-job-init g c = record { came = shows_none c.args.config.now c.args.rules.now _; later = omega arith }
+
+pub returns-in_err-show_items-clause-stopped : goal.returns-in_err-show_items-clause-stopped
+returns-in_err-show_items-clause-stopped g c =
+    let p = err_from_is_err_and c.from_residual.result c.from_residual.ensures.1 in
+    let stopped = rw c.as_slice.ensures at c.in_err-show_items.ensures.stopped in
+    rw p.1 (jobs_part c.args.config.now c.args.rules.now c.args.jobs.now c.loop-job.job-index c.job-item.result _ _ _ c.loop-job-test.true c.job-item.is c.loop-job.invariant.came stopped)
+
+pub loop-job-preserved : goal.loop-job-preserved
+loop-job-preserved g c =
+    let shown = rw c.as_slice.ensures at c.in_ok-show_items.ensures.shown in record {
+      came = jobs_step c.args.config.now c.args.rules.now c.args.jobs.now c.loop-job.job-index c.job-item.result _ _ _ c.loop-job-test.true c.job-item.is c.loop-job.invariant.came shown;
+      later = omega (arith, c.in_ok-show_items.ensures.later, c.loop-job.invariant.later);
+    }
+
+pub returns-clause-shown : goal.returns-clause-shown
+returns-clause-shown g c =
+    let all : take c.loop-job.job-index c.args.jobs.now ≡ c.args.jobs.now = take_all c.loop-job.job-index c.args.jobs.now (omega arith) in
+    rw all at c.loop-job.invariant.came

@@ -1,0 +1,24 @@
+use Rattle.std.proofs.Common.{◌≡◌, take, arith}
+use Rattle.std.proofs.lemmas.List.{take_all}
+use Rattle.std.proofs.lemmas.Result.{err_from_is_err_and}
+use Rattle.snort_engine.proofs.Showing.{shows_none, items_step, items_part}
+use Rattle.snort_engine.proofs.events.show_items.Goals as goal
+
+pub loop-hits-init : goal.loop-hits-init
+loop-hits-init g c = record { came = shows_none c.args.config.now c.args.rules.now _; later = omega arith }
+
+pub returns-in_err-show_item-clause-stopped : goal.returns-in_err-show_item-clause-stopped
+returns-in_err-show_item-clause-stopped g c =
+    let p = err_from_is_err_and c.from_residual.result c.from_residual.ensures.1 in
+    rw p.1 (items_part c.args.config.now c.args.rules.now c.args.items.now c.loop-hits.hits-index c.hits-item.result _ _ _ c.loop-hits-test.true c.hits-item.is c.loop-hits.invariant.came c.in_err-show_item.ensures.stopped)
+
+pub loop-hits-preserved : goal.loop-hits-preserved
+loop-hits-preserved g c = record {
+  came = items_step c.args.config.now c.args.rules.now c.args.items.now c.loop-hits.hits-index c.hits-item.result _ _ _ c.loop-hits-test.true c.hits-item.is c.loop-hits.invariant.came c.in_ok-show_item.ensures.shown;
+  later = omega (arith, c.in_ok-show_item.ensures.later, c.loop-hits.invariant.later);
+}
+
+pub returns-clause-shown : goal.returns-clause-shown
+returns-clause-shown g c =
+    let all : take c.loop-hits.hits-index c.args.items.now ≡ c.args.items.now = take_all c.loop-hits.hits-index c.args.items.now (omega arith) in
+    rw all at c.loop-hits.invariant.came

@@ -1,0 +1,21 @@
+use Rattle.std.proofs.Common.{Err, refl, sym, ap, ◌∙◌, inl, inr}
+use Rattle.std.proofs.lemmas.Result.{err_from_is_err_and}
+use Rattle.snort_engine.specs.Watching.{ClosesWatched}
+use Rattle.snort_engine.proofs.watch.close_watched.Goals as goal
+
+pub returns-then-not-is_whole-clause-closes : goal.returns-then-not-is_whole-clause-closes
+unfolding ClosesWatched
+returns-then-not-is_whole-clause-closes g c = λ matches test. inl (sym c.is_whole.ensures ∙ c.if-not-is_whole.true, refl, refl)
+
+pub close-requires-clause-known : goal.close-requires-clause-known
+close-requires-clause-known g c κs within = c.requires.known (sym c.is_whole.ensures ∙ c.if-not-is_whole.false)
+
+pub returns-in_err-counts-clause-closes : goal.returns-in_err-counts-clause-closes
+unfolding ClosesWatched
+returns-in_err-counts-clause-closes g c = λ matches test.
+    let p = err_from_is_err_and c.from_residual.result c.from_residual.ensures.1 in
+    inr (inr (sym c.is_whole.ensures ∙ c.if-not-is_whole.false, (c.in_err-counts.field-0.0, p.1 ∙ ap Err p.2, c.in_err-counts.ensures.kind), c.in_err-counts.ensures.stopped matches test))
+
+pub returns-clause-closes : goal.returns-clause-closes
+unfolding ClosesWatched
+returns-clause-closes g c = λ matches test. inr (inl (sym c.is_whole.ensures ∙ c.if-not-is_whole.false, refl, c.in_ok-counts.ensures.shown matches test))

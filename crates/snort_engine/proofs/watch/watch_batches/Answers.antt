@@ -1,0 +1,45 @@
+use Rattle.std.proofs.Common.{Ok, refl, ap, ◌∙◌, arith}
+use Rattle.std.proofs.lemmas.Result.{err_from_is_err_and}
+use Rattle.snort_engine.specs.Watching.{plan_of}
+use Rattle.snort_engine.proofs.Watched.{under_way-start}
+use Rattle.snort_engine.proofs.watch.watch_batches.Goals as goal
+
+pub batches-init : goal.batches-init
+batches-init g c = record {
+  going = λ matches test stands. under_way-start (plan_of matches c.args.plan.now) _ _ _ _ c.requires.fresh refl stands;
+  known = c.requires.known;
+  behind = let none = c.requires.none in omega (arith, none);
+  within = c.requires.within;
+  fresh = c.requires.fresh;
+  shown = c.new-records.ensures.items;
+  opens = refl;
+  contents = refl;
+  later = omega arith;
+  later_alerts = omega arith;
+}
+
+pub returns-in_err-watch_batch-clause-comes : goal.returns-in_err-watch_batch-clause-comes
+returns-in_err-watch_batch-clause-comes g c = λ matches test stands.
+    let p = err_from_is_err_and c.from_residual.result c.from_residual.ensures.1 in
+    rw (p.1, p.2) (c.in_err-watch_batch.ensures.goes_on matches test _ _ (c.batches.invariant.going matches test stands))
+
+pub returns-clause-comes : goal.returns-clause-comes
+returns-clause-comes g c = λ matches test stands.
+    let over = rw c.if-branch.false at (c.in_ok-watch_batch.ensures.goes_on matches test) in
+    over _ _ (c.batches.invariant.going matches test stands)
+
+pub batches-preserved : goal.batches-preserved
+batches-preserved g c =
+    let on = rw c.if-branch.true at c.in_ok-watch_batch.ensures.goes_on in
+    record {
+      going = λ matches test stands. on matches test _ _ (c.batches.invariant.going matches test stands);
+      known = c.in_ok-watch_batch.ensures.known refl;
+      behind = c.in_ok-watch_batch.ensures.behind (ap Ok c.if-branch.true);
+      within = c.in_ok-watch_batch.ensures.within (ap Ok c.if-branch.true);
+      fresh = c.in_ok-watch_batch.ensures.fresh (ap Ok c.if-branch.true);
+      shown = c.in_ok-watch_batch.ensures.shown;
+      opens = c.in_ok-watch_batch.ensures.same_opens ∙ c.batches.invariant.opens;
+      contents = c.in_ok-watch_batch.ensures.same_contents ∙ c.batches.invariant.contents;
+      later = omega (arith, c.in_ok-watch_batch.ensures.later, c.batches.invariant.later);
+      later_alerts = omega (arith, c.in_ok-watch_batch.ensures.later_alerts, c.batches.invariant.later_alerts);
+    }

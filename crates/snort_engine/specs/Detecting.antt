@@ -1,0 +1,167 @@
+-- Records on their way to lines: their jobs, what these find, and the lines of it.
+--
+-- A step says what it does to whatever records stand before. Beside that, whatever the host tells, some list
+-- of records stands before each step, of which the lanes know what they must know to run the next jobs.
+-- To try it on: of a UDP packet whose flow has a rule's bit set by an earlier one, the second batch shows
+-- what it would show if both stood in one.
+use Rattle.std.specs.Prelude.{◌≡◌, ℕ, ◌≤◌, List, [], ◌++◌, Option, All}
+use Rattle.std.specs.List.{flat_map}
+use Rattle.edge_io.specs.Along.{trail, trail_from}
+use Rattle.edge_io.specs.Told.{behind}
+use Rattle.conf_parser.specs.Sound as conf
+use Rattle.rule_parser.specs.Sound.{IsSound}
+use Rattle.rule_parser.specs.declared.rule.Rule.{Rule}
+use Rattle.fast_pattern.specs.Grouping.{StandFor}
+use Rattle.flow_lanes.specs.declared.job.Job.{Job}
+use Rattle.flow_lanes.specs.Standing.{AreNew, LanesStand}
+use Rattle.record_jobs.specs.declared.counts.RecordCounts.{RecordCounts}
+use Rattle.record_jobs.specs.Way.{LinkedRecord, Way}
+use Rattle.record_jobs.specs.Jobs.{jobs}
+use Rattle.record_jobs.specs.Fronts.{FrontState, StandsFor}
+use Rattle.record_jobs.specs.Ready.{HaveLearnt}
+use Rattle.snort_engine.specs.declared.counts.Counts.{Counts}
+use Rattle.snort_engine.specs.declared.plan.Plan as code
+use Rattle.snort_engine.specs.declared.detect.Inspection.{Inspection}
+use Rattle.snort_engine.specs.declared.detect.Detector.{Detector}
+use Rattle.snort_engine.specs.Course.{Plan}
+use Rattle.snort_engine.specs.Trace.{Open, closing_alerts, detection_of, job_items, jobs_of, way_by, way_of}
+use Rattle.snort_engine.specs.Lines.{lines, text_of}
+use Rattle.snort_engine.specs.Counts.{counts_of, try_count}
+use Rattle.snort_engine.specs.Outside.{WritesPart}
+use Rattle.snort_engine.specs.Gathering.{Gathering, Gathers}
+use Rattle.snort_engine.specs.Showing.{EventsStand, items_lines}
+
+-- ---- plans
+
+-- 1 to 64 lanes, and 1 to 65536 bytes of a stream
+pub record IsRanged (lanes flush : ℕ) : Type 0 where
+  pub some : 1 ≤ lanes
+  pub few : lanes ≤ 64
+  pub least : 1 ≤ flush
+  pub most : flush ≤ 65536
+
+-- its configuration and its rules are sound, and its numbers in their ranges
+pub record IsSoundPlan {P : Type 0} (plan : code.Plan P) : Type 0 where
+  pub config : conf.IsSound plan.config.now
+  pub rules : All (IsSound plan.config.now.classes) plan.set.now.rules
+  pub ranges : IsRanged plan.lanes plan.flush
+
+-- ---- jobs
+
+-- the lanes and the filters were given these jobs, and the tries of these were counted
+pub record InspectionStands (plan : Plan) (before : List Job) (inspection : Inspection) : Type 0 where
+  pub lanes : LanesStand (detection_of plan) inspection.lanes before
+  pub events : EventsStand plan.config plan.rules (trail (job_items (detection_of plan)) before) inspection.events
+  pub tries : inspection.tries ≡ try_count (detection_of plan) before
+
+-- an inspection that was given nothing
+pub record IsNewInspection {P : Type 0} (plan : code.Plan P) (inspection : Inspection) : Type 0 where
+  pub lanes : AreNew plan.lanes plan.flush plan.config.now.inserts inspection.lanes
+  pub groups : StandFor inspection.groups plan.set.now.rules
+  pub events : EventsStand plan.config.now plan.set.now.rules [] inspection.events
+  pub none : inspection.events.block.items ≡ []
+  pub tries : inspection.tries ≡ 0
+
+-- the lines of jobs behind earlier jobs
+unfoldable pub jobs_lines : Plan → List Job → List Job → List ℕ
+jobs_lines plan before batch =
+    items_lines plan.config plan.rules (trail (job_items (detection_of plan)) before) (trail_from (job_items (detection_of plan)) before batch)
+
+-- the inspection, and what was written where it is told
+pub record Running : Type 0 where
+  pub inspection : Inspection
+  pub written : Option (List ℕ)
+
+abbrev pub waiting : Running → Gathering
+waiting running = record { written = running.written; block = running.inspection.events.block.items }
+
+-- jobs came behind earlier jobs: the inspection was given them, and their lines came behind those that wait
+pub record IsRun (plan : Plan) (before batch : List Job) (old new : Running) : Type 0 where
+  pub stands : InspectionStands plan (before ++ batch) new.inspection
+  pub came : Gathers (jobs_lines plan before batch) (waiting old) (waiting new)
+
+-- the same, whatever jobs came before
+unfoldable pub Runs : Plan → List Job → Running → Running → Type 0
+Runs plan batch old new = (before : List Job) → InspectionStands plan before old.inspection → IsRun plan before batch old new
+
+-- or no more than a part of their lines, and of those that wait, was written
+unfoldable pub RunsPart : Plan → List Job → Running → Option (List ℕ) → Type 0
+RunsPart plan batch old written =
+    (before : List Job) → InspectionStands plan before old.inspection
+    → WritesPart old.written (old.inspection.events.block.items ++ jobs_lines plan before batch) written
+
+-- ---- records
+
+-- the front took records behind these records: these are their jobs, and it stands for all
+pub record AreTaken (way : Way) (before records : List LinkedRecord) (new : FrontState) (made : List Job) : Type 0 where
+  pub jobs_are : made ≡ trail_from (jobs way) before records
+  pub stands : StandsFor way new (before ++ records)
+
+-- the same, whatever records stood before
+abbrev pub MakesJobs : Way → List LinkedRecord → FrontState → FrontState → List Job → Type 0
+MakesJobs way records old new made = (before : List LinkedRecord) → StandsFor way old before → AreTaken way before records new made
+
+-- a detector was given these records
+pub record DetectorStands (plan : Plan) (records : List LinkedRecord) (detector : Detector) : Type 0 where
+  pub front : StandsFor (way_of plan) detector.front records
+  pub inspection : InspectionStands plan (jobs_of plan records) detector.inspection
+
+-- it was given some records, the lanes have learnt of all their jobs, and no line waits
+pub record IsKnown (way : Way) (rules : List Rule) (detector : Detector) : Type 0 where
+  pub records : List LinkedRecord
+  pub front : StandsFor way detector.front records
+  pub learnt : HaveLearnt detector.inspection.lanes (trail (jobs way) records)
+  pub groups : StandFor detector.inspection.groups rules
+  pub none : detector.inspection.events.block.items ≡ []
+
+abbrev pub Knows : {P : Type 0} → code.Plan P → Detector → Type 0
+Knows plan detector = IsKnown (way_by plan.checks plan.hosts.now plan.config.now) plan.set.now.rules detector
+
+-- the detector, and what was written where it is told
+pub record Detecting : Type 0 where
+  pub detector : Detector
+  pub written : Option (List ℕ)
+
+-- records came behind earlier records: the detector was given them, and their lines were written
+pub record AreShown (plan : Plan) (before records : List LinkedRecord) (old new : Detecting) : Type 0 where
+  pub stands : DetectorStands plan (before ++ records) new.detector
+  pub wrote : new.written ≡ behind old.written (lines plan before records Open)
+
+-- the same, whatever records came before
+unfoldable pub ShowsRecords : Plan → List LinkedRecord → Detecting → Detecting → Type 0
+ShowsRecords plan records old new = (before : List LinkedRecord) → DetectorStands plan before old.detector → AreShown plan before records old new
+
+-- or no more than a part of their lines was written
+unfoldable pub ShowsRecordsPart : Plan → List LinkedRecord → Detecting → Option (List ℕ) → Type 0
+ShowsRecordsPart plan records old written =
+    (before : List LinkedRecord) → DetectorStands plan before old.detector → WritesPart old.written (lines plan before records Open) written
+
+-- ---- the end
+
+-- what an inspection counted, with what the records were counted as
+abbrev pub counted : RecordCounts → Inspection → Counts
+counted seen inspection = record {
+  seen = seen;
+  items = inspection.events.tally.items;
+  hits = inspection.events.tally.hits;
+  alerts = inspection.events.tally.alerts;
+  tries = inspection.tries;
+}
+
+-- the lines of the flows that end with a capture of these records
+unfoldable pub closing_lines : Plan → List LinkedRecord → List ℕ
+closing_lines plan records = flat_map (text_of plan.config.classes) (closing_alerts plan records)
+
+-- they were written, and all was counted
+pub record IsClosed (plan : Plan) (records : List LinkedRecord) (old : Detecting) (written : Option (List ℕ)) (counts : Counts) : Type 0 where
+  pub wrote : written ≡ behind old.written (closing_lines plan records)
+  pub counted : counts ≡ counts_of plan records
+
+-- the same, whatever records came before
+unfoldable pub Closes : Plan → Detecting → Option (List ℕ) → Counts → Type 0
+Closes plan old written counts = (records : List LinkedRecord) → DetectorStands plan records old.detector → IsClosed plan records old written counts
+
+-- or no more than a part of the lines was written
+unfoldable pub ClosesPart : Plan → Detecting → Option (List ℕ) → Type 0
+ClosesPart plan old written =
+    (records : List LinkedRecord) → DetectorStands plan records old.detector → WritesPart old.written (closing_lines plan records) written

@@ -1,0 +1,83 @@
+-- Items on their way to lines: what the filters of events keep of them, and what is counted.
+--
+-- A step says what it does to whatever items were given before: so steps follow one another, and a batch
+-- is its items, one by one. To try it on: of two items of one address, of which each would alert, under
+-- `event_filter` with `type limit` and `count 1` the first has its line, and the second none.
+use Rattle.std.specs.Prelude.{◌≡◌, ℕ, List, ◌++◌, Option, length, map}
+use Rattle.std.specs.List.{flat_map}
+use Rattle.edge_io.specs.Along.{trail, trail_from}
+use Rattle.packet_decode.specs.declared.item.ItemHead.{ItemHead}
+use Rattle.conf_parser.specs.declared.classes.Class.{Class}
+use Rattle.conf_parser.specs.declared.config.Config.{Config}
+use Rattle.rule_parser.specs.declared.rule.Rule.{Rule}
+use Rattle.flow_lanes.specs.declared.answer.Hits.{Hits}
+use Rattle.flow_lanes.specs.declared.answer.JobHits.{JobHits}
+use Rattle.event_filters.specs.Standing.{IsGiven}
+use Rattle.snort_engine.specs.declared.events.Events.{Events}
+use Rattle.snort_engine.specs.declared.events.Tally.{Tally}
+use Rattle.snort_engine.specs.Trace.{alert_at, filtered_item, item_alerts}
+use Rattle.snort_engine.specs.Lines.{text_of}
+use Rattle.snort_engine.specs.Counts.{hit_count}
+use Rattle.snort_engine.specs.Outside.{WritesPart}
+use Rattle.snort_engine.specs.Gathering.{Gathering, Gathers}
+
+-- ---- the rules at some places
+
+-- their lines on an item
+unfoldable pub places_lines : List Class → List Rule → ItemHead → List ℕ → List ℕ
+places_lines classes rules head places = flat_map (text_of classes) (flat_map (alert_at rules head) places)
+
+-- how many these are
+unfoldable pub places_count : List Rule → ItemHead → List ℕ → ℕ
+places_count rules head places = length (flat_map (alert_at rules head) places)
+
+-- their lines came behind those that wait, and were counted
+pub record ShowsPlaces (classes : List Class) (rules : List Rule) (head : ItemHead) (places : List ℕ) (count : ℕ) (old new : Gathering) : Type 0 where
+  pub came : Gathers (places_lines classes rules head places) old new
+  pub counted : count ≡ places_count rules head places
+
+-- ---- items
+
+-- the lines of items behind earlier items
+unfoldable pub items_lines : Config → List Rule → List Hits → List Hits → List ℕ
+items_lines config rules before items = flat_map (text_of config.classes) (trail_from (item_alerts config rules) before items)
+
+-- what is counted of items
+unfoldable pub tally_of : Config → List Rule → List Hits → Tally
+tally_of config rules items = record {
+  items = length items;
+  hits = hit_count items;
+  alerts = length (trail (item_alerts config rules) items);
+}
+
+-- the filters were given these items, and these were counted
+pub record EventsStand (config : Config) (rules : List Rule) (before : List Hits) (events : Events) : Type 0 where
+  pub given : IsGiven config rules (map filtered_item before) events.filters
+  pub tally : events.tally ≡ tally_of config rules before
+
+-- the filters and the counts, and what was written where it is told
+pub record Showing : Type 0 where
+  pub events : Events
+  pub written : Option (List ℕ)
+
+abbrev pub gathering_of : Showing → Gathering
+gathering_of showing = record { written = showing.written; block = showing.events.block.items }
+
+-- items came behind earlier items: the filters were given them, and their lines came behind those that wait
+pub record IsShown (config : Config) (rules : List Rule) (before items : List Hits) (old new : Showing) : Type 0 where
+  pub stands : EventsStand config rules (before ++ items) new.events
+  pub came : Gathers (items_lines config rules before items) (gathering_of old) (gathering_of new)
+
+-- the same, whatever items were given before
+unfoldable pub Shows : Config → List Rule → List Hits → Showing → Showing → Type 0
+Shows config rules items old new = (before : List Hits) → EventsStand config rules before old.events → IsShown config rules before items old new
+
+-- or no more than a part of their lines, and of those that wait, was written
+unfoldable pub ShowsPart : Config → List Rule → List Hits → Showing → Option (List ℕ) → Type 0
+ShowsPart config rules items old written =
+    (before : List Hits) → EventsStand config rules before old.events
+    → WritesPart old.written (old.events.block.items ++ items_lines config rules before items) written
+
+-- the items of jobs, in the order of the jobs
+abbrev pub hits_in : List JobHits → List Hits
+hits_in jobs = flat_map (λ (job : JobHits). job.items) jobs

@@ -1,0 +1,259 @@
+//! Records with what stands before them: their jobs, what these find, and the lines of it.
+ghost use Rattle.std.specs.Prelude.{◌≡◌, ◌+◌, ◌≤◌, ◌^◌, ◌<◌, [], ◌++◌, length, map, All, OnOk, OnErr, IfOk, IfErr, IsErrOf};
+ghost use Rattle.edge_io.specs.Told.{Rose};
+ghost use Rattle.conf_parser.specs.Sound as conf;
+ghost use Rattle.fast_pattern.specs.Grouping.{StandFor};
+ghost use Rattle.flow_lanes.specs.Hits.{Test};
+ghost use Rattle.flow_lanes.specs.Standing.{LearnsBatch};
+ghost use Rattle.record_jobs.specs.Way as ways;
+ghost use Rattle.record_jobs.specs.Ready.{AreReady};
+ghost use Rattle.record_jobs.specs.Fronts.{GivesFinishes};
+ghost use Rattle.snort_engine.specs.Watching.{plan_of, IsTest, IsShowStop};
+ghost use Rattle.snort_engine.specs.Detecting.{IsSoundPlan, IsNewInspection, counted, MakesJobs, Runs, RunsPart, Knows, DetectorStands, ShowsRecords, ShowsRecordsPart, Closes, ClosesPart};
+
+use crate::counts::{Counts, sum};
+use crate::events::{Events, show_hits};
+use crate::lines::offer;
+use crate::plan::{Plan, front_config};
+use crate::stop::Stop;
+use edge_io::{Gate, Link, NoMemory, Pattern, Sink};
+use fast_pattern::Groups;
+use flow_lanes::{Job, Lanes};
+use pcap_input::Record;
+use record_jobs::{Front, FrontConfig, RecordCounts};
+use rule_parser::Rule;
+use std::alloc::Global;
+use std::thread::Threads;
+
+/// What jobs go through: the lanes that find the rules that match, and the events of these.
+#[derive(Drop)]
+pub(crate) struct Inspection {
+    pub lanes: Lanes,
+    pub groups: Groups,
+    pub events: Events,
+    /// How many rules were worth being tried, over all items.
+    pub tries: u128,
+}
+
+/// What records go through: they are made into jobs, and these are inspected.
+#[derive(Drop)]
+pub(crate) struct Detector {
+    pub front: Front,
+    pub inspection: Inspection,
+}
+
+/// The most rules that groups are made of, and that a setup gives.
+const MOST_RULES: usize = 65_536;
+
+/// The groups of the rules of a setup.
+fn groups_of(alloc: Global, rules: &[Rule]) -> Result<Groups, NoMemory>
+    ensures { IfOk result (λ groups. StandFor groups rules.now) }
+{
+    // No setup gives more; its contract leaves that open.
+    if rules.len() > MOST_RULES {
+        return Err(NoMemory);
+    }
+    Groups::build(alloc, rules)
+}
+
+impl Inspection {
+    /// No job was given yet.
+    fn new<P>(alloc: Global, plan: &Plan<'_, P>) -> Result<Inspection, NoMemory>
+        requires { IsSoundPlan plan.now }
+        ensures { IfOk result (λ inspection. IsNewInspection plan.now inspection) }
+    {
+        let rules = plan.set.rules();
+        Ok(Inspection {
+            lanes: Lanes::new(alloc, plan.lanes, plan.flush, plan.config.inserts)?,
+            groups: groups_of(alloc, rules)?,
+            events: Events::new(alloc, plan.config, rules)?,
+            tries: 0,
+        })
+    }
+
+    /// What was counted, with what the records were counted as.
+    fn counts(&self, seen: RecordCounts) -> Counts
+        ensures { result ≡ counted seen self.now }
+    {
+        let tally = self.events.tally;
+        Counts {
+            seen,
+            items: tally.items,
+            hits: tally.hits,
+            alerts: tally.alerts,
+            tries: self.tries,
+        }
+    }
+}
+
+impl Detector {
+    /// No record was given yet.
+    pub fn new<P>(alloc: Global, plan: &Plan<'_, P>) -> Result<Detector, NoMemory>
+        requires { IsSoundPlan plan.now }
+        ensures stands { (matches : Test) → IfOk result (DetectorStands (plan_of matches plan.now) []) }
+        ensures known { IfOk result (Knows plan.now) }
+        ensures none { IfOk result (λ detector. detector.front.counts.records ≡ 0) }
+    {
+        let front = Front::new(alloc, &front_config(plan))?;
+        let inspection = Inspection::new(alloc, plan)?;
+        Ok(Detector { front, inspection })
+    }
+}
+
+/// The jobs of records, one behind another.
+fn make_jobs(
+    alloc: Global,
+    by: &FrontConfig<'_>,
+    link: Link,
+    records: &[Record],
+    front: &mut Front,
+) -> Result<Vec<Job>, NoMemory>
+    requires sound { conf.IsSound by.now.config.now }
+    requires few { front.old.counts.records + length records.now ≤ 2 ^ 32 }
+    ensures makes { IfOk result (λ jobs. MakesJobs (ways.way_of by.now) (map (ways.linked link) records.now)
+        front.old front.new jobs.items) }
+    ensures records { OnOk result (front.new.counts.records ≡ front.old.counts.records + length records.now) }
+{
+    let mut jobs = Vec::new(alloc);
+    for captured in records {
+        front.jobs(alloc, by, link, captured, &mut jobs)?;
+    }
+    Ok(jobs)
+}
+
+/// Runs a batch of jobs, and makes the lines of what it finds, behind those that wait.
+#[tactic(auto, using(crate::proofs::Prefixes::rising))]
+fn run_jobs<P: Pattern, G: Gate, A: Sink, R: Threads + Sync>(
+    rt: &R,
+    alloc: Global,
+    plan: &Plan<'_, P>,
+    gate: &G,
+    jobs: &[Job],
+    inspection: &mut Inspection,
+    alerts: &mut A,
+) -> Result<(), Stop>
+    requires plan { IsSoundPlan plan.now }
+    requires ready { AreReady (length plan.now.config.now.stream.engines) inspection.old.lanes jobs.now }
+    requires groups { StandFor inspection.old.groups plan.now.set.now.rules }
+    ensures shown { (matches : Test) → IsTest P.finds plan.now.set.now matches
+        → OnOk result (Runs (plan_of matches plan.now) jobs.now
+        (record { inspection = inspection.old; written = A.written alerts.old })
+        (record { inspection = inspection.new; written = A.written alerts.new })) }
+    ensures stopped { (matches : Test) → IsTest P.finds plan.now.set.now matches
+        → OnErr result (RunsPart (plan_of matches plan.now) jobs.now
+        (record { inspection = inspection.old; written = A.written alerts.old }) (A.written alerts.new)) }
+    ensures learns { OnOk result (LearnsBatch inspection.old.lanes jobs.now inspection.new.lanes) }
+    ensures groups_stay { OnOk result (inspection.new.groups ≡ inspection.old.groups) }
+    ensures kind { IfErr result IsShowStop }
+    ensures fault { IsErrOf result Stop.CannotWrite → Rose (A.faults alerts.old) (A.faults alerts.new) }
+    ensures later { A.faults alerts.old ≤ A.faults alerts.new }
+{
+    let out = inspection.lanes.batch(
+        rt,
+        alloc,
+        jobs,
+        &plan.config.stream,
+        plan.set,
+        &inspection.groups,
+        gate,
+    )?;
+    inspection.tries = sum(inspection.tries, out.tries)?;
+    show_hits(
+        plan.config,
+        plan.set.rules(),
+        out.hits.as_slice(),
+        &mut inspection.events,
+        alerts,
+    )
+}
+
+/// Writes the lines of a batch of records, whole.
+#[tactic(auto, using(crate::proofs::Prefixes::rising))]
+pub(crate) fn show_records<P: Pattern, G: Gate, A: Sink, R: Threads + Sync>(
+    rt: &R,
+    alloc: Global,
+    plan: &Plan<'_, P>,
+    gate: &G,
+    link: Link,
+    records: &[Record],
+    detector: &mut Detector,
+    alerts: &mut A,
+) -> Result<(), Stop>
+    requires plan { IsSoundPlan plan.now }
+    requires known { Knows plan.now detector.old }
+    requires few { detector.old.front.counts.records + length records.now ≤ 2 ^ 32 }
+    ensures shown { (matches : Test) → IsTest P.finds plan.now.set.now matches
+        → OnOk result (ShowsRecords (plan_of matches plan.now) (map (ways.linked link) records.now)
+        (record { detector = detector.old; written = A.written alerts.old })
+        (record { detector = detector.new; written = A.written alerts.new })) }
+    ensures stopped { (matches : Test) → IsTest P.finds plan.now.set.now matches
+        → OnErr result (ShowsRecordsPart (plan_of matches plan.now) (map (ways.linked link) records.now)
+        (record { detector = detector.old; written = A.written alerts.old }) (A.written alerts.new)) }
+    ensures known { OnOk result (Knows plan.now detector.new) }
+    ensures records { OnOk result (detector.new.front.counts.records ≡ detector.old.front.counts.records + length records.now) }
+    ensures kind { IfErr result IsShowStop }
+    ensures fault { IsErrOf result Stop.CannotWrite → Rose (A.faults alerts.old) (A.faults alerts.new) }
+    ensures later { A.faults alerts.old ≤ A.faults alerts.new }
+{
+    let jobs = make_jobs(
+        alloc,
+        &front_config(plan),
+        link,
+        records,
+        &mut detector.front,
+    )?;
+    run_jobs(
+        rt,
+        alloc,
+        plan,
+        gate,
+        &jobs,
+        &mut detector.inspection,
+        alerts,
+    )?;
+    offer(&mut detector.inspection.events.block, alerts)
+}
+
+/// The jobs behind all records.
+fn last_jobs(alloc: Global, front: Front) -> Result<Vec<Job>, NoMemory>
+    ensures { IfOk result (λ jobs. GivesFinishes front [] jobs.items) }
+{
+    let mut jobs = Vec::new(alloc);
+    front.finish(alloc, &mut jobs)?;
+    Ok(jobs)
+}
+
+/// Ends the flows that live behind all records, and writes the lines of what they show then, whole. It
+/// gives all that was counted.
+#[tactic(auto, using(crate::proofs::Prefixes::rising))]
+pub(crate) fn close<P: Pattern, G: Gate, A: Sink, R: Threads + Sync>(
+    rt: &R,
+    alloc: Global,
+    plan: &Plan<'_, P>,
+    gate: &G,
+    detector: Detector,
+    alerts: &mut A,
+) -> Result<Counts, Stop>
+    requires plan { IsSoundPlan plan.now }
+    requires known { Knows plan.now detector }
+    requires few { detector.front.counts.records ≤ 2 ^ 32 }
+    ensures shown { (matches : Test) → IsTest P.finds plan.now.set.now matches
+        → IfOk result (λ counts. Closes (plan_of matches plan.now)
+        (record { detector = detector; written = A.written alerts.old }) (A.written alerts.new) counts) }
+    ensures stopped { (matches : Test) → IsTest P.finds plan.now.set.now matches
+        → OnErr result (ClosesPart (plan_of matches plan.now)
+        (record { detector = detector; written = A.written alerts.old }) (A.written alerts.new)) }
+    ensures kind { IfErr result IsShowStop }
+    ensures fault { IsErrOf result Stop.CannotWrite → Rose (A.faults alerts.old) (A.faults alerts.new) }
+    ensures later { A.faults alerts.old ≤ A.faults alerts.new }
+{
+    let Detector {
+        front,
+        mut inspection,
+    } = detector;
+    let seen = front.counts();
+    let jobs = last_jobs(alloc, front)?;
+    run_jobs(rt, alloc, plan, gate, &jobs, &mut inspection, alerts)?;
+    offer(&mut inspection.events.block, alerts)?;
+    Ok(inspection.counts(seen))
+}
