@@ -1,17 +1,18 @@
 use edge_io::Addr;
 
-/// The fields of an IPv4 header (RFC 791, section 3.1).
+/// The fields of an IP header: of version 4 (RFC 791, section 3.1), or of version 6 with its
+/// fragment header (RFC 8200, sections 3 and 4.5).
 #[derive(Clone, Copy, Debug, PartialEq, Eq)]
 pub struct IpHead {
     pub src: Addr,
     pub dst: Addr,
-    /// The protocol number: 6 for TCP, 17 for UDP, 1 for ICMP.
+    /// The protocol number: 6 for TCP, 17 for UDP, 1 for ICMP, 58 for that of version 6.
     pub protocol: u8,
-    /// Time to live.
+    /// Time to live, or the hop limit.
     pub ttl: u8,
-    /// Type of service.
+    /// Type of service, or the traffic class.
     pub tos: u8,
-    /// The identification; that of IPv4 has 16 bits.
+    /// The identification: 16 bits, or the 32 of a fragment header.
     pub id: u32,
     /// The reserved bit.
     pub reserved: bool,
@@ -35,7 +36,7 @@ pub struct TcpHead {
     pub window: u16,
 }
 
-/// What a packet carries behind its IPv4 header.
+/// What a packet carries behind its IP header.
 #[derive(Clone, Copy, Debug, PartialEq, Eq)]
 pub enum Body {
     Tcp(TcpHead),
