@@ -72,10 +72,29 @@ a whole datagram that begins with one | 2c | 3c00 0000 00000007 3b00 00*6 | othe
 the second of two identifications | 2c | 2c00 0000 00000001 3b00 0000 00000002 | other 59 2 0 false 0
 a part behind a whole datagram | 2c | 2c00 0000 00000001 1100 0009 00000002 | fragment 17 2 1 true 0
 the order of RFC 8200, section 4.1 | 00 | 3c00 00*6 2b00 00*6 2c00 00*6 3c00 0000 00000005 1100 00*6 03e807d0 000bd448 616263 | udp 17 5 0 false 3
+section 4: TCP alone | 06 | 03e80050 00000001 00000065 5010ffff 8b5c0000 616263 | tcp 6 0 0 false 3
+section 4: a routing header, TCP | 2b | 0600 00*6 03e80050 00000001 00000065 5010ffff 8b5c0000 616263 | tcp 6 0 0 false 3
+section 4: a routing header, a fragment header, a part of TCP | 2b | 2c00 00*6 0600 0001 00000007 03e80050 00000001 00000065 5010ffff | fragment 6 7 0 true 16
+section 4.4: a routing header of one address, one segment left | 2b | 3b02 0001 00000000 20010db8 00*11 03 | other 59 0 0 false 0
+section 4.5: a datagram before it is cut | 00 | 2b00 00*6 3c00 00*6 1100 00*6 03e807d0 001b0000 61*19 | udp 17 0 0 false 19
+section 4.5: its first part | 00 | 2b00 00*6 2c00 00*6 3c00 0001 00000009 1100 00*6 03e807d0 001b0000 61*8 | fragment 60 9 0 true 24
+section 4.5: its second part | 00 | 2b00 00*6 2c00 00*6 3c00 0019 00000009 61*8 | fragment 60 9 3 true 8
+section 4.5: its last part | 00 | 2b00 00*6 2c00 00*6 3c00 0020 00000009 61*3 | fragment 60 9 4 false 3
+appendix A, example 1: an option of 4 and 8 bytes | 00 | 3b01 1e0c 61*4 62*8 | other 59 0 0 false 0
+appendix A, example 2: an option of 1, 2 and 4 bytes | 3c | 3b01 00 1e 07 61 62*2 63*4 0102 00*2 | other 59 0 0 false 0
+appendix A, example 3: both | 00 | 3b03 1e0c 61*4 62*8 0101 00 3e 07 61 62*2 63*4 0102 00*2 | other 59 0 0 false 0
+appendix A, example 3: the other order | 3c | 3b03 00 3e 07 61 62*2 63*4 0104 00*4 1e0c 61*4 62*8 | other 59 0 0 false 0
 the second of two is cut | 00 | 2b00 00*6 1101 00*6 | Malformed
+a fragment header behind options: nothing | 3c | 2c00 00*6 | Malformed
+a fragment header behind options: 7 of 8 | 3c | 2c00 00*6 3b00 0000 000000 | Malformed
+options behind a fragment header: 7 of 8 | 2c | 3c00 0000 00000007 3b00 00*5 | Malformed
+UDP of 7 bytes behind options | 3c | 1100 00*6 03e807d0 000800 | Malformed
+ICMPv6 of 7 bytes behind options | 3c | 3a00 00*6 80000000 000100 | Malformed
 TCP of 19 bytes behind options | 3c | 0600 00*6 00*19 | Malformed
 eight headers | 3c | 3c00000000000000*7 3b00 00*6 | other 59 0 0 false 0
 nine headers | 3c | 3c00000000000000*8 3b00 00*6 | Malformed
+eight fragment headers of whole datagrams | 2c | 2c00000000000001*7 3b00 0000 00000002 | other 59 2 0 false 0
+nine of them | 2c | 2c00000000000001*8 3b00 0000 00000002 | Malformed
 the eighth makes a part | 3c | 3c00000000000000*6 2c00 00*6 1100 0001 00000007 61 | fragment 17 7 0 true 1
 the ninth makes a part | 3c | 3c00000000000000*7 2c00 00*6 1100 0001 00000007 61 | Malformed";
 
