@@ -6,3 +6,5 @@
 mod captures;
 #[cfg(test)]
 mod digits;
+#[cfg(test)]
+mod packets;
