@@ -11,8 +11,6 @@ mod decide;
 mod fields;
 mod read;
 mod syntax;
-#[cfg(test)]
-mod tests;
 
 pub use asked::{ChecksumMode, Command, Definition, Words};
 pub use read::{WordsFault, read_words};

@@ -8,11 +8,12 @@ use crate::fault::FaultCount;
 use crate::file_host::read_once;
 use crate::{
     Addr, Failed, FileHost, FragPolicy, Gate, Host, Items, Link, Literal, LiteralMaker, LoadFault,
-    MakeFault, MemHost, MemSink, Moment, NoMemory, OpenGate, Pattern, PatternFlags, PatternMaker,
-    Preference, Refusal, Sink, Span, StdSink, StreamPolicy, Text, WriteStop, write_all,
+    MemHost, MemSink, Moment, NoMemory, OpenGate, Pattern, PatternFlags, PatternMaker, Preference,
+    Refusal, Sink, Span, StdSink, StreamPolicy, Text, WriteStop, write_all,
 };
 use std::alloc::Global;
 use std::io::{ErrorKind, Read, Write};
+use std::process::Abort;
 use std::test::Fail;
 use std::{fs, io};
 
@@ -115,20 +116,29 @@ streams:hpux1:none
 streams:first,last:none
 ";
 
+/// The row of a policy of this kind, or none.
+fn policy_row(kind: &str, name: &[u8]) -> Option<Preference> {
+    if kind == "fragments" {
+        Some(FragPolicy::read(name)?.preference())
+    } else {
+        Some(StreamPolicy::read(name)?.preference())
+    }
+}
+
+/// What the rows call a row.
+fn row_word(alloc: Global, row: Option<Preference>) -> Result<String, Fail> {
+    match row {
+        Some(preference) => Ok(format!(in alloc; "{preference:?}")?),
+        None => Ok(String::from_str(alloc, "none")?),
+    }
+}
+
 #[test]
 fn policies_have_their_rows(rt: HostRuntime) -> Result<(), Fail> {
     for row in POLICIES.lines() {
         let (kind, rest) = row.split_once(':').ok_or("a kind")?;
         let (name, want) = rest.split_once(':').ok_or("a name")?;
-        let found = if kind == "fragments" {
-            FragPolicy::read(name.as_bytes()).map(|policy| policy.preference())
-        } else {
-            StreamPolicy::read(name.as_bytes()).map(|policy| policy.preference())
-        };
-        let got = match found {
-            Some(preference) => format!(in rt.alloc(); "{preference:?}")?,
-            None => String::from_str(rt.alloc(), "none")?,
-        };
+        let got = row_word(rt.alloc(), policy_row(kind, name.as_bytes()))?;
         assert_eq!(rt; got.as_str(), want, "{row}");
     }
     Ok(())
@@ -144,116 +154,210 @@ fn load_word(answer: &Result<(), LoadFault>) -> &'static str {
     }
 }
 
-/// Names, limits, answers, and what stands behind each load.
-const LOADS: &str = "rules 5 loaded <hello
-empty 0 loaded <hello
-rules 4 large <hello
-none 9 failed <hello
-rules 9 failed <hello
+/// The bytes as text.
+fn shown(bytes: &[u8]) -> &str {
+    str::from_utf8(bytes).unwrap_or("no text")
+}
+
+/// Calls of a host in memory one after another, and their answers. What is loaded stands behind
+/// what was loaded before. Loads, opens and reads are counted, from 0; a read is of at most three
+/// bytes. An open capture keeps its bytes when its file is replaced, and a failing open closes what
+/// was open, by its number or for want of the file.
+const CALLS: &str = "put:rules old:done
+put:rules hello:done
+put:empty :done
+fail:4 7:done
+load:rules 5:loaded <hello
+load:empty 0:loaded <hello
+load:rules 4:large <hello
+load:none 9:failed <hello
+load:rules 9:failed <hello
+open:rules:opened
+put:rules new:done
+read::hel
+read::failed
+read::lo
+read::
+fail:12 12:done
+open:none:failed
+open:rules:opened
+open:rules:failed
+read::
+open:rules:opened
+read::new
 ";
+
+/// Puts a file into the host, by its name and its bytes.
+fn put_answer(host: &mut MemHost, words: &str) -> Result<(), Fail> {
+    let (name, bytes) = words.split_once(' ').ok_or("a name")?;
+    host.put(name, bytes.as_bytes())?;
+    Ok(())
+}
+
+/// Has the two calls of these numbers fail.
+fn fail_answer(host: &mut MemHost, words: &str) -> Result<(), Fail> {
+    let (first, second) = words.split_once(' ').ok_or("a number")?;
+    host.fail_calls(&[first.parse::<u32>()?, second.parse::<u32>()?])?;
+    Ok(())
+}
+
+/// Loads a file by its name and limit: the answer, and all that was loaded.
+fn load_answer(
+    alloc: Global,
+    host: &mut MemHost,
+    words: &str,
+    out: &mut Vec<u8>,
+) -> Result<String, Fail> {
+    let (name, limit) = words.split_once(' ').ok_or("a name")?;
+    let answer = host.load(name, limit.parse::<usize>()?, out);
+    let word = load_word(&answer);
+    let loaded = shown(out.as_slice());
+    Ok(format!(in alloc; "{word} {loaded}")?)
+}
+
+/// Reads from the open capture: the bytes.
+fn read_answer(alloc: Global, host: &mut MemHost) -> Result<String, Fail> {
+    let mut buf = [0; 3];
+    match host.read(&mut buf) {
+        Ok(count) => Ok(String::from_str(alloc, shown(&buf[..count]))?),
+        Err(Failed) => Ok(String::from_str(alloc, "failed")?),
+    }
+}
+
+/// The answer of one call.
+fn call_answer(
+    alloc: Global,
+    host: &mut MemHost,
+    call: &str,
+    words: &str,
+    out: &mut Vec<u8>,
+) -> Result<String, Fail> {
+    if call == "load" {
+        return load_answer(alloc, host, words, out);
+    }
+    if call == "read" {
+        return read_answer(alloc, host);
+    }
+    let answer = if call == "put" {
+        put_answer(host, words)?;
+        "done"
+    } else if call == "fail" {
+        fail_answer(host, words)?;
+        "done"
+    } else if host.open(words).is_ok() {
+        "opened"
+    } else {
+        "failed"
+    };
+    Ok(String::from_str(alloc, answer)?)
+}
 
 #[test]
 fn memory_host_gives_its_files_and_fails_by_number(rt: HostRuntime) -> Result<(), Fail> {
-    let alloc = rt.alloc();
-    let mut host = MemHost::new(alloc);
-    host.put("rules", b"old")?;
-    host.put("rules", b"hello")?;
-    host.put("empty", b"")?;
-    host.fail_calls(&[4, 7])?;
-
-    // Calls 0 to 4.
-    let mut out = Vec::from_slice(alloc, b"<")?;
-    for row in LOADS.lines() {
-        let mut words = row.split(' ');
-        let mut word = || words.next().ok_or("a word");
-        let (name, limit) = (word()?, word()?.parse::<usize>()?);
-        let answer = host.load(name, limit, &mut out);
-        assert_eq!(rt; load_word(&answer), word()?, "{row}");
-        assert_eq!(rt; out.as_slice(), word()?.as_bytes(), "{row}");
+    let mut host = MemHost::new(rt.alloc());
+    let mut out = Vec::from_slice(rt.alloc(), b"<")?;
+    for row in CALLS.lines() {
+        let (call, rest) = row.split_once(':').ok_or("a call")?;
+        let (words, want) = rest.split_once(':').ok_or("words")?;
+        let got = call_answer(rt.alloc(), &mut host, call, words, &mut out)?;
+        assert_eq!(rt; got.as_str(), want, "{row}");
     }
-
-    // Calls 5 to 9: an open capture keeps its bytes when its file is replaced.
-    let mut buf = [0; 3];
-    assert_eq!(rt; host.open("rules"), Ok(()));
-    host.put("rules", b"new")?;
-    assert_eq!(rt; host.read(&mut buf), Ok(3));
-    assert_eq!(rt; buf, *b"hel");
-    assert_eq!(rt; host.read(&mut buf), Err(Failed));
-    assert_eq!(rt; host.read(&mut buf), Ok(2));
-    assert_eq!(rt; buf[..2], *b"lo".as_slice());
-    assert_eq!(rt; host.read(&mut buf), Ok(0));
-
-    // Calls 10 to 15: a failing open closes what was open, by its number or for want of the file.
-    host.fail_calls(&[12])?;
-    assert_eq!(rt; host.open("none"), Err(Failed));
-    assert_eq!(rt; host.open("rules"), Ok(()));
-    assert_eq!(rt; host.open("rules"), Err(Failed));
-    assert_eq!(rt; host.read(&mut buf), Ok(0));
-    assert_eq!(rt; host.open("rules"), Ok(()));
-    assert_eq!(rt; host.read(&mut buf), Ok(3));
-    assert_eq!(rt; buf, *b"new");
     Ok(())
+}
+
+/// Pieces that are written to a sink with room for seven bytes, at most two a call, whose call 3
+/// fails: how many bytes of the piece were taken, or all, and what the sink holds.
+const PIECES: &str = "abcd:all abcd
+ef:all abcdef
+gh:0 abcdef
+ghi:1 abcdefg
+:all abcdefg
+";
+
+/// The answer to a piece, and what the sink holds.
+fn piece_answer(alloc: Global, sink: &mut MemSink, piece: &str) -> Result<String, Fail> {
+    let answer = write_all(sink, piece.as_bytes());
+    let held = shown(sink.bytes());
+    match answer {
+        Ok(()) => Ok(format!(in alloc; "all {held}")?),
+        Err(WriteStop { done }) => Ok(format!(in alloc; "{done} {held}")?),
+    }
 }
 
 #[test]
 fn memory_sink_takes_steps_and_fails_when_full_or_by_number(rt: HostRuntime) -> Result<(), Fail> {
     let mut sink = MemSink::new(rt.alloc(), 2, 7)?;
     sink.fail_calls(&[3])?;
-    for (piece, answer, after) in [
-        ("abcd", Ok(()), "abcd"),
-        ("ef", Ok(()), "abcdef"),
-        ("gh", Err(WriteStop { done: 0 }), "abcdef"),
-        ("ghi", Err(WriteStop { done: 1 }), "abcdefg"),
-        ("", Ok(()), "abcdefg"),
-    ] {
-        assert_eq!(rt; write_all(&mut sink, piece.as_bytes()), answer, "{piece}");
-        assert_eq!(rt; sink.bytes(), after.as_bytes(), "{piece}");
+    for row in PIECES.lines() {
+        let (piece, want) = row.split_once(':').ok_or("a piece")?;
+        let got = piece_answer(rt.alloc(), &mut sink, piece)?;
+        assert_eq!(rt; got.as_str(), want, "{row}");
     }
     Ok(())
 }
 
-/// Texts, whether case counts, the bytes that are searched, and the match.
+/// Texts, whether case counts, the bytes that are searched, and the match. Call 6 of the maker
+/// fails. The flags of a plain row are all off, and the others' are on but for nocase.
 const MATCHES: &str = "bc:case:abcbc:1 3
 BC:case:abcbc:none
 BC:nocase:abcbC:1 3
 abc:case:ab:none
 :case::0 0
 c.:case:abc.:2 4
+x:plain:x:Refused
+x:plain:x:0 1
 ";
+
+/// The flags of a word.
+fn flags_of(word: &str) -> PatternFlags {
+    let more = word != "plain";
+    PatternFlags {
+        nocase: word == "nocase",
+        dot_all: more,
+        multi_line: more,
+        extended: more,
+    }
+}
+
+/// Where the pattern's leftmost match stands.
+fn match_word(alloc: Global, pattern: &Literal, bytes: &[u8]) -> Result<String, Fail> {
+    match pattern.find(bytes)? {
+        Some(Span { start, end }) => Ok(format!(in alloc; "{start} {end}")?),
+        None => Ok(String::from_str(alloc, "none")?),
+    }
+}
+
+/// Where the leftmost match of a text stands, or why no pattern is made of it.
+fn text_match(
+    alloc: Global,
+    maker: &mut LiteralMaker,
+    text: &str,
+    flags: PatternFlags,
+    bytes: &[u8],
+) -> Result<String, Fail> {
+    match maker.make(alloc, text, flags) {
+        Ok(pattern) => match_word(alloc, &pattern, bytes),
+        Err(fault) => Ok(format!(in alloc; "{fault:?}")?),
+    }
+}
 
 #[test]
 fn literal_patterns_give_the_leftmost_match(rt: HostRuntime) -> Result<(), Fail> {
-    let alloc = rt.alloc();
-    let mut maker = LiteralMaker::new(alloc);
+    let mut maker = LiteralMaker::new(rt.alloc());
     maker.fail_calls(&[6])?;
     for row in MATCHES.lines() {
-        let mut parts = row.split(':');
-        let mut part = || parts.next().ok_or("a part");
-        let text = part()?;
-        let flags = PatternFlags {
-            nocase: part()? == "nocase",
-            dot_all: true,
-            multi_line: true,
-            extended: true,
-        };
-        let pattern = maker.make(alloc, text, flags)?;
-        let got = match pattern.find(part()?.as_bytes())? {
-            Some(Span { start, end }) => format!(in alloc; "{start} {end}")?,
-            None => String::from_str(alloc, "none")?,
-        };
-        assert_eq!(rt; got.as_str(), part()?, "{row}");
+        let (text, rest) = row.split_once(':').ok_or("a text")?;
+        let (case, rest) = rest.split_once(':').ok_or("flags")?;
+        let (bytes, want) = rest.split_once(':').ok_or("bytes")?;
+        let got = text_match(
+            rt.alloc(),
+            &mut maker,
+            text,
+            flags_of(case),
+            bytes.as_bytes(),
+        )?;
+        assert_eq!(rt; got.as_str(), want, "{row}");
     }
-    let flags = PatternFlags {
-        nocase: false,
-        dot_all: false,
-        multi_line: false,
-        extended: false,
-    };
-    assert_eq!(rt;
-        maker.make(alloc, "x", flags).err(),
-        Some(MakeFault::Refused)
-    );
-    assert_eq!(rt; maker.make(alloc, "x", flags).err(), None);
     Ok(())
 }
 
@@ -269,33 +373,52 @@ fn read_out<H: Host>(alloc: Global, host: &mut H, buf: &mut [u8]) -> Result<Vec<
     Ok(read)
 }
 
-/// The same through a buffer that is larger than the host's own.
-fn read_straight<H: Host>(alloc: Global, host: &mut H, buf: &mut Vec<u8>) -> Result<Vec<u8>, Fail> {
-    if buf.is_empty() {
-        return Err(Fail::new("a buffer"));
+/// What the rows call these bytes.
+fn bytes_word(bytes: &[u8], large: &[u8]) -> &'static str {
+    if bytes == large {
+        "large"
+    } else if bytes == b"hello".as_slice() {
+        "hello"
+    } else if bytes.is_empty() {
+        "nothing"
+    } else {
+        "others"
     }
-    read_out(alloc, host, buf.as_mut_slice())
 }
 
-/// The bytes that a row names.
-fn held<'a>(word: &str, large: &'a [u8]) -> &'a [u8] {
-    match word {
-        "large" => large,
-        "hello" => b"hello",
-        _ => b"",
+/// What the rows call the bytes that were appended to a `<`.
+fn appended_word(out: &[u8], large: &[u8]) -> &'static str {
+    match out {
+        [b'<', rest @ ..] => bytes_word(rest, large),
+        _ => "a front that was changed",
     }
 }
 
 /// Names of real files, limits, answers, and the bytes behind a load.
-const REAL_LOADS: &str = "edge_files/present 5 loaded hello
-edge_files/present 4 large nothing
-edge_files/empty 0 loaded nothing
-edge_files/large 100000 loaded large
-edge_files/large 99999 large nothing
-edge_files/large 18446744073709551615 loaded large
-edge_files/missing 9 failed nothing
-edge_files/folder 9 failed nothing
+const REAL_LOADS: &str = "edge_files/present 5: loaded hello
+edge_files/present 4: large nothing
+edge_files/empty 0: loaded nothing
+edge_files/large 100000: loaded large
+edge_files/large 99999: large nothing
+edge_files/large 18446744073709551615: loaded large
+edge_files/missing 9: failed nothing
+edge_files/folder 9: failed nothing
 ";
+
+/// Loads a real file by its name and limit: the answer, and what was appended.
+fn real_load<H: Host>(
+    alloc: Global,
+    host: &mut H,
+    words: &str,
+    large: &[u8],
+) -> Result<String, Fail> {
+    let (name, limit) = words.split_once(' ').ok_or("a name")?;
+    let mut out = Vec::from_slice(alloc, b"<")?;
+    let answer = host.load(name, limit.parse::<usize>()?, &mut out);
+    let word = load_word(&answer);
+    let appended = appended_word(out.as_slice(), large);
+    Ok(format!(in alloc; "{word} {appended}")?)
+}
 
 /// Names of real files, and the bytes that are read where they can be opened.
 const REAL_READS: &str = "edge_files/large large
@@ -305,51 +428,96 @@ edge_files/missing missing
 edge_files/folder missing
 ";
 
-#[test]
-fn real_files_are_loaded_and_read(rt: HostRuntime) -> Result<(), Fail> {
-    let alloc = rt.alloc();
+/// What is read of a real file through this buffer.
+fn real_read<H: Host>(
+    alloc: Global,
+    host: &mut H,
+    name: &str,
+    buf: &mut [u8],
+    large: &[u8],
+) -> Result<&'static str, Fail>
+    requires { 0 < length buf.old }
+{
+    let is_there = host.open(name).is_ok();
+    let read = read_out(alloc, host, buf)?;
+    let word = bytes_word(read.as_slice(), large);
+    Ok(if is_there || word != "nothing" {
+        word
+    } else {
+        "missing"
+    })
+}
+
+/// The same through a buffer that is larger than the host's own.
+fn real_read_straight<H: Host>(
+    alloc: Global,
+    host: &mut H,
+    name: &str,
+    large: &[u8],
+) -> Result<&'static str, Fail> {
+    let mut wide = vec![in alloc; 0; 65536]?;
+    real_read(alloc, host, name, wide.as_mut_slice(), large)
+}
+
+/// Compares the rows of loads.
+fn check_loads<H: Host>(
+    rt: &impl Abort,
+    alloc: Global,
+    host: &mut H,
+    large: &[u8],
+) -> Result<(), Fail> {
+    for row in REAL_LOADS.lines() {
+        let (words, want) = row.split_once(": ").ok_or("words")?;
+        let got = real_load(alloc, host, words, large)?;
+        assert_eq!(rt; got.as_str(), want, "{row}");
+    }
+    Ok(())
+}
+
+/// Compares the rows of reads, by the host's buffer and straight.
+fn check_reads<H: Host>(
+    rt: &impl Abort,
+    alloc: Global,
+    host: &mut H,
+    large: &[u8],
+) -> Result<(), Fail> {
+    for row in REAL_READS.lines() {
+        let (name, want) = row.split_once(' ').ok_or("a name")?;
+        let read = real_read(alloc, host, name, &mut [0; 16], large)?;
+        let straight = real_read_straight(alloc, host, name, large)?;
+        assert!(rt;
+            read == want && straight == want,
+            "{row}: {read}, {straight}"
+        );
+    }
+    Ok(())
+}
+
+/// The bytes of the large file.
+fn large_bytes(alloc: Global) -> Result<Vec<u8>, Fail> {
     let mut large = Vec::new(alloc);
     for place in 0..100000u32 {
         large.push((place % 251) as u8)?;
     }
-    fs::create_dir_all(&rt, "edge_files/folder")?;
-    fs::write(&rt, "edge_files/present", "hello")?;
-    fs::write(&rt, "edge_files/empty", "")?;
-    fs::write(&rt, "edge_files/large", large.as_slice())?;
+    Ok(large)
+}
 
-    let mut host = FileHost::new(alloc, rt)?;
-    for row in REAL_LOADS.lines() {
-        let mut words = row.split(' ');
-        let mut word = || words.next().ok_or("a word");
-        let (name, limit) = (word()?, word()?.parse::<usize>()?);
-        let mut out = Vec::from_slice(alloc, b"<")?;
-        let answer = host.load(name, limit, &mut out);
-        assert_eq!(rt; load_word(&answer), word()?, "{row}");
-        let mut want = Vec::from_slice(alloc, b"<")?;
-        want.extend_from_slice(held(word()?, large.as_slice()))?;
-        assert_eq!(rt; out.as_slice(), want.as_slice(), "{row}");
-    }
+/// Writes the real files.
+fn make_files(rt: &HostRuntime, large: &[u8]) -> Result<(), Fail> {
+    fs::create_dir_all(rt, "edge_files/folder")?;
+    fs::write(rt, "edge_files/present", "hello")?;
+    fs::write(rt, "edge_files/empty", "")?;
+    fs::write(rt, "edge_files/large", large)?;
+    Ok(())
+}
 
-    let mut wide = Vec::new(alloc);
-    wide.resize(65536, 0u8)?;
-    for row in REAL_READS.lines() {
-        let (name, want) = row.split_once(' ').ok_or("a name")?;
-        let is_there = want != "missing";
-        assert_eq!(rt; host.open(name).is_ok(), is_there, "{row}");
-        let read = read_out(alloc, &mut host, &mut [0; 16])?;
-        assert_eq!(rt;
-            read.as_slice(),
-            held(want, large.as_slice()),
-            "{row}, by the host's buffer"
-        );
-        assert_eq!(rt; host.open(name).is_ok(), is_there, "{row}");
-        let read = read_straight(alloc, &mut host, &mut wide)?;
-        assert_eq!(rt;
-            read.as_slice(),
-            held(want, large.as_slice()),
-            "{row}, straight"
-        );
-    }
+#[test]
+fn real_files_are_loaded_and_read(rt: HostRuntime) -> Result<(), Fail> {
+    let large = large_bytes(rt.alloc())?;
+    make_files(&rt, large.as_slice())?;
+    let mut host = FileHost::new(rt.alloc(), rt)?;
+    check_loads(&rt, rt.alloc(), &mut host, large.as_slice())?;
+    check_reads(&rt, rt.alloc(), &mut host, large.as_slice())?;
     fs::remove_dir_all(&rt, "edge_files")?;
     Ok(())
 }
@@ -408,46 +576,55 @@ impl Write for Unsteady {
     }
 }
 
-/// How often a stream is interrupted, its room, whether it fails, and what reading and writing give. The end
-/// of a file is no failure; a stream that takes nothing has failed.
-const UNSTEADY: &str = "0 9 steady 4 4
-3 9 steady 4 4
-3 2 steady 2 2
-3 0 steady 0 failed
-3 9 failing failed failed
+/// How often a stream is interrupted, its room, whether it fails, and what reading and writing give.
+/// The end of a file is no failure; a stream that takes nothing has failed.
+const UNSTEADY: &str = "0 9 steady: 4 4
+3 9 steady: 4 4
+3 2 steady: 2 2
+3 0 steady: 0 failed
+3 9 failing: failed failed
 ";
+
+/// The stream of these words.
+fn stream_of(words: &str) -> Result<Unsteady, Fail> {
+    let (interruptions, rest) = words.split_once(' ').ok_or("a count")?;
+    let (room, kind) = rest.split_once(' ').ok_or("room")?;
+    Ok(Unsteady {
+        interruptions: interruptions.parse::<u32>()?,
+        room: room.parse::<usize>()?,
+        fails: kind == "failing",
+    })
+}
 
 /// What the rows call the answer of one call.
 fn count_word(alloc: Global, answer: Result<usize, Failed>) -> Result<String, Fail> {
-    Ok(match answer {
-        Ok(count) => format!(in alloc; "{count}")?,
-        Err(Failed) => String::from_str(alloc, "failed")?,
-    })
+    match answer {
+        Ok(count) => Ok(format!(in alloc; "{count}")?),
+        Err(Failed) => Ok(String::from_str(alloc, "failed")?),
+    }
+}
+
+/// What reading gives.
+fn given(alloc: Global, words: &str) -> Result<String, Fail> {
+    let mut file = stream_of(words)?;
+    let mut faults = FaultCount::new();
+    count_word(alloc, read_once(&mut file, &mut [0; 4], &mut faults))
+}
+
+/// What writing gives.
+fn taken(alloc: Global, words: &str) -> Result<String, Fail> {
+    let mut sink = StdSink::over(stream_of(words)?);
+    count_word(alloc, sink.write(b"line"))
 }
 
 #[test]
 fn an_interrupted_call_goes_on(rt: HostRuntime) -> Result<(), Fail> {
     for row in UNSTEADY.lines() {
-        let mut words = row.split(' ');
-        let mut word = || words.next().ok_or("a word");
-        let interruptions = word()?.parse::<u32>()?;
-        let room = word()?.parse::<usize>()?;
-        let fails = word()? == "failing";
-        let mut file = Unsteady {
-            interruptions,
-            room,
-            fails,
-        };
-        let mut faults = FaultCount::new();
-        let given = read_once(&mut file, &mut [0; 4], &mut faults);
-        assert_eq!(rt; count_word(rt.alloc(), given)?.as_str(), word()?, "{row}");
-        let mut sink = StdSink::over(Unsteady {
-            interruptions,
-            room,
-            fails,
-        });
-        let taken = sink.write(b"line");
-        assert_eq!(rt; count_word(rt.alloc(), taken)?.as_str(), word()?, "{row}");
+        let (words, want) = row.split_once(": ").ok_or("words")?;
+        let read = given(rt.alloc(), words)?;
+        let written = taken(rt.alloc(), words)?;
+        let got = format!(in rt.alloc(); "{read} {written}")?;
+        assert_eq!(rt; got.as_str(), want, "{row}");
     }
     Ok(())
 }

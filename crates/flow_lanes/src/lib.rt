@@ -9,8 +9,6 @@
 mod answer;
 mod arrival;
 mod batch;
-#[cfg(test)]
-mod batch_tests;
 mod cutting;
 mod detecting;
 mod facts;

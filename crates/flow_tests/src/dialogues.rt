@@ -6,15 +6,13 @@ ghost use Rattle.fast_pattern.specs.Grouping.{StandFor};
 ghost use Rattle.rule_parser.specs.Sound.{IsTriable};
 ghost use Rattle.flow_tests.specs.Dialogue.{IsDialogue, IsTurnHead, IsTurnJob, tcp_head};
 
-use conf_parser::{Classes, StreamConfig};
+use crate::setup::{Setup, rules};
+use conf_parser::StreamConfig;
 use edge_io::crossing::sendable;
-use edge_io::{Addr, Items, Literal, LiteralMaker, Moment, Preference, Text};
+use edge_io::{Addr, Items, Moment, Preference, Text};
 use fast_pattern::Groups;
 use flow_lanes::{Job, JobHits, Lane, Toward, Work};
-use net_lists::Vars;
-use option_eval::RuleSet;
 use packet_decode::{Body, IpHead, ItemHead, ItemKind, SessionFacts, TcpHead};
-use rule_parser::{BitNames, read_rule};
 use std::alloc::Global;
 use std::process::Abort;
 use std::test::Fail;
@@ -176,14 +174,6 @@ fn show(out: &JobHits, text: &mut String) -> Result<(), Fail> {
     Ok(())
 }
 
-/// By what the jobs of a row are answered.
-#[derive(Drop)]
-struct Setup<'a> {
-    stream: &'a StreamConfig,
-    set: &'a RuleSet<Literal>,
-    groups: &'a Groups,
-}
-
 /// Runs a job of a dialogue, and adds its items to a text.
 fn run_job(
     alloc: Global,
@@ -239,36 +229,6 @@ fn items_of(
     };
     run_job(alloc, &mut lane, preference, done, &end, setup, &mut text)?;
     Ok(text)
-}
-
-/// Adds the rule of a line.
-fn add_rule(
-    alloc: Global,
-    line: &str,
-    bits: &mut BitNames,
-    maker: &mut LiteralMaker,
-    set: &mut RuleSet<Literal>,
-) -> Result<(), Fail>
-    ensures { OnOk result (All IsTriable set.old.rules → All IsTriable set.new.rules) }
-{
-    let vars = Vars::new(alloc);
-    let classes = Classes::new(alloc);
-    let rule = read_rule(alloc, line.as_bytes(), &vars, &classes, bits)?;
-    set.push(alloc, rule, maker)?;
-    Ok(())
-}
-
-/// The rules of the lines.
-fn rules(alloc: Global, lines: &str) -> Result<RuleSet<Literal>, Fail>
-    ensures { IfOk result (λ set. All IsTriable set.rules) }
-{
-    let mut bits = BitNames::new(alloc);
-    let mut maker = LiteralMaker::new(alloc);
-    let mut set = RuleSet::new(alloc);
-    for line in lines.split('#') {
-        add_rule(alloc, line, &mut bits, &mut maker, &mut set)?;
-    }
-    Ok(set)
 }
 
 /// The items of a dialogue with these rules.

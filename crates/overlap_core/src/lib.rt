@@ -14,8 +14,6 @@ mod row;
 mod runs;
 mod segment;
 mod table;
-#[cfg(test)]
-mod tests;
 
 pub use piece::Piece;
 pub use queue::Queue;

@@ -1,52 +1,18 @@
-use super::*;
-use edge_io::Addr;
-use edge_io::crossing::{sendable, shareable};
+//! Sums that no record shows by itself: RFC 1071, section 3, and its corners.
 
-mod datagrams;
-mod records;
-
-const ALL: Checks = Checks {
-    ip: true,
-    tcp: true,
-    udp: true,
-    icmp: true,
-};
-
-const NONE: Checks = Checks {
-    ip: false,
-    tcp: false,
-    udp: false,
-    icmp: false,
-};
-
-/// A UDP packet from 10.0.0.1 to 10.0.0.2: the rows below say what differs.
-const HEAD: IpHead = IpHead {
-    src: Addr::V4(0x0a00_0001),
-    dst: Addr::V4(0x0a00_0002),
-    protocol: 17,
-    ttl: 64,
-    tos: 0,
-    id: 1,
-    reserved: false,
-    dont: false,
-    more: false,
-    offset: 0,
-};
-
-/// From port 1000 to port 2000.
-const UDP: Body = Body::Udp {
-    sport: 1000,
-    dport: 2000,
-};
+use crate::checksum::is_part_right;
 
 #[test]
-fn types_cross_threads() {
-    sendable::<Checks>();
-    shareable::<Checks>();
-    sendable::<Packet<'static>>();
-    shareable::<Packet<'static>>();
-    sendable::<Skip>();
-    shareable::<Skip>();
-    sendable::<ItemHead>();
-    shareable::<ItemHead>();
+fn sums_of_bytes(rt: HostRuntime) {
+    let words = is_part_right(b"\x00\x01\xf2\x03\xf4\xf5\xf6\xf7\x22\x0d");
+    assert!(rt;
+        words,
+        "RFC 1071, section 3: the words with the complement of their sum"
+    );
+    let sum = is_part_right(b"\x00\x01\xf2\x03\xf4\xf5\xf6\xf7\xdd\xf2");
+    assert!(rt; !sum, "the words with their sum");
+    let odd = is_part_right(b"\xfe\xff\x01");
+    assert!(rt; odd, "an odd last byte is the upper half of a word");
+    assert!(rt; !is_part_right(b""), "no word is not all ones");
+    assert!(rt; !is_part_right(b"\x00\x00"), "nor are zeros alone");
 }

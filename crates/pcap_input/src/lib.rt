@@ -15,8 +15,6 @@ mod generate;
 mod header;
 mod reader;
 mod spares;
-#[cfg(test)]
-mod tests;
 mod traffic;
 
 pub use capture::{CaptureFault, CaptureHead, Record};

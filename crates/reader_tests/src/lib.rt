@@ -1,8 +1,10 @@
-//! Tests of the readers of text: lists, hosts, configurations, rules, options and whole setups, by the public
-//! calls of their crates. They stand in a crate of their own, since a crate is proved once more with each test
-//! that it has.
+//! Tests of the readers of text: commands, lists, hosts, configurations, rules, options and whole setups, by the
+//! public calls of their crates. They stand in a crate of their own, since a crate is proved once more with each
+//! test that it has.
 #![tactic(auto)]
 
+#[cfg(test)]
+mod commands;
 #[cfg(test)]
 mod configurations;
 #[cfg(test)]

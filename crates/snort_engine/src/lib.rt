@@ -26,8 +26,6 @@ mod prepare;
 mod report;
 mod status;
 mod stop;
-#[cfg(test)]
-mod tests;
 mod watch;
 
 pub use detector::run;

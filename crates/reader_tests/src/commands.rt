@@ -1,7 +1,7 @@
 //! Command lines that are read or refused, with what they ask for, worked out by hand; and that the types cross
 //! threads. The rows are text, so that another one costs nothing to prove.
 
-use crate::{ChecksumMode, Command, Words, WordsFault, read_words};
+use command_words::{ChecksumMode, Command, Words, WordsFault, read_words};
 use edge_io::NoMemory;
 use edge_io::crossing::{sendable, shareable};
 use std::alloc::{AllocError, Global};
@@ -71,45 +71,63 @@ fn mark(is_there: bool, letter: &'static str) -> &'static str {
     if is_there { letter } else { "." }
 }
 
-/// A run, as the rows write it.
-fn run_text(alloc: Global, words: &Words) -> Result<String, AllocError> {
+/// The files, checks, limit and variable of a run.
+fn given_text(alloc: Global, words: &Words) -> Result<String, AllocError> {
     let capture = words.capture.unwrap_or("none");
     let host_table = words.host_table.unwrap_or("none");
-    let mut text = String::new(alloc);
-    write!(
-        text,
+    format!(in alloc;
         "{} {} {:?} {:?} {:?} {}",
         words.conf, capture, words.checks, words.limit, words.defined, host_table
-    )?;
-    write!(
-        text,
-        " {} {} {:?} {}",
+    )
+}
+
+/// The numbers of a run.
+fn numbers_text(alloc: Global, words: &Words) -> Result<String, AllocError> {
+    format!(in alloc;
+        "{} {} {:?} {}",
         words.lanes, words.flush_point, words.generate, words.seed
-    )?;
-    write!(
-        text,
-        " {}{}{}{}",
+    )
+}
+
+/// The flags of a run.
+fn flags_text(alloc: Global, words: &Words) -> Result<String, AllocError> {
+    format!(in alloc;
+        "{}{}{}{}",
         mark(words.quiet, "q"),
         mark(words.test, "T"),
         mark(words.skip_refused, "r"),
         mark(words.stats, "s")
-    )?;
-    Ok(text)
+    )
+}
+
+/// A run, as the rows write it.
+fn run_text(alloc: Global, words: &Words) -> Result<String, AllocError> {
+    let given = given_text(alloc, words)?;
+    let numbers = numbers_text(alloc, words)?;
+    let flags = flags_text(alloc, words)?;
+    format!(in alloc; "{given} {numbers} {flags}")
+}
+
+/// The words of a line.
+fn words_of(alloc: Global, line: &str) -> Result<Vec<String>, NoMemory> {
+    let mut words = Vec::new(alloc);
+    for word in line.split(' ') {
+        words.push(String::from_str(alloc, word)?)?;
+    }
+    Ok(words)
 }
 
 /// What the words ask for, as the rows write it.
 fn outcome(alloc: Global, line: &str) -> Result<String, NoMemory> {
-    let mut words = Vec::new(alloc);
-    for word in line.split(' ') {
-        words.push(format!(in alloc; "{word}")?)?;
-    }
-    match read_words(alloc, words.as_slice()) {
-        Ok(Command::Help) => Ok(format!(in alloc; "help")?),
-        Ok(Command::Version) => Ok(format!(in alloc; "version")?),
-        Ok(Command::Run(words)) => Ok(run_text(alloc, &words)?),
-        Err(WordsFault::CommandLine) => Ok(format!(in alloc; "refused")?),
-        Err(WordsFault::NoMemory) => Err(NoMemory),
-    }
+    let words = words_of(alloc, line)?;
+    let text = match read_words(alloc, words.as_slice()) {
+        Ok(Command::Run(words)) => return Ok(run_text(alloc, &words)?),
+        Ok(Command::Help) => "help",
+        Ok(Command::Version) => "version",
+        Err(WordsFault::CommandLine) => "refused",
+        Err(WordsFault::NoMemory) => "memory",
+    };
+    Ok(String::from_str(alloc, text)?)
 }
 
 #[test]

@@ -1,7 +1,7 @@
 use Rattle.std.proofs.Common.{sym, subst}
 use Rattle.flow_lanes.specs.Standing.{AreSoundFor}
 use Rattle.flow_lanes.proofs.Course.{course_goes_on, course_next, course_sound}
-use Rattle.flow_lanes.proofs.batch_tests.run_batch.Goals as goal
+use Rattle.flow_tests.proofs.batches.run_batch.Goals as goal
 
 pub batch-requires-clause-sound : goal.batch-requires-clause-sound
 batch-requires-clause-sound g c κs within =

@@ -1,6 +1,6 @@
 use Rattle.std.proofs.Common.{arith}
 use Rattle.flow_lanes.proofs.Course.{AreFrom-more}
-use Rattle.flow_lanes.proofs.batch_tests.add_job.Goals as goal
+use Rattle.flow_tests.proofs.batches.add_job.Goals as goal
 
 pub returns : goal.returns
 returns g c = λ are.

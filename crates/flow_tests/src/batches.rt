@@ -10,23 +10,19 @@ ghost use Rattle.fast_pattern.specs.Grouping.{StandFor};
 ghost use Rattle.rule_parser.specs.Sound.{IsTriable};
 ghost use Rattle.flow_lanes.specs.Course.{AreFrom, IsCourse, IsPlain};
 
-use crate::worker::Detector;
-use crate::{BatchOut, Job, Lanes, Toward, Work};
-use conf_parser::{Classes, StreamConfig};
-use edge_io::{Addr, Items, Literal, LiteralMaker, Moment, OpenGate, Preference, Text};
+use crate::setup::{Setup, rules};
+use conf_parser::StreamConfig;
+use edge_io::{Addr, Items, Moment, OpenGate, Preference, Text};
 use fast_pattern::Groups;
-use net_lists::Vars;
-use option_eval::RuleSet;
+use flow_lanes::{BatchOut, Job, Lanes, Toward, Work};
 use packet_decode::{Body, IpHead, ItemHead, ItemKind, SessionFacts};
-use rule_parser::{BitNames, read_rule};
 use std::alloc::Global;
 use std::process::Abort;
 use std::test::Fail;
 use std::thread::Threads;
 
 const RULES: &str =
-    r#"alert udp any any -> any any (msg:"first"; content:"a"; flowbits:set,x; sid:1;)
-alert udp any any -> any any (msg:"second"; content:"b"; flowbits:isset,x; sid:2;)"#;
+    r#"alert udp any any -> any any (msg:"first"; content:"a"; flowbits:set,x; sid:1;)#alert udp any any -> any any (msg:"second"; content:"b"; flowbits:isset,x; sid:2;)"#;
 
 /// Each line is the one list of jobs, a flow and a letter each, cut into batches.
 const CUTS: &str = "0:a 1:b 2:a 0:b 1:a 2:b 1:b
@@ -140,25 +136,25 @@ fn run_batch<R: Threads + Sync>(
     lanes: &mut Lanes,
     done: u64,
     jobs: &[Job],
-    detector: &Detector<'_, Literal>,
+    setup: &Setup<'_>,
     text: &mut String,
 ) -> Result<u128, Fail>
     requires course { IsCourse lanes.old done }
     requires jobs { AreFrom done jobs.now }
     requires room { done + length jobs.now < 2 ^ 32 }
-    requires engines { length detector.now.stream.now.engines ≡ 0 }
-    requires config { IsStreamConfig detector.now.stream.now }
-    requires groups { StandFor detector.now.groups.now detector.now.set.now.rules }
-    requires triable { All IsTriable detector.now.set.now.rules }
+    requires engines { length setup.now.stream.now.engines ≡ 0 }
+    requires config { IsStreamConfig setup.now.stream.now }
+    requires groups { StandFor setup.now.groups.now setup.now.set.now.rules }
+    requires triable { All IsTriable setup.now.set.now.rules }
     ensures { OnOk result (IsCourse lanes.new (done + length jobs.now)) }
 {
     let out = lanes.batch(
         rt,
         alloc,
         jobs,
-        detector.stream,
-        detector.set,
-        detector.groups,
+        setup.stream,
+        setup.set,
+        setup.groups,
         &OpenGate,
     )?;
     let tries = show(&out, text)?;
@@ -179,21 +175,21 @@ fn run_words<R: Threads + Sync + Abort>(
     lanes: &mut Lanes,
     progress: Progress,
     words: &str,
-    detector: &Detector<'_, Literal>,
+    setup: &Setup<'_>,
     text: &mut String,
 ) -> Result<Progress, Fail>
     requires course { IsCourse lanes.old progress.jobs }
-    requires engines { length detector.now.stream.now.engines ≡ 0 }
-    requires config { IsStreamConfig detector.now.stream.now }
-    requires groups { StandFor detector.now.groups.now detector.now.set.now.rules }
-    requires triable { All IsTriable detector.now.set.now.rules }
+    requires engines { length setup.now.stream.now.engines ≡ 0 }
+    requires config { IsStreamConfig setup.now.stream.now }
+    requires groups { StandFor setup.now.groups.now setup.now.set.now.rules }
+    requires triable { All IsTriable setup.now.set.now.rules }
     ensures { IfOk result (λ progress. IsCourse lanes.new progress.jobs) }
 {
     let done = progress.jobs;
     assert!(rt; done < 1000);
     let jobs = batch_of(rt, alloc, done, words)?;
     assert!(rt; jobs.len() < 1000);
-    let tries = run_batch(rt, alloc, lanes, done, jobs.as_slice(), detector, text)?;
+    let tries = run_batch(rt, alloc, lanes, done, jobs.as_slice(), setup, text)?;
     Ok(Progress {
         jobs: done + jobs.len() as u64,
         tries: progress.tries.saturating_add(tries),
@@ -206,54 +202,24 @@ fn answers<R: Threads + Sync + Abort>(
     alloc: Global,
     count: u32,
     batches: &str,
-    detector: &Detector<'_, Literal>,
+    setup: &Setup<'_>,
 ) -> Result<String, Fail>
     requires some { 1 ≤ count }
     requires few { count ≤ 64 }
-    requires engines { length detector.now.stream.now.engines ≡ 0 }
-    requires config { IsStreamConfig detector.now.stream.now }
-    requires groups { StandFor detector.now.groups.now detector.now.set.now.rules }
-    requires triable { All IsTriable detector.now.set.now.rules }
+    requires engines { length setup.now.stream.now.engines ≡ 0 }
+    requires config { IsStreamConfig setup.now.stream.now }
+    requires groups { StandFor setup.now.groups.now setup.now.set.now.rules }
+    requires triable { All IsTriable setup.now.set.now.rules }
 {
     let mut text = String::new(alloc);
     let mut lanes = Lanes::new(alloc, count, 4, false)?;
     let mut progress = Progress { jobs: 0, tries: 0 };
     for words in batches.split('|') {
-        progress = run_words(rt, alloc, &mut lanes, progress, words, detector, &mut text)?;
+        progress = run_words(rt, alloc, &mut lanes, progress, words, setup, &mut text)?;
     }
     let tries = progress.tries;
     write!(text, "tries {tries}")?;
     Ok(text)
-}
-
-/// Adds the rule of a line.
-fn add_rule(
-    alloc: Global,
-    line: &str,
-    bits: &mut BitNames,
-    maker: &mut LiteralMaker,
-    set: &mut RuleSet<Literal>,
-) -> Result<(), Fail>
-    ensures { OnOk result (All IsTriable set.old.rules → All IsTriable set.new.rules) }
-{
-    let vars = Vars::new(alloc);
-    let classes = Classes::new(alloc);
-    let rule = read_rule(alloc, line.as_bytes(), &vars, &classes, bits)?;
-    set.push(alloc, rule, maker)?;
-    Ok(())
-}
-
-/// The rules of the lines.
-fn rules(alloc: Global, lines: &str) -> Result<RuleSet<Literal>, Fail>
-    ensures { IfOk result (λ set. All IsTriable set.rules) }
-{
-    let mut bits = BitNames::new(alloc);
-    let mut maker = LiteralMaker::new(alloc);
-    let mut set = RuleSet::new(alloc);
-    for line in lines.lines() {
-        add_rule(alloc, line, &mut bits, &mut maker, &mut set)?;
-    }
-    Ok(set)
 }
 
 /// Compares the answers in so many lanes.
@@ -262,16 +228,16 @@ fn check_answers<R: Threads + Sync + Abort>(
     alloc: Global,
     count: u32,
     batches: &str,
-    detector: &Detector<'_, Literal>,
+    setup: &Setup<'_>,
 ) -> Result<(), Fail>
     requires some { 1 ≤ count }
     requires few { count ≤ 64 }
-    requires engines { length detector.now.stream.now.engines ≡ 0 }
-    requires config { IsStreamConfig detector.now.stream.now }
-    requires groups { StandFor detector.now.groups.now detector.now.set.now.rules }
-    requires triable { All IsTriable detector.now.set.now.rules }
+    requires engines { length setup.now.stream.now.engines ≡ 0 }
+    requires config { IsStreamConfig setup.now.stream.now }
+    requires groups { StandFor setup.now.groups.now setup.now.set.now.rules }
+    requires triable { All IsTriable setup.now.set.now.rules }
 {
-    let text = answers(rt, alloc, count, batches, detector)?;
+    let text = answers(rt, alloc, count, batches, setup)?;
     assert!(rt;
         text.as_str() == ANSWERS,
         "{count} lanes, {batches}: {text}"
@@ -293,15 +259,15 @@ fn lanes_and_batches_change_nothing(rt: HostRuntime) -> Result<(), Fail> {
     let set = rules(alloc, RULES)?;
     assert!(rt; set.rules().len() <= 65536);
     let groups = Groups::build(alloc, set.rules())?;
-    let detector = Detector {
+    let setup = Setup {
         stream: &stream,
         set: &set,
         groups: &groups,
     };
     for batches in CUTS.lines() {
-        check_answers(&rt, alloc, 1, batches, &detector)?;
-        check_answers(&rt, alloc, 2, batches, &detector)?;
-        check_answers(&rt, alloc, 64, batches, &detector)?;
+        check_answers(&rt, alloc, 1, batches, &setup)?;
+        check_answers(&rt, alloc, 2, batches, &setup)?;
+        check_answers(&rt, alloc, 64, batches, &setup)?;
     }
     Ok(())
 }

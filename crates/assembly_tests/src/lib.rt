@@ -1,0 +1,6 @@
+//! Tests of what receiving hosts put together, by the public calls of the crates. They stand in a crate of their
+//! own, since a crate is proved once more with each test that it has.
+#![tactic(auto)]
+
+#[cfg(test)]
+mod overlaps;

@@ -1,6 +1,0 @@
-use Rattle.std.proofs.Common.{All}
-use Rattle.rule_parser.specs.Sound.{IsTriable}
-use Rattle.flow_tests.proofs.dialogues.rules.Given as goal
-
-abbrev pub invariant-loop-line : goal.invariant-loop-line
-invariant-loop-line l = All IsTriable l.set.rules
