@@ -9,3 +9,4 @@ pub mod Knowing
 pub mod Sounding
 pub mod Running
 pub mod Learning
+pub mod Addresses

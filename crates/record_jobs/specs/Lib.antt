@@ -1,5 +1,7 @@
 pub mod Way
+pub mod Versions
 pub mod Packets
+pub mod Addresses
 pub mod Touches
 pub mod Jobs
 pub mod Counts

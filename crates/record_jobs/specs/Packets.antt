@@ -1,10 +1,10 @@
 -- What a record brings to be inspected: a fragment, or a packet, and the datagram that its fragment makes
 -- whole.
 --
--- A record says one packet, or is skipped. A packet that is part of a datagram (RFC 791, section 3.2) is
--- inspected by itself, and where fragments are put together it joins the earlier ones; the datagram that it
--- makes whole, if there is one, is read as a packet of its own, with this record's moment, or skipped.
--- (Snort Users Manual 2.9, section 2.2.1.)
+-- A record says one packet, of version 4 or 6, or is skipped. A packet that is part of a datagram (RFC 791,
+-- section 3.2; RFC 8200, section 4.5) is inspected by itself, and where fragments are put together it joins the
+-- earlier ones; the datagram that it makes whole, if there is one, is read as a packet of its own, with this
+-- record's moment, or skipped. (Snort Users Manual 2.9, section 2.2.1.)
 -- To try it on: of two fragments that make a UDP datagram, the first record brings its fragment alone; the
 -- second brings its fragment and the datagram, both at the second record's moment.
 use Rattle.std.specs.Prelude.{Bool, true, false, List, Option, Some, None, Result, Ok, Err, option_and_then, if◌then◌else◌}
@@ -20,13 +20,14 @@ use Rattle.packet_decode.specs.declared.item.SessionFacts.{SessionFacts}
 use Rattle.packet_decode.specs.declared.packet.Body.{Body}
 use Rattle.packet_decode.specs.declared.packet.Body.TheVariants as body
 use Rattle.packet_decode.specs.declared.skip.Skip.{Skip}
-use Rattle.packet_decode.specs.Decoding.{Fields, datagram_decoded, decoded}
+use Rattle.packet_decode.specs.Decoding.{Fields}
 use Rattle.conf_parser.specs.declared.config.FragConfig.{FragConfig}
 use Rattle.frag3_core.specs.declared.answer.Datagram.{Datagram}
 use Rattle.frag3_core.specs.declared.answer.Taken.{Taken}
 use Rattle.frag3_core.specs.declared.answer.Taken.TheVariants as answer
 use Rattle.frag3_core.specs.Trackers.{Frag3State, Fragment, fragment, state_after, taken}
 use Rattle.record_jobs.specs.declared.item.Item.{Item}
+use Rattle.record_jobs.specs.Versions.{rebuilt_decoded, record_decoded}
 use Rattle.record_jobs.specs.Way.{LinkedRecord, Way, frag_rules}
 
 -- nothing is known of a session
@@ -44,7 +45,7 @@ item_of kind moment fields = record {
 
 -- what the record says, or why it is skipped
 unfoldable pub said_by : Way → LinkedRecord → Result Fields Skip
-said_by way r = decoded r.link r.captured.bytes way.checks
+said_by way r = record_decoded r.link r.captured.bytes way.checks
 
 -- it is a part of a datagram
 abbrev pub is_part : Body → Bool
@@ -99,7 +100,7 @@ datagram_in way before r = datagram_from way (frag3_behind way before) r.capture
 
 -- what the datagram says, or why it is skipped
 abbrev pub datagram_said : Checks → Datagram → Result Fields Skip
-datagram_said checks datagram = datagram_decoded datagram.ip datagram.bytes checks
+datagram_said checks datagram = rebuilt_decoded datagram.ip datagram.bytes checks
 
 -- ---- what is inspected
 

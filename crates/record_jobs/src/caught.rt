@@ -8,11 +8,10 @@ ghost use Rattle.record_jobs.specs.Way.{linked, way_of};
 use crate::config::FrontConfig;
 use crate::engines::frag_rules;
 use crate::item::{Caught, Item, Whole};
+use crate::reading::{rebuilt_packet, record_packet};
 use edge_io::{Link, Moment, NoMemory, Text};
 use frag3_core::{Datagram, Frag3, Taken};
-use packet_decode::{
-    Body, Checks, ItemHead, ItemKind, Packet, SessionFacts, decode, decode_datagram,
-};
+use packet_decode::{Body, Checks, ItemHead, ItemKind, Packet, SessionFacts};
 use pcap_input::Record;
 use std::alloc::Global;
 
@@ -79,7 +78,7 @@ fn datagram_whole(
             skip: None,
         });
     };
-    match decode_datagram(datagram.ip, datagram.bytes.bytes(), checks) {
+    match rebuilt_packet(datagram.ip, datagram.bytes.bytes(), checks) {
         Ok(packet) => whole_of(alloc, ItemKind::Rebuilt, moment, &packet),
         Err(skip) => Ok(Whole {
             packet: None,
@@ -187,7 +186,7 @@ pub(crate) fn caught(
     ensures short { IfSome (datagram_from (way_of by.now) frag3.old captured.now.moment (said_by (way_of by.now) (linked link captured.now))) IsShortDatagram
         → IfOk result (λ caught. IsShortWhole caught.whole) }
 {
-    match decode(link, captured.bytes.bytes(), by.checks) {
+    match record_packet(link, captured.bytes.bytes(), by.checks) {
         Ok(packet) => of_packet(alloc, by, frag3, captured.moment, &packet),
         Err(skip) => Ok(Caught {
             fragment: None,

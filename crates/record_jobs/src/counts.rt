@@ -13,7 +13,7 @@ pub struct RecordCounts {
     pub records: u64,
     /// Records and rebuilt datagrams that are skipped: bytes are missing.
     pub short: u64,
-    /// The same: they carry another protocol.
+    /// The same: they carry another protocol than either version of IP.
     pub other: u64,
     /// The same: a checksum is wrong.
     pub checksum: u64,

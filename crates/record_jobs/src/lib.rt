@@ -1,10 +1,10 @@
 //! The front of the detector: the records of a capture become the jobs of its flows.
 //!
-//! A `Front` takes the records one by one. It reads each packet, puts fragments together, finds the flow
-//! of each packet and which flow ends for it, and says by which engine and which policy either end goes.
-//! What it gives is `jobs` and `finishes` of specs/Jobs, which are defined over the list of all records,
-//! without a cache; what the records are counted as is `counts` of specs/Counts. The lanes of flow_lanes
-//! run the jobs; what makes a whole run stands on both.
+//! A `Front` takes the records one by one. It reads each packet, of version 4 or 6, puts fragments together,
+//! finds the flow of each packet and which flow ends for it, and says by which engine and which policy either
+//! end goes. What it gives is `jobs` and `finishes` of specs/Jobs, which are defined over the list of all
+//! records, without a cache; what the records are counted as is `counts` of specs/Counts. The lanes of
+//! flow_lanes run the jobs; what makes a whole run stands on both.
 #![tactic(auto)]
 
 mod adding;
@@ -15,10 +15,11 @@ mod engines;
 mod front;
 mod item;
 mod laws;
+mod reading;
 mod time;
 mod touches;
 
 pub use config::FrontConfig;
 pub use counts::RecordCounts;
 pub use front::Front;
-pub use laws::{jobs_are_in_order, lanes_may_run, records_are_counted};
+pub use laws::{addresses_are_kept, jobs_are_in_order, lanes_may_run, records_are_counted};
