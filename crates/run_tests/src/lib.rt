@@ -3,4 +3,12 @@
 #![tactic(auto)]
 
 #[cfg(test)]
+mod candidates;
+#[cfg(test)]
+mod captured;
+#[cfg(test)]
 mod endings;
+#[cfg(test)]
+mod meeting;
+#[cfg(test)]
+mod watched;
