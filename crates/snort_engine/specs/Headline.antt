@@ -17,7 +17,7 @@ use Rattle.command_words.specs.CommandLine.{Asked, command_line}
 use Rattle.flow_lanes.specs.Hits.{Test, Tells}
 use Rattle.snort_engine.specs.declared.status.Status.{Status}
 use Rattle.snort_engine.specs.declared.status.Status.TheVariants as status
-use Rattle.snort_engine.specs.Course.{Course, Given, given, IsCourse, HasOneCourse, AreRefused}
+use Rattle.snort_engine.specs.Course.{Course, Given, given, IsCourse, IsForMade, HasOneCourse, AreRefused}
 use Rattle.snort_engine.specs.Lines.{LinesJoin, PrefixLaw}
 use Rattle.snort_engine.specs.Answer.{answer_of}
 use Rattle.snort_engine.specs.Outside.{Outside, work_of, NoFault, NoCountFell}
@@ -62,8 +62,9 @@ pub record Headline (words : List (List ℕ)) (means : Means) (before after : Ou
   -- complete: where no count rose, the status is the answer's, unless memory is lacking
   pub complete : OfTold before.files (λ files. NoFault before after
       → HasAnswer (command_line words) (given files matches refused) ended ⊎ (ended ≡ status.NoMemory))
-  -- the capture is opened at most once
+  -- the capture is opened at most once; one that is made isn't, and what the host has open stays as it is
   pub opened_once : after.opens ≤ before.opens + 1
+  pub made_unopened : IsForMade (command_line words) → (after.opens ≡ before.opens) × (after.left ≡ before.left)
   -- causes: a fault is answered only where its count rose, or a file is lacking; faulty words are
   -- refused, whatever the host tells
   pub write_fault : ended ≡ status.WriteFault → Rose before.alert_faults after.alert_faults

@@ -1,0 +1,14 @@
+-- What is left of a capture that was made.
+--
+-- To try it on: of four bytes, of which one was read, three are left; behind an attempt to open something
+-- else nothing is.
+use Rattle.std.specs.Prelude.{ℕ, List, Option, option_map}
+use Rattle.std.specs.Borrow.{Bor}
+use Rattle.snort_engine.specs.declared.made.MadeCapture.{MadeCapture}
+
+abbrev pub bytes_of : Bor (List ℕ) → List ℕ
+bytes_of slice = slice.now
+
+-- the bytes that are left, while it is open
+abbrev pub left_of : MadeCapture → Option (List ℕ)
+left_of made = option_map bytes_of made.rest
