@@ -24,7 +24,10 @@ use Rattle.snort_engine.specs.declared.prepare.Prepared.{Prepared}
 use Rattle.snort_engine.specs.declared.status.Status.TheVariants as status
 use Rattle.snort_engine.specs.declared.stop.Stop.{Stop}
 use Rattle.snort_engine.specs.declared.stop.Stop.TheVariants as stop
-use Rattle.snort_engine.specs.Course.{Plan, Way, Stops, Goes, Makes, Course, Given, given, IsCourse, HasOneCourse, IsRunCourse, Reads, AreRefused, setup_words, told_warnings, way_ready, way_of, course_by, stopping}
+use Rattle.snort_engine.specs.Course.{Plan, Way, Stops, Goes, Makes, Course, Given, given, IsCourse, IsForMade, HasOneCourse, IsRunCourse, plan_for, Reads, AreRefused, setup_words, told_warnings, way_ready, way_of, course_by, stopping}
+use Rattle.snort_engine.specs.declared.plan.Source.{Source}
+use Rattle.snort_engine.specs.declared.plan.Source.TheVariants.{File, Made}
+use Rattle.snort_engine.specs.Sources.{IsMade, IsSourceFor, source_name, way_from}
 use Rattle.snort_engine.specs.Detecting.{IsRanged}
 use Rattle.snort_engine.specs.Messages.{usage_text, version_text, command_line_text}
 use Rattle.snort_engine.specs.Stop.{stop_status, stop_text, setup_stop}
@@ -151,6 +154,31 @@ one_course (Some help) here a b of_a of_b = of_a ∙ sym of_b
 one_course (Some version) here a b of_a of_b = of_a ∙ sym of_b
 one_course (Some (run wanted)) here a b (setup_a, is_a, of_a) (setup_b, is_b, of_b) =
     of_a ∙ ap (λ (setup : Warned Ready). course_by here.matches wanted setup) (setup-one (setup_words wanted) here.files here.refused setup_a setup_b is_a is_b) ∙ sym of_b
+
+-- ---- where the capture comes from
+
+-- the way of a capture is that of the words
+pub way_from-words : (matches : Test) (wanted : Run) (ready : Ready) (source : Source) → IsSourceFor wanted (Some source)
+    → way_from source (plan_for matches wanted ready (source_name source)) ≡ way_ready matches wanted ready wanted.generate wanted.capture
+way_from-words matches wanted ready (File name) (unmade, named) =
+    sym (ap (λ (generate : Option ℕ). way_ready matches wanted ready generate wanted.capture) unmade ∙ ap (way_ready matches wanted ready None) named)
+way_from-words matches wanted ready (Made seed count) (counted, seeded) =
+    sym (ap (λ (generate : Option ℕ). way_ready matches wanted ready generate wanted.capture) counted ∙ ap (λ (s : ℕ). Makes (plan_for matches wanted ready []) s count) seeded)
+
+-- words without a capture
+pub no_source : (wanted : Run) (found : Option Source) → ((source : Source) → found ≡ Some source → ⊥) → IsSourceFor wanted found → (wanted.generate ≡ None) × (wanted.capture ≡ None)
+no_source wanted None absent is = is
+no_source wanted (Some source) absent is = absurd (absent source refl)
+
+-- where the words ask for a capture that is made, it is
+pub source_made : (wanted : Run) (source : Source) → IsSourceFor wanted (Some source) → IsSome wanted.generate → IsMade source
+source_made wanted (File name) (unmade, named) asks = absurd (subst (λ (generate : Option ℕ). IsSome generate) unmade asks)
+source_made wanted (Made seed count) is asks = tt
+
+pub run_made : {P : Type 0} (asked : Option Asked) (wanted : Run) (answer : Result (Prepared P) Stop) → asked ≡ Some (run wanted) → IfOk answer (λ ready. IsSome wanted.generate → IsMade ready.source)
+    → IfOk answer (λ ready. IsForMade asked → IsMade ready.source)
+run_made asked wanted (Ok prepared) is made = λ for_made. made (subst IsForMade is for_made)
+run_made asked wanted (Err why) is made = tt
 
 -- ---- causes, and what stays of a setup
 

@@ -16,24 +16,14 @@ ghost use Rattle.snort_engine.specs.Watching.{plan_of, IsTest};
 
 use crate::Status;
 use crate::counts::Counts;
-use crate::made::MadeCapture;
+use crate::made::{MadeCapture, made_reader};
 use crate::plan::{Plan, Source};
 use crate::stop::Stop;
 use crate::watch::{watch_file, watch_records};
-use edge_io::{Gate, Host, Link, Pattern, Sink};
-use pcap_input::{CaptureHead, CaptureReader, make_capture};
+use edge_io::{Gate, Host, Pattern, Sink};
+use pcap_input::make_capture;
 use std::alloc::Global;
 use std::thread::Threads;
-
-/// The bytes of the file header of a capture that is made.
-const FILE_HEADER: usize = 24;
-
-/// Its head.
-const HEAD: CaptureHead = CaptureHead {
-    link: Link::Ethernet,
-    swapped: false,
-    nanos: false,
-};
 
 /// Makes a capture of a seed, with so many packets, and writes the lines of its records; `counts` is then
 /// what was counted, where it was read to its end. The host isn't asked for anything.
@@ -61,8 +51,8 @@ fn watch_made<P: Pattern, G: Gate, A: Sink, R: Threads + Sync>(
     ensures later_alerts { A.faults alerts.old ≤ A.faults alerts.new }
 {
     let bytes = make_capture(alloc, seed, count)?;
-    let mut made = MadeCapture::new(&bytes[FILE_HEADER..]);
-    let mut reader = CaptureReader::resume(HEAD, 0, FILE_HEADER as u64);
+    let mut made = MadeCapture::new(&bytes);
+    let mut reader = made_reader();
     watch_records(rt, alloc, &mut made, &mut reader, plan, gate, alerts, counts)
 }
 

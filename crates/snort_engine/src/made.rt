@@ -1,10 +1,28 @@
 //! A capture that was made in memory, as a host that can't fail.
-ghost use Rattle.std.specs.Prelude.{◌≡◌, ◌+◌, ◌-◌, ◌≤◌, ◌<◌, Some, None, length, take, drop, min, Ok, Err, IfOk, OnErr};
-ghost use Rattle.std.specs.FinMap.{empty};
-ghost use Rattle.edge_io.specs.Told.{before, one_more};
-ghost use Rattle.snort_engine.specs.MadeCapture.{left_of};
+ghost use Rattle.std.specs.Prelude.{◌≡◌, ◌≤◌, Some, length, drop};
+ghost use Rattle.pcap_input.specs.Savefile.{file_header};
+ghost use Rattle.pcap_input.specs.Reader.{new_reader};
+ghost use Rattle.snort_engine.specs.MadeCapture.{left_of, made_head};
 
-use edge_io::{Failed, Host, LoadFault};
+use edge_io::{Failed, Host, Link, LoadFault};
+use pcap_input::{CaptureHead, CaptureReader};
+
+/// The bytes of the file header of a capture.
+const FILE_HEADER: usize = 24;
+
+/// The head of a capture that is made.
+const HEAD: CaptureHead = CaptureHead {
+    link: Link::Ethernet,
+    swapped: false,
+    nanos: false,
+};
+
+/// A reader of a capture that is made, which has given no record.
+pub(crate) fn made_reader() -> CaptureReader
+    ensures { result ≡ new_reader made_head }
+{
+    CaptureReader::resume(HEAD, 0, FILE_HEADER as u64)
+}
 
 /// A capture that was made, from its first record on. As a host it has no file, and counts no fault, since
 /// a read of it can't fail.
@@ -17,12 +35,13 @@ pub(crate) struct MadeCapture<'a> {
 }
 
 impl<'a> MadeCapture<'a> {
-    /// A capture of which these bytes are left.
-    pub fn new(rest: &'a [u8]) -> Self
-        ensures { left_of result ≡ Some rest.now }
+    /// The capture of these bytes, of which the file header was read.
+    pub fn new(bytes: &'a [u8]) -> Self
+        requires { file_header ≤ length bytes.now }
+        ensures { left_of result ≡ Some (drop file_header bytes.entry.now) }
     {
         MadeCapture {
-            rest: Some(rest),
+            rest: Some(&bytes[FILE_HEADER..]),
             opens: 0,
         }
     }
