@@ -10,6 +10,7 @@ pub mod Watched
 pub mod Finishing
 pub mod Captures
 pub mod MadeCaptures
+pub mod MadeRecords
 pub mod Named
 pub mod Prepared
 pub mod Reported

@@ -29,6 +29,7 @@ use Rattle.snort_engine.specs.Headline.{OfTold, refused_since, EndsSo, HasAnswer
 use Rattle.snort_engine.proofs.Prefixes.{IsPrefix-nil, WritesPart-none, rose_since}
 use Rattle.snort_engine.proofs.LinesLaws.{lines_join, prefix_law}
 use Rattle.snort_engine.proofs.Prepared.{one_course}
+use Rattle.snort_engine.proofs.MadeRecords.{made_is_whole}
 use Rattle.snort_engine.proofs.Reported.{ReportsOn, tells_message}
 use Rattle.snort_engine.proofs.Finishing.{IsPlain, ends_met, ends_answered, ends_untold, ends_since, IsLater, ahead_stops}
 
@@ -203,6 +204,7 @@ headline words means before after ended run = record {
   same_files = run.same_files;
   counts = run.counts;
   one_course = one_course;
+  made_is_whole = made_is_whole;
   lines_join = lines_join;
   prefix_law = prefix_law;
 }

@@ -18,6 +18,7 @@ use Rattle.flow_lanes.specs.Hits.{Test, Tells}
 use Rattle.snort_engine.specs.declared.status.Status.{Status}
 use Rattle.snort_engine.specs.declared.status.Status.TheVariants as status
 use Rattle.snort_engine.specs.Course.{Course, Given, given, IsCourse, IsForMade, HasOneCourse, AreRefused}
+use Rattle.snort_engine.specs.Records.{MadeIsWhole}
 use Rattle.snort_engine.specs.Lines.{LinesJoin, PrefixLaw}
 use Rattle.snort_engine.specs.Answer.{answer_of}
 use Rattle.snort_engine.specs.Outside.{Outside, work_of, NoFault, NoCountFell}
@@ -74,7 +75,8 @@ pub record Headline (words : List (List ℕ)) (means : Means) (before after : Ou
   -- the files stay, no count falls, and the maker means the same
   pub same_files : after.files ≡ before.files
   pub counts : NoCountFell before after
-  -- the laws of courses and of the lines
+  -- the laws of courses, of captures that are made, and of the lines
   pub one_course : HasOneCourse
+  pub made_is_whole : MadeIsWhole
   pub lines_join : LinesJoin
   pub prefix_law : PrefixLaw
