@@ -1,12 +1,13 @@
 -- What is known before a capture is opened, from what the words and the setup gave.
 use Rattle.std.proofs.Common.{◌≡◌, ℕ, ◌+◌, ◌<◌, ◌≤◌, Bool, true, false, List, [], ◌∷◌, Option, Some, None, Result, Ok, Err, length, refl, sym, ap, subst, ◌∙◌, arith, inl, inr, ◌⊎◌, ⊎_elim}
-use Rattle.std.specs.Prelude.{All, IfOk, IfErr, IsSome}
+use Rattle.std.specs.Prelude.{All, IfOk, IfErr, IsSome, if◌then◌else◌}
 use Rattle.edge_io.specs.declared.pattern.Span.{Span}
 use Rattle.option_eval.specs.Places.{Means}
 use Rattle.option_eval.specs.RuleSet.{FindWhatIsMeant}
 use Rattle.conf_parser.specs.Sound as conf
 use Rattle.rule_parser.specs.Sound.{IsSound}
-use Rattle.std.specs.Option.{option_map}
+use Rattle.std.specs.Option.{option_map, option_map_or}
+use Rattle.packet_decode.specs.declared.checks.Checks.{Checks}
 use Rattle.edge_io.specs.Files.{Files}
 use Rattle.edge_io.specs.declared.pattern.Refusal.{Refusal}
 use Rattle.conf_parser.specs.Reading.{Ended, Whole, Refused as RefusedAt, Asks, told}
@@ -24,12 +25,12 @@ use Rattle.snort_engine.specs.declared.prepare.Prepared.{Prepared}
 use Rattle.snort_engine.specs.declared.status.Status.TheVariants as status
 use Rattle.snort_engine.specs.declared.stop.Stop.{Stop}
 use Rattle.snort_engine.specs.declared.stop.Stop.TheVariants as stop
-use Rattle.snort_engine.specs.Course.{Plan, Way, Stops, Goes, Makes, Course, Given, given, IsCourse, IsForMade, HasOneCourse, IsRunCourse, plan_for, Reads, AreRefused, setup_words, told_warnings, way_ready, way_of, course_by, stopping}
+use Rattle.snort_engine.specs.Course.{Plan, Way, Stops, Goes, Makes, Course, Given, given, IsCourse, IsForMade, HasOneCourse, checks_of, plan_for, Reads, AreRefused, setup_words, told_warnings, way_ready, way_of, course_by, stopping}
 use Rattle.snort_engine.specs.declared.plan.Source.{Source}
 use Rattle.snort_engine.specs.declared.plan.Source.TheVariants.{File, Made}
 use Rattle.snort_engine.specs.Sources.{IsMade, IsSourceFor, source_name, way_from}
 use Rattle.snort_engine.specs.Detecting.{IsRanged}
-use Rattle.snort_engine.specs.Messages.{usage_text, version_text, command_line_text}
+use Rattle.snort_engine.specs.Messages.{usage_text, version_text, accepted_text, command_line_text}
 use Rattle.snort_engine.specs.Stop.{stop_status, stop_text, setup_stop}
 use Rattle.snort_engine.specs.Preparing.{HasWay, stops, way_by, Prepares, IsPrepared, IsSetUp, KeepsSetup, HasCause, plan_by, way_for, told_of}
 
@@ -164,6 +165,14 @@ way_from-words matches wanted ready (File name) (unmade, named) =
     sym (ap (λ (generate : Option ℕ). way_ready matches wanted ready generate wanted.capture) unmade ∙ ap (way_ready matches wanted ready None) named)
 way_from-words matches wanted ready (Made seed count) (counted, seeded) =
     sym (ap (λ (generate : Option ℕ). way_ready matches wanted ready generate wanted.capture) counted ∙ ap (λ (s : ℕ). Makes (plan_for matches wanted ready []) s count) seeded)
+
+pub ready_way : (matches : Test) (wanted : Run) (ready : Ready) (source : Source) (checks : Checks) → wanted.test ≡ false → IsSourceFor wanted (Some source)
+    → checks ≡ option_map_or checks_of wanted.checks ready.config.checks
+    → way_from source (record (plan_for matches wanted ready (source_name source)) { checks = checks }) ≡ way_of matches wanted (Ok ready)
+ready_way matches wanted ready source checks untested from are =
+    ap (λ (k : Checks). way_from source (record (plan_for matches wanted ready (source_name source)) { checks = k })) are
+    ∙ way_from-words matches wanted ready source from
+    ∙ sym (ap (λ (test : Bool). if test then Stops (accepted_text (length ready.rules)) status.Done else way_ready matches wanted ready wanted.generate wanted.capture) untested)
 
 -- words without a capture
 pub no_source : (wanted : Run) (found : Option Source) → ((source : Source) → found ≡ Some source → ⊥) → IsSourceFor wanted found → (wanted.generate ≡ None) × (wanted.capture ≡ None)

@@ -1,5 +1,6 @@
 //! What stands before a capture: the words, the configuration, the rules and the host table.
 ghost use Rattle.std.specs.Prelude.{◌≡◌, ◌≤◌, [], None, Some, Ok, map, string_bytes, length, All, IfOk, IfErr, IsSome};
+ghost use Rattle.std.specs.Option.{option_map_or};
 ghost use Rattle.edge_io.specs.Files.{Files};
 ghost use Rattle.edge_io.specs.Told.{Rose};
 ghost use Rattle.option_eval.specs.RuleSet.{FindWhatIsMeant, SameMeaning};
@@ -93,6 +94,16 @@ fn checks_of(mode: ChecksumMode) -> Checks
     }
 }
 
+/// The checksums that are verified: `-k` stands in place of the configuration's.
+fn checks_for(wanted: &Words<'_>, configured: Checks) -> Checks
+    ensures { result ≡ option_map_or checks_of (run_of wanted.now).checks configured }
+{
+    match wanted.checks {
+        Some(mode) => checks_of(mode),
+        None => configured,
+    }
+}
+
 /// What the words say of the setup.
 fn setup_words<'a>(wanted: &Words<'a>) -> SetupWords<'a>
     ensures { words_of result ≡ setup_words (run_of wanted.now) }
@@ -165,12 +176,13 @@ fn set_up<H: Host, M: PatternMaker>(
 fn source_of<'a>(wanted: &Words<'a>) -> Option<Source<'a>>
     ensures { IsSourceFor (run_of wanted.now) result }
 {
-    match wanted.generate {
-        Some(count) => Some(Source::Made {
+    match (wanted.generate, wanted.capture) {
+        (Some(count), _) => Some(Source::Made {
             seed: wanted.seed,
             count,
         }),
-        None => Some(Source::File(wanted.capture?)),
+        (None, Some(name)) => Some(Source::File(name)),
+        (None, None) => None,
     }
 }
 
@@ -190,14 +202,10 @@ fn ready<'a, P: Pattern>(wanted: &Words<'a>, setup: Setup<P>) -> Result<Prepared
     let Some(source) = source_of(wanted) else {
         return Err(Stop::CommandLine);
     };
-    let checks = match wanted.checks {
-        Some(mode) => checks_of(mode),
-        None => setup.config.checks,
-    };
     Ok(Prepared {
         source,
         limit: wanted.limit,
-        checks,
+        checks: checks_for(wanted, setup.config.checks),
         lanes: wanted.lanes,
         flush: wanted.flush_point,
         counted: wanted.stats,

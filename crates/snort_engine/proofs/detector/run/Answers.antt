@@ -56,7 +56,7 @@ returns-in-Ok-clause-headline g c =
       later = c.tell_all-well.ensures.later;
       on = c.report.ensures.later;
       warned = rw c.as_slice.ensures at c.tell_all-well.ensures.tells;
-      reports = rw c.counts_due-told.ensures at c.report.ensures.reports;
+      reports = rw (c.counts_due-told.ensures, c.name.ensures) at c.report.ensures.reports;
     }))
 
 pub returns-clause-headline : goal.returns-clause-headline
