@@ -181,7 +181,7 @@ no_source wanted (Some source) absent is = absurd (absent source refl)
 
 -- where the words ask for a capture that is made, it is
 pub source_made : (wanted : Run) (source : Source) → IsSourceFor wanted (Some source) → IsSome wanted.generate → IsMade source
-source_made wanted (File name) (unmade, named) asks = absurd (subst (λ (generate : Option ℕ). IsSome generate) unmade asks)
+source_made wanted (File name) (unmade, named) asks = let none : false ≡ true = subst (λ (generate : Option ℕ). IsSome generate) unmade asks in absurd cc
 source_made wanted (Made seed count) is asks = tt
 
 pub run_made : {P : Type 0} (asked : Option Asked) (wanted : Run) (answer : Result (Prepared P) Stop) → asked ≡ Some (run wanted) → IfOk answer (λ ready. IsSome wanted.generate → IsMade ready.source)
