@@ -53,7 +53,16 @@ fn watch_made<P: Pattern, G: Gate, A: Sink, R: Threads + Sync>(
     let bytes = make_capture(alloc, seed, count)?;
     let mut made = MadeCapture::new(&bytes);
     let mut reader = made_reader();
-    watch_records(rt, alloc, &mut made, &mut reader, plan, gate, alerts, counts)
+    watch_records(
+        rt,
+        alloc,
+        &mut made,
+        &mut reader,
+        plan,
+        gate,
+        alerts,
+        counts,
+    )
 }
 
 /// Writes the lines of the records of the plan's capture; `counts` is then what was counted, where it was
