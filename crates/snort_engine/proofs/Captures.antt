@@ -4,16 +4,13 @@ use Rattle.std.specs.FinMap.{get}
 use Rattle.std.specs.List.{concat}
 use Rattle.std.proofs.Math.ListN.{drop_of_length-le}
 use Rattle.std.proofs.lemmas.List.{append-nil, take-append-drop, take-append-le, length-append, length-take-le, length-map, map-append, drop_at}
-use mathlib.Core.List.{IsPrefix}
 use Rattle.edge_io.specs.Told.{behind, Rose}
 use Rattle.edge_io.specs.Files.{Files, IsOpened}
 use Rattle.edge_io.proofs.Told.{behind-nil}
-use Rattle.edge_io.specs.declared.link.Link.{Link}
 use Rattle.pcap_input.specs.declared.capture.CaptureHead.{CaptureHead}
 use Rattle.pcap_input.specs.declared.capture.CaptureFault.{CaptureFault}
 use Rattle.pcap_input.specs.declared.capture.CaptureFault.TheVariants as fault
-use Rattle.pcap_input.specs.declared.capture.Record.{Record}
-use Rattle.pcap_input.specs.Savefile.{Capture, Cut, Ending, Clean, Refused, head_of, records_left, savefile}
+use Rattle.pcap_input.specs.Savefile.{Cut, Ending, Clean, Refused, head_of}
 use Rattle.pcap_input.specs.Reader.{Reading, new_reader, reader_of, Opens, TakesHead, IsOfHead}
 use Rattle.pcap_input.specs.Reading.{cut_for}
 use Rattle.pcap_input.proofs.Records.{records_left-ends}
@@ -32,15 +29,15 @@ use Rattle.snort_engine.specs.declared.counts.Counts.{Counts}
 use Rattle.snort_engine.specs.Trace.{Open, Closed}
 use Rattle.snort_engine.specs.Counts.{counts_of, no_counts, told_counts, with_counts}
 use Rattle.snort_engine.specs.Lines.{lines}
-use Rattle.snort_engine.specs.Answer.{Answer, answer_of, way_answer, capture_answer, recording_answer, fault_text, fault_status, ending_text, ending_status, recording_text}
-use Rattle.snort_engine.specs.Messages.{cannot_read_text, cannot_write_text, no_memory_text}
+use Rattle.snort_engine.specs.Answer.{Answer, answer_of, way_answer, capture_answer, recording_answer, fault_text, fault_status, ending_text, ending_status}
+use Rattle.snort_engine.specs.Messages.{cannot_read_text}
 use Rattle.snort_engine.specs.Outside.{Work, WritesPart}
-use Rattle.snort_engine.specs.ReadAhead.{batch, all_but, lines_due, IsShut, IsReadAhead, ReadsAhead}
+use Rattle.snort_engine.specs.ReadAhead.{batch, all_but, lines_due, IsReadAhead, ReadsAhead}
 use Rattle.snort_engine.specs.Ending.{IsAnswered, IsTakenOf, lines_within, IsCutShort, Ends}
 use Rattle.snort_engine.specs.Stop.{capture_stop, stop_status, stop_text, outcome_status, outcome_text}
 use Rattle.snort_engine.specs.Reporting.{counts_due}
-use Rattle.snort_engine.specs.Watching.{Streams, cut_by, counts_left, lines_of, lines_left, IsWatched, IsCutOff, IsCloseBehind, WatchesTo, WritesSome, Watches}
-use Rattle.snort_engine.proofs.Prefixes.{IsPrefix-nil, WritesPart-none}
+use Rattle.snort_engine.specs.Watching.{cut_by, lines_of, IsCutOff, IsCloseBehind, WatchesTo, WritesSome, Watches}
+use Rattle.snort_engine.proofs.Prefixes.{IsPrefix-nil}
 use Rattle.snort_engine.proofs.Limits.{within_limit, room_first}
 use Rattle.snort_engine.proofs.LinesLaws.{lines_join, lines-nil, lines-none, no_counts-are}
 use Rattle.snort_engine.proofs.Finishing.{IsPlain, ends_met, ends_unread, ends_unwritten, ends_lacking, ahead_goes, ahead_cut}

@@ -1,5 +1,5 @@
 -- The ways in which a run of a course ends, each from what is known there.
-use Rattle.std.proofs.Common.{◌≡◌, ℕ, ◌+◌, ◌≤◌, List, [], ◌++◌, Option, Some, None, refl, sym, ap, subst, ◌∙◌, inl, inr, ◌⊎◌, ⊎_elim, arith}
+use Rattle.std.proofs.Common.{◌≡◌, ℕ, ◌≤◌, List, [], ◌++◌, Option, refl, sym, subst, inl, inr, ◌⊎◌, ⊎_elim}
 use Rattle.std.specs.Prelude.{⊤}
 use Rattle.std.specs.FinMap.{get}
 use Rattle.std.specs.List.{concat}
@@ -7,16 +7,15 @@ use Rattle.std.proofs.lemmas.List.{append-nil}
 use mathlib.Core.List.{IsPrefix}
 use Rattle.edge_io.specs.Told.{behind, Rose}
 use Rattle.edge_io.specs.Files.{Files}
-use Rattle.edge_io.proofs.Told.{behind-nil}
 use Rattle.snort_engine.specs.declared.status.Status.{Status}
 use Rattle.snort_engine.specs.declared.status.Status.TheVariants as status
 use Rattle.snort_engine.specs.Course.{Plan, Way, Stops, Goes, Makes, Course}
-use Rattle.snort_engine.specs.Answer.{Answer, answer_of}
+use Rattle.snort_engine.specs.Answer.{answer_of}
 use Rattle.snort_engine.specs.Messages.{cannot_write_text, no_memory_text}
 use Rattle.snort_engine.specs.Outside.{Work, WritesPart}
 use Rattle.snort_engine.specs.ReadAhead.{IsUnopened, IsShut, IsReadAhead, IsApart, IsCutOff, ReadsAhead, ReadsAheadOn}
 use Rattle.snort_engine.specs.Ending.{IsStated, IsAnswered, IsCutShort, IsNoMemoryMessage, Ends}
-use Rattle.snort_engine.proofs.Prefixes.{IsPrefix-same, IsPrefix-nil, rose_since}
+use Rattle.snort_engine.proofs.Prefixes.{IsPrefix-same, rose_since}
 
 -- the statuses of a run that nothing cut short
 abbrev pub IsPlain : Status → Type 0

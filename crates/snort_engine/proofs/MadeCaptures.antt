@@ -1,7 +1,6 @@
 -- How the watching of a capture that is made follows its answer.
-use Rattle.std.proofs.Common.{◌≡◌, ℕ, false, ◌+◌, ◌≤◌, List, [], ◌++◌, Option, Some, None, Result, Ok, Err, length, take, drop, refl, sym, ap, subst, ◌∙◌, arith}
+use Rattle.std.proofs.Common.{◌≡◌, ℕ, ◌≤◌, List, ◌++◌, Option, Some, Result, Ok, length, drop, refl, sym, ap, subst, ◌∙◌, arith}
 use Rattle.std.proofs.lemmas.List.{length-append}
-use Rattle.pcap_input.specs.declared.capture.CaptureFault.{CaptureFault}
 use Rattle.pcap_input.specs.Savefile.{head_of, head_behind, head_with, number_at}
 use Rattle.pcap_input.specs.Reader.{Reading, new_reader}
 use Rattle.pcap_input.specs.Generated.{generated, capture_of, frames, first_traffic, header_bytes, records_from}

@@ -1,10 +1,9 @@
 -- A capture that is made is whole: so many records as were asked for, and a clean ending.
-use Rattle.std.proofs.Common.{◌≡◌, ℕ, zero, suc, ◌+◌, ◌-◌, ◌*◌, ◌/◌, ◌%◌, ◌^◌, ◌<◌, ◌≤◌, Bool, true, false, List, [], ◌∷◌, ◌++◌, map, Option, Some, None, Result, Ok, Err, length, take, drop, refl, sym, ap, subst, ◌∙◌, arith, append_assoc, append-nil, length-append, ◌==◌}
-use Rattle.std.specs.Prelude.{codes, decimal, min, nat_le, if◌then◌else◌}
+use Rattle.std.proofs.Common.{◌≡◌, ℕ, zero, suc, ◌+◌, ◌^◌, ◌<◌, ◌≤◌, Bool, true, false, List, [], ◌++◌, Option, Some, None, length, take, drop, refl, sym, ap, subst, ◌∙◌, arith, append_assoc, length-append, ◌==◌}
+use Rattle.std.specs.Prelude.{codes, min, nat_le, if◌then◌else◌}
 use Rattle.std.proofs.lemmas.List.{length-drop, length-map, length-take-le, drop_at}
 use Rattle.std.proofs.lemmas.Bool.Decides.{nat_tests}
 use Rattle.byteorder.specs.Numbers.{little_number-reads_back}
-use Rattle.pcap_input.specs.declared.capture.Record.{Record}
 use Rattle.pcap_input.specs.Savefile.{Cut, Clean, Stands, first_records, captured_length, number_at, next_of, place_behind, records_left, record_of}
 use Rattle.pcap_input.specs.Frames.{ip_fields, ip_header, tcp_fields, tcp_header, udp_header, frame, tcp_frame, udp_frame}
 use Rattle.pcap_input.specs.Generated.{step, draw, letters, marked, payload_drawn, has_payload, payload_at, text_drawn, with_state, made, made_datagram, made_segment, made_of_session, frames, record_fields, record_bytes, records_from, header_bytes, first_traffic, capture_of, generated}

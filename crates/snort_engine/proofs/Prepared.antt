@@ -1,5 +1,5 @@
 -- What is known before a capture is opened, from what the words and the setup gave.
-use Rattle.std.proofs.Common.{◌≡◌, ℕ, ◌+◌, ◌<◌, ◌≤◌, Bool, true, false, List, [], ◌∷◌, Option, Some, None, Result, Ok, Err, length, refl, sym, ap, subst, ◌∙◌, arith, inl, inr, ◌⊎◌, ⊎_elim}
+use Rattle.std.proofs.Common.{◌≡◌, ℕ, Bool, true, false, List, [], Option, Some, None, Result, Ok, Err, length, refl, sym, ap, subst, ◌∙◌, arith, inl, inr, ⊎_elim}
 use Rattle.std.specs.Prelude.{All, IfOk, IfErr, IsSome, if◌then◌else◌}
 use Rattle.edge_io.specs.declared.pattern.Span.{Span}
 use Rattle.option_eval.specs.Places.{Means}
@@ -17,22 +17,22 @@ use Rattle.snort_setup.specs.declared.setup.Setup.{Setup}
 use Rattle.snort_setup.specs.declared.stop.SetupStop.{SetupStop}
 use Rattle.snort_setup.specs.declared.stop.SetupStop.TheVariants as halted
 use Rattle.snort_setup.specs.Words.{Words}
-use Rattle.snort_setup.specs.Setup.{Halt, Refused, Lacks, Ready, Warned, warned, IsSetup, IsReading, conf_read}
-use Rattle.snort_setup.specs.Answers.{AreRefusedBy, Gives, SetsUp, HasCause as HasSetupCause}
+use Rattle.snort_setup.specs.Setup.{Refused, Lacks, Ready, Warned, warned, IsSetup, conf_read}
+use Rattle.snort_setup.specs.Answers.{AreRefusedBy, Gives, HasCause as HasSetupCause}
 use Rattle.snort_setup.specs.Whole.{ready_of}
 use Rattle.snort_setup.proofs.One.{setup-one}
 use Rattle.snort_engine.specs.declared.prepare.Prepared.{Prepared}
 use Rattle.snort_engine.specs.declared.status.Status.TheVariants as status
 use Rattle.snort_engine.specs.declared.stop.Stop.{Stop}
 use Rattle.snort_engine.specs.declared.stop.Stop.TheVariants as stop
-use Rattle.snort_engine.specs.Course.{Plan, Way, Stops, Goes, Makes, Course, Given, given, IsCourse, IsForMade, HasOneCourse, checks_of, plan_for, Reads, AreRefused, setup_words, told_warnings, way_ready, way_of, course_by, stopping}
+use Rattle.snort_engine.specs.Course.{Way, Stops, Makes, Given, given, IsCourse, IsForMade, HasOneCourse, checks_of, plan_for, Reads, AreRefused, setup_words, told_warnings, way_ready, way_of, course_by, stopping}
 use Rattle.snort_engine.specs.declared.plan.Source.{Source}
 use Rattle.snort_engine.specs.declared.plan.Source.TheVariants.{File, Made}
 use Rattle.snort_engine.specs.Sources.{IsMade, IsSourceFor, source_name, way_from}
 use Rattle.snort_engine.specs.Detecting.{IsRanged}
 use Rattle.snort_engine.specs.Messages.{usage_text, version_text, accepted_text, command_line_text}
-use Rattle.snort_engine.specs.Stop.{stop_status, stop_text, setup_stop}
-use Rattle.snort_engine.specs.Preparing.{HasWay, stops, way_by, Prepares, IsPrepared, IsSetUp, KeepsSetup, HasCause, plan_by, way_for, told_of}
+use Rattle.snort_engine.specs.Stop.{stop_text, setup_stop}
+use Rattle.snort_engine.specs.Preparing.{HasWay, stops, way_by, Prepares, IsPrepared, IsSetUp, KeepsSetup, HasCause, way_for, told_of}
 
 -- what maps to nothing is nothing
 pub none_by : {W O : Type 0} (f : W → O) (found : Option W) → ((w : W) → found ≡ Some w → ⊥) → option_map f found ≡ None

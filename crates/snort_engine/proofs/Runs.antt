@@ -1,7 +1,6 @@
 -- How a run follows its course, and the headline.
 use Rattle.std.proofs.lemmas.Bool.Decides.{nat_tests}
 use Rattle.std.proofs.Common.{◌≡◌, ℕ, ◌+◌, ◌≤◌, Bool, true, List, [], ◌++◌, Option, Some, None, Result, Ok, Err, refl, sym, ap, subst, ◌∙◌, arith, inl, inr, ◌⊎◌, ⊎_elim}
-use Rattle.std.specs.FinMap.{get}
 use Rattle.std.specs.List.{concat}
 use Rattle.edge_io.specs.Told.{behind, Rose, one_more}
 use Rattle.edge_io.specs.Files.{Files, Lacks}
@@ -16,17 +15,17 @@ use Rattle.snort_engine.specs.declared.status.Status.{Status}
 use Rattle.snort_engine.specs.declared.status.Status.TheVariants as status
 use Rattle.snort_engine.specs.declared.stop.Stop.{Stop}
 use Rattle.snort_engine.specs.declared.stop.Stop.TheVariants as stop
-use Rattle.snort_engine.specs.Course.{Plan, Way, Stops, Goes, Makes, Course, Given, given, IsCourse, IsForMade, Reads, AreRefused}
+use Rattle.snort_engine.specs.Course.{Way, Stops, Goes, Makes, Course, Given, given, IsCourse, IsForMade, AreRefused}
 use Rattle.snort_engine.specs.Answer.{Answer, answer_of, way_answer, capture_answer}
-use Rattle.snort_engine.specs.Messages.{cannot_read_text, no_memory_text}
-use Rattle.snort_engine.specs.Outside.{Outside, Work, work_of, WritesPart, NoFault, NoCountFell}
+use Rattle.snort_engine.specs.Messages.{no_memory_text}
+use Rattle.snort_engine.specs.Outside.{Outside, Work, work_of, NoFault, NoCountFell}
 use Rattle.snort_engine.specs.ReadAhead.{IsUnopened, ReadsAhead}
-use Rattle.snort_engine.specs.Ending.{IsStated, IsAnswered, IsUnread, IsLacking, Ends, EndsEarly, EndsOnCourse, EndsRun}
-use Rattle.snort_engine.specs.Stop.{stop_status, stop_text, outcome_status, outcome_text}
-use Rattle.snort_engine.specs.Reporting.{Tells as TellsMessage, TellsOn, TellsLast, Reports}
+use Rattle.snort_engine.specs.Ending.{IsStated, IsAnswered, Ends, EndsEarly, EndsOnCourse, EndsRun}
+use Rattle.snort_engine.specs.Stop.{stop_status, stop_text, outcome_status}
+use Rattle.snort_engine.specs.Reporting.{TellsOn, TellsLast}
 use Rattle.snort_engine.specs.Preparing.{HasWay, stops, Prepares, IsPrepared, HasCause, IsForFaultyWords}
-use Rattle.snort_engine.specs.Headline.{OfTold, refused_since, EndsSo, HasAnswer, LacksOne, Headline}
-use Rattle.snort_engine.proofs.Prefixes.{IsPrefix-nil, WritesPart-none, rose_since}
+use Rattle.snort_engine.specs.Headline.{refused_since, EndsSo, HasAnswer, LacksOne, Headline}
+use Rattle.snort_engine.proofs.Prefixes.{rose_since}
 use Rattle.snort_engine.proofs.LinesLaws.{lines_join, prefix_law}
 use Rattle.snort_engine.proofs.Prepared.{one_course}
 use Rattle.snort_engine.proofs.MadeRecords.{made_is_whole}

@@ -5,7 +5,7 @@
 -- has one, its records. To try it on: where the configuration has one rule and the capture is the 24 bytes of its
 -- head alone, the answer is no line, no error and Done; without the last of these bytes it is
 -- `ERROR: capture is truncated at byte 0` and BadCapture.
-use Rattle.std.specs.Prelude.{◌≡◌, ℕ, List, [], ◌++◌, Option, Some, None}
+use Rattle.std.specs.Prelude.{ℕ, List, [], ◌++◌, Option, Some, None}
 use Rattle.std.specs.FinMap.{get}
 use Rattle.std.specs.List.{concat}
 use Rattle.edge_io.specs.Files.{Files}

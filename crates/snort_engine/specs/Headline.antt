@@ -8,7 +8,7 @@
 -- counts stand whatever is told.
 -- To try it on: where the alert sink fails at its second write, the alert bytes are a beginning of the
 -- answer's, and the message is `ERROR: cannot write`.
-use Rattle.std.specs.Prelude.{◌≡◌, ℕ, ◌+◌, ◌≤◌, List, [], Option, Some, None, ◌⊎◌, length, drop}
+use Rattle.std.specs.Prelude.{◌≡◌, ℕ, ◌+◌, ◌≤◌, List, Option, Some, None, ◌⊎◌, length, drop}
 use Rattle.edge_io.specs.Told.{Rose}
 use Rattle.edge_io.specs.Files.{Files}
 use Rattle.edge_io.specs.declared.pattern.Refusal.{Refusal}

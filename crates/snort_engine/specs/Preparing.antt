@@ -2,7 +2,7 @@
 --
 -- To try it on: where `r` has one rule, `snort -c r -r p` is prepared with the plan for `p` and that rule,
 -- and no warning; `snort -c r -T` stops as Accepted.
-use Rattle.std.specs.Prelude.{◌≡◌, ℕ, ⊤, Bool, true, false, List, [], Option, Result, Ok, Err, ◌⊎◌}
+use Rattle.std.specs.Prelude.{◌≡◌, ℕ, ⊤, List, [], Option, Result, Ok, Err, ◌⊎◌}
 use Rattle.edge_io.specs.Files.{Files, Lacks}
 use Rattle.edge_io.specs.declared.pattern.Refusal.{Refusal}
 use Rattle.command_words.specs.CommandLine.{Asked, Run}
@@ -12,7 +12,6 @@ use Rattle.snort_setup.specs.declared.stop.SetupStop.{SetupStop}
 use Rattle.snort_setup.specs.declared.stop.SetupStop.TheVariants as halted
 use Rattle.snort_setup.specs.Answers.{SetsUp}
 use Rattle.snort_setup.specs.Setup.{Ready}
-use Rattle.snort_setup.specs.Whole.{ready_of}
 use Rattle.snort_engine.specs.declared.prepare.Prepared.{Prepared}
 use Rattle.snort_engine.specs.declared.stop.Stop.{Stop}
 use Rattle.snort_engine.specs.declared.stop.Stop.TheVariants as stop

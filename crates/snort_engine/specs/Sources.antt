@@ -8,7 +8,7 @@ use Rattle.edge_io.specs.Told.{one_more}
 use Rattle.command_words.specs.CommandLine.{Run}
 use Rattle.snort_engine.specs.declared.plan.Source.{Source}
 use Rattle.snort_engine.specs.declared.plan.Source.TheVariants.{File, Made}
-use Rattle.snort_engine.specs.Course.{Plan, Way, Stops, Goes, Makes}
+use Rattle.snort_engine.specs.Course.{Plan, Way, Goes, Makes}
 
 -- the name of the file; empty where there is none
 abbrev pub source_name : Source → List ℕ

@@ -29,7 +29,7 @@ use Rattle.snort_engine.specs.Counts.{counts_of}
 use Rattle.snort_engine.specs.ReadAhead.{batch}
 use Rattle.snort_engine.specs.Outside.{WritesPart}
 use Rattle.snort_engine.specs.Stop.{capture_stop, is_whole}
-use Rattle.snort_engine.specs.Detecting.{Detecting, DetectorStands, Knows, Closes, ClosesPart}
+use Rattle.snort_engine.specs.Detecting.{DetectorStands, Knows, Closes, ClosesPart}
 
 -- the test says which rules of a set match, by what its patterns find
 pub record IsTest {P : Type 0} (finds : P → List ℕ → Option Span) (set : Rules P) (test : Test) : Type 0 where

@@ -1,4 +1,4 @@
-use Rattle.std.proofs.Common.{refl, sym, ap, ◌∙◌, arith}
+use Rattle.std.proofs.Common.{refl, sym, ◌∙◌, arith}
 use Rattle.snort_engine.specs.Preparing.{way_for}
 use Rattle.snort_engine.proofs.Runs.{headline, stopped_run, watched_run, opens_behind_most, opens_behind_made}
 use Rattle.snort_engine.proofs.detector.run.Goals as goal
