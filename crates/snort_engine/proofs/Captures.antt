@@ -4,16 +4,13 @@ use Rattle.std.specs.FinMap.{get}
 use Rattle.std.specs.List.{concat}
 use Rattle.std.proofs.Math.ListN.{drop_of_length-le}
 use Rattle.std.proofs.lemmas.List.{append-nil, take-append-drop, take-append-le, length-append, length-take-le, length-map, map-append, drop_at}
-use mathlib.Core.List.{IsPrefix}
 use Rattle.edge_io.specs.Told.{behind, Rose}
 use Rattle.edge_io.specs.Files.{Files, IsOpened}
 use Rattle.edge_io.proofs.Told.{behind-nil}
-use Rattle.edge_io.specs.declared.link.Link.{Link}
 use Rattle.pcap_input.specs.declared.capture.CaptureHead.{CaptureHead}
 use Rattle.pcap_input.specs.declared.capture.CaptureFault.{CaptureFault}
 use Rattle.pcap_input.specs.declared.capture.CaptureFault.TheVariants as fault
-use Rattle.pcap_input.specs.declared.capture.Record.{Record}
-use Rattle.pcap_input.specs.Savefile.{Capture, Cut, Ending, Clean, Refused, head_of, records_left, savefile}
+use Rattle.pcap_input.specs.Savefile.{Cut, Ending, Clean, Refused, head_of}
 use Rattle.pcap_input.specs.Reader.{Reading, new_reader, reader_of, Opens, TakesHead, IsOfHead}
 use Rattle.pcap_input.specs.Reading.{cut_for}
 use Rattle.pcap_input.proofs.Records.{records_left-ends}
@@ -32,15 +29,15 @@ use Rattle.snort_engine.specs.declared.counts.Counts.{Counts}
 use Rattle.snort_engine.specs.Trace.{Open, Closed}
 use Rattle.snort_engine.specs.Counts.{counts_of, no_counts, told_counts, with_counts}
 use Rattle.snort_engine.specs.Lines.{lines}
-use Rattle.snort_engine.specs.Answer.{Answer, answer_of, way_answer, capture_answer, recording_answer, fault_text, fault_status, ending_text, ending_status, recording_text}
-use Rattle.snort_engine.specs.Messages.{cannot_read_text, cannot_write_text, no_memory_text}
+use Rattle.snort_engine.specs.Answer.{Answer, answer_of, way_answer, capture_answer, recording_answer, fault_text, fault_status, ending_text, ending_status}
+use Rattle.snort_engine.specs.Messages.{cannot_read_text}
 use Rattle.snort_engine.specs.Outside.{Work, WritesPart}
-use Rattle.snort_engine.specs.ReadAhead.{batch, all_but, lines_due, IsShut, IsReadAhead, ReadsAhead}
+use Rattle.snort_engine.specs.ReadAhead.{batch, all_but, lines_due, IsReadAhead, ReadsAhead}
 use Rattle.snort_engine.specs.Ending.{IsAnswered, IsTakenOf, lines_within, IsCutShort, Ends}
 use Rattle.snort_engine.specs.Stop.{capture_stop, stop_status, stop_text, outcome_status, outcome_text}
 use Rattle.snort_engine.specs.Reporting.{counts_due}
-use Rattle.snort_engine.specs.Watching.{Streams, cut_by, counts_left, lines_of, lines_left, IsWatched, IsCutOff, IsCloseBehind, WatchesTo, WritesSome, Watches}
-use Rattle.snort_engine.proofs.Prefixes.{IsPrefix-nil, WritesPart-none}
+use Rattle.snort_engine.specs.Watching.{cut_by, lines_of, IsCutOff, IsCloseBehind, WatchesTo, WritesSome, Watches}
+use Rattle.snort_engine.proofs.Prefixes.{IsPrefix-nil}
 use Rattle.snort_engine.proofs.Limits.{within_limit, room_first}
 use Rattle.snort_engine.proofs.LinesLaws.{lines_join, lines-nil, lines-none, no_counts-are}
 use Rattle.snort_engine.proofs.Finishing.{IsPlain, ends_met, ends_unread, ends_unwritten, ends_lacking, ahead_goes, ahead_cut}
@@ -347,26 +344,25 @@ cut_behind_head plan files course bytes head left_first before after goes held i
       says = refl;
     }
 
--- what is known of a capture that was opened: its course, its bytes and their head
+-- what is known of a capture whose records are to be read: that the answer is for its bytes, and their head
 pub record IsOpenCapture (plan : Plan) (files : Files) (course : Course) (left_first : Option (List ℕ)) (bytes : List ℕ) (head : CaptureHead) : Type 0 where
-  pub goes : course.way ≡ Goes plan
-  pub held : get files plan.source ≡ Some bytes
+  pub answers : answer_of files course ≡ capture_answer plan (warned course) (Some bytes)
   pub is : head_of bytes ≡ Ok head
   pub told : left_first ≡ Some (drop 24 bytes)
 
 -- its answer
 answer_open : (plan : Plan) (files : Files) (course : Course) (left_first : Option (List ℕ)) (bytes : List ℕ) (head : CaptureHead) → IsOpenCapture plan files course left_first bytes head
     → answer_of files course ≡ recording_answer plan (warned course) (recording_of head.link (cut_by plan (new_reader head) (drop 24 bytes)))
-answer_open plan files course left_first bytes head o = answer_goes files course plan o.goes ∙ answer-ok plan (warned course) bytes head (get files plan.source) o.held o.is
+answer_open plan files course left_first bytes head o = o.answers ∙ answer-ok plan (warned course) bytes head (Some bytes) refl o.is
 
 -- watched to an ending
-watched_ends : (plan : Plan) (files : Files) (course : Course) (left_first : Option (List ℕ)) (bytes : List ℕ) (head : CaptureHead) (ending : Ending) (before after : Work) (counts : Counts) → IsOpenCapture plan files course left_first bytes head
+watched_ends : (plan : Plan) (files : Files) (course : Course) (left_first left_last : Option (List ℕ)) (bytes : List ℕ) (head : CaptureHead) (ending : Ending) (before after : Work) (counts : Counts) → IsOpenCapture plan files course left_first bytes head
     → IsPlain (ending_status ending)
-    → WatchesTo plan (new_reader head) ending (record { left = left_first; written = before.alerts }) (record { left = after.left; written = after.alerts }) counts
+    → WatchesTo plan (new_reader head) ending (record { left = left_first; written = before.alerts }) (record { left = left_last; written = after.alerts }) counts
     → ReadsAhead files course before after (ending_status ending)
     → Ends files course before after (ending_status ending) (warned course ++ with_counts (ending_text plan.source ending) (told_counts plan.counted counts))
 unfolding lines_of
-watched_ends plan files course left_first bytes head ending before after counts o plain watches ahead =
+watched_ends plan files course left_first left_last bytes head ending before after counts o plain watches ahead =
     let watched = watches (drop 24 bytes) o.told in
     let link = head.link in
     let records = map (linked link) (cut_by plan (new_reader head) (drop 24 bytes)).records in
@@ -378,35 +374,37 @@ watched_ends plan files course left_first bytes head ending before after counts 
     (subst (λ (m : List ℕ). IsAnswered (answer_of files course) (ending_status ending) (lines plan [] records Closed) m) (ap text (sym watched.counted)) (answered (answer_of files course) _ meant)) ahead
 
 -- a part of its lines
-part_of_watch : (plan : Plan) (files : Files) (course : Course) (left_first : Option (List ℕ)) (bytes : List ℕ) (head : CaptureHead) (before after : Work) → IsOpenCapture plan files course left_first bytes head
-    → WritesSome plan (new_reader head) (record { left = left_first; written = before.alerts }) (record { left = after.left; written = after.alerts })
+part_of_watch : (plan : Plan) (files : Files) (course : Course) (left_first left_last : Option (List ℕ)) (bytes : List ℕ) (head : CaptureHead) (before after : Work) → IsOpenCapture plan files course left_first bytes head
+    → WritesSome plan (new_reader head) (record { left = left_first; written = before.alerts }) (record { left = left_last; written = after.alerts })
     → WritesPart before.alerts (answer_of files course).alerts after.alerts
 unfolding lines_of
-part_of_watch plan files course left_first bytes head before after o some =
+part_of_watch plan files course left_first left_last bytes head before after o some =
     subst (λ (a : Answer). WritesPart before.alerts a.alerts after.alerts) (sym (answer_open plan files course left_first bytes head o)) (some (drop 24 bytes) o.told)
 
--- the watching of a capture that was opened
-watched_by : (plan : Plan) (files : Files) (course : Course) (left_first : Option (List ℕ)) (bytes : List ℕ) (head : CaptureHead) (before after : Work) (counts : Counts) (outcome : Result (Unit {0}) Stop)
+-- the watching of a capture, where this is what a fault of the host leaves, and how far was read ahead
+pub watched_by : (plan : Plan) (files : Files) (course : Course) (left_first left_last : Option (List ℕ)) (bytes : List ℕ) (head : CaptureHead) (before after : Work) (counts : Counts) (outcome : Result (Unit {0}) Stop)
     → IsOpenCapture plan files course left_first bytes head
-    → Watches plan (new_reader head) (record { left = left_first; written = before.alerts }) (record { left = after.left; written = after.alerts }) counts outcome
+    → Watches plan (new_reader head) (record { left = left_first; written = before.alerts }) (record { left = left_last; written = after.alerts }) counts outcome
+    → (outcome_status outcome ≡ status.HostFault → IsCutOff plan (new_reader head) (record { left = left_first; written = before.alerts }) (record { left = left_last; written = after.alerts })
+    → IsCutShort files course before after (warned course ++ cannot_read_text plan.source))
     → (outcome_status outcome ≡ status.HostFault → Rose before.host_faults after.host_faults)
-    → IsReadAhead plan (get files plan.source) before after
+    → ((ended : Status) → outcome_status outcome ≡ ended → ReadsAhead files course before after ended)
     → Ends files course before after (outcome_status outcome) (warned course ++ said plan outcome counts)
 unfolding WritesPart stop_text
-watched_by plan files course left_first bytes head before after counts (Ok done) o watches risen read =
-    watched_ends plan files course left_first bytes head Clean before after counts o tt watches (ahead_goes files course plan before after status.Done o.goes read)
-watched_by plan files course left_first bytes head before after counts (Err stop.CannotRead) o (cut, some) risen read =
-    let part = part_of_watch plan files course left_first bytes head before after o some in
+watched_by plan files course left_first left_last bytes head before after counts (Ok done) o watches short risen ahead =
+    watched_ends plan files course left_first left_last bytes head Clean before after counts o tt watches (ahead status.Done refl)
+watched_by plan files course left_first left_last bytes head before after counts (Err stop.CannotRead) o (cut, some) short risen ahead =
+    let part = part_of_watch plan files course left_first left_last bytes head before after o some in
     ends_unread files course before after part.0 (warned course ++ cannot_read_text plan.source) part.2 part.1
     (λ still. absurd (still (risen refl)))
-    (inr (cut_behind_head plan files course bytes head left_first before after o.goes o.held o.is o.told cut))
-    (ahead_goes files course plan before after status.HostFault o.goes read)
-watched_by plan files course left_first bytes head before after counts (Err stop.CannotWrite) o some risen read =
-    ends_unwritten files course before after (part_of_watch plan files course left_first bytes head before after o some) (ahead_goes files course plan before after status.WriteFault o.goes read)
-watched_by plan files course left_first bytes head before after counts (Err stop.NoMemory) o some risen read =
-    ends_lacking files course before after (part_of_watch plan files course left_first bytes head before after o some) (ahead_goes files course plan before after status.NoMemory o.goes read)
-watched_by plan files course left_first bytes head before after counts (Err (stop.CannotReadFile name)) o (fault_then, is, watches) risen read = absurd (no_other_file fault_then name is)
-watched_by plan files course left_first bytes head before after counts (Err why) o seen risen read =
+    (inr (short refl cut))
+    (ahead status.HostFault refl)
+watched_by plan files course left_first left_last bytes head before after counts (Err stop.CannotWrite) o some short risen ahead =
+    ends_unwritten files course before after (part_of_watch plan files course left_first left_last bytes head before after o some) (ahead status.WriteFault refl)
+watched_by plan files course left_first left_last bytes head before after counts (Err stop.NoMemory) o some short risen ahead =
+    ends_lacking files course before after (part_of_watch plan files course left_first left_last bytes head before after o some) (ahead status.NoMemory refl)
+watched_by plan files course left_first left_last bytes head before after counts (Err (stop.CannotReadFile name)) o (fault_then, is, watches) short risen ahead = absurd (no_other_file fault_then name is)
+watched_by plan files course left_first left_last bytes head before after counts (Err why) o seen short risen ahead =
     let fault_then = seen.0 in
     let is = seen.1 in
     let state : fault_status fault_then ≡ stop_status why = sym (ap stop_status is ∙ status_of_stop fault_then) in
@@ -414,7 +412,7 @@ watched_by plan files course left_first bytes head before after counts (Err why)
     let plain : IsPlain (fault_status fault_then) = subst IsPlain (sym state) tt in
     subst (λ (s : Status). Ends files course before after s (warned course ++ with_counts (stop_text plan.source why) (told_counts plan.counted counts))) state
     (subst (λ (text : List ℕ). Ends files course before after (fault_status fault_then) (warned course ++ with_counts text (told_counts plan.counted counts))) says
-    (watched_ends plan files course left_first bytes head (Refused fault_then) before after counts o plain seen.2 (ahead_goes files course plan before after (fault_status fault_then) o.goes read)))
+    (watched_ends plan files course left_first left_last bytes head (Refused fault_then) before after counts o plain seen.2 (ahead (fault_status fault_then) (sym state))))
 
 -- a capture that was opened and watched
 pub capture_ends : (plan : Plan) (files : Files) (course : Course) (reader : Reading) (left_first : Option (List ℕ)) (before after : Work) (counts : Counts) (outcome : Result (Unit {0}) Stop)
@@ -431,12 +429,16 @@ capture_ends plan files course reader left_first before after counts outcome goe
     let held = held_opened files plan.source head_of_it.whole head_of_it.opened in
     let opened = opened_by held.0 reader (head_of held.0) refl (gives held.0 held.1) in
     let told = rest held.0 held.1 in
-    let o : IsOpenCapture plan files course left_first held.0 opened.0 = record { goes = goes; held = held.1; is = opened.1; told = told } in
-    watched_by plan files course left_first held.0 opened.0 before after counts outcome o
+    let ahead : IsReadAhead plan (get files plan.source) before after =
+    ahead_behind_head plan (get files plan.source) held.0 opened.0 left_first before after held.1 opened.1 told
+    (subst (λ (r : Reading). IsCloseBehind plan r (record { left = left_first; written = before.alerts }) (record { left = after.left; written = after.alerts })) opened.2 close) in
+    let o : IsOpenCapture plan files course left_first held.0 opened.0 =
+    record { answers = answer_goes files course plan goes ∙ ap (capture_answer plan (warned course)) held.1; is = opened.1; told = told } in
+    watched_by plan files course left_first after.left held.0 opened.0 before after counts outcome o
     (subst (λ (r : Reading). Watches plan r (record { left = left_first; written = before.alerts }) (record { left = after.left; written = after.alerts }) counts outcome) opened.2 watches)
+    (λ failed cut. cut_behind_head plan files course held.0 opened.0 left_first before after goes held.1 opened.1 told cut)
     risen
-    (ahead_behind_head plan (get files plan.source) held.0 opened.0 left_first before after held.1 opened.1 told
-    (subst (λ (r : Reading). IsCloseBehind plan r (record { left = left_first; written = before.alerts }) (record { left = after.left; written = after.alerts })) opened.2 close))
+    (λ ended is. ahead_goes files course plan before after ended goes ahead)
 
 -- the head was refused or not read, and a run is stopped by that
 pub open_stops : (plan : Plan) (files : Files) (course : Course) (why : CaptureFault) (before after : Work) (counts : Counts) (outcome : Result (Unit {0}) Stop) (stopped : Stop)

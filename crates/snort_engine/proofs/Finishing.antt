@@ -1,5 +1,5 @@
 -- The ways in which a run of a course ends, each from what is known there.
-use Rattle.std.proofs.Common.{◌≡◌, ℕ, ◌+◌, ◌≤◌, List, [], ◌++◌, Option, Some, None, refl, sym, ap, subst, ◌∙◌, inl, inr, ◌⊎◌, ⊎_elim, arith}
+use Rattle.std.proofs.Common.{◌≡◌, ℕ, ◌≤◌, List, [], ◌++◌, Option, refl, sym, subst, inl, inr, ◌⊎◌, ⊎_elim}
 use Rattle.std.specs.Prelude.{⊤}
 use Rattle.std.specs.FinMap.{get}
 use Rattle.std.specs.List.{concat}
@@ -7,16 +7,15 @@ use Rattle.std.proofs.lemmas.List.{append-nil}
 use mathlib.Core.List.{IsPrefix}
 use Rattle.edge_io.specs.Told.{behind, Rose}
 use Rattle.edge_io.specs.Files.{Files}
-use Rattle.edge_io.proofs.Told.{behind-nil}
 use Rattle.snort_engine.specs.declared.status.Status.{Status}
 use Rattle.snort_engine.specs.declared.status.Status.TheVariants as status
-use Rattle.snort_engine.specs.Course.{Plan, Way, Stops, Goes, Course}
-use Rattle.snort_engine.specs.Answer.{Answer, answer_of}
+use Rattle.snort_engine.specs.Course.{Plan, Way, Stops, Goes, Makes, Course}
+use Rattle.snort_engine.specs.Answer.{answer_of}
 use Rattle.snort_engine.specs.Messages.{cannot_write_text, no_memory_text}
 use Rattle.snort_engine.specs.Outside.{Work, WritesPart}
-use Rattle.snort_engine.specs.ReadAhead.{IsUnopened, IsShut, IsReadAhead, IsCutOff, ReadsAhead, ReadsAheadOn}
+use Rattle.snort_engine.specs.ReadAhead.{IsUnopened, IsShut, IsReadAhead, IsApart, IsCutOff, ReadsAhead, ReadsAheadOn}
 use Rattle.snort_engine.specs.Ending.{IsStated, IsAnswered, IsCutShort, IsNoMemoryMessage, Ends}
-use Rattle.snort_engine.proofs.Prefixes.{IsPrefix-same, IsPrefix-nil, rose_since}
+use Rattle.snort_engine.proofs.Prefixes.{IsPrefix-same, rose_since}
 
 -- the statuses of a run that nothing cut short
 abbrev pub IsPlain : Status → Type 0
@@ -134,14 +133,11 @@ unfolding ReadsAhead
 ahead_cut files course plan before after ended goes cut how =
     subst (λ (way : Way). ReadsAheadOn files way before after ended) (sym goes) (inr (cut, how))
 
--- a course of any way that was cut off before anything was opened
-pub ahead_unopened : (files : Files) (course : Course) (before after : Work) (ended : Status) → IsCutOff ended → IsUnopened before after → ReadsAhead files course before after ended
+-- a course whose capture is made has left the host alone
+pub ahead_made : (files : Files) (course : Course) (plan : Plan) (seed count : ℕ) (before after : Work) (ended : Status) → course.way ≡ Makes plan seed count → IsApart before after ended → ReadsAhead files course before after ended
 unfolding ReadsAhead
-ahead_unopened files course before after ended cut unopened = by_way course.way
-  where
-    by_way : (way : Way) → ReadsAheadOn files way before after ended
-    by_way (Stops message status_then) = (unopened, inr cut)
-    by_way (Goes plan) = inr (cut, inl unopened)
+ahead_made files course plan seed count before after ended makes apart =
+    subst (λ (way : Way). ReadsAheadOn files way before after ended) (sym makes) apart
 
 -- however far was read ahead, want of memory allows it
 pub ahead_lacking : (files : Files) (course : Course) (before after : Work) (ended : Status) → ReadsAhead files course before after ended → ReadsAhead files course before after status.NoMemory
@@ -152,6 +148,7 @@ ahead_lacking files course before after ended read = by_way course.way read
     by_way (Stops message status_then) (unopened, how) = (unopened, inr (inr refl))
     by_way (Goes plan) (inl ahead) = inl ahead
     by_way (Goes plan) (inr cut) = inr (inr refl, cut.1)
+    by_way (Makes plan seed count) apart = record { left = apart.left; opens = apart.opens; no_host_fault = λ is. cc }
 
 -- ---- the whole run
 
@@ -208,6 +205,7 @@ ends_counted files course before after faults ended message since ends = record 
     by_way (Goes plan) (inl r) = inl (record { taken = r.taken; rest = r.rest; of = r.of; still = r.still; more = r.more; wrote = r.wrote })
     by_way (Goes plan) (inr (cut, inl u)) = inr (cut, inl (unopened_on u))
     by_way (Goes plan) (inr (cut, inr s)) = inr (cut, inr (record { left = s.left; alerts = s.alerts }))
+    by_way (Makes plan seed count) apart = record { left = apart.left; opens = apart.opens; no_host_fault = apart.no_host_fault }
 
 -- a run of a course, told from earlier on
 pub ends_since : (files : Files) (course : Course) (earlier before after : Work) (ended : Status) (message : List ℕ) → IsLater earlier before

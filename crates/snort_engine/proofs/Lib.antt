@@ -9,6 +9,8 @@ pub mod Batches
 pub mod Watched
 pub mod Finishing
 pub mod Captures
+pub mod MadeCaptures
+pub mod MadeRecords
 pub mod Named
 pub mod Prepared
 pub mod Reported

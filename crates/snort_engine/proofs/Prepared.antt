@@ -1,12 +1,13 @@
 -- What is known before a capture is opened, from what the words and the setup gave.
-use Rattle.std.proofs.Common.{◌≡◌, ℕ, ◌+◌, ◌<◌, ◌≤◌, Bool, true, false, List, [], ◌∷◌, Option, Some, None, Result, Ok, Err, length, refl, sym, ap, subst, ◌∙◌, arith, inl, inr, ◌⊎◌, ⊎_elim}
-use Rattle.std.specs.Prelude.{MatchBool, All, IfOk, IfErr}
+use Rattle.std.proofs.Common.{◌≡◌, ℕ, Bool, true, false, List, [], Option, Some, None, Result, Ok, Err, length, refl, sym, ap, subst, ◌∙◌, arith, inl, inr, ⊎_elim}
+use Rattle.std.specs.Prelude.{All, IfOk, IfErr, IsSome, if◌then◌else◌}
 use Rattle.edge_io.specs.declared.pattern.Span.{Span}
 use Rattle.option_eval.specs.Places.{Means}
 use Rattle.option_eval.specs.RuleSet.{FindWhatIsMeant}
 use Rattle.conf_parser.specs.Sound as conf
 use Rattle.rule_parser.specs.Sound.{IsSound}
-use Rattle.std.specs.Option.{option_map}
+use Rattle.std.specs.Option.{option_map, option_map_or}
+use Rattle.packet_decode.specs.declared.checks.Checks.{Checks}
 use Rattle.edge_io.specs.Files.{Files}
 use Rattle.edge_io.specs.declared.pattern.Refusal.{Refusal}
 use Rattle.conf_parser.specs.Reading.{Ended, Whole, Refused as RefusedAt, Asks, told}
@@ -16,19 +17,22 @@ use Rattle.snort_setup.specs.declared.setup.Setup.{Setup}
 use Rattle.snort_setup.specs.declared.stop.SetupStop.{SetupStop}
 use Rattle.snort_setup.specs.declared.stop.SetupStop.TheVariants as halted
 use Rattle.snort_setup.specs.Words.{Words}
-use Rattle.snort_setup.specs.Setup.{Halt, Refused, Lacks, Ready, Warned, warned, IsSetup, IsReading, conf_read}
-use Rattle.snort_setup.specs.Answers.{AreRefusedBy, Gives, SetsUp, HasCause as HasSetupCause}
+use Rattle.snort_setup.specs.Setup.{Refused, Lacks, Ready, Warned, warned, IsSetup, conf_read}
+use Rattle.snort_setup.specs.Answers.{AreRefusedBy, Gives, HasCause as HasSetupCause}
 use Rattle.snort_setup.specs.Whole.{ready_of}
 use Rattle.snort_setup.proofs.One.{setup-one}
 use Rattle.snort_engine.specs.declared.prepare.Prepared.{Prepared}
 use Rattle.snort_engine.specs.declared.status.Status.TheVariants as status
 use Rattle.snort_engine.specs.declared.stop.Stop.{Stop}
 use Rattle.snort_engine.specs.declared.stop.Stop.TheVariants as stop
-use Rattle.snort_engine.specs.Course.{Plan, Way, Stops, Goes, Course, Given, given, IsCourse, HasOneCourse, IsRunCourse, Reads, AreRefused, setup_words, told_warnings, is_for_later, way_of, course_by, stopping}
+use Rattle.snort_engine.specs.Course.{Way, Stops, Makes, Given, given, IsCourse, IsForMade, HasOneCourse, checks_of, plan_for, Reads, AreRefused, setup_words, told_warnings, way_ready, way_of, course_by, stopping}
+use Rattle.snort_engine.specs.declared.plan.Source.{Source}
+use Rattle.snort_engine.specs.declared.plan.Source.TheVariants.{File, Made}
+use Rattle.snort_engine.specs.Sources.{IsMade, IsSourceFor, source_name, way_from}
 use Rattle.snort_engine.specs.Detecting.{IsRanged}
-use Rattle.snort_engine.specs.Messages.{usage_text, version_text, command_line_text}
-use Rattle.snort_engine.specs.Stop.{stop_status, stop_text, setup_stop}
-use Rattle.snort_engine.specs.Preparing.{HasWay, stops, way_by, Prepares, IsPrepared, IsSetUp, KeepsSetup, HasCause, plan_by, told_of}
+use Rattle.snort_engine.specs.Messages.{usage_text, version_text, accepted_text, command_line_text}
+use Rattle.snort_engine.specs.Stop.{stop_text, setup_stop}
+use Rattle.snort_engine.specs.Preparing.{HasWay, stops, way_by, Prepares, IsPrepared, IsSetUp, KeepsSetup, HasCause, way_for, told_of}
 
 -- what maps to nothing is nothing
 pub none_by : {W O : Type 0} (f : W → O) (found : Option W) → ((w : W) → found ≡ Some w → ⊥) → option_map f found ≡ None
@@ -53,7 +57,7 @@ none_refused (Some (run wanted)) files grown = none_refused_by (setup_words want
 -- ---- words that read no file
 
 -- a stop that comes without a warning, over no refused lines
-stopped_at_once : {A : Type 0} (view : Test → A → Plan) (asked : Option Asked) (files : Files) (rose : Type 0) (grown : List Refusal) (why : Stop) (warnings : List (List ℕ)) → warnings ≡ []
+stopped_at_once : {A : Type 0} (view : Test → A → Way) (asked : Option Asked) (files : Files) (rose : Type 0) (grown : List Refusal) (why : Stop) (warnings : List (List ℕ)) → warnings ≡ []
     → ((matches : Test) → Prepares (view matches) asked (given files matches []) rose (Err why) []) → IsPrepared view asked files rose grown (Err why) warnings
 stopped_at_once view asked files rose grown why warnings none has =
     subst (λ (w : List (List ℕ)). IsPrepared view asked files rose grown (Err why) w) (sym none)
@@ -71,86 +75,73 @@ version_way : (here : Given) → HasWay (Some version) here [] (stops stop.Versi
 unfolding IsCourse stop_text
 version_way here = record { course = stopping version_text status.Done; is = refl; warnings_are = refl; way_is = refl }
 
-later_way : (wanted : Run) (here : Given) → is_for_later wanted ≡ true → HasWay (Some (run wanted)) here [] (stops stop.CommandLine)
-unfolding IsCourse stop_text
-later_way wanted here later = record {
-  course = stopping command_line_text status.Refused;
-  is = subst (λ (b : Bool). MatchBool b (stopping command_line_text status.Refused ≡ stopping command_line_text status.Refused) ((setup : Warned Ready) × IsSetup (setup_words wanted) here.files here.refused setup × (stopping command_line_text status.Refused ≡ course_by here.matches wanted setup))) (sym later) refl;
-  warnings_are = refl;
-  way_is = refl;
-}
-
-pub prepared_faulty : {A : Type 0} (view : Test → A → Plan) (asked : Option Asked) (files : Files) (rose : Type 0) (grown : List Refusal) (warnings : List (List ℕ)) → asked ≡ None → warnings ≡ [] → IsPrepared view asked files rose grown (Err stop.CommandLine) warnings
+pub prepared_faulty : {A : Type 0} (view : Test → A → Way) (asked : Option Asked) (files : Files) (rose : Type 0) (grown : List Refusal) (warnings : List (List ℕ)) → asked ≡ None → warnings ≡ [] → IsPrepared view asked files rose grown (Err stop.CommandLine) warnings
 prepared_faulty view asked files rose grown warnings is none =
     subst (λ (a : Option Asked). IsPrepared view a files rose grown (Err stop.CommandLine) warnings) (sym is)
     (stopped_at_once view None files rose grown stop.CommandLine warnings none (λ matches. faulty_way (given files matches [])))
 
-pub prepared_help : {A : Type 0} (view : Test → A → Plan) (asked : Option Asked) (files : Files) (rose : Type 0) (grown : List Refusal) (warnings : List (List ℕ)) → asked ≡ Some help → warnings ≡ [] → IsPrepared view asked files rose grown (Err stop.Usage) warnings
+pub prepared_help : {A : Type 0} (view : Test → A → Way) (asked : Option Asked) (files : Files) (rose : Type 0) (grown : List Refusal) (warnings : List (List ℕ)) → asked ≡ Some help → warnings ≡ [] → IsPrepared view asked files rose grown (Err stop.Usage) warnings
 prepared_help view asked files rose grown warnings is none =
     subst (λ (a : Option Asked). IsPrepared view a files rose grown (Err stop.Usage) warnings) (sym is)
     (stopped_at_once view (Some help) files rose grown stop.Usage warnings none (λ matches. help_way (given files matches [])))
 
-pub prepared_version : {A : Type 0} (view : Test → A → Plan) (asked : Option Asked) (files : Files) (rose : Type 0) (grown : List Refusal) (warnings : List (List ℕ)) → asked ≡ Some version → warnings ≡ [] → IsPrepared view asked files rose grown (Err stop.Version) warnings
+pub prepared_version : {A : Type 0} (view : Test → A → Way) (asked : Option Asked) (files : Files) (rose : Type 0) (grown : List Refusal) (warnings : List (List ℕ)) → asked ≡ Some version → warnings ≡ [] → IsPrepared view asked files rose grown (Err stop.Version) warnings
 prepared_version view asked files rose grown warnings is none =
     subst (λ (a : Option Asked). IsPrepared view a files rose grown (Err stop.Version) warnings) (sym is)
     (stopped_at_once view (Some version) files rose grown stop.Version warnings none (λ matches. version_way (given files matches [])))
 
-pub prepared_later : {A : Type 0} (view : Test → A → Plan) (wanted : Run) (files : Files) (rose : Type 0) (grown : List Refusal) (warnings : List (List ℕ)) → is_for_later wanted ≡ true → warnings ≡ [] → IsPrepared view (Some (run wanted)) files rose grown (Err stop.CommandLine) warnings
-prepared_later view wanted files rose grown warnings later none =
-    stopped_at_once view (Some (run wanted)) files rose grown stop.CommandLine warnings none (λ matches. later_way wanted (given files matches []) later)
-
 -- memory was lacking
-pub prepared_lacking : {A : Type 0} (view : Test → A → Plan) (asked : Option Asked) (files : Files) (rose : Type 0) (grown : List Refusal) (warnings : List (List ℕ)) → warnings ≡ [] → IsPrepared view asked files rose grown (Err stop.NoMemory) warnings
+pub prepared_lacking : {A : Type 0} (view : Test → A → Way) (asked : Option Asked) (files : Files) (rose : Type 0) (grown : List Refusal) (warnings : List (List ℕ)) → warnings ≡ [] → IsPrepared view asked files rose grown (Err stop.NoMemory) warnings
 prepared_lacking view asked files rose grown warnings none = stopped_at_once view asked files rose grown stop.NoMemory warnings none (λ matches. refl)
 
 -- ---- words that set a detector up
 
 -- the course of a setup
-run_way : (wanted : Run) (here : Given) (setup : Warned Ready) (warnings : List (List ℕ)) (way : Way) → is_for_later wanted ≡ false → IsSetup (setup_words wanted) here.files here.refused setup
+run_way : (wanted : Run) (here : Given) (setup : Warned Ready) (warnings : List (List ℕ)) (way : Way) → IsSetup (setup_words wanted) here.files here.refused setup
     → warnings ≡ told_warnings wanted setup.warnings → way ≡ way_of here.matches wanted setup.outcome → HasWay (Some (run wanted)) here warnings way
 unfolding IsCourse
-run_way wanted here setup warnings way now is told_are way_is = record {
+run_way wanted here setup warnings way is told_are way_is = record {
   course = course_by here.matches wanted setup;
-  is = subst (λ (b : Bool). MatchBool b (course_by here.matches wanted setup ≡ stopping command_line_text status.Refused) ((s : Warned Ready) × IsSetup (setup_words wanted) here.files here.refused s × (course_by here.matches wanted setup ≡ course_by here.matches wanted s))) (sym now) (setup, is, refl);
+  is = (setup, is, refl);
   warnings_are = sym told_are;
   way_is = sym way_is;
 }
 
 -- the setup was stopped
-pub setup_stopped : {A B : Type 0} (view : A → Ready) (plans : Test → B → Plan) (wanted : Run) (files : Files) (rose : Type 0) (grown : List Refusal) (why : SetupStop) (warnings : List (List ℕ)) → is_for_later wanted ≡ false
-    → IsSetUp view wanted files rose grown (Err why) warnings → IsPrepared plans (Some (run wanted)) files rose grown (Err (setup_stop why)) warnings
+pub setup_stopped : {A B : Type 0} (view : A → Ready) (ways : Test → B → Way) (wanted : Run) (files : Files) (rose : Type 0) (grown : List Refusal) (why : SetupStop) (warnings : List (List ℕ))
+    → IsSetUp view wanted files rose grown (Err why) warnings → IsPrepared ways (Some (run wanted)) files rose grown (Err (setup_stop why)) warnings
 unfolding AreRefused Reads stop_text
-setup_stopped {A} {B} view plans wanted files rose grown why warnings now set = record {
+setup_stopped {A} {B} view ways wanted files rose grown why warnings set = record {
   refused = set.sets_up.refused;
   are_refused = set.sets_up.are_refused;
   prepares = λ matches. by_stop matches why set.sets_up.gives set.told_are;
 }
   where
     by_stop : (matches : Test) (s : SetupStop) → Gives view (setup_words wanted) files set.sets_up.refused rose (Err s) set.given_warnings → warnings ≡ told_of {A = A} (Err s) wanted set.given_warnings
-        → Prepares (plans matches) (Some (run wanted)) (given files matches set.sets_up.refused) rose (Err (setup_stop s)) warnings
-    by_stop matches (halted.Refused message) gives told_are = run_way wanted (given files matches set.sets_up.refused) (warned set.given_warnings (Err (Refused message))) warnings (stops (stop.Refused message)) now gives told_are refl
+        → Prepares (ways matches) (Some (run wanted)) (given files matches set.sets_up.refused) rose (Err (setup_stop s)) warnings
+    by_stop matches (halted.Refused message) gives told_are = run_way wanted (given files matches set.sets_up.refused) (warned set.given_warnings (Err (Refused message))) warnings (stops (stop.Refused message)) gives told_are refl
     by_stop matches (halted.CannotRead name) gives told_are =
         ⊎_elim
-        (λ lacks. inl (run_way wanted (given files matches set.sets_up.refused) (warned set.given_warnings (Err (Lacks name))) warnings (stops (stop.CannotReadFile name)) now lacks told_are refl))
+        (λ lacks. inl (run_way wanted (given files matches set.sets_up.refused) (warned set.given_warnings (Err (Lacks name))) warnings (stops (stop.CannotReadFile name)) lacks told_are refl))
         (λ read. inr (read.0, (set.given_warnings, read.1, told_are)))
         gives
     by_stop matches halted.NoMemory gives told_are = told_are
 
 -- the detector was set up
-pub setup_ready : {P : Type 0} (wanted : Run) (files : Files) (rose : Type 0) (grown : List Refusal) (setup : Setup P) (answer : Result (Prepared P) Stop) (warnings : List (List ℕ)) → is_for_later wanted ≡ false
+pub setup_ready : {P : Type 0} (wanted : Run) (files : Files) (rose : Type 0) (grown : List Refusal) (setup : Setup P) (answer : Result (Prepared P) Stop) (warnings : List (List ℕ))
     → IsSetUp ready_of wanted files rose grown (Ok setup) warnings
-    → ((matches : Test) → way_by (plan_by matches) answer ≡ way_of matches wanted (Ok (ready_of setup))) → KeepsSetup setup answer
-    → IsPrepared plan_by (Some (run wanted)) files rose grown answer warnings
+    → ((matches : Test) → way_by (way_for matches) answer ≡ way_of matches wanted (Ok (ready_of setup))) → KeepsSetup setup answer
+    → IsPrepared way_for (Some (run wanted)) files rose grown answer warnings
 unfolding AreRefused
-setup_ready {P} wanted files rose grown setup answer warnings now set way keeps = record {
+setup_ready {P} wanted files rose grown setup answer warnings set way keeps = record {
   refused = set.sets_up.refused;
   are_refused = set.sets_up.are_refused;
   prepares = λ matches. by_answer matches answer keeps
-      (run_way wanted (given files matches set.sets_up.refused) (warned set.given_warnings (Ok (ready_of setup))) warnings (way_by (plan_by matches) answer) now set.sets_up.gives set.told_are (way matches));
+      (run_way wanted (given files matches set.sets_up.refused) (warned set.given_warnings (Ok (ready_of setup))) warnings (way_by (way_for matches) answer) set.sets_up.gives set.told_are (way matches));
 }
   where
-    by_answer : (matches : Test) (a : Result (Prepared P) Stop) → KeepsSetup setup a → HasWay (Some (run wanted)) (given files matches set.sets_up.refused) warnings (way_by (plan_by matches) a)
-        → Prepares (plan_by matches) (Some (run wanted)) (given files matches set.sets_up.refused) rose a warnings
+    by_answer : (matches : Test) (a : Result (Prepared P) Stop) → KeepsSetup setup a → HasWay (Some (run wanted)) (given files matches set.sets_up.refused) warnings (way_by (way_for matches) a)
+        → Prepares (way_for matches) (Some (run wanted)) (given files matches set.sets_up.refused) rose a warnings
     by_answer matches (Ok prepared) kept has = has
     by_answer matches (Err (stop.Accepted rules)) kept has = has
     by_answer matches (Err stop.CommandLine) kept has = has
@@ -162,15 +153,41 @@ unfolding IsCourse
 one_course None here a b of_a of_b = of_a ∙ sym of_b
 one_course (Some help) here a b of_a of_b = of_a ∙ sym of_b
 one_course (Some version) here a b of_a of_b = of_a ∙ sym of_b
-one_course (Some (run wanted)) here a b of_a of_b = by_later (is_for_later wanted) of_a of_b
-  where
-    by_later : (later : Bool)
-        → MatchBool later (a ≡ stopping command_line_text status.Refused) ((setup : Warned Ready) × IsSetup (setup_words wanted) here.files here.refused setup × (a ≡ course_by here.matches wanted setup))
-        → MatchBool later (b ≡ stopping command_line_text status.Refused) ((setup : Warned Ready) × IsSetup (setup_words wanted) here.files here.refused setup × (b ≡ course_by here.matches wanted setup))
-        → a ≡ b
-    by_later true is_a is_b = is_a ∙ sym is_b
-    by_later false is_a is_b =
-        is_a.2 ∙ ap (λ (setup : Warned Ready). course_by here.matches wanted setup) (setup-one (setup_words wanted) here.files here.refused is_a.0 is_b.0 is_a.1 is_b.1) ∙ sym is_b.2
+one_course (Some (run wanted)) here a b (setup_a, is_a, of_a) (setup_b, is_b, of_b) =
+    of_a ∙ ap (λ (setup : Warned Ready). course_by here.matches wanted setup) (setup-one (setup_words wanted) here.files here.refused setup_a setup_b is_a is_b) ∙ sym of_b
+
+-- ---- where the capture comes from
+
+-- the way of a capture is that of the words
+pub way_from-words : (matches : Test) (wanted : Run) (ready : Ready) (source : Source) → IsSourceFor wanted (Some source)
+    → way_from source (plan_for matches wanted ready (source_name source)) ≡ way_ready matches wanted ready wanted.generate wanted.capture
+way_from-words matches wanted ready (File name) (unmade, named) =
+    sym (ap (λ (generate : Option ℕ). way_ready matches wanted ready generate wanted.capture) unmade ∙ ap (way_ready matches wanted ready None) named)
+way_from-words matches wanted ready (Made seed count) (counted, seeded) =
+    sym (ap (λ (generate : Option ℕ). way_ready matches wanted ready generate wanted.capture) counted ∙ ap (λ (s : ℕ). Makes (plan_for matches wanted ready []) s count) seeded)
+
+pub ready_way : (matches : Test) (wanted : Run) (ready : Ready) (source : Source) (checks : Checks) → wanted.test ≡ false → IsSourceFor wanted (Some source)
+    → checks ≡ option_map_or checks_of wanted.checks ready.config.checks
+    → way_from source (record (plan_for matches wanted ready (source_name source)) { checks = checks }) ≡ way_of matches wanted (Ok ready)
+ready_way matches wanted ready source checks untested from are =
+    ap (λ (k : Checks). way_from source (record (plan_for matches wanted ready (source_name source)) { checks = k })) are
+    ∙ way_from-words matches wanted ready source from
+    ∙ sym (ap (λ (test : Bool). if test then Stops (accepted_text (length ready.rules)) status.Done else way_ready matches wanted ready wanted.generate wanted.capture) untested)
+
+-- words without a capture
+pub no_source : (wanted : Run) (found : Option Source) → ((source : Source) → found ≡ Some source → ⊥) → IsSourceFor wanted found → (wanted.generate ≡ None) × (wanted.capture ≡ None)
+no_source wanted None absent is = is
+no_source wanted (Some source) absent is = absurd (absent source refl)
+
+-- where the words ask for a capture that is made, it is
+pub source_made : (wanted : Run) (source : Source) → IsSourceFor wanted (Some source) → IsSome wanted.generate → IsMade source
+source_made wanted (File name) (unmade, named) asks = let none : false ≡ true = subst (λ (generate : Option ℕ). IsSome generate) unmade asks in absurd cc
+source_made wanted (Made seed count) is asks = tt
+
+pub run_made : {P : Type 0} (asked : Option Asked) (wanted : Run) (answer : Result (Prepared P) Stop) → asked ≡ Some (run wanted) → IfOk answer (λ ready. IsSome wanted.generate → IsMade ready.source)
+    → IfOk answer (λ ready. IsForMade asked → IsMade ready.source)
+run_made asked wanted (Ok prepared) is made = λ for_made. made (subst IsForMade is for_made)
+run_made asked wanted (Err why) is made = tt
 
 -- ---- causes, and what stays of a setup
 

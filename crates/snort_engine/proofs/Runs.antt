@@ -1,10 +1,12 @@
 -- How a run follows its course, and the headline.
 use Rattle.std.proofs.lemmas.Bool.Decides.{nat_tests}
 use Rattle.std.proofs.Common.{◌≡◌, ℕ, ◌+◌, ◌≤◌, Bool, true, List, [], ◌++◌, Option, Some, None, Result, Ok, Err, refl, sym, ap, subst, ◌∙◌, arith, inl, inr, ◌⊎◌, ⊎_elim}
-use Rattle.std.specs.FinMap.{get}
 use Rattle.std.specs.List.{concat}
 use Rattle.edge_io.specs.Told.{behind, Rose, one_more}
 use Rattle.edge_io.specs.Files.{Files, Lacks}
+use Rattle.snort_engine.specs.declared.plan.Source.{Source}
+use Rattle.snort_engine.specs.declared.plan.Source.TheVariants.{File, Made}
+use Rattle.snort_engine.specs.Sources.{IsMade, LacksCapture, opens_behind}
 use Rattle.edge_io.proofs.Told.{behind-nil}
 use Rattle.option_eval.specs.Places.{Means}
 use Rattle.command_words.specs.CommandLine.{Asked, command_line}
@@ -13,19 +15,20 @@ use Rattle.snort_engine.specs.declared.status.Status.{Status}
 use Rattle.snort_engine.specs.declared.status.Status.TheVariants as status
 use Rattle.snort_engine.specs.declared.stop.Stop.{Stop}
 use Rattle.snort_engine.specs.declared.stop.Stop.TheVariants as stop
-use Rattle.snort_engine.specs.Course.{Plan, Way, Stops, Goes, Course, Given, given, IsCourse, Reads, AreRefused}
+use Rattle.snort_engine.specs.Course.{Way, Stops, Goes, Makes, Course, Given, given, IsCourse, IsForMade, AreRefused}
 use Rattle.snort_engine.specs.Answer.{Answer, answer_of, way_answer, capture_answer}
-use Rattle.snort_engine.specs.Messages.{cannot_read_text, no_memory_text}
-use Rattle.snort_engine.specs.Outside.{Outside, Work, work_of, WritesPart, NoFault, NoCountFell}
+use Rattle.snort_engine.specs.Messages.{no_memory_text}
+use Rattle.snort_engine.specs.Outside.{Outside, Work, work_of, NoFault, NoCountFell}
 use Rattle.snort_engine.specs.ReadAhead.{IsUnopened, ReadsAhead}
-use Rattle.snort_engine.specs.Ending.{IsStated, IsAnswered, IsUnread, IsLacking, Ends, EndsEarly, EndsOnCourse, EndsRun}
-use Rattle.snort_engine.specs.Stop.{stop_status, stop_text, outcome_status, outcome_text}
-use Rattle.snort_engine.specs.Reporting.{Tells as TellsMessage, TellsOn, TellsLast, Reports}
+use Rattle.snort_engine.specs.Ending.{IsStated, IsAnswered, Ends, EndsEarly, EndsOnCourse, EndsRun}
+use Rattle.snort_engine.specs.Stop.{stop_status, stop_text, outcome_status}
+use Rattle.snort_engine.specs.Reporting.{TellsOn, TellsLast}
 use Rattle.snort_engine.specs.Preparing.{HasWay, stops, Prepares, IsPrepared, HasCause, IsForFaultyWords}
-use Rattle.snort_engine.specs.Headline.{OfTold, refused_since, EndsSo, HasAnswer, LacksOne, Headline}
-use Rattle.snort_engine.proofs.Prefixes.{IsPrefix-nil, WritesPart-none, rose_since}
+use Rattle.snort_engine.specs.Headline.{refused_since, EndsSo, HasAnswer, LacksOne, Headline}
+use Rattle.snort_engine.proofs.Prefixes.{rose_since}
 use Rattle.snort_engine.proofs.LinesLaws.{lines_join, prefix_law}
 use Rattle.snort_engine.proofs.Prepared.{one_course}
+use Rattle.snort_engine.proofs.MadeRecords.{made_is_whole}
 use Rattle.snort_engine.proofs.Reported.{ReportsOn, tells_message}
 use Rattle.snort_engine.proofs.Finishing.{IsPlain, ends_met, ends_answered, ends_untold, ends_since, IsLater, ahead_stops}
 
@@ -90,7 +93,7 @@ on_course_untold asked here warnings message ended before after has early unopen
       (ends_untold here.files has.course before after ended (concat has.course.warnings ++ message) (stops_ends here.files has.course message ended before after has.way_is early unopened));
 }
 
-module _ {A : Type 0} (view : A → Plan) (asked : Option Asked) (here : Given) (before after : Work) (warnings : List (List ℕ)) (unopened : IsUnopened before after) where
+module _ {A : Type 0} (view : A → Way) (asked : Option Asked) (here : Given) (before after : Work) (warnings : List (List ℕ)) (unopened : IsUnopened before after) where
   -- how a stop ends a run
   stop_ends : (host : Option Files) (why : Stop) → HasCause (Rose before.host_faults after.host_faults) host why → Prepares view asked here (Rose before.host_faults after.host_faults) (Err why) warnings
       → EndsRun asked here before after (stop_status why) (concat warnings ++ stop_text [] why)
@@ -153,6 +156,7 @@ pub record IsRun (asked : Option Asked) (means : Means) (before after : Outside)
   pub write_fault : ended ≡ status.WriteFault → Rose before.alert_faults after.alert_faults
   pub faulty_words : asked ≡ None → (ended ≡ status.Refused) ⊎ (ended ≡ status.NoMemory)
   pub opened_once : after.opens ≤ before.opens + 1
+  pub made_unopened : IsForMade asked → (after.opens ≡ before.opens) × (after.left ≡ before.left)
   pub same_files : after.files ≡ before.files
   pub counts : NoCountFell before after
 
@@ -192,12 +196,14 @@ headline words means before after ended run = record {
   complete = λ files is calm.
       complete_by (command_line words) _ before after ended run.write_fault ((of_one before.files (HoldsOf (command_line words) run.matches before after ended) run.told).holds files is).1 calm;
   opened_once = run.opened_once;
+  made_unopened = run.made_unopened;
   write_fault = run.write_fault;
   host_fault = λ failed. by_files before.files refl failed;
   faulty_words = run.faulty_words;
   same_files = run.same_files;
   counts = run.counts;
   one_course = one_course;
+  made_is_whole = made_is_whole;
   lines_join = lines_join;
   prefix_law = prefix_law;
 }
@@ -213,7 +219,7 @@ headline words means before after ended run = record {
 -- ---- a run that was stopped before its capture
 
 -- a stop at a file that couldn't be read has its answer, or the host's count rose
-stop_answered : {A : Type 0} (view : A → Plan) (asked : Option Asked) (here : Given) (rose : Type 0) (host : Option Files) (why : Stop) (warnings : List (List ℕ)) → HasCause rose host why → Prepares view asked here rose (Err why) warnings
+stop_answered : {A : Type 0} (view : A → Way) (asked : Option Asked) (here : Given) (rose : Type 0) (host : Option Files) (why : Stop) (warnings : List (List ℕ)) → HasCause rose host why → Prepares view asked here rose (Err why) warnings
     → stop_status why ≡ status.HostFault → rose ⊎ HasAnswer asked here status.HostFault
 stop_answered view asked here rose host (stop.CannotReadFile name) warnings cause has failed =
     ⊎_elim
@@ -279,17 +285,17 @@ ends_told asked here warnings text outcome before after ended told ends untold =
     told.reports
 
 -- what is known of a run that was stopped
-pub record IsStopped {A : Type 0} (plans : Test → A → Plan) (asked : Option Asked) (before after : Outside) (why : Stop) (warnings : List (List ℕ)) : Type 0 where
-  pub prepared : (files : Files) → before.files ≡ Some files → IsPrepared plans asked files (Rose before.host_faults after.host_faults) (refused_since before after) (Err why) warnings
+pub record IsStopped {A : Type 0} (ways : Test → A → Way) (asked : Option Asked) (before after : Outside) (why : Stop) (warnings : List (List ℕ)) : Type 0 where
+  pub prepared : (files : Files) → before.files ≡ Some files → IsPrepared ways asked files (Rose before.host_faults after.host_faults) (refused_since before after) (Err why) warnings
   pub cause : HasCause (Rose before.host_faults after.host_faults) before.files why
   pub faulty_words : asked ≡ None → IsForFaultyWords {A = A} (Err why)
   pub unopened : IsUnopened (work_of before) (work_of after)
   pub same_files : after.files ≡ before.files
   pub counts : NoCountFell before after
 
-pub stopped_run : {A : Type 0} (plans : Test → A → Plan) (asked : Option Asked) (means : Means) (before after : Outside) (why : Stop) (warnings : List (List ℕ)) (ended : Status) → (test : Test) × Tells means test
-    → IsStopped plans asked before after why warnings → IsTold warnings (stop_text [] why) (Err why) before after ended → IsRun asked means before after ended
-stopped_run {A} plans asked means before after why warnings ended decided run told = record {
+pub stopped_run : {A : Type 0} (ways : Test → A → Way) (asked : Option Asked) (means : Means) (before after : Outside) (why : Stop) (warnings : List (List ℕ)) (ended : Status) → (test : Test) × Tells means test
+    → IsStopped ways asked before after why warnings → IsTold warnings (stop_text [] why) (Err why) before after ended → IsRun asked means before after ended
+stopped_run {A} ways asked means before after why warnings ended decided run told = record {
   matches = decided.0;
   tells = decided.1;
   told = λ files is.
@@ -300,9 +306,9 @@ stopped_run {A} plans asked means before after why warnings ended decided run to
         (
           p.are_refused,
           ends_told asked here warnings (stop_text [] why) (Err why) before after ended told
-              (stop_ends (plans decided.0) asked here (work_of before) (work_of after) warnings run.unopened before.files why run.cause has)
-              (stop_untold (plans decided.0) asked here (work_of before) (work_of after) warnings run.unopened before.files why run.cause has),
-          λ failed. stop_answered (plans decided.0) asked here (Rose before.host_faults after.host_faults) before.files why warnings run.cause has (by_outcome warnings (stop_text [] why) (Err why) before after ended status.HostFault told (λ e. cc) failed),
+              (stop_ends (ways decided.0) asked here (work_of before) (work_of after) warnings run.unopened before.files why run.cause has)
+              (stop_untold (ways decided.0) asked here (work_of before) (work_of after) warnings run.unopened before.files why run.cause has),
+          λ failed. stop_answered (ways decided.0) asked here (Rose before.host_faults after.host_faults) before.files why warnings run.cause has (by_outcome warnings (stop_text [] why) (Err why) before after ended status.HostFault told (λ e. cc) failed),
         ),
       );
   untold = λ failed none. stop_untold_rose (Rose before.host_faults after.host_faults) before.files why run.cause (by_outcome warnings (stop_text [] why) (Err why) before after ended status.HostFault told (λ e. cc) failed) none;
@@ -312,6 +318,7 @@ stopped_run {A} plans asked means before after why warnings ended decided run to
       (λ said. ⊎_elim (λ refused. inl (said.0 ∙ refused)) (λ lacking. inr (said.0 ∙ lacking)) (faulty_status {A = A} (Err why) (run.faulty_words none)))
       (λ lacking. inr lacking.0) told.reports;
   opened_once = let same = run.unopened.opens in omega (arith, same);
+  made_unopened = λ for_made. (run.unopened.opens, run.unopened.left);
   same_files = run.same_files;
   counts = run.counts;
 }
@@ -322,26 +329,36 @@ stopped_run {A} plans asked means before after why warnings ended decided run to
 one_more_most : (count : ℕ) → one_more count ≤ count + 1
 one_more_most count = grind (arith, nat_tests)
 
+-- a run opens a capture once at most
+pub opens_behind_most : (source : Source) (opens : ℕ) → opens_behind source opens ≤ opens + 1
+opens_behind_most (File name) opens = one_more_most opens
+opens_behind_most (Made seed count) opens = omega arith
+
+-- and none where it is made
+pub opens_behind_made : (source : Source) (opens : ℕ) → IsMade source → opens_behind source opens ≡ opens
+opens_behind_made (File name) opens made = absurd made
+opens_behind_made (Made seed count) opens made = refl
+
 -- what is known of a run that watched its capture
-pub record IsWatching {A : Type 0} (plans : Test → A → Plan) (asked : Option Asked) (means : Means) (before after : Outside) (ready : A) (source text : List ℕ) (outcome : Result (Unit {0}) Stop) (warnings : List (List ℕ)) : Type 0 where
+pub record IsWatching {A : Type 0} (ways : Test → A → Way) (asked : Option Asked) (means : Means) (before after : Outside) (ready : A) (text : List ℕ) (outcome : Result (Unit {0}) Stop) (warnings : List (List ℕ)) : Type 0 where
   pub middle : Work
-  pub prepared : (files : Files) → before.files ≡ Some files → IsPrepared plans asked files (Rose before.host_faults middle.host_faults) (refused_since before after) (Ok ready) warnings
+  pub prepared : (files : Files) → before.files ≡ Some files → IsPrepared ways asked files (Rose before.host_faults middle.host_faults) (refused_since before after) (Ok ready) warnings
   pub faulty_words : asked ≡ None → ⊥
   pub since : IsLater (work_of before) middle
-  pub ends : (matches : Test) → Tells means matches → (files : Files) (course : Course) → before.files ≡ Some files → course.way ≡ Goes (plans matches ready)
+  pub ends : (matches : Test) → Tells means matches → (files : Files) (course : Course) → before.files ≡ Some files → course.way ≡ ways matches ready
       → Ends files course middle (work_of after) (outcome_status outcome) (concat course.warnings ++ text)
-  pub source_is : (matches : Test) → (plans matches ready).source ≡ source
   pub write_fault : outcome_status outcome ≡ status.WriteFault → Rose before.alert_faults after.alert_faults
-  pub read_fault : outcome_status outcome ≡ status.HostFault → Rose middle.host_faults after.host_faults ⊎ Lacks before.files source
-  pub opened : after.opens ≡ one_more before.opens
+  pub read_fault : (matches : Test) → outcome_status outcome ≡ status.HostFault → Rose middle.host_faults after.host_faults ⊎ LacksCapture before.files (ways matches ready)
+  pub opened_once : after.opens ≤ before.opens + 1
+  pub made_unopened : IsForMade asked → (after.opens ≡ before.opens) × (after.left ≡ before.left)
   pub same_files : after.files ≡ before.files
   pub counts : NoCountFell before after
 
 -- the run on its course
-watching_on : {A : Type 0} (plans : Test → A → Plan) (asked : Option Asked) (means : Means) (before after : Outside) (ready : A) (source text : List ℕ) (outcome : Result (Unit {0}) Stop) (warnings : List (List ℕ)) (matches : Test) (files : Files) (here : Given)
-    → here.files ≡ files → IsWatching plans asked means before after ready source text outcome warnings → Tells means matches → before.files ≡ Some files → HasWay asked here warnings (Goes (plans matches ready))
-    → (course : Course) × IsCourse asked here course × (course.warnings ≡ warnings) × (course.way ≡ Goes (plans matches ready)) × Ends files course (work_of before) (work_of after) (outcome_status outcome) (concat warnings ++ text)
-watching_on plans asked means before after ready source text outcome warnings matches files here over run tells is has = (
+watching_on : {A : Type 0} (ways : Test → A → Way) (asked : Option Asked) (means : Means) (before after : Outside) (ready : A) (text : List ℕ) (outcome : Result (Unit {0}) Stop) (warnings : List (List ℕ)) (matches : Test) (files : Files) (here : Given)
+    → here.files ≡ files → IsWatching ways asked means before after ready text outcome warnings → Tells means matches → before.files ≡ Some files → HasWay asked here warnings (ways matches ready)
+    → (course : Course) × IsCourse asked here course × (course.warnings ≡ warnings) × (course.way ≡ ways matches ready) × Ends files course (work_of before) (work_of after) (outcome_status outcome) (concat warnings ++ text)
+watching_on ways asked means before after ready text outcome warnings matches files here over run tells is has = (
   has.course,
   has.is,
   has.warnings_are,
@@ -351,25 +368,33 @@ watching_on plans asked means before after ready source text outcome warnings ma
 )
 
 -- the answer of a capture that is lacking
-lacking_capture : (asked : Option Asked) (here : Given) (plan : Plan) (warnings : List (List ℕ)) → HasWay asked here warnings (Goes plan) → get here.files plan.source ≡ None → HasAnswer asked here status.HostFault
+lacking_capture : (asked : Option Asked) (here : Given) (way : Way) (warnings : List (List ℕ)) → HasWay asked here warnings way → LacksCapture (Some here.files) way → HasAnswer asked here status.HostFault
 unfolding capture_answer
-lacking_capture asked here plan warnings has lacks = record {
+lacking_capture asked here (Stops message ended) warnings has lacks = absurd lacks
+lacking_capture asked here (Makes plan seed count) warnings has lacks = absurd lacks
+lacking_capture asked here (Goes plan) warnings has lacks = record {
   course = has.course;
   is = has.is;
   status = sym (ap (λ (way : Way). (way_answer here.files (concat has.course.warnings) way).status) has.way_is
       ∙ ap (λ (held : Option (List ℕ)). (capture_answer plan (concat has.course.warnings) held).status) lacks);
 }
 
-pub watched_run : {A : Type 0} (plans : Test → A → Plan) (asked : Option Asked) (means : Means) (before after : Outside) (ready : A) (source text : List ℕ) (outcome : Result (Unit {0}) Stop) (warnings : List (List ℕ)) (ended : Status) → (test : Test) × Tells means test
-    → IsWatching plans asked means before after ready source text outcome warnings → IsTold warnings text outcome before after ended → IsRun asked means before after ended
-watched_run plans asked means before after ready source text outcome warnings ended decided run told = record {
+-- files that aren't told lack no capture
+none_lacking : (way : Way) → LacksCapture None way → ⊥
+none_lacking (Stops message ended) lacks = lacks
+none_lacking (Makes plan seed count) lacks = lacks
+none_lacking (Goes plan) lacks = lacks
+
+pub watched_run : {A : Type 0} (ways : Test → A → Way) (asked : Option Asked) (means : Means) (before after : Outside) (ready : A) (text : List ℕ) (outcome : Result (Unit {0}) Stop) (warnings : List (List ℕ)) (ended : Status) → (test : Test) × Tells means test
+    → IsWatching ways asked means before after ready text outcome warnings → IsTold warnings text outcome before after ended → IsRun asked means before after ended
+watched_run ways asked means before after ready text outcome warnings ended decided run told = record {
   matches = decided.0;
   tells = decided.1;
   told = λ files is.
       let p = run.prepared files is in
       let here = given files decided.0 p.refused in
       let has = p.prepares decided.0 in
-      let on = watching_on plans asked means before after ready source text outcome warnings decided.0 files here refl run decided.1 is has in
+      let on = watching_on ways asked means before after ready text outcome warnings decided.0 files here refl run decided.1 is has in
       let on_untold : Ends files on.0 (work_of before) (work_of after) status.NoMemory (concat warnings ++ no_memory_text) =
       subst (λ (w : List (List ℕ)). Ends files on.0 (work_of before) (work_of after) status.NoMemory (concat w ++ no_memory_text)) on.2
       (ends_untold files on.0 (work_of before) (work_of after) (outcome_status outcome) (concat warnings ++ text) on.4) in (
@@ -381,18 +406,19 @@ watched_run plans asked means before after ready source text outcome warnings en
               (inl (record { course = on.0; is = on.1; ends = on_untold })),
           λ failed. ⊎_elim
               (λ (rose : Rose run.middle.host_faults after.host_faults). inl (rose_since before.host_faults run.middle.host_faults after.host_faults run.since.later rose))
-              (λ (lacks : Lacks before.files source).
-              inr (lacking_capture asked here (plans decided.0 ready) warnings has (ap (get files) (run.source_is decided.0) ∙ subst (λ (t : Option Files). Lacks t source) is lacks)))
-              (run.read_fault (by_outcome warnings text outcome before after ended status.HostFault told (λ e. cc) failed)),
+              (λ (lacks : LacksCapture before.files (ways decided.0 ready)).
+              inr (lacking_capture asked here (ways decided.0 ready) warnings has (subst (λ (t : Option Files). LacksCapture t (ways decided.0 ready)) is lacks)))
+              (run.read_fault decided.0 (by_outcome warnings text outcome before after ended status.HostFault told (λ e. cc) failed)),
         ),
       );
   untold = λ failed none. ⊎_elim
       (λ (rose : Rose run.middle.host_faults after.host_faults). rose_since before.host_faults run.middle.host_faults after.host_faults run.since.later rose)
-      (λ (lacks : Lacks before.files source). absurd (subst (λ (t : Option Files). Lacks t source) none lacks))
-      (run.read_fault (by_outcome warnings text outcome before after ended status.HostFault told (λ e. cc) failed));
+      (λ (lacks : LacksCapture before.files (ways decided.0 ready)). absurd (none_lacking (ways decided.0 ready) (subst (λ (t : Option Files). LacksCapture t (ways decided.0 ready)) none lacks)))
+      (run.read_fault decided.0 (by_outcome warnings text outcome before after ended status.HostFault told (λ e. cc) failed));
   write_fault = λ failed. run.write_fault (by_outcome warnings text outcome before after ended status.WriteFault told (λ e. cc) failed);
   faulty_words = λ none. absurd (run.faulty_words none);
-  opened_once = let is = run.opened in omega (arith, is, one_more_most before.opens);
+  opened_once = run.opened_once;
+  made_unopened = run.made_unopened;
   same_files = run.same_files;
   counts = run.counts;
 }

@@ -1,20 +1,21 @@
 -- What a run answers: the alert bytes, the error bytes and the status, as one thread gives them that
 -- tries every rule on each packet and stream.
 --
--- The cases go in the order of the work: the course of the words and files, the capture's name, its
--- records. To try it on: where the configuration has one rule and the capture is the 24 bytes of its
+-- The cases go in the order of the work: the course of the words and files, the capture's name where it
+-- has one, its records. To try it on: where the configuration has one rule and the capture is the 24 bytes of its
 -- head alone, the answer is no line, no error and Done; without the last of these bytes it is
 -- `ERROR: capture is truncated at byte 0` and BadCapture.
-use Rattle.std.specs.Prelude.{◌≡◌, ℕ, List, [], ◌++◌, Option, Some, None}
+use Rattle.std.specs.Prelude.{ℕ, List, [], ◌++◌, Option, Some, None}
 use Rattle.std.specs.FinMap.{get}
 use Rattle.std.specs.List.{concat}
 use Rattle.edge_io.specs.Files.{Files}
 use Rattle.pcap_input.specs.declared.capture.CaptureFault.{CaptureFault}
 use Rattle.pcap_input.specs.declared.capture.CaptureFault.TheVariants as fault
 use Rattle.pcap_input.specs.Savefile.{Ending, Clean, Refused}
+use Rattle.pcap_input.specs.Generated.{generated}
 use Rattle.snort_engine.specs.declared.status.Status.{Status}
 use Rattle.snort_engine.specs.declared.status.Status.TheVariants as status
-use Rattle.snort_engine.specs.Course.{Plan, Way, Stops, Goes, Course}
+use Rattle.snort_engine.specs.Course.{Plan, Way, Stops, Goes, Makes, Course}
 use Rattle.snort_engine.specs.Records.{Recording, records_of}
 use Rattle.snort_engine.specs.Trace.{Closed}
 use Rattle.snort_engine.specs.Lines.{lines}
@@ -72,10 +73,11 @@ capture_answer plan warnings None =
     record { alerts = []; errors = warnings ++ cannot_read_text plan.source; status = status.HostFault }
 capture_answer plan warnings (Some bytes) = recording_answer plan warnings (records_of plan bytes)
 
--- the answer for a way, behind these warnings
+-- the answer for a way, behind these warnings: a capture that is made has its bytes without a file
 abbrev pub way_answer : Files → List ℕ → Way → Answer
 way_answer files warnings (Stops message ended) = record { alerts = []; errors = warnings ++ message; status = ended }
 way_answer files warnings (Goes plan) = capture_answer plan warnings (get files plan.source)
+way_answer files warnings (Makes plan seed count) = capture_answer plan warnings (Some (generated seed count))
 
 -- the answer for a course over these files
 abbrev pub answer_of : Files → Course → Answer

@@ -2,14 +2,16 @@
 --
 -- A run reads its words, and the configuration, the rules and the host table that they name, and then
 -- either stops with a message and a status, or goes on with a plan: which capture is read, how, and by
--- which rules. Warnings stand before either. What a run does with a capture is said by `Records`,
+-- which rules. The capture is that of a file, or it is made of a seed (pcap_input specs/Generated), and
+-- then no file is read for it. Warnings stand before either. What a run does with a capture is said by `Records`,
 -- `Trace` and `Lines`. A rule line's meaning is a relation, and so a course is one, too: the words,
 -- the files and the refused patterns have one course.
 -- (Snort Users Manual 2.9, section 1.6, for the options; the messages are our own.)
 -- To try it on: `snort -c r -r p` where `r` has one rule goes on with the capture `p` and that rule;
 -- where `r` is lacking it stops with `ERROR: cannot read r` and HostFault; `snort -c r -T` stops with
--- `configuration accepted: 1 rules` and Done.
-use Rattle.std.specs.Prelude.{◌≡◌, ℕ, ◌==◌, ◌||◌, Bool, true, false, not, List, [], Option, Some, None, Result, Ok, Err, MatchBool, is_some, length, if◌then◌else◌}
+-- `configuration accepted: 1 rules` and Done; `snort -c r --generate 5` goes on with the five packets of
+-- the seed 1.
+use Rattle.std.specs.Prelude.{◌≡◌, ℕ, Bool, true, false, List, [], Option, Some, None, Result, Ok, Err, IsSome, length, if◌then◌else◌}
 use Rattle.std.specs.Option.{option_map, option_map_or}
 use Rattle.edge_io.specs.Files.{Files}
 use Rattle.packet_decode.specs.declared.checks.Checks.{Checks}
@@ -29,8 +31,8 @@ use Rattle.snort_engine.specs.declared.status.Status.{Status}
 use Rattle.snort_engine.specs.declared.status.Status.TheVariants as status
 use Rattle.snort_engine.specs.Messages.{usage_text, version_text, accepted_text, command_line_text, cannot_read_text}
 
--- what is done with a capture: the name of its file; how many records are read at most; which checksums
--- are verified; the configuration of fragments, streams and events; the table of hosts; how many bytes of
+-- what is done with a capture: the name of its file, empty where it has none; how many records are read
+-- at most; which checksums are verified; the configuration of fragments, streams and events; the table of hosts; how many bytes of
 -- a stream are acknowledged at least before they are an item; the rules that are tried, and the test that
 -- says which of them match; and whether counts are told. How many lanes do the work is no part of it.
 pub record Plan : Type 0 where
@@ -44,10 +46,12 @@ pub record Plan : Type 0 where
   pub matches : Test
   pub counted : Bool
 
--- a run stops with a message and a status, or goes on with a plan
+-- a run stops with a message and a status, or goes on with a plan: for the capture in the plan's file, or
+-- for the one that is made of a seed, with so many packets
 pub data Way : Type 0 where
   Stops : (message : List ℕ) (ended : Status) → Way
   Goes : (plan : Plan) → Way
+  Makes : (plan : Plan) (seed count : ℕ) → Way
 
 -- all warnings, each a line; and then
 pub record Course : Type 0 where
@@ -78,10 +82,6 @@ checks_of mode.NoTcp = record { ip = true; tcp = false; udp = true; icmp = true 
 checks_of mode.NoUdp = record { ip = true; tcp = true; udp = false; icmp = true }
 checks_of mode.NoIcmp = record { ip = true; tcp = true; udp = true; icmp = false }
 
--- what isn't done yet: captures that are made up
-abbrev pub is_for_later : Run → Bool
-is_for_later wanted = is_some wanted.generate || not (wanted.seed == 1)
-
 -- the plan for a capture of this name: `-k` stands in place of the configuration's mode
 abbrev pub plan_for : Test → Run → Ready → List ℕ → Plan
 plan_for matches wanted ready source = record {
@@ -102,15 +102,19 @@ plan_for matches wanted ready source = record {
 abbrev pub stopping : List ℕ → Status → Course
 stopping message ended = record { warnings = []; way = Stops message ended }
 
--- the way of a detector that is ready: under `-T` nothing is left to do
-abbrev pub way_ready : Test → Run → Ready → Option (List ℕ) → Way
-way_ready matches wanted ready None = Stops command_line_text status.Refused
-way_ready matches wanted ready (Some source) = Goes (plan_for matches wanted ready source)
+-- the way of a detector that is ready, by `--generate` and `-r`: a seed says something only of a capture
+-- that is made
+abbrev pub way_ready : Test → Run → Ready → Option ℕ → Option (List ℕ) → Way
+way_ready matches wanted ready (Some count) capture = Makes (plan_for matches wanted ready []) wanted.seed count
+way_ready matches wanted ready None (Some source) = Goes (plan_for matches wanted ready source)
+way_ready matches wanted ready None None = Stops command_line_text status.Refused
 
--- the way that a setup gives
+-- the way that a setup gives: under `-T` nothing is left to do
 abbrev pub way_of : Test → Run → Result Ready Halt → Way
 way_of matches wanted (Ok ready) =
-    if wanted.test then Stops (accepted_text (length ready.rules)) status.Done else way_ready matches wanted ready wanted.capture
+    if wanted.test
+    then Stops (accepted_text (length ready.rules)) status.Done
+    else way_ready matches wanted ready wanted.generate wanted.capture
 way_of matches wanted (Err (Refused message)) = Stops message status.Refused
 way_of matches wanted (Err (Lacks name)) = Stops (cannot_read_text name) status.HostFault
 
@@ -135,9 +139,7 @@ given files matches refused = record { files = files; matches = matches; refused
 -- the course of a run that the words ask for
 abbrev pub IsRunCourse : Run → Given → Course → Type 0
 IsRunCourse wanted given course =
-    MatchBool (is_for_later wanted)
-    (course ≡ stopping command_line_text status.Refused)
-    ((setup : Warned Ready) × IsSetup (setup_words wanted) given.files given.refused setup × (course ≡ course_by given.matches wanted setup))
+    (setup : Warned Ready) × IsSetup (setup_words wanted) given.files given.refused setup × (course ≡ course_by given.matches wanted setup)
 
 -- the course of words that may be a command
 unfoldable pub IsCourse : Option Asked → Given → Course → Type 0
@@ -145,6 +147,11 @@ IsCourse None given course = course ≡ stopping command_line_text status.Refuse
 IsCourse (Some help) given course = course ≡ stopping usage_text status.Done
 IsCourse (Some version) given course = course ≡ stopping version_text status.Done
 IsCourse (Some (run wanted)) given course = IsRunCourse wanted given course
+
+-- the words ask for a capture that is made
+abbrev pub IsForMade : Option Asked → Type 0
+IsForMade (Some (run wanted)) = IsSome wanted.generate
+IsForMade asked = ⊥
 
 -- the law of courses: words, files, a test and refused lines have at most one
 abbrev pub HasOneCourse : Type 0

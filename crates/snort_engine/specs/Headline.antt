@@ -8,7 +8,7 @@
 -- counts stand whatever is told.
 -- To try it on: where the alert sink fails at its second write, the alert bytes are a beginning of the
 -- answer's, and the message is `ERROR: cannot write`.
-use Rattle.std.specs.Prelude.{◌≡◌, ℕ, ◌+◌, ◌≤◌, List, [], Option, Some, None, ◌⊎◌, length, drop}
+use Rattle.std.specs.Prelude.{◌≡◌, ℕ, ◌+◌, ◌≤◌, List, Option, Some, None, ◌⊎◌, length, drop}
 use Rattle.edge_io.specs.Told.{Rose}
 use Rattle.edge_io.specs.Files.{Files}
 use Rattle.edge_io.specs.declared.pattern.Refusal.{Refusal}
@@ -17,7 +17,8 @@ use Rattle.command_words.specs.CommandLine.{Asked, command_line}
 use Rattle.flow_lanes.specs.Hits.{Test, Tells}
 use Rattle.snort_engine.specs.declared.status.Status.{Status}
 use Rattle.snort_engine.specs.declared.status.Status.TheVariants as status
-use Rattle.snort_engine.specs.Course.{Course, Given, given, IsCourse, HasOneCourse, AreRefused}
+use Rattle.snort_engine.specs.Course.{Course, Given, given, IsCourse, IsForMade, HasOneCourse, AreRefused}
+use Rattle.snort_engine.specs.Records.{MadeIsWhole}
 use Rattle.snort_engine.specs.Lines.{LinesJoin, PrefixLaw}
 use Rattle.snort_engine.specs.Answer.{answer_of}
 use Rattle.snort_engine.specs.Outside.{Outside, work_of, NoFault, NoCountFell}
@@ -62,8 +63,9 @@ pub record Headline (words : List (List ℕ)) (means : Means) (before after : Ou
   -- complete: where no count rose, the status is the answer's, unless memory is lacking
   pub complete : OfTold before.files (λ files. NoFault before after
       → HasAnswer (command_line words) (given files matches refused) ended ⊎ (ended ≡ status.NoMemory))
-  -- the capture is opened at most once
+  -- the capture is opened at most once; one that is made isn't, and what the host has open stays as it is
   pub opened_once : after.opens ≤ before.opens + 1
+  pub made_unopened : IsForMade (command_line words) → (after.opens ≡ before.opens) × (after.left ≡ before.left)
   -- causes: a fault is answered only where its count rose, or a file is lacking; faulty words are
   -- refused, whatever the host tells
   pub write_fault : ended ≡ status.WriteFault → Rose before.alert_faults after.alert_faults
@@ -73,7 +75,8 @@ pub record Headline (words : List (List ℕ)) (means : Means) (before after : Ou
   -- the files stay, no count falls, and the maker means the same
   pub same_files : after.files ≡ before.files
   pub counts : NoCountFell before after
-  -- the laws of courses and of the lines
+  -- the laws of courses, of captures that are made, and of the lines
   pub one_course : HasOneCourse
+  pub made_is_whole : MadeIsWhole
   pub lines_join : LinesJoin
   pub prefix_law : PrefixLaw

@@ -11,6 +11,8 @@ pub mod Showing
 pub mod Detecting
 pub mod Answer
 pub mod Outside
+pub mod Sources
+pub mod MadeCapture
 pub mod ReadAhead
 pub mod Ending
 pub mod Headline

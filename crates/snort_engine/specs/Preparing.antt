@@ -2,7 +2,7 @@
 --
 -- To try it on: where `r` has one rule, `snort -c r -r p` is prepared with the plan for `p` and that rule,
 -- and no warning; `snort -c r -T` stops as Accepted.
-use Rattle.std.specs.Prelude.{◌≡◌, ℕ, ⊤, Bool, true, false, List, [], Option, Result, Ok, Err, ◌⊎◌}
+use Rattle.std.specs.Prelude.{◌≡◌, ℕ, ⊤, List, [], Option, Result, Ok, Err, ◌⊎◌}
 use Rattle.edge_io.specs.Files.{Files, Lacks}
 use Rattle.edge_io.specs.declared.pattern.Refusal.{Refusal}
 use Rattle.command_words.specs.CommandLine.{Asked, Run}
@@ -12,11 +12,11 @@ use Rattle.snort_setup.specs.declared.stop.SetupStop.{SetupStop}
 use Rattle.snort_setup.specs.declared.stop.SetupStop.TheVariants as halted
 use Rattle.snort_setup.specs.Answers.{SetsUp}
 use Rattle.snort_setup.specs.Setup.{Ready}
-use Rattle.snort_setup.specs.Whole.{ready_of}
 use Rattle.snort_engine.specs.declared.prepare.Prepared.{Prepared}
 use Rattle.snort_engine.specs.declared.stop.Stop.{Stop}
 use Rattle.snort_engine.specs.declared.stop.Stop.TheVariants as stop
-use Rattle.snort_engine.specs.Course.{Plan, Way, Stops, Goes, Course, Given, given, IsCourse, Reads, AreRefused, setup_words, told_warnings}
+use Rattle.snort_engine.specs.Course.{Plan, Way, Stops, Course, Given, given, IsCourse, Reads, AreRefused, setup_words, told_warnings}
+use Rattle.snort_engine.specs.Sources.{source_name, way_from}
 use Rattle.snort_engine.specs.Stop.{stop_status, stop_text}
 
 -- the words have a course of this way, with these warnings
@@ -29,7 +29,7 @@ pub record HasWay (asked : Option Asked) (given : Given) (warnings : List (List 
 -- the plan of a detector that is ready for a capture, where this test says which rules match
 abbrev pub plan_by : {P : Type 0} → Test → Prepared P → Plan
 plan_by matches prepared = record {
-  source = prepared.source.now;
+  source = source_name prepared.source;
   limit = prepared.limit;
   checks = prepared.checks;
   config = prepared.setup.config;
@@ -40,19 +40,23 @@ plan_by matches prepared = record {
   counted = prepared.counted;
 }
 
+-- its way
+abbrev pub way_for : {P : Type 0} → Test → Prepared P → Way
+way_for matches prepared = way_from prepared.source (plan_by matches prepared)
+
 -- the way of a stop; no stop before a capture is opened tells its name
 abbrev pub stops : Stop → Way
 stops why = Stops (stop_text [] why) (stop_status why)
 
 -- the way of an answer
-abbrev pub way_by : {A : Type 0} → (A → Plan) → Result A Stop → Way
-way_by view (Ok ready) = Goes (view ready)
+abbrev pub way_by : {A : Type 0} → (A → Way) → Result A Stop → Way
+way_by view (Ok ready) = view ready
 way_by view (Err why) = stops why
 
 -- an answer is what the words' course has, with its warnings; but a file that couldn't be read may be one
 -- of those that are read where the host's count rose, and want of memory is for any, without a warning
-abbrev pub Prepares : {A : Type 0} → (A → Plan) → Option Asked → Given → Type 0 → Result A Stop → List (List ℕ) → Type 0
-Prepares view asked given rose (Ok ready) warnings = HasWay asked given warnings (Goes (view ready))
+abbrev pub Prepares : {A : Type 0} → (A → Way) → Option Asked → Given → Type 0 → Result A Stop → List (List ℕ) → Type 0
+Prepares view asked given rose (Ok ready) warnings = HasWay asked given warnings (view ready)
 Prepares view asked given rose (Err (stop.CannotReadFile name)) warnings =
     HasWay asked given warnings (stops (stop.CannotReadFile name)) ⊎ (rose × Reads asked given name warnings)
 Prepares view asked given rose (Err stop.NoMemory) warnings = warnings ≡ []
@@ -60,7 +64,7 @@ Prepares view asked given rose (Err why) warnings = HasWay asked given warnings 
 
 -- an answer over these files, where the maker's refusals grew by these: whatever test says which rules
 -- match, it is what the words' course has over one list of refused lines
-pub record IsPrepared {A : Type 0} (view : Test → A → Plan) (asked : Option Asked) (files : Files) (rose : Type 0) (grown : List Refusal) (answer : Result A Stop) (warnings : List (List ℕ)) : Type 0 where
+pub record IsPrepared {A : Type 0} (view : Test → A → Way) (asked : Option Asked) (files : Files) (rose : Type 0) (grown : List Refusal) (answer : Result A Stop) (warnings : List (List ℕ)) : Type 0 where
   pub refused : List ℕ
   pub are_refused : AreRefused asked files refused grown
   pub prepares : (matches : Test) → Prepares (view matches) asked (given files matches refused) rose answer warnings

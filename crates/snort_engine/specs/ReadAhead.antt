@@ -1,9 +1,10 @@
 -- How far a run reads ahead of what it writes: one batch of records.
 --
 -- It goes by the course. Where the course stops, nothing is opened and no line is written. Where it
--- goes on with a plan, the plan's capture is open at the end and has lost some bytes: of the records
+-- goes on with a plan for a file, that capture is open at the end and has lost some bytes: of the records
 -- that are whole within these the lines of all but the last batch were written, and maybe more. A run
--- that is cut off before has opened nothing, or has nothing open, and has written no line.
+-- that is cut off before has opened nothing, or has nothing open, and has written no line. Where the
+-- capture is made, nothing is opened or read, and so no fault of reading ends the run.
 -- To try it on: where 600 records with a line each were taken, at least the lines of the first 344
 -- stand in the alerts.
 use Rattle.std.specs.Prelude.{◌≡◌, ℕ, ◌-◌, List, [], ◌++◌, length, take, Option, Some, None, ◌⊎◌}
@@ -13,7 +14,7 @@ use Rattle.edge_io.specs.Files.{Files}
 use Rattle.snort_engine.specs.declared.status.Status.{Status}
 use Rattle.snort_engine.specs.declared.status.Status.TheVariants as status
 use Rattle.record_jobs.specs.Way.{LinkedRecord}
-use Rattle.snort_engine.specs.Course.{Plan, Way, Stops, Goes, Course}
+use Rattle.snort_engine.specs.Course.{Plan, Way, Stops, Goes, Makes, Course}
 use Rattle.snort_engine.specs.Records.{records_of}
 use Rattle.snort_engine.specs.Trace.{Open}
 use Rattle.snort_engine.specs.Lines.{lines}
@@ -51,6 +52,12 @@ pub record IsReadAhead (plan : Plan) (held : Option (List ℕ)) (before after : 
   pub more : List ℕ
   pub wrote : after.alerts ≡ behind before.alerts (lines_due plan taken ++ more)
 
+-- the host was left alone, and no fault of it ends the run
+pub record IsApart (before after : Work) (ended : Status) : Type 0 where
+  pub left : after.left ≡ before.left
+  pub opens : after.opens ≡ before.opens
+  pub no_host_fault : ¬ (ended ≡ status.HostFault)
+
 -- the statuses of a run that may be cut off before a capture is open
 abbrev pub IsCutOff : Status → Type 0
 IsCutOff ended = (ended ≡ status.HostFault) ⊎ (ended ≡ status.NoMemory)
@@ -62,6 +69,7 @@ ReadsAheadOn files (Stops message status_then) before after ended =
 ReadsAheadOn files (Goes plan) before after ended =
     IsReadAhead plan (get files plan.source) before after
     ⊎ (IsCutOff ended × (IsUnopened before after ⊎ IsShut before after))
+ReadsAheadOn files (Makes plan seed count) before after ended = IsApart before after ended
 
 -- how far was read ahead on a course
 unfoldable pub ReadsAhead : Files → Course → Work → Work → Status → Type 0

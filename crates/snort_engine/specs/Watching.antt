@@ -22,13 +22,14 @@ use Rattle.snort_engine.specs.declared.plan.Plan as code
 use Rattle.snort_engine.specs.declared.stop.Stop.{Stop}
 use Rattle.snort_engine.specs.declared.stop.Stop.TheVariants as stop
 use Rattle.snort_engine.specs.Course.{Plan}
+use Rattle.snort_engine.specs.Sources.{source_name}
 use Rattle.snort_engine.specs.Trace.{Open, Closed, CaptureState}
 use Rattle.snort_engine.specs.Lines.{lines}
 use Rattle.snort_engine.specs.Counts.{counts_of}
 use Rattle.snort_engine.specs.ReadAhead.{batch}
 use Rattle.snort_engine.specs.Outside.{WritesPart}
 use Rattle.snort_engine.specs.Stop.{capture_stop, is_whole}
-use Rattle.snort_engine.specs.Detecting.{Detecting, DetectorStands, Knows, Closes, ClosesPart}
+use Rattle.snort_engine.specs.Detecting.{DetectorStands, Knows, Closes, ClosesPart}
 
 -- the test says which rules of a set match, by what its patterns find
 pub record IsTest {P : Type 0} (finds : P → List ℕ → Option Span) (set : Rules P) (test : Test) : Type 0 where
@@ -39,7 +40,7 @@ pub record IsTest {P : Type 0} (finds : P → List ℕ → Option Span) (set : R
 -- the plan that the code works by, where this test says which rules match
 abbrev pub plan_of : {P : Type 0} → Test → code.Plan P → Plan
 plan_of matches plan = record {
-  source = plan.source.now;
+  source = source_name plan.source;
   limit = plan.limit;
   checks = plan.checks;
   config = plan.config.now;

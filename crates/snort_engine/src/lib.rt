@@ -15,11 +15,13 @@
 #![tactic(auto)]
 
 mod batch;
+mod capture;
 mod counts;
 mod detect;
 mod detector;
 mod events;
 mod lines;
+mod made;
 mod pieces;
 mod plan;
 mod prepare;

@@ -1,6 +1,7 @@
 ghost use Rattle.std.specs.Prelude.{◌≡◌};
 ghost use Rattle.record_jobs.specs.Way as ways;
 ghost use Rattle.snort_engine.specs.Trace.{way_by};
+ghost use Rattle.snort_engine.specs.Sources.{source_name};
 
 use conf_parser::Config;
 use host_table::Hosts;
@@ -8,11 +9,32 @@ use option_eval::RuleSet;
 use packet_decode::Checks;
 use record_jobs::FrontConfig;
 
+/// Where a capture comes from.
+#[derive(Clone, Copy, Debug)]
+pub(crate) enum Source<'a> {
+    /// The file of this name.
+    File(&'a str),
+    /// It is made of a seed, with so many packets.
+    Made { seed: u32, count: u32 },
+}
+
+impl<'a> Source<'a> {
+    /// The name of its file; empty where it has none.
+    pub fn name(self) -> &'a str
+        ensures { result.now ≡ source_name self.entry }
+    {
+        match self {
+            Source::File(name) => name,
+            Source::Made { .. } => "",
+        }
+    }
+}
+
 /// What is done with a capture.
 #[derive(Clone, Copy)]
 pub(crate) struct Plan<'a, P> {
-    /// The name of the capture.
-    pub source: &'a str,
+    /// Where the capture comes from.
+    pub source: Source<'a>,
     /// How many records are read at most, where there is a limit.
     pub limit: Option<u32>,
     /// The checksums that are verified.

@@ -1,5 +1,6 @@
 //! What stands before a capture: the words, the configuration, the rules and the host table.
-ghost use Rattle.std.specs.Prelude.{◌≡◌, ◌≤◌, [], None, Some, Ok, map, string_bytes, length, All, IfOk, IfErr};
+ghost use Rattle.std.specs.Prelude.{◌≡◌, ◌≤◌, [], None, Some, Ok, map, string_bytes, length, All, IfOk, IfErr, IsSome};
+ghost use Rattle.std.specs.Option.{option_map_or};
 ghost use Rattle.edge_io.specs.Files.{Files};
 ghost use Rattle.edge_io.specs.Told.{Rose};
 ghost use Rattle.option_eval.specs.RuleSet.{FindWhatIsMeant, SameMeaning};
@@ -12,12 +13,13 @@ ghost use Rattle.snort_setup.specs.Words.{words_of, HasName};
 ghost use Rattle.snort_setup.specs.Answers as setup_specs;
 ghost use Rattle.snort_setup.specs.Steps.{grown_by, Grows};
 ghost use Rattle.snort_setup.specs.Whole.{ready_of};
-ghost use Rattle.snort_engine.specs.Course.{setup_words, checks_of, is_for_later, way_of};
-ghost use Rattle.snort_engine.specs.Preparing.{IsPrepared, IsSetUp, KeepsSetup, HasCause, IsForFaultyWords, plan_by, told_of, way_by};
+ghost use Rattle.snort_engine.specs.Course.{IsForMade, setup_words, checks_of, way_of};
+ghost use Rattle.snort_engine.specs.Preparing.{IsPrepared, IsSetUp, KeepsSetup, HasCause, IsForFaultyWords, way_for, told_of, way_by};
+ghost use Rattle.snort_engine.specs.Sources.{source_name, IsMade, IsSourceFor, way_from};
 ghost use Rattle.snort_engine.specs.Watching.{plan_of};
 ghost use Rattle.snort_engine.specs.Detecting.{IsRanged};
 
-use crate::plan::Plan;
+use crate::plan::{Plan, Source};
 use crate::stop::Stop;
 use command_words::{ChecksumMode, Command, Words, WordsFault, read_words};
 use edge_io::{Host, Items, Pattern, PatternMaker, Text};
@@ -28,8 +30,8 @@ use std::alloc::Global;
 /// A detector that is ready for a capture.
 #[derive(Drop)]
 pub(crate) struct Prepared<'a, P> {
-    /// The name of the capture.
-    pub source: &'a str,
+    /// Where the capture comes from.
+    pub source: Source<'a>,
     /// How many of its records are read at most.
     pub limit: Option<u32>,
     /// The checksums that are verified.
@@ -45,10 +47,11 @@ pub(crate) struct Prepared<'a, P> {
 
 /// What is done with the capture.
 pub(crate) fn plan_for<'a, P>(prepared: &'a Prepared<'_, P>) -> Plan<'a, P>
-    ensures plan { (matches : Test) → plan_of matches result ≡ plan_by matches prepared.now }
+    ensures way { (matches : Test) → way_from result.source (plan_of matches result) ≡ way_for matches prepared.now }
     ensures set { result.set.now ≡ prepared.now.setup.set }
     ensures config { result.config.now ≡ prepared.now.setup.config }
-    ensures source { result.source.now ≡ prepared.now.source.now }
+    ensures name { source_name result.source ≡ source_name prepared.now.source }
+    ensures made { IsMade prepared.now.source → IsMade result.source }
     ensures lanes { result.lanes ≡ prepared.now.lanes }
     ensures flush { result.flush ≡ prepared.now.flush }
     ensures counted { result.counted ≡ prepared.now.counted }
@@ -91,11 +94,14 @@ fn checks_of(mode: ChecksumMode) -> Checks
     }
 }
 
-/// Whether the words ask for what isn't done yet.
-fn is_for_later(wanted: &Words<'_>) -> bool
-    ensures { result ≡ is_for_later (run_of wanted.now) }
+/// The checksums that are verified: `-k` stands in place of the configuration's.
+fn checks_for(wanted: &Words<'_>, configured: Checks) -> Checks
+    ensures { result ≡ option_map_or checks_of (run_of wanted.now).checks configured }
 {
-    wanted.generate.is_some() || wanted.seed != 1
+    match wanted.checks {
+        Some(mode) => checks_of(mode),
+        None => configured,
+    }
 }
 
 /// What the words say of the setup.
@@ -165,10 +171,26 @@ fn set_up<H: Host, M: PatternMaker>(
     outcome
 }
 
+/// Where the words have the capture from, if from anywhere. A seed says something only of a capture that
+/// is made.
+fn source_of<'a>(wanted: &Words<'a>) -> Option<Source<'a>>
+    ensures { IsSourceFor (run_of wanted.now) result }
+{
+    match (wanted.generate, wanted.capture) {
+        (Some(count), _) => Some(Source::Made {
+            seed: wanted.seed,
+            count,
+        }),
+        (None, Some(name)) => Some(Source::File(name)),
+        (None, None) => None,
+    }
+}
+
 /// What is left to do with a detector that is set up.
 fn ready<'a, P: Pattern>(wanted: &Words<'a>, setup: Setup<P>) -> Result<Prepared<'a, P>, Stop>
-    ensures way { (matches : Test) → way_by (plan_by matches) result
+    ensures way { (matches : Test) → way_by (way_for matches) result
         ≡ way_of matches (run_of wanted.now) (Ok (ready_of setup)) }
+    ensures made { IfOk result (λ ready. IsSome wanted.now.generate → IsMade ready.source) }
     ensures kept { KeepsSetup setup result }
     ensures ranges { IfOk result (λ ready. (ready.lanes ≡ wanted.now.lanes) × (ready.flush ≡ wanted.now.flush_point)) }
 {
@@ -177,17 +199,13 @@ fn ready<'a, P: Pattern>(wanted: &Words<'a>, setup: Setup<P>) -> Result<Prepared
             rules: setup.set.rules().len() as u64,
         });
     }
-    let Some(source) = wanted.capture else {
+    let Some(source) = source_of(wanted) else {
         return Err(Stop::CommandLine);
-    };
-    let checks = match wanted.checks {
-        Some(mode) => checks_of(mode),
-        None => setup.config.checks,
     };
     Ok(Prepared {
         source,
         limit: wanted.limit,
-        checks,
+        checks: checks_for(wanted, setup.config.checks),
         lanes: wanted.lanes,
         flush: wanted.flush_point,
         counted: wanted.stats,
@@ -205,10 +223,10 @@ fn prepare_run<'a, H: Host, M: PatternMaker>(
 ) -> Result<Prepared<'a, M::Made>, Stop>
     requires named { HasName (setup_words (run_of wanted.now)).definition }
     requires ranged { IsRanged wanted.now.lanes wanted.now.flush_point }
-    requires silent { warnings.old ≡ [] }
     ensures prepared { (files : Files) → H.contents host.old ≡ Some files
-        → IsPrepared plan_by (Some (run (run_of wanted.now))) files (Rose (H.faults host.old) (H.faults host.new))
+        → IsPrepared way_for (Some (run (run_of wanted.now))) files (Rose (H.faults host.old) (H.faults host.new))
         (grown_by (M.refusals maker.old) (M.refusals maker.new)) result warnings.new }
+    ensures made { IfOk result (λ ready. IsSome wanted.now.generate → IsMade ready.source) }
     ensures cause { IfErr result (HasCause (Rose (H.faults host.old) (H.faults host.new)) (H.contents host.old)) }
     ensures config { IfOk result (λ ready. conf.IsSound ready.setup.config) }
     ensures rules { IfOk result (λ ready. All (IsSound ready.setup.config.classes) ready.setup.set.rules) }
@@ -221,9 +239,6 @@ fn prepare_run<'a, H: Host, M: PatternMaker>(
     ensures grows { Grows (M.refusals maker.old) (M.refusals maker.new) }
     ensures same_meaning { SameMeaning (M.means maker.old) (M.means maker.new) }
 {
-    if is_for_later(wanted) {
-        return Err(Stop::CommandLine);
-    }
     let setup = set_up(alloc, wanted, host, maker, warnings)?;
     ready(wanted, setup)
 }
@@ -243,9 +258,10 @@ pub(crate) fn prepare<'a, H: Host, M: PatternMaker>(
 ) -> Result<Prepared<'a, M::Made>, Stop>
     requires { warnings.old ≡ [] }
     ensures prepared { (files : Files) → H.contents host.old ≡ Some files
-        → IsPrepared plan_by (command_line (map string_bytes words.entry.now)) files (Rose (H.faults host.old) (H.faults host.new))
+        → IsPrepared way_for (command_line (map string_bytes words.entry.now)) files (Rose (H.faults host.old) (H.faults host.new))
         (grown_by (M.refusals maker.old) (M.refusals maker.new)) result warnings.new }
     ensures faulty_words { command_line (map string_bytes words.entry.now) ≡ None → IsForFaultyWords result }
+    ensures made { IfOk result (λ ready. IsForMade (command_line (map string_bytes words.entry.now)) → IsMade ready.source) }
     ensures cause { IfErr result (HasCause (Rose (H.faults host.old) (H.faults host.new)) (H.contents host.old)) }
     ensures config { IfOk result (λ ready. conf.IsSound ready.setup.config) }
     ensures rules { IfOk result (λ ready. All (IsSound ready.setup.config.classes) ready.setup.set.rules) }

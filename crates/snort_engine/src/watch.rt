@@ -5,6 +5,7 @@ ghost use Rattle.edge_io.specs.Told.{one_more, Rose};
 ghost use Rattle.pcap_input.specs.Savefile.{most_records};
 ghost use Rattle.flow_lanes.specs.Hits.{Test};
 ghost use Rattle.snort_engine.specs.Course.{Course, Goes};
+ghost use Rattle.snort_engine.specs.Sources.{source_name};
 ghost use Rattle.snort_engine.specs.Ending.{Ends};
 ghost use Rattle.snort_engine.specs.Stop.{outcome_status, outcome_text};
 ghost use Rattle.snort_engine.specs.Reporting.{counts_due};
@@ -199,19 +200,21 @@ pub(crate) fn watch_records<H: Host, P: Pattern, G: Gate, A: Sink, R: Threads + 
     close_watched(rt, alloc, plan, gate, detector, watched, alerts, counts)
 }
 
-/// Opens the plan's capture and writes the lines of its records; `counts` is then what was counted, where
-/// it was read to its end, or is refused.
+/// Opens the file of this name as the capture and writes the lines of its records; `counts` is then what
+/// was counted, where it was read to its end, or is refused.
 #[tactic(auto, using(crate::proofs::Prefixes::rising))]
-pub(crate) fn watch_capture<H: Host, P: Pattern, G: Gate, A: Sink, R: Threads + Sync>(
+pub(crate) fn watch_file<H: Host, P: Pattern, G: Gate, A: Sink, R: Threads + Sync>(
     rt: &R,
     alloc: Global,
     host: &mut H,
+    name: &str,
     plan: &Plan<'_, P>,
     gate: &G,
     alerts: &mut A,
     counts: &mut Counts,
 ) -> Result<(), Stop>
     requires plan { IsSoundPlan plan.now }
+    requires named { source_name plan.now.source ≡ name.now }
     requires none { counts.old ≡ no_counts }
     ensures ends { (matches : Test) → IsTest P.finds plan.now.set.now matches
         → (files : Files) (course : Course) → H.contents host.old ≡ Some files
@@ -230,15 +233,15 @@ pub(crate) fn watch_capture<H: Host, P: Pattern, G: Gate, A: Sink, R: Threads + 
           alerts = A.written alerts.new;
         })
         (outcome_status result)
-        (concat course.warnings ++ with_counts (outcome_text plan.now.source.now result) (counts_due plan.now.counted result counts.new)) }
+        (concat course.warnings ++ with_counts (outcome_text name.now result) (counts_due plan.now.counted result counts.new)) }
     ensures write_fault { outcome_status result ≡ Status.WriteFault → Rose (A.faults alerts.old) (A.faults alerts.new) }
     ensures read_fault { outcome_status result ≡ Status.HostFault
-        → Rose (H.faults host.old) (H.faults host.new) ⊎ Lacks (H.contents host.old) plan.now.source.now }
+        → Rose (H.faults host.old) (H.faults host.new) ⊎ Lacks (H.contents host.old) name.now }
     ensures opened { H.opens host.new ≡ one_more (H.opens host.old) }
     ensures same_contents { H.contents host.new ≡ H.contents host.old }
     ensures later { H.faults host.old ≤ H.faults host.new }
     ensures later_alerts { A.faults alerts.old ≤ A.faults alerts.new }
 {
-    let mut reader = CaptureReader::open(host, plan.source)?;
+    let mut reader = CaptureReader::open(host, name)?;
     watch_records(rt, alloc, host, &mut reader, plan, gate, alerts, counts)
 }

@@ -1,8 +1,6 @@
-use Rattle.std.proofs.Common.{refl, sym, ap, ◌∙◌, arith}
-use Rattle.edge_io.specs.Told.{one_more}
-use Rattle.snort_engine.specs.Course.{Goes}
-use Rattle.snort_engine.specs.Preparing.{plan_by}
-use Rattle.snort_engine.proofs.Runs.{headline, stopped_run, watched_run}
+use Rattle.std.proofs.Common.{refl, sym, ◌∙◌, arith}
+use Rattle.snort_engine.specs.Preparing.{way_for}
+use Rattle.snort_engine.proofs.Runs.{headline, stopped_run, watched_run, opens_behind_most, opens_behind_made}
 use Rattle.snort_engine.proofs.detector.run.Goals as goal
 
 pub watch_capture-outcome-requires-clause-plan : goal.watch_capture-outcome-requires-clause-plan
@@ -18,7 +16,7 @@ watch_capture-outcome-requires-clause-plan g c κs within =
 pub returns-in-Ok-clause-headline : goal.returns-in-Ok-clause-headline
 returns-in-Ok-clause-headline g c =
     headline _ _ _ _ _
-    (watched_run (plan_by {P = g.row.M-Made.Denot}) _ _ _ _ c.in-Ok.ready c.plan_for-plan.result.source.now _ c.watch_capture-outcome.result c.prepare-prepared.new.warnings _ (c.matching_is_decided.ensures _)
+    (watched_run (way_for {P = g.row.M-Made.Denot}) _ _ _ _ c.in-Ok.ready _ c.watch_capture-outcome.result c.prepare-prepared.new.warnings _ (c.matching_is_decided.ensures _)
     (record {
       middle = record {
         left = g.H.Host.left c.prepare-prepared.new.host;
@@ -32,11 +30,18 @@ returns-in-Ok-clause-headline g c =
       ends = λ matches tells files course is goes.
           c.watch_capture-outcome.ensures.ends matches
           (record { means = g.M.PatternMaker.means c.args.maker.now; find = rw c.plan_for-plan.ensures.set c.in-Ok.ensures.meant; tells = tells })
-          files course (c.prepare-prepared.ensures.same_contents ∙ is) (goes ∙ ap Goes (sym (c.plan_for-plan.ensures.plan matches)));
-      source_is = λ matches. sym c.plan_for-plan.ensures.source;
+          files course (c.prepare-prepared.ensures.same_contents ∙ is) (goes ∙ sym (c.plan_for-plan.ensures.way matches));
       write_fault = c.watch_capture-outcome.ensures.write_fault;
-      read_fault = λ failed. rw c.prepare-prepared.ensures.same_contents at (c.watch_capture-outcome.ensures.read_fault failed);
-      opened = c.watch_capture-outcome.ensures.opened ∙ ap one_more c.prepare-prepared.ensures.same_opens;
+      read_fault = λ matches failed.
+          rw (c.prepare-prepared.ensures.same_contents, c.plan_for-plan.ensures.way matches) at (c.watch_capture-outcome.ensures.read_fault matches failed);
+      opened_once =
+          let most = opens_behind_most c.plan_for-plan.result.source (g.H.Host.opens c.prepare-prepared.new.host) in
+          omega (arith, c.watch_capture-outcome.ensures.opened, c.prepare-prepared.ensures.same_opens, most);
+      made_unopened = λ for_made.
+          let made = c.plan_for-plan.ensures.made (c.in-Ok.ensures.made for_made) in (
+            c.watch_capture-outcome.ensures.opened ∙ opens_behind_made c.plan_for-plan.result.source (g.H.Host.opens c.prepare-prepared.new.host) made ∙ c.prepare-prepared.ensures.same_opens,
+            c.watch_capture-outcome.ensures.made_unopened made ∙ c.prepare-prepared.ensures.same_left,
+          );
       same_files = c.watch_capture-outcome.ensures.same_contents ∙ c.prepare-prepared.ensures.same_contents;
       counts = record {
         host = omega (arith, c.prepare-prepared.ensures.later, c.watch_capture-outcome.ensures.later);
@@ -51,13 +56,13 @@ returns-in-Ok-clause-headline g c =
       later = c.tell_all-well.ensures.later;
       on = c.report.ensures.later;
       warned = rw c.as_slice.ensures at c.tell_all-well.ensures.tells;
-      reports = rw c.counts_due-told.ensures at c.report.ensures.reports;
+      reports = rw (c.counts_due-told.ensures, c.name.ensures) at c.report.ensures.reports;
     }))
 
 pub returns-clause-headline : goal.returns-clause-headline
 returns-clause-headline g c =
     headline _ _ _ _ _
-    (stopped_run (plan_by {P = g.row.M-Made.Denot}) _ _ _ _ c.in-Err.stop c.prepare-prepared.new.warnings _ (c.matching_is_decided.ensures _)
+    (stopped_run (way_for {P = g.row.M-Made.Denot}) _ _ _ _ c.in-Err.stop c.prepare-prepared.new.warnings _ (c.matching_is_decided.ensures _)
     (record {
       prepared = λ files is. c.in-Err.ensures.prepared files is;
       cause = c.in-Err.ensures.cause;

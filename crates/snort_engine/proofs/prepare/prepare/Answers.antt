@@ -1,5 +1,5 @@
 use Rattle.command_words.specs.Told.{run_of}
-use Rattle.snort_engine.specs.Preparing.{plan_by}
+use Rattle.snort_engine.specs.Preparing.{way_for}
 use Rattle.snort_engine.proofs.Named.{command_named, command_ranged}
 use Rattle.snort_engine.proofs.Prepared.{prepared_faulty, prepared_help, prepared_version, prepared_lacking}
 use Rattle.snort_engine.proofs.prepare.prepare.Goals as goal
@@ -11,13 +11,13 @@ pub prepare_run-requires-clause-ranged : goal.prepare_run-requires-clause-ranged
 prepare_run-requires-clause-ranged g c κs within = command_ranged _ (run_of c.in-Ok-Run.wanted) (rw c.in-Ok-Run.field-0-is at c.in-Ok-Run.ensures)
 
 pub returns-in-Ok-Help-clause-prepared : goal.returns-in-Ok-Help-clause-prepared
-returns-in-Ok-Help-clause-prepared g c = λ files told. prepared_help plan_by _ files _ _ _ (rw c.in-Ok-Help.field-0-is at c.in-Ok-Help.ensures) c.requires
+returns-in-Ok-Help-clause-prepared g c = λ files told. prepared_help way_for _ files _ _ _ (rw c.in-Ok-Help.field-0-is at c.in-Ok-Help.ensures) c.requires
 
 pub returns-in-Ok-Version-clause-prepared : goal.returns-in-Ok-Version-clause-prepared
-returns-in-Ok-Version-clause-prepared g c = λ files told. prepared_version plan_by _ files _ _ _ (rw c.in-Ok-Version.field-0-is at c.in-Ok-Version.ensures) c.requires
+returns-in-Ok-Version-clause-prepared g c = λ files told. prepared_version way_for _ files _ _ _ (rw c.in-Ok-Version.field-0-is at c.in-Ok-Version.ensures) c.requires
 
 pub returns-in-Err-CommandLine-clause-prepared : goal.returns-in-Err-CommandLine-clause-prepared
-returns-in-Err-CommandLine-clause-prepared g c = λ files told. prepared_faulty plan_by _ files _ _ _ (rw c.in-Err-CommandLine.field-0-is at c.in-Err-CommandLine.ensures) c.requires
+returns-in-Err-CommandLine-clause-prepared g c = λ files told. prepared_faulty way_for _ files _ _ _ (rw c.in-Err-CommandLine.field-0-is at c.in-Err-CommandLine.ensures) c.requires
 
 pub returns-in-Err-NoMemory-clause-prepared : goal.returns-in-Err-NoMemory-clause-prepared
-returns-in-Err-NoMemory-clause-prepared g c = λ files told. prepared_lacking plan_by _ files _ _ _ c.requires
+returns-in-Err-NoMemory-clause-prepared g c = λ files told. prepared_lacking way_for _ files _ _ _ c.requires

@@ -1,22 +1,14 @@
-use Rattle.std.proofs.Common.{◌≡◌, true, false, sym, ◌∙◌}
 use Rattle.std.proofs.lemmas.Result.{err_from_is_err_and}
 use Rattle.command_words.specs.Told.{run_of}
 use Rattle.snort_setup.specs.Whole.{ready_of}
-use Rattle.snort_engine.specs.Course.{is_for_later}
-use Rattle.snort_engine.specs.Preparing.{plan_by}
-use Rattle.snort_engine.proofs.Prepared.{prepared_later, setup_stopped, setup_ready, setup_cause, kept_cause, kept_config, kept_ranges, kept_rules, kept_meant}
+use Rattle.snort_engine.specs.Preparing.{way_for}
+use Rattle.snort_engine.proofs.Prepared.{setup_stopped, setup_ready, setup_cause, kept_cause, kept_config, kept_ranges, kept_rules, kept_meant}
 use Rattle.snort_engine.proofs.prepare.prepare_run.Goals as goal
-
-pub returns-then-is_for_later-clause-prepared : goal.returns-then-is_for_later-clause-prepared
-returns-then-is_for_later-clause-prepared g c = λ files told.
-    let later : is_for_later (run_of c.args.wanted.now) ≡ true = cc in
-    prepared_later plan_by (run_of c.args.wanted.now) files _ _ _ later c.requires.silent
 
 pub returns-in_err-setup-clause-prepared : goal.returns-in_err-setup-clause-prepared
 returns-in_err-setup-clause-prepared g c = λ files told.
     let p = err_from_is_err_and c.from_residual.result c.from_residual.ensures.1 in
-    let now : is_for_later (run_of c.args.wanted.now) ≡ false = cc in
-    rw (p.1, p.2) (setup_stopped ready_of plan_by (run_of c.args.wanted.now) files _ _ c.in_err-setup.field-0.0 _ now (c.in_err-setup.ensures.set_up files told))
+    rw (p.1, p.2) (setup_stopped ready_of way_for (run_of c.args.wanted.now) files _ _ c.in_err-setup.field-0.0 _ (c.in_err-setup.ensures.set_up files told))
 
 pub returns-in_err-setup-clause-cause : goal.returns-in_err-setup-clause-cause
 returns-in_err-setup-clause-cause g c =
@@ -25,8 +17,7 @@ returns-in_err-setup-clause-cause g c =
 
 pub returns-clause-prepared : goal.returns-clause-prepared
 returns-clause-prepared g c = λ files told.
-    let now : is_for_later (run_of c.args.wanted.now) ≡ false = cc in
-    setup_ready (run_of c.args.wanted.now) files _ _ c.in_ok-setup.setup c.ready.result _ now (c.in_ok-setup.ensures.set_up files told) c.ready.ensures.way c.ready.ensures.kept
+    setup_ready (run_of c.args.wanted.now) files _ _ c.in_ok-setup.setup c.ready.result _ (c.in_ok-setup.ensures.set_up files told) c.ready.ensures.way c.ready.ensures.kept
 
 pub returns-clause-cause : goal.returns-clause-cause
 returns-clause-cause g c = kept_cause _ _ c.in_ok-setup.setup c.ready.result c.ready.ensures.kept

@@ -1,8 +1,8 @@
-use Rattle.std.proofs.Common.{◌≡◌, None, refl}
-use Rattle.std.specs.Option.{option_map}
-use Rattle.command_words.specs.Told.{lent}
+use Rattle.std.proofs.Common.{refl}
+use Rattle.command_words.specs.Told.{run_of}
+use Rattle.snort_setup.specs.Whole.{ready_of}
 use Rattle.snort_engine.specs.Stop.{stop_text}
-use Rattle.snort_engine.proofs.Prepared.{none_by}
+use Rattle.snort_engine.proofs.Prepared.{no_source, ready_way, source_made}
 use Rattle.snort_engine.proofs.prepare.ready.Goals as goal
 
 pub returns-then-wanted-clause-way : goal.returns-then-wanted-clause-way
@@ -12,5 +12,12 @@ returns-then-wanted-clause-way g c = λ matches. rw (c.if-wanted.true, c.rules.e
 pub returns-in_default-clause-way : goal.returns-in_default-clause-way
 unfolding stop_text
 returns-in_default-clause-way g c = λ matches.
-    let none : option_map lent c.args.wanted.now.capture ≡ None = none_by lent c.args.wanted.now.capture c.in_default.not-Some in
-    rw (c.if-wanted.false, none) refl
+    let none = no_source (run_of c.args.wanted.now) c.source_of.result c.in_default.not-Some c.source_of.ensures in
+    rw (c.if-wanted.false, none.0, none.1) refl
+
+pub returns-clause-way : goal.returns-clause-way
+returns-clause-way g c = λ matches.
+    ready_way matches (run_of c.args.wanted.now) (ready_of c.args.setup) c.in-Some.source c.checks_for.result c.if-wanted.false c.in-Some.ensures c.checks_for.ensures
+
+pub returns-clause-made : goal.returns-clause-made
+returns-clause-made g c = source_made (run_of c.args.wanted.now) c.in-Some.source c.in-Some.ensures

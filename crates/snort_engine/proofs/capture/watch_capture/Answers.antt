@@ -1,0 +1,22 @@
+use Rattle.std.proofs.Common.{refl, ap, ◌∙◌}
+use Rattle.snort_engine.specs.declared.plan.Source.{Source}
+use Rattle.snort_engine.specs.Sources.{way_from}
+use Rattle.snort_engine.specs.Watching.{plan_of}
+use Rattle.snort_engine.proofs.capture.watch_capture.Goals as goal
+
+pub returns-in-File-clause-ends : goal.returns-in-File-clause-ends
+returns-in-File-clause-ends g c = λ matches test files course told goes.
+    let way = goes ∙ ap (λ (s : Source). way_from s (plan_of matches c.args.plan.now)) c.in-File.is in
+    rw c.in-File.is (c.watch_file.ensures.ends matches test files course told way)
+
+pub returns-in-Made-clause-ends : goal.returns-in-Made-clause-ends
+returns-in-Made-clause-ends g c = λ matches test files course told goes.
+    let way = goes ∙ ap (λ (s : Source). way_from s (plan_of matches c.args.plan.now)) c.in-Made.is in
+    c.watch_made.ensures.ends matches test files course
+    (record {
+      left = g.H.Host.left c.args.host.now;
+      opens = g.H.Host.opens c.args.host.now;
+      host_faults = g.H.Host.faults c.args.host.now;
+      alerts = g.A.Sink.written c.args.alerts.now;
+    })
+    refl way

@@ -1,0 +1,26 @@
+use Rattle.std.proofs.Common.{ℕ, List, Some, ◌≤◌, length, drop, ap, sym, ◌∙◌, subst}
+use Rattle.std.proofs.lemmas.Result.{err_from_is_err_and}
+use Rattle.snort_engine.specs.Stop.{stop_text}
+use Rattle.snort_engine.specs.Watching.{plan_of}
+use Rattle.snort_engine.proofs.MadeCaptures.{generated_long, made_ends, unmade_ends, never_rose}
+use Rattle.snort_engine.proofs.capture.watch_made.Goals as goal
+
+pub new-made-requires : goal.new-made-requires
+new-made-requires g c = subst (λ (xs : List ℕ). 24 ≤ length xs) (sym (c.deref.ensures.value ∙ c.in_ok-bytes.ensures)) (generated_long c.args.seed c.args.count)
+
+pub returns-in_err-bytes-clause-ends : goal.returns-in_err-bytes-clause-ends
+unfolding stop_text
+returns-in_err-bytes-clause-ends g c = λ matches test files course before same makes.
+    let p = err_from_is_err_and c.from_residual.result c.from_residual.ensures.1 in
+    rw (p.1, p.2) (unmade_ends (plan_of matches c.args.plan.now) files course c.args.seed c.args.count before _ makes same)
+
+pub returns-clause-ends : goal.returns-clause-ends
+returns-clause-ends g c = λ matches test files course before same makes.
+    made_ends (plan_of matches c.args.plan.now) files course c.args.seed c.args.count c.in_ok-bytes.bytes.items c.made_reader-reader.result _ _ _ _ before _ c.watch_records.result
+    makes same c.in_ok-bytes.ensures c.made_reader-reader.ensures
+    (c.new-made.ensures ∙ ap (λ (xs : List ℕ). Some (drop 24 xs)) c.deref.ensures.value)
+    (c.watch_records.ensures.watches matches test)
+    (λ failed. never_rose (c.watch_records.ensures.read_fault failed))
+
+pub returns-clause-no_read_fault : goal.returns-clause-no_read_fault
+returns-clause-no_read_fault g c = λ failed. never_rose (c.watch_records.ensures.read_fault failed)

@@ -1,0 +1,7 @@
+use Rattle.std.proofs.Common.{inr, nat_cmp}
+use Rattle.std.specs.Cmp.Lexicographic.{slice_cmp}
+use Rattle.std.specs.FinMap.{get-empty}
+use Rattle.snort_engine.proofs.made.MadeCaptureHost.open.Goals as goal
+
+pub returns-clause-failed : goal.returns-clause-failed
+returns-clause-failed c = inr (get-empty (slice_cmp nat_cmp) c.args._name.now)

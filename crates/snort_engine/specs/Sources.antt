@@ -1,0 +1,42 @@
+-- Where a capture comes from: a file of the host, or a seed.
+--
+-- To try it on: the source of `snort -c r -r p` is the file `p`, and a run opens it once; that of
+-- `snort -c r --generate 5 --seed 7` is made of the seed 7 with 5 packets, and a run opens nothing.
+use Rattle.std.specs.Prelude.{◌≡◌, ℕ, List, [], Option, Some, None, ⊤}
+use Rattle.edge_io.specs.Files.{Files, Lacks}
+use Rattle.edge_io.specs.Told.{one_more}
+use Rattle.command_words.specs.CommandLine.{Run}
+use Rattle.snort_engine.specs.declared.plan.Source.{Source}
+use Rattle.snort_engine.specs.declared.plan.Source.TheVariants.{File, Made}
+use Rattle.snort_engine.specs.Course.{Plan, Way, Goes, Makes}
+
+-- the name of the file; empty where there is none
+abbrev pub source_name : Source → List ℕ
+source_name (File name) = name.now
+source_name (Made seed count) = []
+
+-- the capture is made
+abbrev pub IsMade : Source → Type 0
+IsMade (File name) = ⊥
+IsMade (Made seed count) = ⊤
+
+-- where a run that the words ask for has its capture from, if from anywhere
+abbrev pub IsSourceFor : Run → Option Source → Type 0
+IsSourceFor wanted None = (wanted.generate ≡ None) × (wanted.capture ≡ None)
+IsSourceFor wanted (Some (File name)) = (wanted.generate ≡ None) × (wanted.capture ≡ Some name.now)
+IsSourceFor wanted (Some (Made seed count)) = (wanted.generate ≡ Some count) × (wanted.seed ≡ seed)
+
+-- the way of a plan for a capture of this source
+abbrev pub way_from : Source → Plan → Way
+way_from (File name) plan = Goes plan
+way_from (Made seed count) plan = Makes plan seed count
+
+-- how often captures were opened, behind a run for this source
+abbrev pub opens_behind : Source → ℕ → ℕ
+opens_behind (File name) opens = one_more opens
+opens_behind (Made seed count) opens = opens
+
+-- the host's files are told, and lack the capture of this way
+abbrev pub LacksCapture : Option Files → Way → Type 0
+LacksCapture told (Goes plan) = Lacks told plan.source
+LacksCapture told way = ⊥
