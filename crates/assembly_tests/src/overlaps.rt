@@ -136,6 +136,11 @@ fn small_queue(alloc: Global) -> Result<Queue, Fail> {
     Ok(queue)
 }
 
+/// The bytes as text.
+fn shown(bytes: &[u8]) -> &str {
+    str::from_utf8(bytes).unwrap_or("no text")
+}
+
 /// So many bytes from the queue's floor on, or that one of them is lacking.
 fn filled_text(
     rt: &impl Abort,
@@ -145,12 +150,11 @@ fn filled_text(
 ) -> Result<String, Fail> {
     let mut bytes = vec![in alloc; 0; count]?;
     assert!(rt; queue.floor() < 100 && bytes.len() < 100);
-    let text = if queue.fill(bytes.as_mut_slice()) {
-        str::from_utf8(bytes.as_slice())?
+    if queue.fill(bytes.as_mut_slice()) {
+        Ok(String::from_str(alloc, shown(bytes.as_slice()))?)
     } else {
-        "lacking"
-    };
-    Ok(String::from_str(alloc, text)?)
+        Ok(String::from_str(alloc, "lacking")?)
+    }
 }
 
 #[test]
@@ -184,7 +188,7 @@ fn kept_behind(
 fn runs_text(alloc: Global, runs: &[Run]) -> Result<String, Fail> {
     let mut text = String::new(alloc);
     for run in runs {
-        let bytes = str::from_utf8(run.bytes.bytes())?;
+        let bytes = shown(run.bytes.bytes());
         write!(text, "{}{bytes} ", run.start)?;
     }
     Ok(text)
