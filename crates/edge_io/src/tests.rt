@@ -485,8 +485,8 @@ fn check_reads<H: Host>(
         let (name, want) = row.split_once(' ').ok_or("a name")?;
         let read = real_read(alloc, host, name, &mut [0; 16], large)?;
         let straight = real_read_straight(alloc, host, name, large)?;
-        assert_eq!(rt; read, want, "{row}");
-        assert_eq!(rt; straight, want, "{row}, straight");
+        assert!(rt; read == want, "{row}");
+        assert!(rt; straight == want, "{row}, straight");
     }
     Ok(())
 }
