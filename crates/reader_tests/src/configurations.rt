@@ -1,7 +1,9 @@
 //! Configurations that are accepted or refused, with what the definitions give, worked out by hand; and that the
 //! types cross threads. The rows are text, so that another one costs nothing to prove.
 
-use conf_parser::{ConfKind, Config, LoadStop, Loaded, load};
+use conf_parser::{
+    ConfKind, Config, FragEngine, LoadStop, Loaded, StreamConfig, StreamEngine, Suppress, load,
+};
 use edge_io::crossing::{sendable, shareable};
 use edge_io::{MemHost, NoMemory};
 use net_lists::{PortList, Vars};
@@ -129,19 +131,21 @@ value: suppress sig_id 1, gen_id 1
 value: suppress gen_id 1, sig_id 1, track by_src, ip 10.0.0.1, x
 ";
 
-/// The kind of the first line that is refused, or `fine`; the lines stand in a file 16 includes deep.
-fn lines_outcome(alloc: Global, lines: &str) -> Result<&'static str, Fail> {
+/// Files that include one another, 16 deep: the last one, `c/16`, is not there.
+fn including_files(alloc: Global) -> Result<MemHost, Fail> {
     let mut host = MemHost::new(alloc);
     for depth in 0..16 {
         let name = format!(in alloc; "c/{depth}")?;
         let include = format!(in alloc; "include {}\n", depth + 1)?;
         host.put(name.as_str(), include.as_bytes())?;
     }
-    let mut text = String::new(alloc);
-    for line in lines.split(" && ") {
-        writeln!(text, "{line}")?;
-    }
-    host.put("c/16", text.as_bytes())?;
+    Ok(host)
+}
+
+/// The kind of the first line that is refused, or `fine`; the lines stand in a file 16 includes deep.
+fn lines_outcome(alloc: Global, lines: &str) -> Result<&'static str, Fail> {
+    let mut host = including_files(alloc)?;
+    host.put("c/16", lines.replace(alloc, " && ", "\n")?.as_bytes())?;
     let mut out = Loaded::new(alloc);
     match load(alloc, &mut host, "c/0", &mut Vars::new(alloc), &mut out) {
         Ok(()) => Ok("fine"),
@@ -328,19 +332,25 @@ const LIMITS: [(&str, &str, &str, usize, &str); 6] = [
     ("=== r\n", "include a\n", "=== a\n", 4095, "limit 0 4096"),
 ];
 
+/// What loading gives with so many of the text.
+fn outcome_of(
+    alloc: Global,
+    (front, text, behind): (&str, &str, &str),
+    count: usize,
+) -> Result<String, Fail> {
+    let repeated = text.repeat(alloc, count)?;
+    let files = format!(in alloc; "{front}{repeated}{behind}")?;
+    files_outcome(alloc, files.as_str(), &[])
+}
+
 #[test]
 fn limits_are_kept(rt: HostRuntime) -> Result<(), Fail> {
     for (front, text, behind, most, want) in LIMITS {
-        let mut files = String::from_str(rt.alloc(), front)?;
-        for _ in 0..most {
-            files.push_str(text)?;
-        }
-        let full = format!(in rt.alloc(); "{files}{behind}")?;
-        let got = files_outcome(rt.alloc(), full.as_str(), &[])?;
-        assert_eq!(rt; got.as_str(), "fine 0 0", "{text}");
-        let over = format!(in rt.alloc(); "{files}{text}{behind}")?;
-        let got = files_outcome(rt.alloc(), over.as_str(), &[])?;
-        assert_eq!(rt; got.as_str(), want, "{text}");
+        let texts = (front, text, behind);
+        let full = outcome_of(rt.alloc(), texts, most)?;
+        assert_eq!(rt; full.as_str(), "fine 0 0", "{text}");
+        let over = outcome_of(rt.alloc(), texts, most + 1)?;
+        assert_eq!(rt; over.as_str(), want, "{text}");
     }
     Ok(())
 }
@@ -352,23 +362,30 @@ const LARGE: [(&str, &str); 3] = [
     ("two", "large 1 2"),
 ];
 
-#[test]
-fn files_have_at_most_16_mebibytes(rt: HostRuntime) -> Result<(), Fail> {
-    let mut host = MemHost::new(rt.alloc());
-    let mut big = Vec::new(rt.alloc());
+/// Files of which one has so many bytes.
+fn with_a_big_file(alloc: Global, size: usize) -> Result<MemHost, Fail> {
+    let mut host = MemHost::new(alloc);
     host.put("one", b"#\ninclude big\n")?;
     host.put("two", b"#\n\ninclude one\n")?;
-    for (size, is_over) in [(16777216, false), (16777217, true)] {
-        big.resize(size, b'#')?;
-        host.put("big", big.as_slice())?;
-        for (name, over) in LARGE {
-            let mut out = Loaded::new(rt.alloc());
-            let mut vars = Vars::new(rt.alloc());
-            let answer = load(rt.alloc(), &mut host, name, &mut vars, &mut out);
-            let want = if is_over { over } else { "fine 0 0" };
-            let got = answer_text(rt.alloc(), answer, &out)?;
-            assert_eq!(rt; got.as_str(), want, "{name}");
-        }
+    host.put("big", &vec![in alloc; b'#'; size]?)?;
+    Ok(host)
+}
+
+fn outcome_at(alloc: Global, host: &mut MemHost, name: &str) -> Result<String, Fail> {
+    let mut out = Loaded::new(alloc);
+    let answer = load(alloc, host, name, &mut Vars::new(alloc), &mut out);
+    answer_text(alloc, answer, &out)
+}
+
+#[test]
+fn files_have_at_most_16_mebibytes(rt: HostRuntime) -> Result<(), Fail> {
+    let mut most = with_a_big_file(rt.alloc(), 16777216)?;
+    let mut over = with_a_big_file(rt.alloc(), 16777217)?;
+    for (name, want) in LARGE {
+        let got = outcome_at(rt.alloc(), &mut most, name)?;
+        assert_eq!(rt; got.as_str(), "fine 0 0", "{name}");
+        let got = outcome_at(rt.alloc(), &mut over, name)?;
+        assert_eq!(rt; got.as_str(), want, "{name}");
     }
     Ok(())
 }
@@ -401,9 +418,6 @@ config classification: web-application-attack,Web Application Attack,1
 alert tcp $EXTERNAL_NET any -> $HOME_NET $HTTP_PORTS (msg:\"LOCAL attack word\"; flow:to_server,established; content:\"attack\"; fast_pattern; nocase; classtype:web-application-attack; sid:1000001; rev:2;)
 ";
 
-const LOCAL_RULE: &str =
-    "alert tcp $EXTERNAL_NET any -> $HOME_NET $HTTP_PORTS (msg:\"LOCAL attack word\"; flow:to_server,established; content:\"attack\"; fast_pattern; nocase; classtype:web-application-attack; sid:1000001; rev:2;)";
-
 /// The ports of a list among some.
 fn listed(ports: &Option<PortList>) -> [bool; 6] {
     let mut listed = [false; 6];
@@ -415,106 +429,121 @@ fn listed(ports: &Option<PortList>) -> [bool; 6] {
     listed
 }
 
-/// The values of a configuration, a line for each part.
-fn described(alloc: Global, config: &Config) -> Result<String, AllocError> {
-    let mut text = String::new(alloc);
-    writeln!(
-        text,
-        "{:?} {:?} inserts {}",
-        config.checks, config.queue, config.inserts
-    )?;
+fn describe_frag(text: &mut String, config: &Config) -> Result<(), AllocError> {
     if let Some(frag) = &config.frag {
         writeln!(text, "max_frags {}", frag.max_frags)?;
-        for engine in frag.engines.as_slice() {
+        for FragEngine {
+            bind,
+            policy,
+            timeout,
+            min_ttl,
+        } in frag.engines.as_slice() {
             writeln!(
                 text,
-                "frag {} {:?} {} {}",
-                engine.bind.is_some(),
-                engine.policy,
-                engine.timeout,
-                engine.min_ttl
+                "frag {} {policy:?} {timeout} {min_ttl}",
+                bind.is_some()
             )?;
         }
-    }
-    let stream = &config.stream;
-    writeln!(
-        text,
-        "tcp {} {} udp {} {} {}",
-        stream.tcp, stream.max_tcp, stream.udp, stream.max_udp, stream.udp_timeout
-    )?;
-    for engine in stream.engines.as_slice() {
-        writeln!(
-            text,
-            "stream {} {:?} {} {:?} {} {}",
-            engine.bind.is_some(),
-            engine.policy,
-            engine.timeout,
-            engine.handshake,
-            engine.bytes_limit,
-            engine.segs_limit
-        )?;
-        writeln!(
-            text,
-            "{:?} {:?}",
-            listed(&engine.client_ports),
-            listed(&engine.server_ports)
-        )?;
-    }
-    for filter in config.filters.as_slice() {
-        writeln!(text, "{filter:?}")?;
-    }
-    for suppress in config.suppress.as_slice() {
-        writeln!(
-            text,
-            "suppress {} {} {}",
-            suppress.gid,
-            suppress.sid,
-            suppress.track.is_some()
-        )?;
-    }
-    Ok(text)
-}
-
-#[test]
-fn a_configuration_value_by_value(rt: HostRuntime) -> Result<(), Fail> {
-    let (answer, out) = loading(rt.alloc(), MANUAL, &[])?;
-    assert!(rt; answer.is_ok());
-    let want =
-        "Checks { ip: true, tcp: true, udp: true, icmp: true } QueueLimits { max_queue: 8, log: 5, by_priority: false } inserts true
-max_frags 65536
-frag false Windows 180 1
-tcp true 262144 udp true 131072 180
-stream false Windows 180 Some(180) 1048576 2621
-[true, true, false, true, true, false] [false, false, false, true, true, false]
-";
-    assert_eq!(rt; described(rt.alloc(), &out.config)?.as_str(), want);
-    let classes = &out.config.classes;
-    assert_eq!(rt; classes.find(b"web-application-attack"), Some(0));
-    assert_eq!(rt; classes.find(b"Web Application Attack"), None);
-    assert_eq!(rt; out.files.as_slice().len(), 3);
-    for rule in out.rules.as_slice() {
-        assert_eq!(rt;
-            (rule.file, rule.line, rule.text.bytes()),
-            (2, 1, LOCAL_RULE.as_bytes())
-        );
-    }
-    let warned = [
-        (5, "config", "disable_decode_alerts"),
-        (9, "preprocessor", "normalize_ip4"),
-        (19, "output", "unified2"),
-    ];
-    assert_eq!(rt; out.warnings.as_slice().len(), warned.len());
-    for (warning, (line, directive, name)) in out.warnings.as_slice().iter().zip(&warned) {
-        assert_eq!(rt; (warning.file, warning.line), (0, *line));
-        assert_eq!(rt; warning.directive.bytes(), directive.as_bytes());
-        assert_eq!(rt; warning.name.bytes(), name.as_bytes());
     }
     Ok(())
 }
 
-#[test]
-fn values_of_other_lines(rt: HostRuntime) -> Result<(), Fail> {
-    const LINES: &str = "=== r
+fn describe_stream(text: &mut String, engine: &StreamEngine) -> Result<(), AllocError> {
+    let (bound, policy, timeout) = (engine.bind.is_some(), engine.policy, engine.timeout);
+    writeln!(text, "stream {bound} {policy:?} {timeout}")?;
+    let (handshake, bytes, segs) = (engine.handshake, engine.bytes_limit, engine.segs_limit);
+    writeln!(text, "{handshake:?} {bytes} {segs}")?;
+    let (client, server) = (listed(&engine.client_ports), listed(&engine.server_ports));
+    writeln!(text, "{client:?} {server:?}")
+}
+
+fn describe_streams(text: &mut String, stream: &StreamConfig) -> Result<(), AllocError> {
+    let (tcp, udp) = ((stream.tcp, stream.max_tcp), (stream.udp, stream.max_udp));
+    writeln!(text, "tcp {tcp:?} udp {udp:?} {}", stream.udp_timeout)?;
+    for engine in stream.engines.as_slice() {
+        describe_stream(text, engine)?;
+    }
+    Ok(())
+}
+
+fn describe_events(text: &mut String, config: &Config) -> Result<(), AllocError> {
+    for filter in config.filters.as_slice() {
+        writeln!(text, "{filter:?}")?;
+    }
+    for Suppress { gid, sid, track } in config.suppress.as_slice() {
+        writeln!(text, "suppress {gid} {sid} {}", track.is_some())?;
+    }
+    Ok(())
+}
+
+/// The values of a configuration, a line for each part.
+fn described(alloc: Global, config: &Config) -> Result<String, AllocError> {
+    let (checks, queue, inserts) = (config.checks, config.queue, config.inserts);
+    let mut text = format!(in alloc; "{checks:?} {queue:?} inserts {inserts}\n")?;
+    describe_frag(&mut text, config)?;
+    describe_streams(&mut text, &config.stream)?;
+    describe_events(&mut text, config)?;
+    Ok(text)
+}
+
+/// The bytes, which are a text.
+fn text_of(bytes: &[u8]) -> Result<&str, Fail> {
+    Ok(str::from_utf8(bytes).ok().ok_or("a text")?)
+}
+
+fn describe_rules(text: &mut String, out: &Loaded) -> Result<(), Fail> {
+    for rule in out.rules.as_slice() {
+        writeln!(
+            text,
+            "rule {} {} {}",
+            rule.file,
+            rule.line,
+            text_of(rule.text.bytes())?
+        )?;
+    }
+    Ok(())
+}
+
+fn describe_warnings(text: &mut String, out: &Loaded) -> Result<(), Fail> {
+    for warning in out.warnings.as_slice() {
+        let directive = text_of(warning.directive.bytes())?;
+        let name = text_of(warning.name.bytes())?;
+        writeln!(
+            text,
+            "skipped {} {} {directive} {name}",
+            warning.file, warning.line
+        )?;
+    }
+    Ok(())
+}
+
+/// The values of a configuration, and behind them its rules, what was skipped, and how many files it has.
+fn loaded_text(alloc: Global, files: &str) -> Result<String, Fail> {
+    let (answer, out) = loading(alloc, files, &[])?;
+    answer?;
+    let mut text = described(alloc, &out.config)?;
+    describe_rules(&mut text, &out)?;
+    describe_warnings(&mut text, &out)?;
+    writeln!(text, "files {}", out.files.as_slice().len())?;
+    Ok(text)
+}
+
+const MANUAL_TEXT: &str =
+    "Checks { ip: true, tcp: true, udp: true, icmp: true } QueueLimits { max_queue: 8, log: 5, by_priority: false } inserts true
+max_frags 65536
+frag false Windows 180 1
+tcp (true, 262144) udp (true, 131072) 180
+stream false Windows 180
+Some(180) 1048576 2621
+[true, true, false, true, true, false] [false, false, false, true, true, false]
+rule 2 1 alert tcp $EXTERNAL_NET any -> $HOME_NET $HTTP_PORTS (msg:\"LOCAL attack word\"; flow:to_server,established; content:\"attack\"; fast_pattern; nocase; classtype:web-application-attack; sid:1000001; rev:2;)
+skipped 0 5 config disable_decode_alerts
+skipped 0 9 preprocessor normalize_ip4
+skipped 0 19 output unified2
+files 3
+";
+
+const OTHERS: &str = "=== r
 config checksum_mode: none
 config checksum_mode: notcp
 config event_queue: order_events priority
@@ -528,23 +557,39 @@ event_filter gen_id 1, sig_id 0, type both, track by_dst, count 1, seconds 60
 suppress gen_id 0, sig_id 0
 suppress gen_id 1, sig_id 2, track by_src, ip 10.0.0.1
 ";
-    let want =
-        "Checks { ip: false, tcp: false, udp: false, icmp: false } QueueLimits { max_queue: 8, log: 3, by_priority: true } inserts false
+
+const OTHERS_TEXT: &str =
+    "Checks { ip: false, tcp: false, udp: false, icmp: false } QueueLimits { max_queue: 8, log: 3, by_priority: true } inserts false
 max_frags 8192
 frag false Bsd 60 10
 frag true First 60 1
-tcp false 262144 udp false 131072 30
-stream false Bsd 30 None 1073741824 2
+tcp (false, 262144) udp (false, 131072) 30
+stream false Bsd 30
+None 1073741824 2
 [false, false, false, false, false, false] [false, false, false, false, false, false]
-stream true Bsd 30 Some(0) 1048576 2621
+stream true Bsd 30
+Some(0) 1048576 2621
 [true, true, true, true, false, true] [false, false, false, false, false, false]
 EventFilter { gid: 1, sid: 0, kind: Both, by_src: false, count: 1, seconds: 60 }
 suppress 0 0 false
 suppress 1 2 true
+files 1
 ";
-    let (answer, out) = loading(rt.alloc(), LINES, &[])?;
-    assert!(rt; answer.is_ok());
-    assert_eq!(rt; described(rt.alloc(), &out.config)?.as_str(), want);
+
+#[test]
+fn configurations_value_by_value(rt: HostRuntime) -> Result<(), Fail> {
+    for (files, want) in [(MANUAL, MANUAL_TEXT), (OTHERS, OTHERS_TEXT)] {
+        assert_eq!(rt; loaded_text(rt.alloc(), files)?.as_str(), want);
+    }
+    Ok(())
+}
+
+#[test]
+fn classes_are_found_by_their_names(rt: HostRuntime) -> Result<(), Fail> {
+    let (_, out) = loading(rt.alloc(), MANUAL, &[])?;
+    let classes = &out.config.classes;
+    assert_eq!(rt; classes.find(b"web-application-attack"), Some(0));
+    assert_eq!(rt; classes.find(b"Web Application Attack"), None);
     Ok(())
 }
 
