@@ -3,78 +3,78 @@
 
 mod items;
 
+use crate::rows::{Call, check_lines};
 use conf_parser::Classes;
 use header_eval::{ItemHead, field_matches, header_matches};
 use items::{item_named, item_with};
 use net_lists::Vars;
 use rule_parser::{BitNames, Cmp, Field, Opt, Rule, read_rule};
 use std::alloc::Global;
-use std::process::Abort;
 use std::test::Fail;
 
-/// What the row is, an item, a header or an option of a rule, and whether it holds.
-const ROWS: &str = "its way@tcp@tcp 10.0.0.1 1000 -> any 80@true
-the way back@back@tcp 10.0.0.1 1000 -> any 80@false
-either way, there@tcp@tcp 10.0.0.1 1000 <> any 80@true
-either way, back@back@tcp 10.0.0.1 1000 <> any 80@true
-another port@tcp@tcp 10.0.0.1 1000 -> any !80@false
-another source@tcp@tcp !10.0.0.1 1000 -> any 80@false
-a stream is tcp@stream@tcp 10.0.0.1 1000 -> any 80@true
-a fragment is no tcp@fragment@tcp 10.0.0.1 1000 -> any 80@false
-udp is no tcp@udp@tcp 10.0.0.1 1000 -> any 80@false
-udp@udp@udp 10.0.0.1 1000 -> any 80@true
-icmp has no ports@icmp@icmp 10.0.0.1 1000 -> any 80@true
-tcp is no icmp@tcp@icmp 10.0.0.1 1000 -> any 80@false
-a fragment is ip@fragment@ip 10.0.0.1 1000 -> any 80@true
-ip asks no port@back@ip 10.0.0.1 1000 -> any 80@false
-ip asks no port of tcp@tcp@ip 10.0.0.1 1 -> any 1@true
-S of S@tcp@flags:S;@true
-S of SA@syn-ack@flags:S;@false
-+S of SA@syn-ack@flags:+S;@true
-+SF of SA@syn-ack@flags:+SF;@false
-*SF of SA@syn-ack@flags:*SF;@true
-*FR of SA@syn-ack@flags:*FR;@false
-!FR of SA@syn-ack@flags:!FR;@true
-!SF of SA@syn-ack@flags:!SF;@false
-S,CE of SCE@congested@flags:S,CE;@true
-S,C of SCE@congested@flags:S,C;@false
-no flag of udp@udp@flags:!FSRPAUEC;@false
-no flag of a stream@stream@flags:!FSRPAUEC;@false
-M@more@fragbits:M;@true
-D@kept@fragbits:D;@false
-D+@kept@fragbits:D+;@true
-R+@kept@fragbits:R+;@true
-MR*@kept@fragbits:MR*;@true
-M!@kept@fragbits:M!;@true
-M of a stream@stream@fragbits:M!;@false
-established, no session@tcp@flow:established;@false
-established, off@watched@flow:established;@false
-established@open@flow:established;@true
-not, no session@tcp@flow:not_established;@true
-not@open@flow:not_established;@false
-stateless@tcp@flow:stateless;@true
-to_server@open@flow:to_server;@true
-to_client@open@flow:to_client;@false
-to_server, unknown@watched@flow:to_server;@false
-to_client, unknown@watched@flow:to_client;@false
-only_stream of a packet@tcp@flow:only_stream;@false
-only_stream@stream@flow:only_stream;@true
-no_stream@rebuilt@flow:no_stream;@true
-only_frag of a fragment@fragment@flow:only_frag;@false
-only_frag@rebuilt@flow:only_frag;@true
-no_frag@stream@flow:no_frag;@true
-sizes, unknown@tcp@stream_size:either,>=,0;@false
-client@open@stream_size:client,>,2;@true
-client at 3@open@stream_size:client,>,3;@false
-server@open@stream_size:server,=,5;@true
-both@open@stream_size:both,>=,3;@true
-both at 4@open@stream_size:both,>=,4;@false
-either at 4@open@stream_size:either,>=,4;@true
-either at 6@open@stream_size:either,>=,6;@false
-another address@tcp@sameip;@false
-the same address@looped@sameip;@true
-an address of another version@mixed@sameip;@false
-no field@fragment@flowbits:isset,x;@true
+/// An item, a header or an option of a rule, whether it holds, and what the row is.
+const ROWS: &str = "tcp: tcp 10.0.0.1 1000 -> any 80@true@its way
+back: tcp 10.0.0.1 1000 -> any 80@false@the way back
+tcp: tcp 10.0.0.1 1000 <> any 80@true@either way, there
+back: tcp 10.0.0.1 1000 <> any 80@true@either way, back
+tcp: tcp 10.0.0.1 1000 -> any !80@false@another port
+tcp: tcp !10.0.0.1 1000 -> any 80@false@another source
+stream: tcp 10.0.0.1 1000 -> any 80@true@a stream is tcp
+fragment: tcp 10.0.0.1 1000 -> any 80@false@a fragment is no tcp
+udp: tcp 10.0.0.1 1000 -> any 80@false@udp is no tcp
+udp: udp 10.0.0.1 1000 -> any 80@true@udp
+icmp: icmp 10.0.0.1 1000 -> any 80@true@icmp has no ports
+tcp: icmp 10.0.0.1 1000 -> any 80@false@tcp is no icmp
+fragment: ip 10.0.0.1 1000 -> any 80@true@a fragment is ip
+back: ip 10.0.0.1 1000 -> any 80@false@ip asks no port
+tcp: ip 10.0.0.1 1 -> any 1@true@ip asks no port of tcp
+tcp: flags:S;@true@S of S
+syn-ack: flags:S;@false@S of SA
+syn-ack: flags:+S;@true@+S of SA
+syn-ack: flags:+SF;@false@+SF of SA
+syn-ack: flags:*SF;@true@*SF of SA
+syn-ack: flags:*FR;@false@*FR of SA
+syn-ack: flags:!FR;@true@!FR of SA
+syn-ack: flags:!SF;@false@!SF of SA
+congested: flags:S,CE;@true@S,CE of SCE
+congested: flags:S,C;@false@S,C of SCE
+udp: flags:!FSRPAUEC;@false@no flag of udp
+stream: flags:!FSRPAUEC;@false@no flag of a stream
+more: fragbits:M;@true@M
+kept: fragbits:D;@false@D
+kept: fragbits:D+;@true@D+
+kept: fragbits:R+;@true@R+
+kept: fragbits:MR*;@true@MR*
+kept: fragbits:M!;@true@M!
+stream: fragbits:M!;@false@M of a stream
+tcp: flow:established;@false@established, no session
+watched: flow:established;@false@established, off
+open: flow:established;@true@established
+tcp: flow:not_established;@true@not, no session
+open: flow:not_established;@false@not
+tcp: flow:stateless;@true@stateless
+open: flow:to_server;@true@to_server
+open: flow:to_client;@false@to_client
+watched: flow:to_server;@false@to_server, unknown
+watched: flow:to_client;@false@to_client, unknown
+tcp: flow:only_stream;@false@only_stream of a packet
+stream: flow:only_stream;@true@only_stream
+rebuilt: flow:no_stream;@true@no_stream
+fragment: flow:only_frag;@false@only_frag of a fragment
+rebuilt: flow:only_frag;@true@only_frag
+stream: flow:no_frag;@true@no_frag
+tcp: stream_size:either,>=,0;@false@sizes, unknown
+open: stream_size:client,>,2;@true@client
+open: stream_size:client,>,3;@false@client at 3
+open: stream_size:server,=,5;@true@server
+open: stream_size:both,>=,3;@true@both
+open: stream_size:both,>=,4;@false@both at 4
+open: stream_size:either,>=,4;@true@either at 4
+open: stream_size:either,>=,6;@false@either at 6
+tcp: sameip;@false@another address
+looped: sameip;@true@the same address
+mixed: sameip;@false@an address of another version
+fragment: flowbits:isset,x;@true@no field
 ";
 
 /// The rule with this header and this option.
@@ -97,37 +97,50 @@ fn holds(alloc: Global, text: &str, item: &ItemHead) -> Result<bool, Fail> {
     }
 }
 
-fn check_row(rt: &impl Abort, alloc: Global, row: &str) -> Result<(), Fail> {
-    let (label, rest) = row.split_once('@').ok_or("a label")?;
-    let (item, rest) = rest.split_once('@').ok_or("an item")?;
-    let (text, wanted) = rest.split_once('@').ok_or("a text")?;
-    let found = holds(alloc, text, &item_named(item)?)?;
-    assert_eq!(rt; found, wanted == "true", "{label}");
-    Ok(())
+/// Whether an item has a header or meets an option.
+#[derive(Drop)]
+struct Headers;
+
+impl Call for Headers {
+    fn answer(&self, alloc: Global, given: &str) -> Result<String, Fail> {
+        let (item, text) = given.split_once(": ").ok_or("an item")?;
+        let found = holds(alloc, text, &item_named(item)?)?;
+        Ok(format!(in alloc; "{found}")?)
+    }
 }
 
 #[test]
 fn headers_and_options_hold(rt: HostRuntime) -> Result<(), Fail> {
-    for row in ROWS.lines() {
-        check_row(&rt, rt.alloc(), row)?;
-    }
-    Ok(())
+    check_lines(&rt, rt.alloc(), &Headers, ROWS)
 }
 
-/// Each field, and an item that lacks it; `no` where each item has it.
-const FIELDS: &str = "ttl stream
-tos stream
-id stream
-fragoffset stream
-ip_proto no
-seq udp
-ack stream
-window icmp
-itype tcp
-icode udp
-icmp_id fragment
-icmp_seq stream
-dsize stream
+/// A field, and whether its numbers 9, 10, 20 and 21 lie between the two ends 10 and 20, which are inside; a field and
+/// an item that lacks it.
+const FIELDS: &str = "ttl@(false, true) (true, false)
+ttl stream@false
+tos@(false, true) (true, false)
+tos stream@false
+id@(false, true) (true, false)
+id stream@false
+fragoffset@(false, true) (true, false)
+fragoffset stream@false
+ip_proto@(false, true) (true, false)
+seq@(false, true) (true, false)
+seq udp@false
+ack@(false, true) (true, false)
+ack stream@false
+window@(false, true) (true, false)
+window icmp@false
+itype@(false, true) (true, false)
+itype tcp@false
+icode@(false, true) (true, false)
+icode udp@false
+icmp_id@(false, true) (true, false)
+icmp_id fragment@false
+icmp_seq@(false, true) (true, false)
+icmp_seq stream@false
+dsize@(false, true) (true, false)
+dsize stream@false
 ";
 
 fn field(name: &str) -> Result<Field, Fail> {
@@ -172,30 +185,45 @@ fn has_field(field: Field, item: &ItemHead) -> bool {
     field_matches(&any, item, 0)
 }
 
-#[test]
-fn fields_within_both_ends(rt: HostRuntime) -> Result<(), Fail> {
-    for row in FIELDS.lines() {
-        let (name, lacking) = row.split_once(' ').ok_or("an item")?;
-        let field = field(name)?;
-        for (number, wanted) in [(9, false), (10, true), (20, true), (21, false)] {
-            assert_eq!(rt; is_within(field, number), wanted, "{row} {number}");
+/// What is asked of fields.
+#[derive(Drop)]
+struct Fields;
+
+impl Call for Fields {
+    fn answer(&self, alloc: Global, given: &str) -> Result<String, Fail> {
+        if let Some((name, item)) = given.split_once(' ') {
+            let has = has_field(field(name)?, &item_named(item)?);
+            return Ok(format!(in alloc; "{has}")?);
         }
-        if lacking != "no" {
-            assert!(rt; !has_field(field, &item_named(lacking)?), "{row}");
-        }
+        let field = field(given)?;
+        let low = (is_within(field, 9), is_within(field, 10));
+        let high = (is_within(field, 20), is_within(field, 21));
+        Ok(format!(in alloc; "{low:?} {high:?}")?)
     }
-    Ok(())
 }
 
-/// A comparison, and two numbers: 10 is so compared with the first, and not with the second.
-const COMPARISONS: &str = "= 10 9
-!= 9 10
-< 11 10
-> 9 10
-<= 10 9
->= 10 11
-& 2 5
-<> 10 11
+#[test]
+fn fields_within_both_ends(rt: HostRuntime) -> Result<(), Fail> {
+    check_lines(&rt, rt.alloc(), &Fields, FIELDS)
+}
+
+/// A comparison and a number, and whether 10 is so compared with it.
+const COMPARISONS: &str = "= 10@true
+= 9@false
+!= 9@true
+!= 10@false
+< 11@true
+< 10@false
+> 9@true
+> 10@false
+<= 10@true
+<= 9@false
+>= 10@true
+>= 11@false
+& 2@true
+& 5@false
+<> 10@true
+<> 11@false
 ";
 
 fn comparison(name: &str) -> Result<Cmp, Fail> {
@@ -213,25 +241,24 @@ fn comparison(name: &str) -> Result<Cmp, Fail> {
 }
 
 /// Whether a time to live of 10 is so compared with the number; the upper end is 10 too.
-fn ten_compares(cmp: Cmp, low: &str) -> Result<bool, Fail> {
-    let opt = Opt::Compare {
-        field: Field::Ttl,
-        cmp,
-        low: low.parse::<u32>()?,
-        high: 10,
-    };
-    let (item, len) = item_with(Field::Ttl, 10);
-    Ok(field_matches(&opt, &item, len))
+#[derive(Drop)]
+struct Comparisons;
+
+impl Call for Comparisons {
+    fn answer(&self, alloc: Global, given: &str) -> Result<String, Fail> {
+        let (name, low) = given.split_once(' ').ok_or("a number")?;
+        let opt = Opt::Compare {
+            field: Field::Ttl,
+            cmp: comparison(name)?,
+            low: low.parse::<u32>()?,
+            high: 10,
+        };
+        let (item, len) = item_with(Field::Ttl, 10);
+        Ok(format!(in alloc; "{}", field_matches(&opt, &item, len))?)
+    }
 }
 
 #[test]
 fn numbers_compare(rt: HostRuntime) -> Result<(), Fail> {
-    for row in COMPARISONS.lines() {
-        let (name, numbers) = row.split_once(' ').ok_or("a comparison")?;
-        let (holds, fails) = numbers.split_once(' ').ok_or("two numbers")?;
-        let cmp = comparison(name)?;
-        assert!(rt; ten_compares(cmp, holds)?, "{row}");
-        assert!(rt; !ten_compares(cmp, fails)?, "{row}");
-    }
-    Ok(())
+    check_lines(&rt, rt.alloc(), &Comparisons, COMPARISONS)
 }

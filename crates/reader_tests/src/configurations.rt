@@ -1,10 +1,11 @@
 //! Configurations that are accepted or refused, with what the definitions give, worked out by hand; and that the
 //! types cross threads. The rows are text, so that another one costs nothing to prove.
 
+use crate::rows::{Call, check_cases, check_lines, text_of};
 use conf_parser::{
-    ConfKind, Config, FragEngine, LoadStop, Loaded, StreamConfig, StreamEngine, Suppress, load,
+    ConfFault, ConfKind, Config, FragEngine, LoadStop, Loaded, StreamConfig, StreamEngine,
+    Suppress, load,
 };
-use edge_io::crossing::{sendable, shareable};
 use edge_io::{MemHost, NoMemory};
 use net_lists::{PortList, Vars};
 use std::alloc::{AllocError, Global};
@@ -26,109 +27,109 @@ fn kind_name(kind: &ConfKind) -> &'static str {
     }
 }
 
-/// A row for each case: the kind of the first line that is refused, or `fine`, and the lines, between `&&`.
-const LINE_ROWS: &str = "directive: fetch me
-directive: Alert tcp any any -> any any (sid:1;)
-directive: frag3_engine policy bsd
-fine: alert tcp any any -> any any (sid:1;)
-fine: output x: y
-outside: threshold gen_id 1
-outside: threshold
-outside: threshold gen_id 1, sig_id 1, type limit, track by_src, count 1, seconds 60
-outside: attribute_table
-outside: attribute_table filename hosts.xml
-outside: attribute_table filename $X
-outside: rate_filter
-outside: rate_filter gen_id 1
-outside: rate_filter gen_id 1, sig_id 1, track by_src, count 5, seconds 1, new_action drop, timeout 10
-outside: ruletype
-outside: ruletype redalert
-outside: ruletype suspicious {
-outside: rule_state
-outside: rule_state 1
-outside: rule_state sid 1, state enabled
-outside: preprocessor stream5_icmp
-outside: preprocessor stream5_icmp:
-outside: preprocessor stream5_icmp: timeout 30
-fine: preprocessor normalize_ip4 && config disable_decode_alerts && config && preprocessor
-value: var N
-value: var 1N x
-variable: var N $M
-fine: var N $(M:-x) && var M $N
-address: ipvar H [10.0.0.0/8
-address: ipvar H 10.0.0.0/33
-address: ipvar H []
-fine: ipvar H [10.0.0.0/8, !10.1.0.0/16] && ipvar G $H
-variable: ipvar H [10.0.0,$X]
-fine: portvar P [80,8080] && portvar Q !$P
-port: portvar P 65536
-port: portvar P [80:79]
-port: portvar P [any]
-port: portvar P ![80,!81]
-variable: portvar P $X
-value: portvar 1P 80
-value: include
-variable: include $X
-deep: include a
-deep: include $(N:-a)
-deep: var N b && include d/$N
-fine: config classification: a,Some text, 2 && config classification: a,Other,3
-value: config classification: a,,2
-value: config classification: a,b,2,3
-value: config classification: a,b,0
-fine: config checksum_mode : none noip all
-value: config checksum_mode: none noipx
-value: config checksum_mode:
-value: config checksum_mode all
-fine: config event_queue: max_queue 8 log 5 order_events content_length
-fine: config event_queue:
-value: config event_queue: log 1025
-value: config event_queue: log
-value: config event_queue: max_queue 0
-value: config event_queue: order_events length
-value: config event_queue max_queue 8
-fine: config detection: search-method ac-split no_stream_inserts
-fine: config detection:
-value: config detection
-value: config detection no_stream_inserts
-value: config detection search-method: ac
-fine: config reference && config pcre_match_limit: x
-twice: preprocessor frag3_global: max_frags 65536, memcap 0 && preprocessor frag3_global
-value: preprocessor frag3_global max_frags 1
-value: preprocessor frag3_global: memcap 4294967296
-fine: preprocessor frag3_engine: policy Windows detect_anomalies overlap_limit 10 timeout 180
-fine: preprocessor frag3_engine: detect_anomalies && preprocessor frag3_engine: bind_to 10.0.0.0/8
-twice: preprocessor frag3_engine && preprocessor frag3_engine: timeout 1
-value: preprocessor frag3_engine: policy vista
-address: preprocessor frag3_engine: bind_to [10.0.0.0/8, timeout 0
-variable: preprocessor frag3_engine: bind_to $X timeout 0
-fine: preprocessor stream5_global: track_tcp yes, track_icmp no, max_active_responses 2 3
-outside: preprocessor stream5_global: track_tcp, track_icmp yes or no
-value: preprocessor stream5_global: track_tcp
-value: preprocessor stream5_global: track_tcp yes,
-twice: preprocessor stream5_global && preprocessor stream5_global:
-fine: preprocessor stream5_tcp: policy windows, require_3whs 180, ports client 21 25, ports both 80 8080
-address: preprocessor stream5_tcp: timeout, bind_to 10.0
-variable: preprocessor stream5_tcp: ports client, bind_to $X
-value: preprocessor stream5_tcp: ports client
-value: preprocessor stream5_tcp: max_queued_bytes 0, max_queued_segs 1
-twice: preprocessor stream5_tcp && preprocessor stream5_tcp: timeout 1
-twice: preprocessor stream5_udp: timeout 180, ignore_any_rules && preprocessor stream5_udp
-twice: preprocessor stream5_udp && preprocessor stream5_udp: timeout 1
-value: preprocessor stream5_udp: timeout 86401
-value: preprocessor stream5_udp: policy bsd
-value: preprocessor stream5_udp timeout 1
-twice: event_filter gen_id 1, sig_id 1, type limit, track by_src, count 2, seconds 60 && event_filter seconds 1, count 1, track by_dst, type both, sig_id 1, gen_id 1
-value: event_filter gen_id 0, sig_id 1, type limit, track by_src, count 1, seconds 60
-value: event_filter gen_id 1, sig_id 1, type limit, track by_src, count 1
-value: event_filter gen_id 1, sig_id 1, type some, track by_src, count 1, seconds 60
-value: event_filter gen_id 1, sig_id 1, type limit, track by_src, count 0, seconds 60
-fine: suppress gen_id 1, sig_id 0 && suppress gen_id 1, sig_id 1, track by_src, ip [10.0.0.1, 10.0.0.2]
-address: suppress gen_id, sig_id 1, track by_src, ip 10.0
-address: suppress gen_id 1, sig_id 1, track by_src, ip 10.0.0
-variable: suppress gen_id 1, sig_id 1, track by_src, ip $X
-value: suppress sig_id 1, gen_id 1
-value: suppress gen_id 1, sig_id 1, track by_src, ip 10.0.0.1, x
+/// A row for each case: the lines, between `&&`, and the kind of the first that is refused, or `fine`.
+const LINE_ROWS: &str = "fetch me@directive
+Alert tcp any any -> any any (sid:1;)@directive
+frag3_engine policy bsd@directive
+alert tcp any any -> any any (sid:1;)@fine
+output x: y@fine
+threshold gen_id 1@outside
+threshold@outside
+threshold gen_id 1, sig_id 1, type limit, track by_src, count 1, seconds 60@outside
+attribute_table@outside
+attribute_table filename hosts.xml@outside
+attribute_table filename $X@outside
+rate_filter@outside
+rate_filter gen_id 1@outside
+rate_filter gen_id 1, sig_id 1, track by_src, count 5, seconds 1, new_action drop, timeout 10@outside
+ruletype@outside
+ruletype redalert@outside
+ruletype suspicious {@outside
+rule_state@outside
+rule_state 1@outside
+rule_state sid 1, state enabled@outside
+preprocessor stream5_icmp@outside
+preprocessor stream5_icmp:@outside
+preprocessor stream5_icmp: timeout 30@outside
+preprocessor normalize_ip4 && config disable_decode_alerts && config && preprocessor@fine
+var N@value
+var 1N x@value
+var N $M@variable
+var N $(M:-x) && var M $N@fine
+ipvar H [10.0.0.0/8@address
+ipvar H 10.0.0.0/33@address
+ipvar H []@address
+ipvar H [10.0.0.0/8, !10.1.0.0/16] && ipvar G $H@fine
+ipvar H [10.0.0,$X]@variable
+portvar P [80,8080] && portvar Q !$P@fine
+portvar P 65536@port
+portvar P [80:79]@port
+portvar P [any]@port
+portvar P ![80,!81]@port
+portvar P $X@variable
+portvar 1P 80@value
+include@value
+include $X@variable
+include a@deep
+include $(N:-a)@deep
+var N b && include d/$N@deep
+config classification: a,Some text, 2 && config classification: a,Other,3@fine
+config classification: a,,2@value
+config classification: a,b,2,3@value
+config classification: a,b,0@value
+config checksum_mode : none noip all@fine
+config checksum_mode: none noipx@value
+config checksum_mode:@value
+config checksum_mode all@value
+config event_queue: max_queue 8 log 5 order_events content_length@fine
+config event_queue:@fine
+config event_queue: log 1025@value
+config event_queue: log@value
+config event_queue: max_queue 0@value
+config event_queue: order_events length@value
+config event_queue max_queue 8@value
+config detection: search-method ac-split no_stream_inserts@fine
+config detection:@fine
+config detection@value
+config detection no_stream_inserts@value
+config detection search-method: ac@value
+config reference && config pcre_match_limit: x@fine
+preprocessor frag3_global: max_frags 65536, memcap 0 && preprocessor frag3_global@twice
+preprocessor frag3_global max_frags 1@value
+preprocessor frag3_global: memcap 4294967296@value
+preprocessor frag3_engine: policy Windows detect_anomalies overlap_limit 10 timeout 180@fine
+preprocessor frag3_engine: detect_anomalies && preprocessor frag3_engine: bind_to 10.0.0.0/8@fine
+preprocessor frag3_engine && preprocessor frag3_engine: timeout 1@twice
+preprocessor frag3_engine: policy vista@value
+preprocessor frag3_engine: bind_to [10.0.0.0/8, timeout 0@address
+preprocessor frag3_engine: bind_to $X timeout 0@variable
+preprocessor stream5_global: track_tcp yes, track_icmp no, max_active_responses 2 3@fine
+preprocessor stream5_global: track_tcp, track_icmp yes or no@outside
+preprocessor stream5_global: track_tcp@value
+preprocessor stream5_global: track_tcp yes,@value
+preprocessor stream5_global && preprocessor stream5_global:@twice
+preprocessor stream5_tcp: policy windows, require_3whs 180, ports client 21 25, ports both 80 8080@fine
+preprocessor stream5_tcp: timeout, bind_to 10.0@address
+preprocessor stream5_tcp: ports client, bind_to $X@variable
+preprocessor stream5_tcp: ports client@value
+preprocessor stream5_tcp: max_queued_bytes 0, max_queued_segs 1@value
+preprocessor stream5_tcp && preprocessor stream5_tcp: timeout 1@twice
+preprocessor stream5_udp: timeout 180, ignore_any_rules && preprocessor stream5_udp@twice
+preprocessor stream5_udp && preprocessor stream5_udp: timeout 1@twice
+preprocessor stream5_udp: timeout 86401@value
+preprocessor stream5_udp: policy bsd@value
+preprocessor stream5_udp timeout 1@value
+event_filter gen_id 1, sig_id 1, type limit, track by_src, count 2, seconds 60 && event_filter seconds 1, count 1, track by_dst, type both, sig_id 1, gen_id 1@twice
+event_filter gen_id 0, sig_id 1, type limit, track by_src, count 1, seconds 60@value
+event_filter gen_id 1, sig_id 1, type limit, track by_src, count 1@value
+event_filter gen_id 1, sig_id 1, type some, track by_src, count 1, seconds 60@value
+event_filter gen_id 1, sig_id 1, type limit, track by_src, count 0, seconds 60@value
+suppress gen_id 1, sig_id 0 && suppress gen_id 1, sig_id 1, track by_src, ip [10.0.0.1, 10.0.0.2]@fine
+suppress gen_id, sig_id 1, track by_src, ip 10.0@address
+suppress gen_id 1, sig_id 1, track by_src, ip 10.0.0@address
+suppress gen_id 1, sig_id 1, track by_src, ip $X@variable
+suppress sig_id 1, gen_id 1@value
+suppress gen_id 1, sig_id 1, track by_src, ip 10.0.0.1, x@value
 ";
 
 /// Files that include one another, 16 deep: the last one, `c/16`, is not there.
@@ -143,71 +144,69 @@ fn including_files(alloc: Global) -> Result<MemHost, Fail> {
 }
 
 /// The kind of the first line that is refused, or `fine`; the lines stand in a file 16 includes deep.
-fn lines_outcome(alloc: Global, lines: &str) -> Result<&'static str, Fail> {
-    let mut host = including_files(alloc)?;
-    host.put("c/16", lines.replace(alloc, " && ", "\n")?.as_bytes())?;
-    let mut out = Loaded::new(alloc);
-    match load(alloc, &mut host, "c/0", &mut Vars::new(alloc), &mut out) {
-        Ok(()) => Ok("fine"),
-        Err(LoadStop::Conf(fault)) => Ok(kind_name(&fault.kind)),
-        Err(LoadStop::HostFailed { name: _ }) => Ok("host"),
-        Err(LoadStop::NoMemory) => Err(NoMemory)?,
+#[derive(Drop)]
+struct Lines;
+
+impl Call for Lines {
+    fn answer(&self, alloc: Global, given: &str) -> Result<String, Fail> {
+        let mut host = including_files(alloc)?;
+        host.put("c/16", given.replace(alloc, " && ", "\n")?.as_bytes())?;
+        let answer = outcome_at(alloc, &mut host, "c/0")?;
+        let (kind, _) = answer.split_once(' ').ok_or("a kind")?;
+        Ok(String::from_str(alloc, kind)?)
     }
 }
 
 #[test]
 fn lines_and_their_kinds(rt: HostRuntime) -> Result<(), Fail> {
-    for row in LINE_ROWS.lines() {
-        let (kind, lines) = row.split_once(": ").ok_or("row")?;
-        assert_eq!(rt; lines_outcome(rt.alloc(), lines)?, kind, "{row}");
-    }
-    Ok(())
+    check_lines(&rt, rt.alloc(), &Lines, LINE_ROWS)
 }
 
-/// What loading the files gives, the answer and what stands in `out`, where the host fails at these calls. Each
-/// file is `===` with its name and then its lines; the configuration is the file `r`.
-fn loading(
-    alloc: Global,
-    files: &str,
-    failing: &[u32],
-) -> Result<(Result<(), LoadStop>, Loaded), NoMemory> {
+/// A host with files, each `=== ` with its name and then its lines; the configuration is the file `r`.
+fn host_of(alloc: Global, files: &str) -> Result<MemHost, Fail> {
     let mut host = MemHost::new(alloc);
     for file in files.split("=== ") {
         if let Some((name, text)) = file.split_once('\n') {
             host.put(name, text.as_bytes())?;
         }
     }
-    host.fail_calls(failing)?;
-    let mut vars = Vars::new(alloc);
-    let mut out = Loaded::new(alloc);
-    let answer = load(alloc, &mut host, "r", &mut vars, &mut out);
-    Ok((answer, out))
+    Ok(host)
 }
 
 /// `fine` with the numbers of warnings and rule lines, a kind with its file and line, or `host` with the numbers
 /// of files and warnings.
-fn files_outcome(alloc: Global, files: &str, failing: &[u32]) -> Result<String, Fail> {
-    let (answer, out) = loading(alloc, files, failing)?;
-    answer_text(alloc, answer, &out)
-}
-
-/// The same, of an answer and what stands in `out`.
 fn answer_text(alloc: Global, answer: Result<(), LoadStop>, out: &Loaded) -> Result<String, Fail> {
     let warnings = out.warnings.as_slice().len();
     match answer {
-        Ok(()) => Ok(format!(in alloc; "fine {} {}", warnings, out.rules.as_slice().len())?),
-        Err(LoadStop::Conf(fault)) => Ok(format!(in alloc;
-            "{} {} {}",
-            kind_name(&fault.kind),
-            fault.file,
-            fault.line
-        )?),
-        Err(LoadStop::HostFailed { name: _ }) => Ok(format!(in alloc;
-            "host {} {}",
-            out.files.as_slice().len(),
-            warnings
-        )?),
+        Ok(()) => Ok(format!(in alloc; "fine {warnings} {}", out.rules.as_slice().len())?),
+        Err(LoadStop::Conf(ConfFault { file, line, kind })) => {
+            Ok(format!(in alloc; "{} {file} {line}", kind_name(&kind))?)
+        }
+        Err(LoadStop::HostFailed { name: _ }) => {
+            Ok(format!(in alloc; "host {} {warnings}", out.files.as_slice().len())?)
+        }
         Err(LoadStop::NoMemory) => Err(NoMemory)?,
+    }
+}
+
+fn outcome_at(alloc: Global, host: &mut MemHost, name: &str) -> Result<String, Fail> {
+    let mut out = Loaded::new(alloc);
+    let answer = load(alloc, host, name, &mut Vars::new(alloc), &mut out);
+    answer_text(alloc, answer, &out)
+}
+
+/// The answer of loading files.
+#[derive(Drop)]
+struct Files<'a> {
+    /// The calls that the host fails at.
+    failing: &'a [u32],
+}
+
+impl Call for Files<'_> {
+    fn answer(&self, alloc: Global, given: &str) -> Result<String, Fail> {
+        let mut host = host_of(alloc, given)?;
+        host.fail_calls(self.failing)?;
+        outcome_at(alloc, &mut host, "r")
     }
 }
 
@@ -277,7 +276,8 @@ event_filter gen_id 0, sig_id 1, type limit, track by_src, count 1, seconds 60
 ";
 
 /// A file whose include the host may fail at.
-const INCLUDING: &str = "=== r
+const INCLUDING: &str = "@@ host 1 1
+=== r
 output x
 include a
 === a
@@ -285,16 +285,8 @@ include a
 
 #[test]
 fn files_and_their_refusals(rt: HostRuntime) -> Result<(), Fail> {
-    for row in FILE_ROWS.split("@@ ").skip(1) {
-        let (want, files) = row.split_once('\n').ok_or("row")?;
-        let got = files_outcome(rt.alloc(), files, &[])?;
-        assert_eq!(rt; got.as_str(), want, "{row}");
-    }
-    assert_eq!(rt;
-        files_outcome(rt.alloc(), INCLUDING, &[1])?.as_str(),
-        "host 1 1"
-    );
-    Ok(())
+    check_cases(&rt, rt.alloc(), &Files { failing: &[] }, FILE_ROWS)?;
+    check_cases(&rt, rt.alloc(), &Files { failing: &[1] }, INCLUDING)
 }
 
 /// Files whose counts are full, and what one more of the middle text gives: the text in front, the text that is
@@ -340,7 +332,7 @@ fn outcome_of(
 ) -> Result<String, Fail> {
     let repeated = text.repeat(alloc, count)?;
     let files = format!(in alloc; "{front}{repeated}{behind}")?;
-    files_outcome(alloc, files.as_str(), &[])
+    Files { failing: &[] }.answer(alloc, files.as_str())
 }
 
 #[test]
@@ -369,12 +361,6 @@ fn with_a_big_file(alloc: Global, size: usize) -> Result<MemHost, Fail> {
     host.put("two", b"#\n\ninclude one\n")?;
     host.put("big", &vec![in alloc; b'#'; size]?)?;
     Ok(host)
-}
-
-fn outcome_at(alloc: Global, host: &mut MemHost, name: &str) -> Result<String, Fail> {
-    let mut out = Loaded::new(alloc);
-    let answer = load(alloc, host, name, &mut Vars::new(alloc), &mut out);
-    answer_text(alloc, answer, &out)
 }
 
 #[test]
@@ -486,11 +472,6 @@ fn described(alloc: Global, config: &Config) -> Result<String, AllocError> {
     Ok(text)
 }
 
-/// The bytes, which are a text.
-fn text_of(bytes: &[u8]) -> Result<&str, Fail> {
-    Ok(str::from_utf8(bytes).ok().ok_or("a text")?)
-}
-
 fn describe_rules(text: &mut String, out: &Loaded) -> Result<(), Fail> {
     for rule in out.rules.as_slice() {
         writeln!(
@@ -517,10 +498,17 @@ fn describe_warnings(text: &mut String, out: &Loaded) -> Result<(), Fail> {
     Ok(())
 }
 
+/// The files, loaded without a fault.
+fn loaded(alloc: Global, files: &str) -> Result<Loaded, Fail> {
+    let mut out = Loaded::new(alloc);
+    let mut host = host_of(alloc, files)?;
+    load(alloc, &mut host, "r", &mut Vars::new(alloc), &mut out)?;
+    Ok(out)
+}
+
 /// The values of a configuration, and behind them its rules, what was skipped, and how many files it has.
 fn loaded_text(alloc: Global, files: &str) -> Result<String, Fail> {
-    let (answer, out) = loading(alloc, files, &[])?;
-    answer?;
+    let out = loaded(alloc, files)?;
     let mut text = described(alloc, &out.config)?;
     describe_rules(&mut text, &out)?;
     describe_warnings(&mut text, &out)?;
@@ -586,17 +574,8 @@ fn configurations_value_by_value(rt: HostRuntime) -> Result<(), Fail> {
 
 #[test]
 fn classes_are_found_by_their_names(rt: HostRuntime) -> Result<(), Fail> {
-    let (_, out) = loading(rt.alloc(), MANUAL, &[])?;
-    let classes = &out.config.classes;
+    let classes = loaded(rt.alloc(), MANUAL)?.config.classes;
     assert_eq!(rt; classes.find(b"web-application-attack"), Some(0));
     assert_eq!(rt; classes.find(b"Web Application Attack"), None);
-    Ok(())
-}
-
-#[test]
-fn types_cross_threads(_rt: HostRuntime) -> Result<(), Fail> {
-    sendable::<Loaded>();
-    shareable::<Loaded>();
-    sendable::<LoadStop>();
     Ok(())
 }

@@ -4,13 +4,19 @@
 #![tactic(auto)]
 
 #[cfg(test)]
+mod addresses;
+#[cfg(test)]
 mod configurations;
+#[cfg(test)]
+mod crossing;
 #[cfg(test)]
 mod hosts;
 #[cfg(test)]
 mod lists;
 #[cfg(test)]
 mod options;
+#[cfg(test)]
+mod rows;
 #[cfg(test)]
 mod rules;
 #[cfg(test)]
