@@ -1,6 +1,7 @@
 //! Whole lines, also with addresses of version 6. The rows are text, so that another one
 //! costs nothing to prove.
 
+use crate::rows::{Call, check_lines, text_of};
 use alert_fast::line;
 use conf_parser::{Loaded, load};
 use edge_io::{Addr, MemHost, Moment};
@@ -11,17 +12,17 @@ use std::alloc::Global;
 use std::net::Ipv4Addr;
 use std::test::Fail;
 
-/// A row for each line: the options of the rule; the item's moment, protocol, source, destination, body and
-/// ports; and the line. The last rule's class is one that the configuration names.
+/// A row for each line: the options of the rule; behind a `~` the item's moment, protocol, source, destination, body
+/// and ports; and the line. The last rule's class is one that the configuration names.
 const LINES: &str =
-    r#"gid:4294967295; sid:1000001; rev:2; msg:""; priority:2; @ 86400000000000 253 10.0.0.1 255.255.255.255 other 0 0 => 01/02-00:00:00.000000  [**] [4294967295:1000001:2]  [**] [Priority: 2] {PROTO:253} 10.0.0.1 -> 255.255.255.255
-sid:1; msg:"t"; @ 18446744073709551615 17 10.0.0.1 255.255.255.255 udp 1000 0 => 07/21-23:34:33.709551  [**] [1:1:0] t [**] [Priority: 0] {UDP} 10.0.0.1:1000 -> 255.255.255.255:0
-sid:1; msg:"t"; @ 0 17 10.0.0.1 255.255.255.255 fragment 0 0 => 01/01-00:00:00.000000  [**] [1:1:0] t [**] [Priority: 0] {UDP} 10.0.0.1 -> 255.255.255.255
-sid:1; msg:"t"; @ 0 1 10.0.0.1 255.255.255.255 icmp 0 0 => 01/01-00:00:00.000000  [**] [1:1:0] t [**] [Priority: 0] {ICMP} 10.0.0.1 -> 255.255.255.255
-sid:1; msg:"t"; @ 951782400000000999 6 10.0.0.1 255.255.255.255 tcp 1000 80 => 02/29-00:00:00.000000  [**] [1:1:0] t [**] [Priority: 0] {TCP} 10.0.0.1:1000 -> 255.255.255.255:80
-sid:1; msg:"t"; @ 0 6 10.0.0.1 255.255.255.255 stream 80 1000 => 01/01-00:00:00.000000  [**] [1:1:0] t [**] [Priority: 0] {TCP} 10.0.0.1:80 -> 255.255.255.255:1000
-sid:1; msg:"t"; @ 0 58 10.0.0.1 255.255.255.255 other 0 0 => 01/01-00:00:00.000000  [**] [1:1:0] t [**] [Priority: 0] {PROTO:058} 10.0.0.1 -> 255.255.255.255
-sid:1; msg:"t"; classtype:c; @ 0 17 10.0.0.1 10.0.0.1 fragment 0 0 => 01/01-00:00:00.000000  [**] [1:1:0] t [**] [Classification: Some class] [Priority: 2] {UDP} 10.0.0.1 -> 10.0.0.1
+    r#"gid:4294967295; sid:1000001; rev:2; msg:""; priority:2; ~ 86400000000000 253 10.0.0.1 255.255.255.255 other 0 0@01/02-00:00:00.000000  [**] [4294967295:1000001:2]  [**] [Priority: 2] {PROTO:253} 10.0.0.1 -> 255.255.255.255
+sid:1; msg:"t"; ~ 18446744073709551615 17 10.0.0.1 255.255.255.255 udp 1000 0@07/21-23:34:33.709551  [**] [1:1:0] t [**] [Priority: 0] {UDP} 10.0.0.1:1000 -> 255.255.255.255:0
+sid:1; msg:"t"; ~ 0 17 10.0.0.1 255.255.255.255 fragment 0 0@01/01-00:00:00.000000  [**] [1:1:0] t [**] [Priority: 0] {UDP} 10.0.0.1 -> 255.255.255.255
+sid:1; msg:"t"; ~ 0 1 10.0.0.1 255.255.255.255 icmp 0 0@01/01-00:00:00.000000  [**] [1:1:0] t [**] [Priority: 0] {ICMP} 10.0.0.1 -> 255.255.255.255
+sid:1; msg:"t"; ~ 951782400000000999 6 10.0.0.1 255.255.255.255 tcp 1000 80@02/29-00:00:00.000000  [**] [1:1:0] t [**] [Priority: 0] {TCP} 10.0.0.1:1000 -> 255.255.255.255:80
+sid:1; msg:"t"; ~ 0 6 10.0.0.1 255.255.255.255 stream 80 1000@01/01-00:00:00.000000  [**] [1:1:0] t [**] [Priority: 0] {TCP} 10.0.0.1:80 -> 255.255.255.255:1000
+sid:1; msg:"t"; ~ 0 58 10.0.0.1 255.255.255.255 other 0 0@01/01-00:00:00.000000  [**] [1:1:0] t [**] [Priority: 0] {PROTO:058} 10.0.0.1 -> 255.255.255.255
+sid:1; msg:"t"; classtype:c; ~ 0 17 10.0.0.1 10.0.0.1 fragment 0 0@01/01-00:00:00.000000  [**] [1:1:0] t [**] [Classification: Some class] [Priority: 2] {UDP} 10.0.0.1 -> 10.0.0.1
 "#;
 
 fn body(name: &str, sport: u16, dport: u16) -> Body {
@@ -111,52 +112,73 @@ fn append(
     Ok(())
 }
 
+/// The line that is appended.
+#[derive(Drop)]
+struct Alerts {
+    loaded: Loaded,
+}
+
+impl Alerts {
+    fn line_of(&self, alloc: Global, options: &str, head: &ItemHead) -> Result<String, Fail> {
+        let mut out = Vec::from_slice(alloc, b"before\n")?;
+        append(alloc, &self.loaded, options, head, &mut out)?;
+        let lines = text_of(&out)?;
+        let line = lines.strip_prefix("before\n").ok_or("what stood before")?;
+        Ok(String::from_str(alloc, line.strip_suffix('\n').ok_or("a line")?)?)
+    }
+}
+
+impl Call for Alerts {
+    fn answer(&self, alloc: Global, given: &str) -> Result<String, Fail> {
+        let (options, words) = given.split_once(" ~ ").ok_or("an item")?;
+        self.line_of(alloc, options, &item(words)?)
+    }
+}
+
 #[test]
 fn lines_are_fast_alerts(rt: HostRuntime) -> Result<(), Fail> {
     let loaded = with_a_class(rt.alloc())?;
-    let mut out = Vec::from_slice(rt.alloc(), b"before\n")?;
-    let mut want = String::from_str(rt.alloc(), "before\n")?;
-    for row in LINES.lines() {
-        let (given, text) = row.split_once(" => ").ok_or("a row")?;
-        let (options, words) = given.split_once(" @ ").ok_or("a row")?;
-        append(rt.alloc(), &loaded, options, &item(words)?, &mut out)?;
-        writeln!(want, "{text}")?;
-        assert_eq!(rt; out.as_slice(), want.as_bytes(), "{row}");
-    }
-    Ok(())
+    check_lines(&rt, rt.alloc(), &Alerts { loaded }, LINES)
 }
 
 /// The examples of RFC 5952, sections 1, 2 and 4, the addresses with the longest text and with the
 /// shortest, and one of version 4 in version 6 (section 5 would write its end dotted): the address in
 /// hexadecimal, and its text.
-const ADDRESSES: &str = "20010db8000000000001000000000001 2001:db8::1:0:0:1
-20010db8000000000000000000000001 2001:db8::1
-20010db8000000000000000000020001 2001:db8::2:1
-20010db8000000010001000100010001 2001:db8:0:1:1:1:1:1
-20010000000000010000000000000001 2001:0:0:1::1
-20010db8aaaabbbbccccddddeeee0001 2001:db8:aaaa:bbbb:cccc:dddd:eeee:1
-20010db8ffffffffffffffffffffffff 2001:db8:ffff:ffff:ffff:ffff:ffff:ffff
-00000000000000000000000000000000 ::
-00000000000000000000000000000001 ::1
-fe800000000000000000000000000000 fe80::
-00000000000000000000ffffc0000201 ::ffff:c000:201
+const ADDRESSES: &str = "20010db8000000000001000000000001@2001:db8::1:0:0:1 -> 2001:db8::1:0:0:1
+20010db8000000000000000000000001@2001:db8::1 -> 2001:db8::1
+20010db8000000000000000000020001@2001:db8::2:1 -> 2001:db8::2:1
+20010db8000000010001000100010001@2001:db8:0:1:1:1:1:1 -> 2001:db8:0:1:1:1:1:1
+20010000000000010000000000000001@2001:0:0:1::1 -> 2001:0:0:1::1
+20010db8aaaabbbbccccddddeeee0001@2001:db8:aaaa:bbbb:cccc:dddd:eeee:1 -> 2001:db8:aaaa:bbbb:cccc:dddd:eeee:1
+20010db8ffffffffffffffffffffffff@2001:db8:ffff:ffff:ffff:ffff:ffff:ffff -> 2001:db8:ffff:ffff:ffff:ffff:ffff:ffff
+00000000000000000000000000000000@:: -> ::
+00000000000000000000000000000001@::1 -> ::1
+fe800000000000000000000000000000@fe80:: -> fe80::
+00000000000000000000ffffc0000201@::ffff:c000:201 -> ::ffff:c000:201
 ";
+
+/// The ends of the line of an item between an address and itself.
+#[derive(Drop)]
+struct Ends {
+    alerts: Alerts,
+}
+
+impl Call for Ends {
+    fn answer(&self, alloc: Global, given: &str) -> Result<String, Fail> {
+        let address = Addr::V6(u128::from_str_radix(given, 16)?);
+        let mut head = item("0 58 10.0.0.1 10.0.0.1 other 0 0")?;
+        head.ip.src = address;
+        head.ip.dst = address;
+        let line = self.alerts.line_of(alloc, "sid:1; msg:\"t\";", &head)?;
+        let front = "01/01-00:00:00.000000  [**] [1:1:0] t [**] [Priority: 0] {PROTO:058} ";
+        let ends = line.as_str().strip_prefix(front).ok_or("a line")?;
+        Ok(String::from_str(alloc, ends)?)
+    }
+}
 
 #[test]
 fn addresses_of_version_6(rt: HostRuntime) -> Result<(), Fail> {
     let loaded = with_a_class(rt.alloc())?;
-    for row in ADDRESSES.lines() {
-        let (digits, text) = row.split_once(' ').ok_or("a row")?;
-        let address = Addr::V6(u128::from_str_radix(digits, 16)?);
-        let mut head = item("0 58 10.0.0.1 10.0.0.1 other 0 0")?;
-        head.ip.src = address;
-        head.ip.dst = address;
-        let mut out = Vec::new(rt.alloc());
-        append(rt.alloc(), &loaded, "sid:1; msg:\"t\";", &head, &mut out)?;
-        let want = format!(in rt.alloc();
-            "01/01-00:00:00.000000  [**] [1:1:0] t [**] [Priority: 0] {{PROTO:058}} {text} -> {text}\n"
-        )?;
-        assert_eq!(rt; out.as_slice(), want.as_bytes(), "{text}");
-    }
-    Ok(())
+    let alerts = Alerts { loaded };
+    check_lines(&rt, rt.alloc(), &Ends { alerts }, ADDRESSES)
 }

@@ -4,7 +4,6 @@
 //! rules that match it, and behind `>` those that are kept.
 
 use conf_parser::{Loaded, load};
-use edge_io::crossing::sendable;
 use edge_io::{Addr, MemHost, Moment};
 use event_filters::Filters;
 use net_lists::Vars;
@@ -142,11 +141,6 @@ alert udp any any -> any any (msg:"t"; content:"a"; sid:1;)
 66000000000 1: 0 > 0
 "#;
 
-#[test]
-fn intervals(rt: HostRuntime) -> Result<(), Fail> {
-    compare(&rt, rt.alloc(), INTERVALS)
-}
-
 /// Nine rules match one item: the first three of the queue are kept; with a longer content in the
 /// eighth it comes first; one in the ninth doesn't come into the queue. By priority the smallest
 /// number comes first.
@@ -204,11 +198,6 @@ alert udp any any -> any any (msg:"t"; content:"abc"; priority:2; sid:9;)
 0 1: 0 1 2 3 4 5 6 7 8 > 7 0 1
 "#;
 
-#[test]
-fn queues(rt: HostRuntime) -> Result<(), Fail> {
-    compare(&rt, rt.alloc(), QUEUES)
-}
-
 /// Suppress lines come before event filters, the filter of gid and sid before the global one.
 const LINES_IN_ORDER: &str = r#"@@ a suppressed event is not counted
 event_filter gen_id 1, sig_id 1, type limit, track by_dst, count 1, seconds 60
@@ -250,11 +239,6 @@ alert udp any any -> any any (msg:"t"; content:"a"; sid:2;)
 1000000000 1: 0 >
 "#;
 
-#[test]
-fn lines_in_order(rt: HostRuntime) -> Result<(), Fail> {
-    compare(&rt, rt.alloc(), LINES_IN_ORDER)
-}
-
 /// A detection filter keeps the third match of an interval, not its second and not the first of the
 /// next; a pass rule takes the events of all rules of its item away.
 const MATCHES_THAT_STAY: &str = r#"@@ a detection filter
@@ -274,7 +258,9 @@ alert udp any any -> any any (msg:"t"; content:"b"; flowbits:noalert; sid:3;)
 "#;
 
 #[test]
-fn matches_that_stay(rt: HostRuntime) -> Result<(), Fail> {
-    sendable::<Filters>();
-    compare(&rt, rt.alloc(), MATCHES_THAT_STAY)
+fn events_are_kept_or_dropped(rt: HostRuntime) -> Result<(), Fail> {
+    for cases in [INTERVALS, QUEUES, LINES_IN_ORDER, MATCHES_THAT_STAY] {
+        compare(&rt, rt.alloc(), cases)?;
+    }
+    Ok(())
 }

@@ -6,8 +6,12 @@
 #[cfg(test)]
 mod alerts;
 #[cfg(test)]
+mod crossing;
+#[cfg(test)]
 mod events;
 #[cfg(test)]
 mod headers;
 #[cfg(test)]
 mod payloads;
+#[cfg(test)]
+mod rows;

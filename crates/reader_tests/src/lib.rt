@@ -4,15 +4,21 @@
 #![tactic(auto)]
 
 #[cfg(test)]
+mod addresses;
+#[cfg(test)]
 mod commands;
 #[cfg(test)]
 mod configurations;
+#[cfg(test)]
+mod crossing;
 #[cfg(test)]
 mod hosts;
 #[cfg(test)]
 mod lists;
 #[cfg(test)]
 mod options;
+#[cfg(test)]
+mod rows;
 #[cfg(test)]
 mod rules;
 #[cfg(test)]

@@ -1,15 +1,16 @@
 //! Options of rules, one a line: which are read, and why the others are refused. Each was worked out by hand
 //! from the grammar of the manual's chapter 3.
 
-use conf_parser::{Classes, Loaded, load};
+use crate::rows::{Call, check_lines};
+use conf_parser::{Loaded, load};
 use edge_io::MemHost;
 use net_lists::Vars;
-use rule_parser::{BitNames, RuleKind, read_rule};
-use std::alloc::{AllocError, Global};
+use rule_parser::{BitNames, RuleFault, read_rule};
+use std::alloc::Global;
 use std::test::Fail;
 
-/// A configuration with two classes.
-fn with_classes(alloc: Global) -> Result<Loaded, Fail> {
+/// Options under a configuration with two classes.
+fn with_classes(alloc: Global) -> Result<Options, Fail> {
     let mut host = MemHost::new(alloc);
     host.put(
         "r",
@@ -17,582 +18,582 @@ fn with_classes(alloc: Global) -> Result<Loaded, Fail> {
     )?;
     let mut loaded = Loaded::new(alloc);
     load(alloc, &mut host, "r", &mut Vars::new(alloc), &mut loaded)?;
-    Ok(loaded)
+    Ok(Options { loaded })
 }
 
-/// The kind of the fault of a rule with these options and a `sid` behind them; None where it is read.
-fn kind_of(
-    alloc: Global,
-    classes: &Classes,
-    options: &str,
-) -> Result<Option<RuleKind>, AllocError> {
-    let line = format!(in alloc; "alert ip any any -> any any ({options} sid:1;)")?;
-    let mut bits = BitNames::new(alloc);
-    let vars = Vars::new(alloc);
-    match read_rule(alloc, line.as_bytes(), &vars, classes, &mut bits) {
-        Ok(_) => Ok(None),
-        Err(fault) => Ok(Some(fault.kind)),
+/// The kind of the fault of a rule with these options and a `sid` behind them, or `read`.
+#[derive(Drop)]
+struct Options {
+    loaded: Loaded,
+}
+
+impl Call for Options {
+    fn answer(&self, alloc: Global, given: &str) -> Result<String, Fail> {
+        let line = format!(in alloc; "alert ip any any -> any any ({given} sid:1;)")?;
+        let classes = &self.loaded.config.classes;
+        let mut bits = BitNames::new(alloc);
+        match read_rule(
+            alloc,
+            line.as_bytes(),
+            &Vars::new(alloc),
+            classes,
+            &mut bits,
+        ) {
+            Ok(_) => Ok(String::from_str(alloc, "read")?),
+            Err(
+                RuleFault {
+                    kind,
+                    from: _,
+                    to: _,
+                },
+            ) => Ok(format!(in alloc; "{kind:?}")?),
+        }
     }
 }
 
 /// Options that are read.
-const READ: &str = r#"msg:"t";
-msg:"a\"b;c\\";
-gid:1;
-gid:4294967295;
-rev:0;
-rev:7;
-priority:0;
-priority:4294967295;
-classtype:c;
-classtype: web-attack ; priority:3;
-priority:3; classtype:c;
-reference:url,a.b;
-reference;
-metadata:a b, c d;
-metadata;
-content:"a";
-content:!"|61 62|c|63|";
-content:"a"; nocase;
-content:!"a"; depth:1; nocase;
-content:"a"; rawbytes;
-content:"a"; nocase; rawbytes;
-content:"a"; offset:-65535;
-byte_extract:1,0,n; content:"a"; offset:n;
-content:"ab"; depth:2;
-content:"a"; depth:65535;
-content:"a"; distance:65535;
-content:"a"; distance:-1; within:1;
-content:"ab"; within:2;
-byte_extract:1,0,n; content:"ab"; within:n;
-content:"a"; fast_pattern;
-content:"a"; fast_pattern:only;
-content:"abc"; fast_pattern:1,2;
-content:!"a"; fast_pattern;
-pcre:"/a/";
-pcre:!"/a\/b/ismxR";
-byte_test:4, !>, 1000, 20, relative;
-byte_test:10,=,0,-65535,string,oct;
-byte_test:1,!,1,0,big,little;
-byte_jump:1,0;
-byte_jump:4,0,multiplier 2,align,from_beginning,post_offset -1;
-byte_jump:10,65535,hex,string;
-byte_extract:1,0,n;
-byte_extract:2,-4,_n1,align 4,multiplier 0;
-byte_extract:1,0,n; byte_extract:1,0,m; byte_extract:1,1,n;
-isdataat:0;
-isdataat:!65535,relative,rawbytes;
-byte_extract:1,0,n; isdataat:n,rawbytes;
-flow:established,to_server,no_stream,only_frag;
-flow:stateless;
-flags:S;
-flags:S+A,12;
-flags:0;
-flowbits:set,a.b_c-1;
-flowbits:isnotset, a; flowbits:toggle,a;
-flowbits:noalert;
-detection_filter:track by_src, count 1, seconds 1;
-detection_filter:track by_dst,count 4294967295,seconds 60;
-dsize:0;
-dsize:>65535;
-dsize:8<>4;
-ttl:5;
-ttl:>=3;
-ttl:=3;
-ttl:-5;
-ttl:5-;
-ttl:1-5;
-tos:4;
-tos:!4;
-window:0;
-window:!4294967295;
-id:0;
-id:4294967295;
-seq:0;
-seq:1;
-ack:0;
-ack:1;
-icmp_id:0;
-icmp_id:1;
-icmp_seq:0;
-icmp_seq:1;
-fragbits:M;
-fragbits:+MD;
-fragbits:R!;
-fragoffset:0;
-fragoffset:!1;
-fragoffset:<4;
-ip_proto:tcp;
-ip_proto:!6;
-ip_proto:>5;
-itype:8;
-itype:<8;
-icode:0;
-icode:>3;
-sameip;
-sameip; sameip;
-stream_size:client,>,3;
-stream_size:either, !=, 0;
-stream_reassemble:enable,both;
-stream_reassemble:disable,client,noalert;
- ttl : 5 ; 
-content:"a;b"; content:"\"";
-content:"a"; content:"b"; fast_pattern; content:"c";
-content:"a"; dsize:1; depth:1;
-priority:1; gid:2; rev:3; msg:"t";
-flow:established; dsize:1; sameip;
-content:"|7c|\|\:";
-pcre:"/a/b/";
-msg:"";
-rev:4294967295;
-reference:;
-reference:"a;b";
-metadata:;
-metadata:"x;y", z;
-content:"| 61 |";
-content:"a"; offset:-0;
-content:"a"; offset:65535; depth:1;
-content:"a"; within:65535;
-content:"a"; fast_pattern; offset:1;
-content:"abc"; fast_pattern: 0 , 3 ;
-content:!"a"; fast_pattern:0,1;
-byte_test:1,<,1,0;
-byte_test:1,<=,4294967295,-65535;
-byte_test:4,!&,0,65535,dec,string,little,big;
-byte_jump:1,0,multiplier 65535,post_offset 65535;
-byte_extract:10,0,n,string,multiplier 65535;
-isdataat:65535,relative;
-flow:not_established,from_client;
-flow:to_client,only_stream,no_frag;
-flags:F!S,CE;
-flags:*UPR0;
-flowbits:set,a; flowbits:isset,a; flowbits:unset,a;
-detection_filter: track by_src , count 1 , seconds 4294967295 ;
-dsize:<65535;
-ttl:<3;
-ttl:4294967295;
-ttl:9-2;
-tos:4294967295;
-window:9;
-id:7;
-seq:4294967295;
-ack:4294967295;
-icmp_id:65536;
-icmp_seq:65536;
-fragbits:DR*;
-fragoffset:>0;
-ip_proto:igmp;
-ip_proto:<4;
-itype:>0;
-icode:<1;
-stream_size:server,<=,4294967295;
-stream_size:both,=,1;
-stream_reassemble:enable,server;"#;
+const READ: &str = r#"msg:"t";@read
+msg:"a\"b;c\\";@read
+gid:1;@read
+gid:4294967295;@read
+rev:0;@read
+rev:7;@read
+priority:0;@read
+priority:4294967295;@read
+classtype:c;@read
+classtype: web-attack ; priority:3;@read
+priority:3; classtype:c;@read
+reference:url,a.b;@read
+reference;@read
+metadata:a b, c d;@read
+metadata;@read
+content:"a";@read
+content:!"|61 62|c|63|";@read
+content:"a"; nocase;@read
+content:!"a"; depth:1; nocase;@read
+content:"a"; rawbytes;@read
+content:"a"; nocase; rawbytes;@read
+content:"a"; offset:-65535;@read
+byte_extract:1,0,n; content:"a"; offset:n;@read
+content:"ab"; depth:2;@read
+content:"a"; depth:65535;@read
+content:"a"; distance:65535;@read
+content:"a"; distance:-1; within:1;@read
+content:"ab"; within:2;@read
+byte_extract:1,0,n; content:"ab"; within:n;@read
+content:"a"; fast_pattern;@read
+content:"a"; fast_pattern:only;@read
+content:"abc"; fast_pattern:1,2;@read
+content:!"a"; fast_pattern;@read
+pcre:"/a/";@read
+pcre:!"/a\/b/ismxR";@read
+byte_test:4, !>, 1000, 20, relative;@read
+byte_test:10,=,0,-65535,string,oct;@read
+byte_test:1,!,1,0,big,little;@read
+byte_jump:1,0;@read
+byte_jump:4,0,multiplier 2,align,from_beginning,post_offset -1;@read
+byte_jump:10,65535,hex,string;@read
+byte_extract:1,0,n;@read
+byte_extract:2,-4,_n1,align 4,multiplier 0;@read
+byte_extract:1,0,n; byte_extract:1,0,m; byte_extract:1,1,n;@read
+isdataat:0;@read
+isdataat:!65535,relative,rawbytes;@read
+byte_extract:1,0,n; isdataat:n,rawbytes;@read
+flow:established,to_server,no_stream,only_frag;@read
+flow:stateless;@read
+flags:S;@read
+flags:S+A,12;@read
+flags:0;@read
+flowbits:set,a.b_c-1;@read
+flowbits:isnotset, a; flowbits:toggle,a;@read
+flowbits:noalert;@read
+detection_filter:track by_src, count 1, seconds 1;@read
+detection_filter:track by_dst,count 4294967295,seconds 60;@read
+dsize:0;@read
+dsize:>65535;@read
+dsize:8<>4;@read
+ttl:5;@read
+ttl:>=3;@read
+ttl:=3;@read
+ttl:-5;@read
+ttl:5-;@read
+ttl:1-5;@read
+tos:4;@read
+tos:!4;@read
+window:0;@read
+window:!4294967295;@read
+id:0;@read
+id:4294967295;@read
+seq:0;@read
+seq:1;@read
+ack:0;@read
+ack:1;@read
+icmp_id:0;@read
+icmp_id:1;@read
+icmp_seq:0;@read
+icmp_seq:1;@read
+fragbits:M;@read
+fragbits:+MD;@read
+fragbits:R!;@read
+fragoffset:0;@read
+fragoffset:!1;@read
+fragoffset:<4;@read
+ip_proto:tcp;@read
+ip_proto:!6;@read
+ip_proto:>5;@read
+itype:8;@read
+itype:<8;@read
+icode:0;@read
+icode:>3;@read
+sameip;@read
+sameip; sameip;@read
+stream_size:client,>,3;@read
+stream_size:either, !=, 0;@read
+stream_reassemble:enable,both;@read
+stream_reassemble:disable,client,noalert;@read
+ ttl : 5 ; @read
+content:"a;b"; content:"\"";@read
+content:"a"; content:"b"; fast_pattern; content:"c";@read
+content:"a"; dsize:1; depth:1;@read
+priority:1; gid:2; rev:3; msg:"t";@read
+flow:established; dsize:1; sameip;@read
+content:"|7c|\|\:";@read
+pcre:"/a/b/";@read
+msg:"";@read
+rev:4294967295;@read
+reference:;@read
+reference:"a;b";@read
+metadata:;@read
+metadata:"x;y", z;@read
+content:"| 61 |";@read
+content:"a"; offset:-0;@read
+content:"a"; offset:65535; depth:1;@read
+content:"a"; within:65535;@read
+content:"a"; fast_pattern; offset:1;@read
+content:"abc"; fast_pattern: 0 , 3 ;@read
+content:!"a"; fast_pattern:0,1;@read
+byte_test:1,<,1,0;@read
+byte_test:1,<=,4294967295,-65535;@read
+byte_test:4,!&,0,65535,dec,string,little,big;@read
+byte_jump:1,0,multiplier 65535,post_offset 65535;@read
+byte_extract:10,0,n,string,multiplier 65535;@read
+isdataat:65535,relative;@read
+flow:not_established,from_client;@read
+flow:to_client,only_stream,no_frag;@read
+flags:F!S,CE;@read
+flags:*UPR0;@read
+flowbits:set,a; flowbits:isset,a; flowbits:unset,a;@read
+detection_filter: track by_src , count 1 , seconds 4294967295 ;@read
+dsize:<65535;@read
+ttl:<3;@read
+ttl:4294967295;@read
+ttl:9-2;@read
+tos:4294967295;@read
+window:9;@read
+id:7;@read
+seq:4294967295;@read
+ack:4294967295;@read
+icmp_id:65536;@read
+icmp_seq:65536;@read
+fragbits:DR*;@read
+fragoffset:>0;@read
+ip_proto:igmp;@read
+ip_proto:<4;@read
+itype:>0;@read
+icode:<1;@read
+stream_size:server,<=,4294967295;@read
+stream_size:both,=,1;@read
+stream_reassemble:enable,server;@read"#;
 
 /// Options with wrong values.
-const WRONG: &str = r#"msg;
-msg:t;
-msg:"t" x;
-msg:"a"; msg:"b";
-gid:0;
-gid:01;
-gid:4294967296;
-gid:1; gid:2;
-sid:0;
-sid:x;
-sid:1; sid:2;
-rev:-1;
-rev:;
-rev:1; rev:1;
-priority:x;
-priority;
-priority:1; priority:1;
-classtype:;
-classtype;
-classtype:a; classtype:b;
-content;
-content:"";
-content:a;
-content:"a" b;
-content:"|6|";
-content:"|6 1|";
-content:"|61";
-content:"||";
-content:"a"; nocase:;
-content:"a"; nocase:x;
-content:"a"; nocase:"";
-content:"a"; rawbytes:;
-content:"a"; rawbytes:x;
-content:"a"; rawbytes:1;
-content:"a"; offset;
-content:"a"; offset:65536;
-content:"a"; offset:x-y;
-content:"a"; distance;
-content:"a"; distance:-65536;
-content:"a"; distance:+1;
-content:"ab"; depth:1;
-content:"a"; depth:65536;
-content:"a"; depth:-1;
-content:"ab"; within:1;
-content:"a"; within;
-content:"a"; within:1 1;
-content:"abc"; fast_pattern:1,3;
-content:"abc"; fast_pattern:0,0;
-content:"abc"; fast_pattern:1;
-content:!"a"; fast_pattern:only;
-content:"a"; offset:1; fast_pattern:only;
-content:"a"; fast_pattern:only; depth:1;
-content:!"a"; fast_pattern; within:1;
-pcre;
-pcre:"a";
-pcre:"/a/ii";
-pcre:"/a/z";
-pcre:/a/;
-byte_test:0,=,1,0;
-byte_test:5,=,1,0;
-byte_test:1,==,1,0;
-byte_test:1,=,1;
-byte_test:1,=,1,0,relative,relative;
-byte_test:1,=,1,0,dec;
-byte_test:1,=,4294967296,0;
-byte_jump:5,0;
-byte_jump:1;
-byte_jump:1,0,multiplier;
-byte_jump:1,0,post_offset 65536;
-byte_jump:1,0,align 4;
-byte_extract:1,0;
-byte_extract:1,0,1n;
-byte_extract:1,0,n,align;
-byte_extract:1,0,n,align 3;
-isdataat;
-isdataat:65536;
-isdataat:1,rawbytes,relative;
-isdataat:-1;
-flow;
-flow:;
-flow:x;
-flow:established,stateless;
-flow:to_client,from_client;
-flow:established; flow:to_server;
-flags;
-flags:+;
-flags:SX;
-flags:S,;
-flags:!S+;
-flags:S,1,2;
-flowbits;
-flowbits:set;
-flowbits:set,;
-flowbits:set,a b;
-flowbits:noalert,x;
-flowbits:get,a;
-detection_filter;
-detection_filter:track by_x, count 1, seconds 1;
-detection_filter:track by_src, count 0, seconds 1;
-detection_filter:track by_src, count 1;
-detection_filter:count 1, track by_src, seconds 1;
-detection_filter:track by_src, count 1, seconds 1, x;
-dsize;
-dsize:65536;
-dsize:4<>;
-dsize:!4;
-dsize:1; dsize:1;
-ttl;
-ttl:-;
-ttl:!5;
-ttl:1-2-3;
-tos;
-tos:<4;
-tos:!;
-window;
-window:>1;
-window:-1;
-id;
-id:=4;
-id:!4;
-seq;
-seq:x;
-seq:!1;
-ack;
-ack:4294967296;
-ack:<1;
-icmp_id;
-icmp_id:0x1;
-icmp_id:!1;
-icmp_seq;
-icmp_seq:01;
-icmp_seq:>1;
-fragbits;
-fragbits:;
-fragbits:X;
-fragbits:M+D;
-fragbits:+M+;
-fragoffset;
-fragoffset:<=4;
-fragoffset:4-5;
-ip_proto;
-ip_proto:!tcp;
-ip_proto:=6;
-itype;
-itype:3<>5;
-itype:!8;
-icode;
-icode:3<>5;
-icode:!8;
-sameip:;
-sameip:x;
-sameip:"";
-stream_size;
-stream_size:client,~,3;
-stream_size:fastpath,>,3;
-stream_size:client,>;
-stream_reassemble;
-stream_reassemble:enable;
-stream_reassemble:on,both;
-stream_reassemble:enable,either;
-msg:"a"b"c";
-gid:0x1;
-sid:4294967296;
-rev:00;
-priority:-1;
-content:"a|";
-content:"|6g|";
-content:!;
-content:"a"; depth:-0;
-content:"a"; offset:-65536;
-content:"a"; distance:65536;
-content:"a"; within:65536;
-content:"a"; within:1; fast_pattern:only;
-content:!"abc"; distance:1; fast_pattern:0,2;
-pcre:"/a";
-pcre:"/a/r";
-pcre:"/a/zU";
-byte_test:11,=,1,0,string;
-byte_test:0,^,1,0;
-byte_test:1,=,1x,n;
-byte_test:4,=,1,0,string,dec,hex;
-byte_jump:1,0,multiplier 65536;
-byte_jump:1,0,align,align;
-byte_extract:5,0,n;
-byte_extract:1,0,n,multiplier 65536;
-byte_extract:1,0,a; byte_extract:1,0,b; byte_extract:1,0,c,x;
-isdataat:-0;
-flow:no_frag,only_frag;
-flow:established,,to_server;
-flags:*S!;
-flags:S,X;
-flowbits:set,a b,g;
-flowbits:set,a; flowbits:isset;
-detection_filter:track by_src, count 1, seconds 0;
-dsize:>65536;
-dsize:<=4;
-ttl:4294967296;
-ttl:!=5;
-tos:!!4;
-window:!4294967296;
-id:01;
-seq:-0;
-ack:;
-icmp_id:4294967296;
-icmp_seq:<1;
-fragbits:+;
-fragoffset:!;
-ip_proto:xtp;
-ip_proto:!;
-itype:>=8;
-icode:=1;
-stream_size:server,<=,4294967296;
-stream_size:both,=,1,1;
-stream_reassemble:disable,both,x;"#;
-
-/// Options without a name.
-const NAMELESS: &str = r#";
-:x;
-ttl:5; :;"#;
-
-/// Names that are none.
-const UNKNOWN: &str = r#"Ttl:5;
-flow_bits:set,a;
-http;
-httpx;
-HTTP_uri;
-flowbit:set,a;
-msg2:"t";
-sid1:1;
-count_:1;"#;
-
-/// Modifiers that stand where they may not.
-const MISPLACED: &str = r#"nocase;
-rawbytes:x;
-offset:x-y;
-depth:1;
-distance:n;
-within:1;
-fast_pattern;
-content:"a"; nocase; nocase;
-content:"a"; rawbytes; rawbytes;
-content:"a"; offset:1; offset:2;
-content:"a"; depth:1; depth:2;
-content:"a"; distance:1; distance:2;
-content:"a"; within:1; within:2;
-content:"a"; offset:1; distance:1;
-content:"a"; within:1; depth:1;
-content:"a"; depth:1; within:n;
-content:"a"; fast_pattern; content:"b"; fast_pattern:9;
-ttl:5; rawbytes;
-pcre:"/a/"; nocase;
-fast_pattern:only;
-content:"a"; nocase; nocase:;
-content:"a"; rawbytes; rawbytes:x;
-content:"a"; distance:1; offset:x-y;
-content:"a"; distance:1; depth:0;
-content:"a"; offset:1; within:0;
-content:"a"; depth:1; distance:n;
-content:"a"; fast_pattern:only; content:"b"; offset:1; fast_pattern:only;"#;
-
-/// Names that were not extracted, or too late.
-const NOT_EXTRACTED: &str = r#"content:"a"; offset:n;
-content:"a"; byte_extract:1,0,n; depth:n;
-content:"a"; distance:n;
-content:"a"; within:n;
-byte_test:1,=,n,0;
-byte_test:1,=,1,n;
-byte_jump:1,n;
-byte_extract:1,n,n;
-isdataat:!n;
-content:"a"; byte_extract:1,0,n; offset:n;
-content:"a"; byte_extract:1,0,n; distance:n;
-content:"a"; byte_extract:1,0,n; within:n;
-byte_test:5,=,n,0;
-byte_test:1,=,n,65536;
-byte_jump:1,n,multiplier 65536;
-byte_extract:1,0,n; byte_extract:1,m,n;
-byte_extract:1,0,a; byte_extract:1,0,b; byte_extract:1,c,c;
-byte_extract:1,0,n; isdataat:N;"#;
-
-/// A class that there is not.
-const CLASSLESS: &str = r#"classtype:a;
-classtype:a b;
-priority:1; classtype:a;
-classtype:a; priority:1;"#;
+const WRONG: &str = r#"msg;@OptionValue
+msg:t;@OptionValue
+msg:"t" x;@OptionValue
+msg:"a"; msg:"b";@OptionValue
+gid:0;@OptionValue
+gid:01;@OptionValue
+gid:4294967296;@OptionValue
+gid:1; gid:2;@OptionValue
+sid:0;@OptionValue
+sid:x;@OptionValue
+sid:1; sid:2;@OptionValue
+rev:-1;@OptionValue
+rev:;@OptionValue
+rev:1; rev:1;@OptionValue
+priority:x;@OptionValue
+priority;@OptionValue
+priority:1; priority:1;@OptionValue
+classtype:;@OptionValue
+classtype;@OptionValue
+classtype:a; classtype:b;@OptionValue
+content;@OptionValue
+content:"";@OptionValue
+content:a;@OptionValue
+content:"a" b;@OptionValue
+content:"|6|";@OptionValue
+content:"|6 1|";@OptionValue
+content:"|61";@OptionValue
+content:"||";@OptionValue
+content:"a"; nocase:;@OptionValue
+content:"a"; nocase:x;@OptionValue
+content:"a"; nocase:"";@OptionValue
+content:"a"; rawbytes:;@OptionValue
+content:"a"; rawbytes:x;@OptionValue
+content:"a"; rawbytes:1;@OptionValue
+content:"a"; offset;@OptionValue
+content:"a"; offset:65536;@OptionValue
+content:"a"; offset:x-y;@OptionValue
+content:"a"; distance;@OptionValue
+content:"a"; distance:-65536;@OptionValue
+content:"a"; distance:+1;@OptionValue
+content:"ab"; depth:1;@OptionValue
+content:"a"; depth:65536;@OptionValue
+content:"a"; depth:-1;@OptionValue
+content:"ab"; within:1;@OptionValue
+content:"a"; within;@OptionValue
+content:"a"; within:1 1;@OptionValue
+content:"abc"; fast_pattern:1,3;@OptionValue
+content:"abc"; fast_pattern:0,0;@OptionValue
+content:"abc"; fast_pattern:1;@OptionValue
+content:!"a"; fast_pattern:only;@OptionValue
+content:"a"; offset:1; fast_pattern:only;@OptionValue
+content:"a"; fast_pattern:only; depth:1;@OptionValue
+content:!"a"; fast_pattern; within:1;@OptionValue
+pcre;@OptionValue
+pcre:"a";@OptionValue
+pcre:"/a/ii";@OptionValue
+pcre:"/a/z";@OptionValue
+pcre:/a/;@OptionValue
+byte_test:0,=,1,0;@OptionValue
+byte_test:5,=,1,0;@OptionValue
+byte_test:1,==,1,0;@OptionValue
+byte_test:1,=,1;@OptionValue
+byte_test:1,=,1,0,relative,relative;@OptionValue
+byte_test:1,=,1,0,dec;@OptionValue
+byte_test:1,=,4294967296,0;@OptionValue
+byte_jump:5,0;@OptionValue
+byte_jump:1;@OptionValue
+byte_jump:1,0,multiplier;@OptionValue
+byte_jump:1,0,post_offset 65536;@OptionValue
+byte_jump:1,0,align 4;@OptionValue
+byte_extract:1,0;@OptionValue
+byte_extract:1,0,1n;@OptionValue
+byte_extract:1,0,n,align;@OptionValue
+byte_extract:1,0,n,align 3;@OptionValue
+isdataat;@OptionValue
+isdataat:65536;@OptionValue
+isdataat:1,rawbytes,relative;@OptionValue
+isdataat:-1;@OptionValue
+flow;@OptionValue
+flow:;@OptionValue
+flow:x;@OptionValue
+flow:established,stateless;@OptionValue
+flow:to_client,from_client;@OptionValue
+flow:established; flow:to_server;@OptionValue
+flags;@OptionValue
+flags:+;@OptionValue
+flags:SX;@OptionValue
+flags:S,;@OptionValue
+flags:!S+;@OptionValue
+flags:S,1,2;@OptionValue
+flowbits;@OptionValue
+flowbits:set;@OptionValue
+flowbits:set,;@OptionValue
+flowbits:set,a b;@OptionValue
+flowbits:noalert,x;@OptionValue
+flowbits:get,a;@OptionValue
+detection_filter;@OptionValue
+detection_filter:track by_x, count 1, seconds 1;@OptionValue
+detection_filter:track by_src, count 0, seconds 1;@OptionValue
+detection_filter:track by_src, count 1;@OptionValue
+detection_filter:count 1, track by_src, seconds 1;@OptionValue
+detection_filter:track by_src, count 1, seconds 1, x;@OptionValue
+dsize;@OptionValue
+dsize:65536;@OptionValue
+dsize:4<>;@OptionValue
+dsize:!4;@OptionValue
+dsize:1; dsize:1;@OptionValue
+ttl;@OptionValue
+ttl:-;@OptionValue
+ttl:!5;@OptionValue
+ttl:1-2-3;@OptionValue
+tos;@OptionValue
+tos:<4;@OptionValue
+tos:!;@OptionValue
+window;@OptionValue
+window:>1;@OptionValue
+window:-1;@OptionValue
+id;@OptionValue
+id:=4;@OptionValue
+id:!4;@OptionValue
+seq;@OptionValue
+seq:x;@OptionValue
+seq:!1;@OptionValue
+ack;@OptionValue
+ack:4294967296;@OptionValue
+ack:<1;@OptionValue
+icmp_id;@OptionValue
+icmp_id:0x1;@OptionValue
+icmp_id:!1;@OptionValue
+icmp_seq;@OptionValue
+icmp_seq:01;@OptionValue
+icmp_seq:>1;@OptionValue
+fragbits;@OptionValue
+fragbits:;@OptionValue
+fragbits:X;@OptionValue
+fragbits:M+D;@OptionValue
+fragbits:+M+;@OptionValue
+fragoffset;@OptionValue
+fragoffset:<=4;@OptionValue
+fragoffset:4-5;@OptionValue
+ip_proto;@OptionValue
+ip_proto:!tcp;@OptionValue
+ip_proto:=6;@OptionValue
+itype;@OptionValue
+itype:3<>5;@OptionValue
+itype:!8;@OptionValue
+icode;@OptionValue
+icode:3<>5;@OptionValue
+icode:!8;@OptionValue
+sameip:;@OptionValue
+sameip:x;@OptionValue
+sameip:"";@OptionValue
+stream_size;@OptionValue
+stream_size:client,~,3;@OptionValue
+stream_size:fastpath,>,3;@OptionValue
+stream_size:client,>;@OptionValue
+stream_reassemble;@OptionValue
+stream_reassemble:enable;@OptionValue
+stream_reassemble:on,both;@OptionValue
+stream_reassemble:enable,either;@OptionValue
+msg:"a"b"c";@OptionValue
+gid:0x1;@OptionValue
+sid:4294967296;@OptionValue
+rev:00;@OptionValue
+priority:-1;@OptionValue
+content:"a|";@OptionValue
+content:"|6g|";@OptionValue
+content:!;@OptionValue
+content:"a"; depth:-0;@OptionValue
+content:"a"; offset:-65536;@OptionValue
+content:"a"; distance:65536;@OptionValue
+content:"a"; within:65536;@OptionValue
+content:"a"; within:1; fast_pattern:only;@OptionValue
+content:!"abc"; distance:1; fast_pattern:0,2;@OptionValue
+pcre:"/a";@OptionValue
+pcre:"/a/r";@OptionValue
+pcre:"/a/zU";@OptionValue
+byte_test:11,=,1,0,string;@OptionValue
+byte_test:0,^,1,0;@OptionValue
+byte_test:1,=,1x,n;@OptionValue
+byte_test:4,=,1,0,string,dec,hex;@OptionValue
+byte_jump:1,0,multiplier 65536;@OptionValue
+byte_jump:1,0,align,align;@OptionValue
+byte_extract:5,0,n;@OptionValue
+byte_extract:1,0,n,multiplier 65536;@OptionValue
+byte_extract:1,0,a; byte_extract:1,0,b; byte_extract:1,0,c,x;@OptionValue
+isdataat:-0;@OptionValue
+flow:no_frag,only_frag;@OptionValue
+flow:established,,to_server;@OptionValue
+flags:*S!;@OptionValue
+flags:S,X;@OptionValue
+flowbits:set,a b,g;@OptionValue
+flowbits:set,a; flowbits:isset;@OptionValue
+detection_filter:track by_src, count 1, seconds 0;@OptionValue
+dsize:>65536;@OptionValue
+dsize:<=4;@OptionValue
+ttl:4294967296;@OptionValue
+ttl:!=5;@OptionValue
+tos:!!4;@OptionValue
+window:!4294967296;@OptionValue
+id:01;@OptionValue
+seq:-0;@OptionValue
+ack:;@OptionValue
+icmp_id:4294967296;@OptionValue
+icmp_seq:<1;@OptionValue
+fragbits:+;@OptionValue
+fragoffset:!;@OptionValue
+ip_proto:xtp;@OptionValue
+ip_proto:!;@OptionValue
+itype:>=8;@OptionValue
+icode:=1;@OptionValue
+stream_size:server,<=,4294967296;@OptionValue
+stream_size:both,=,1,1;@OptionValue
+stream_reassemble:disable,both,x;@OptionValue"#;
 
 /// What is outside the profile.
-const OUTSIDE: &str = r#"http_uri;
-dce_iface:x;
-sip_method:x;
-ssl_state:x;
-gtp_type:x;
-modbus_func:x;
-dnp3_func:x;
-cip_attribute:x;
-uricontent:"a";
-byte_math:x;
-threshold:x;
-file_group:x;
-tag:session;
-flowbits:set,a&b;
-flowbits:isset,a|b;
-flowbits:set,a,group;
-flowbits:setx,a;
-flowbits:reset;
-byte_test:1,^,1,0;
-byte_test:1,!^,1,0;
-byte_test:1,=,1,0,dce;
-byte_jump:1,0,dce;
-pcre:"/a/U";
-pcre:"/a/iP"x;
-stream_reassemble:disable,both,fastpath;
-stream_reassemble:enable,fastpath;
-stream_reassemble:disable,both,noalert,fastpath;
-http_;
-urilen:1;
-file_data;
-pkt_data;
-base64_decode;
-base64_data;
-ftpbounce;
-asn1:x;
-cvs:x;
-rpc:1,*,*;
-ipopts:rr;
-logto:"x";
-session:all;
-resp:x;
-react:x;
-replace:"a";
-activates:1;
-activated_by:1;
-count:1;
-protected_content:"a";
-hash:x;
-length:1;
-appid:x;
-sd_pattern:x;
-file_type:x;
-flowbits:setx,a,b;
-flowbits:unset,a b&c;
-flowbits:toggle,a,b;
-byte_test:5,^,1,0;
-byte_test:1,=,1,0,hex,dce;
-byte_extract:1,0,n,dce;
-byte_extract:1,0,a; byte_extract:1,0,b; byte_extract:1,0,c,dce;
-pcre:"/a/Uz";"#;
+const OUTSIDE: &str = r#"http_uri;@OutsideProfile
+dce_iface:x;@OutsideProfile
+sip_method:x;@OutsideProfile
+ssl_state:x;@OutsideProfile
+gtp_type:x;@OutsideProfile
+modbus_func:x;@OutsideProfile
+dnp3_func:x;@OutsideProfile
+cip_attribute:x;@OutsideProfile
+uricontent:"a";@OutsideProfile
+byte_math:x;@OutsideProfile
+threshold:x;@OutsideProfile
+file_group:x;@OutsideProfile
+tag:session;@OutsideProfile
+flowbits:set,a&b;@OutsideProfile
+flowbits:isset,a|b;@OutsideProfile
+flowbits:set,a,group;@OutsideProfile
+flowbits:setx,a;@OutsideProfile
+flowbits:reset;@OutsideProfile
+byte_test:1,^,1,0;@OutsideProfile
+byte_test:1,!^,1,0;@OutsideProfile
+byte_test:1,=,1,0,dce;@OutsideProfile
+byte_jump:1,0,dce;@OutsideProfile
+pcre:"/a/U";@OutsideProfile
+pcre:"/a/iP"x;@OutsideProfile
+stream_reassemble:disable,both,fastpath;@OutsideProfile
+stream_reassemble:enable,fastpath;@OutsideProfile
+stream_reassemble:disable,both,noalert,fastpath;@OutsideProfile
+http_;@OutsideProfile
+urilen:1;@OutsideProfile
+file_data;@OutsideProfile
+pkt_data;@OutsideProfile
+base64_decode;@OutsideProfile
+base64_data;@OutsideProfile
+ftpbounce;@OutsideProfile
+asn1:x;@OutsideProfile
+cvs:x;@OutsideProfile
+rpc:1,*,*;@OutsideProfile
+ipopts:rr;@OutsideProfile
+logto:"x";@OutsideProfile
+session:all;@OutsideProfile
+resp:x;@OutsideProfile
+react:x;@OutsideProfile
+replace:"a";@OutsideProfile
+activates:1;@OutsideProfile
+activated_by:1;@OutsideProfile
+count:1;@OutsideProfile
+protected_content:"a";@OutsideProfile
+hash:x;@OutsideProfile
+length:1;@OutsideProfile
+appid:x;@OutsideProfile
+sd_pattern:x;@OutsideProfile
+file_type:x;@OutsideProfile
+flowbits:setx,a,b;@OutsideProfile
+flowbits:unset,a b&c;@OutsideProfile
+flowbits:toggle,a,b;@OutsideProfile
+byte_test:5,^,1,0;@OutsideProfile
+byte_test:1,=,1,0,hex,dce;@OutsideProfile
+byte_extract:1,0,n,dce;@OutsideProfile
+byte_extract:1,0,a; byte_extract:1,0,b; byte_extract:1,0,c,dce;@OutsideProfile
+pcre:"/a/Uz";@OutsideProfile"#;
 
-/// More names than a rule may extract.
-const TOO_MANY: &str = r#"byte_extract:1,0,a; byte_extract:1,0,b; byte_extract:1,0,c;
-byte_extract:1,0,a; byte_extract:1,0,b; byte_extract:1,0,c; x;
-byte_extract:1,0,a; byte_extract:1,0,b; byte_extract:1,a,c;"#;
+/// Options without a name, names that are none, classes that there are not, and more names than a rule may extract.
+const UNKNOWN: &str = r#";@OptionSyntax
+:x;@OptionSyntax
+ttl:5; :;@OptionSyntax
+Ttl:5;@UnknownOption
+flow_bits:set,a;@UnknownOption
+http;@UnknownOption
+httpx;@UnknownOption
+HTTP_uri;@UnknownOption
+flowbit:set,a;@UnknownOption
+msg2:"t";@UnknownOption
+sid1:1;@UnknownOption
+count_:1;@UnknownOption
+classtype:a;@UnknownClass
+classtype:a b;@UnknownClass
+priority:1; classtype:a;@UnknownClass
+classtype:a; priority:1;@UnknownClass
+byte_extract:1,0,a; byte_extract:1,0,b; byte_extract:1,0,c;@Limit
+byte_extract:1,0,a; byte_extract:1,0,b; byte_extract:1,0,c; x;@Limit
+byte_extract:1,0,a; byte_extract:1,0,b; byte_extract:1,a,c;@Limit"#;
+
+/// Modifiers that stand where they may not; names that were not extracted, or too late.
+const MISPLACED: &str = r#"nocase;@MisplacedModifier
+rawbytes:x;@MisplacedModifier
+offset:x-y;@MisplacedModifier
+depth:1;@MisplacedModifier
+distance:n;@MisplacedModifier
+within:1;@MisplacedModifier
+fast_pattern;@MisplacedModifier
+content:"a"; nocase; nocase;@MisplacedModifier
+content:"a"; rawbytes; rawbytes;@MisplacedModifier
+content:"a"; offset:1; offset:2;@MisplacedModifier
+content:"a"; depth:1; depth:2;@MisplacedModifier
+content:"a"; distance:1; distance:2;@MisplacedModifier
+content:"a"; within:1; within:2;@MisplacedModifier
+content:"a"; offset:1; distance:1;@MisplacedModifier
+content:"a"; within:1; depth:1;@MisplacedModifier
+content:"a"; depth:1; within:n;@MisplacedModifier
+content:"a"; fast_pattern; content:"b"; fast_pattern:9;@MisplacedModifier
+ttl:5; rawbytes;@MisplacedModifier
+pcre:"/a/"; nocase;@MisplacedModifier
+fast_pattern:only;@MisplacedModifier
+content:"a"; nocase; nocase:;@MisplacedModifier
+content:"a"; rawbytes; rawbytes:x;@MisplacedModifier
+content:"a"; distance:1; offset:x-y;@MisplacedModifier
+content:"a"; distance:1; depth:0;@MisplacedModifier
+content:"a"; offset:1; within:0;@MisplacedModifier
+content:"a"; depth:1; distance:n;@MisplacedModifier
+content:"a"; fast_pattern:only; content:"b"; offset:1; fast_pattern:only;@MisplacedModifier
+content:"a"; offset:n;@UnknownVariable
+content:"a"; byte_extract:1,0,n; depth:n;@UnknownVariable
+content:"a"; distance:n;@UnknownVariable
+content:"a"; within:n;@UnknownVariable
+byte_test:1,=,n,0;@UnknownVariable
+byte_test:1,=,1,n;@UnknownVariable
+byte_jump:1,n;@UnknownVariable
+byte_extract:1,n,n;@UnknownVariable
+isdataat:!n;@UnknownVariable
+content:"a"; byte_extract:1,0,n; offset:n;@UnknownVariable
+content:"a"; byte_extract:1,0,n; distance:n;@UnknownVariable
+content:"a"; byte_extract:1,0,n; within:n;@UnknownVariable
+byte_test:5,=,n,0;@UnknownVariable
+byte_test:1,=,n,65536;@UnknownVariable
+byte_jump:1,n,multiplier 65536;@UnknownVariable
+byte_extract:1,0,n; byte_extract:1,m,n;@UnknownVariable
+byte_extract:1,0,a; byte_extract:1,0,b; byte_extract:1,c,c;@UnknownVariable
+byte_extract:1,0,n; isdataat:N;@UnknownVariable"#;
 
 #[test]
 fn options_are_read_or_refused(rt: HostRuntime) -> Result<(), Fail> {
-    let tables = [
-        (READ, None),
-        (WRONG, Some(RuleKind::OptionValue)),
-        (NAMELESS, Some(RuleKind::OptionSyntax)),
-        (UNKNOWN, Some(RuleKind::UnknownOption)),
-        (MISPLACED, Some(RuleKind::MisplacedModifier)),
-        (NOT_EXTRACTED, Some(RuleKind::UnknownVariable)),
-        (CLASSLESS, Some(RuleKind::UnknownClass)),
-        (OUTSIDE, Some(RuleKind::OutsideProfile)),
-        (TOO_MANY, Some(RuleKind::Limit)),
-    ];
-    let loaded = with_classes(rt.alloc())?;
-    let classes = &loaded.config.classes;
-    for (table, kind) in tables {
-        for options in table.lines() {
-            assert_eq!(rt; kind_of(rt.alloc(), classes, options)?, kind, "{options}");
-        }
+    let options = with_classes(rt.alloc())?;
+    for rows in [READ, WRONG, UNKNOWN, MISPLACED, OUTSIDE] {
+        check_lines(&rt, rt.alloc(), &options, rows)?;
     }
     Ok(())
 }
 
-/// What stands in front of a repeated text, the text, what stands behind, and how often it may stand.
-const LIMITS: [(&str, &str, &str, usize); 6] = [
-    ("", "ttl:1;", "", 64),
-    ("content:\"a\";", "sameip;", "", 63),
-    ("msg:\"t\"; reference; flowbits:noalert;", "id:1;", "", 64),
-    ("content:\"", "|61|", "\";", 2048),
-    ("msg:\"", "\\a", "\";", 1024),
-    ("pcre:\"/", "a", "/\";", 4096),
-];
+/// How often a text stands, what stands in front, the text, and what stands behind: as often as it may, and once more.
+const LIMITS: &str = r#"64~~ttl:1;~@read
+65~~ttl:1;~@Limit
+63~content:"a";~sameip;~@read
+64~content:"a";~sameip;~@Limit
+64~msg:"t"; reference; flowbits:noalert;~id:1;~@read
+65~msg:"t"; reference; flowbits:noalert;~id:1;~@Limit
+2048~content:"~|61|~";@read
+2049~content:"~|61|~";@Limit
+1024~msg:"~\a~";@read
+1025~msg:"~\a~";@Limit
+4096~pcre:"/~a~/";@read
+4097~pcre:"/~a~/";@Limit
+"#;
+
+/// The same of options of which one text is repeated.
+#[derive(Drop)]
+struct Repeated {
+    options: Options,
+}
+
+impl Call for Repeated {
+    fn answer(&self, alloc: Global, given: &str) -> Result<String, Fail> {
+        let (count, texts) = given.split_once('~').ok_or("a count")?;
+        let (front, texts) = texts.split_once('~').ok_or("a text")?;
+        let (text, behind) = texts.split_once('~').ok_or("a text")?;
+        let repeated = text.repeat(alloc, count.parse::<usize>()?)?;
+        let options = format!(in alloc; "{front}{repeated}{behind}")?;
+        self.options.answer(alloc, options.as_str())
+    }
+}
 
 #[test]
 fn limits_are_kept(rt: HostRuntime) -> Result<(), Fail> {
-    let classes = Classes::new(rt.alloc());
-    for (front, text, behind, most) in LIMITS {
-        let mut options = String::from_str(rt.alloc(), front)?;
-        for _ in 0..most {
-            options.push_str(text)?;
-        }
-        let full = format!(in rt.alloc(); "{options}{behind}")?;
-        assert_eq!(rt;
-            kind_of(rt.alloc(), &classes, full.as_str())?,
-            None,
-            "{front}"
-        );
-        let over = format!(in rt.alloc(); "{options}{text}{behind}")?;
-        let kind = kind_of(rt.alloc(), &classes, over.as_str())?;
-        assert_eq!(rt; kind, Some(RuleKind::Limit), "{front}");
-    }
-    Ok(())
+    let options = with_classes(rt.alloc())?;
+    check_lines(&rt, rt.alloc(), &Repeated { options }, LIMITS)
 }

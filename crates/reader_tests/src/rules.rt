@@ -1,6 +1,7 @@
 //! Whole lines of rules: which are read, what their options stand for, and which fault decides where there are
 //! several. Each was worked out by hand from the grammar of the manual's chapter 3.
 
+use crate::rows::{Call, check_lines};
 use conf_parser::Classes;
 use net_lists::{Vars, is_name};
 use rule_parser::{BitNames, Rule, RuleFault, read_rule};
@@ -10,22 +11,16 @@ use std::test::Fail;
 /// Variables: E is `any`, H a list of addresses, P one of ports, and L a list of 1025 ports.
 fn variables(alloc: Global) -> Result<Vars, Fail> {
     let mut vars = Vars::new(alloc);
-    let (e, h, p, l) = (
-        b"E".as_slice(),
-        b"H".as_slice(),
-        b"P".as_slice(),
-        b"L".as_slice(),
-    );
-    let mut long = String::from_str(alloc, "[1")?;
-    for _ in 0..1024 {
-        long.push_str(",1")?;
-    }
-    long.push_str("]")?;
-    if is_name(e) && is_name(h) && is_name(p) && is_name(l) {
-        vars.define(e, b"any", false)?;
-        vars.define(h, b"[10.0.0.0/8,!10.1.0.0/16]", false)?;
-        vars.define(p, b"[80,8080]", false)?;
-        vars.define(l, long.as_bytes(), false)?;
+    let ones = format!(in alloc; "[1{}]", ",1".repeat(alloc, 1024)?)?;
+    for (name, value) in [
+        ("E", "any"),
+        ("H", "[10.0.0.0/8,!10.1.0.0/16]"),
+        ("P", "[80,8080]"),
+        ("L", ones.as_str()),
+    ] {
+        if is_name(name.as_bytes()) {
+            vars.define(name.as_bytes(), value.as_bytes(), false)?;
+        }
     }
     Ok(vars)
 }
@@ -39,14 +34,18 @@ fn read(alloc: Global, line: &str, bits: &mut BitNames) -> Result<Result<Rule, R
 
 /// What a line gives: the rule's number, how many options it keeps and whether it gives no event; or the kind
 /// of the fault, and the places of what an unknown variable shows.
-fn outcome(alloc: Global, line: &str) -> Result<String, Fail> {
-    let mut bits = BitNames::new(alloc);
-    match read(alloc, line, &mut bits)? {
-        Ok(rule) => {
-            let (sid, kept, silent) = (rule.sid, rule.opts.as_slice().len(), rule.noalert);
-            Ok(format!(in alloc; "rule {sid} {kept} {silent}")?)
+#[derive(Drop)]
+struct Lines;
+
+impl Call for Lines {
+    fn answer(&self, alloc: Global, given: &str) -> Result<String, Fail> {
+        match read(alloc, given, &mut BitNames::new(alloc))? {
+            Ok(rule) => {
+                let (sid, kept, silent) = (rule.sid, rule.opts.as_slice().len(), rule.noalert);
+                Ok(format!(in alloc; "rule {sid} {kept} {silent}")?)
+            }
+            Err(RuleFault { kind, from, to }) => Ok(format!(in alloc; "{kind:?} {from} {to}")?),
         }
-        Err(RuleFault { kind, from, to }) => Ok(format!(in alloc; "{kind:?} {from} {to}")?),
     }
 }
 
@@ -174,15 +173,11 @@ alert udp any any -> any any (flowbits:setx,a; sid:1;)@OutsideProfile 0 0
 
 #[test]
 fn lines_give_rules_or_their_leftmost_faults(rt: HostRuntime) -> Result<(), Fail> {
-    for row in LINES.lines() {
-        let (line, wanted) = row.split_once('@').ok_or("a row")?;
-        assert_eq!(rt; outcome(rt.alloc(), line)?.as_str(), wanted, "{line}");
-    }
-    Ok(())
+    check_lines(&rt, rt.alloc(), &Lines, LINES)
 }
 
 /// The options of a rule of this line, as they are kept.
-fn values(alloc: Global, line: &str, bits: &mut BitNames) -> Result<String, Fail> {
+fn kept_options(alloc: Global, line: &str, bits: &mut BitNames) -> Result<String, Fail> {
     let opts = read(alloc, line, bits)?.ok().ok_or("a rule")?.opts;
     let opts = opts.as_slice();
     Ok(format!(in alloc; "{opts:?}")?)
@@ -208,19 +203,20 @@ flowbits:set,x; flowbits:isnotset,y; flowbits:toggle,x;@[BitDo { change: Set, bi
 msg:"t"; reference:url,a.b; metadata:a b; flowbits:noalert;@[]
 "#;
 
+/// What options stand for.
+#[derive(Drop)]
+struct Values;
+
+impl Call for Values {
+    fn answer(&self, alloc: Global, given: &str) -> Result<String, Fail> {
+        let line = format!(in alloc; "alert ip any any -> any any ({given} sid:1;)")?;
+        kept_options(alloc, line.as_str(), &mut BitNames::new(alloc))
+    }
+}
+
 #[test]
 fn options_stand_for_their_values(rt: HostRuntime) -> Result<(), Fail> {
-    for row in VALUES.lines() {
-        let (options, wanted) = row.split_once('@').ok_or("a row")?;
-        let line = format!(in rt.alloc(); "alert ip any any -> any any ({options} sid:1;)")?;
-        let mut bits = BitNames::new(rt.alloc());
-        assert_eq!(rt;
-            values(rt.alloc(), line.as_str(), &mut bits)?.as_str(),
-            wanted,
-            "{options}"
-        );
-    }
-    Ok(())
+    check_lines(&rt, rt.alloc(), &Values, VALUES)
 }
 
 #[test]
@@ -229,9 +225,12 @@ fn a_refused_rule_leaves_no_names_of_flowbits(rt: HostRuntime) -> Result<(), Fai
     let first = "alert ip any any -> any any (flowbits:set,x; sid:1;)";
     let wrong = "alert ip any any -> any any (flowbits:set,y; sid:0;)";
     let second = "alert ip any any -> any any (flowbits:set,z; flowbits:isset,x; sid:2;)";
-    let _ = values(rt.alloc(), first, &mut bits)?;
+    let _ = kept_options(rt.alloc(), first, &mut bits)?;
     assert_eq!(rt; read(rt.alloc(), wrong, &mut bits)?.is_ok(), false);
     let wanted = "[BitDo { change: Set, bit: 1 }, BitTest { bit: 0, want: true }]";
-    assert_eq!(rt; values(rt.alloc(), second, &mut bits)?.as_str(), wanted);
+    assert_eq!(rt;
+        kept_options(rt.alloc(), second, &mut bits)?.as_str(),
+        wanted
+    );
     Ok(())
 }

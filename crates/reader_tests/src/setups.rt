@@ -4,7 +4,7 @@
 ghost use Rattle.std.specs.Option.{option_map};
 ghost use Rattle.snort_setup.specs.Words.{HasName};
 
-use edge_io::crossing::{sendable, shareable};
+use crate::rows::text_of;
 use edge_io::{Items, Literal, LiteralMaker, MemHost, NoMemory, Text};
 use net_lists::is_name;
 use snort_setup::{Setup, SetupStop, SetupWords, read_setup};
@@ -172,11 +172,6 @@ WARNING: snort.conf(19) skipped: output unified2
 ready: 1 rules, 0 hosts
 "#;
 
-/// The bytes, which are a text.
-fn text_of(bytes: &[u8]) -> Result<&str, Fail> {
-    Ok(str::from_utf8(bytes).ok().ok_or("a text")?)
-}
-
 /// The variable that the words define.
 fn definition(words: &str) -> Option<(&'static [u8], &'static [u8])>
     ensures { HasName (option_map (λ pair. record { name = pair.0.now; value = pair.1.now }) result) }
@@ -249,12 +244,4 @@ fn files_give_rules_or_the_first_refusal(rt: HostRuntime) -> Result<(), Fail> {
         assert_eq!(rt; got.as_str(), wanted, "{label}");
     }
     Ok(())
-}
-
-/// A setup crosses threads, and is shared by them.
-#[test]
-fn setups_cross_threads(rt: HostRuntime) {
-    let _ = rt;
-    sendable::<Setup<Literal>>();
-    shareable::<Setup<Literal>>();
 }
