@@ -1,15 +1,15 @@
 //! What no clause says: that calls succeed where memory is ample, and what real files and streams
 //! do.
 
+mod threads;
+
 ghost use Rattle.std.specs.Prelude.{◌≡◌, ◌<◌, ◌≤◌, [], ◌∷◌, length, IfOk};
 
-use crate::crossing::{sendable, shareable};
 use crate::fault::FaultCount;
 use crate::file_host::read_once;
 use crate::{
-    Addr, Failed, FileHost, FragPolicy, Gate, Host, Items, Link, Literal, LiteralMaker, LoadFault,
-    MemHost, MemSink, Moment, NoMemory, OpenGate, Pattern, PatternFlags, PatternMaker, Preference,
-    Refusal, Sink, Span, StdSink, StreamPolicy, Text, WriteStop, write_all,
+    Failed, FileHost, FragPolicy, Host, Items, Literal, LiteralMaker, LoadFault, MemHost, MemSink,
+    NoMemory, PatternFlags, Preference, Span, StdSink, StreamPolicy, Text, WriteStop, write_all,
 };
 use std::alloc::Global;
 use std::io::{ErrorKind, Read, Write};
@@ -47,41 +47,6 @@ fn texts_of(alloc: Global, first: &[u8], second: &[u8]) -> Result<Items<Text>, N
     texts.push(Text::copy(alloc, first)?)?;
     texts.push(Text::copy(alloc, second)?)?;
     Ok(texts)
-}
-
-#[test]
-fn gates_are_passed_and_types_cross_threads(_rt: HostRuntime) {
-    OpenGate.pass(3);
-    sendable::<Addr>();
-    shareable::<Addr>();
-    sendable::<FragPolicy>();
-    shareable::<FragPolicy>();
-    sendable::<Items<u8>>();
-    shareable::<Items<u8>>();
-    sendable::<Link>();
-    shareable::<Link>();
-    sendable::<Literal>();
-    shareable::<Literal>();
-    sendable::<LiteralMaker>();
-    shareable::<LiteralMaker>();
-    sendable::<MemHost>();
-    shareable::<MemHost>();
-    sendable::<MemSink>();
-    shareable::<MemSink>();
-    sendable::<Moment>();
-    shareable::<Moment>();
-    sendable::<OpenGate>();
-    shareable::<OpenGate>();
-    sendable::<PatternFlags>();
-    shareable::<PatternFlags>();
-    sendable::<Refusal>();
-    shareable::<Refusal>();
-    sendable::<Span>();
-    shareable::<Span>();
-    sendable::<StreamPolicy>();
-    shareable::<StreamPolicy>();
-    sendable::<Text>();
-    shareable::<Text>();
 }
 
 /// Names of policies for fragments and for streams, and the rows that they stand for.
