@@ -9,7 +9,8 @@ use crate::fault::FaultCount;
 use crate::file_host::read_once;
 use crate::{
     Failed, FileHost, FragPolicy, Host, Items, Literal, LiteralMaker, LoadFault, MemHost, MemSink,
-    NoMemory, PatternFlags, Preference, Span, StdSink, StreamPolicy, Text, WriteStop, write_all,
+    NoMemory, Pattern, PatternFlags, PatternMaker, Preference, Sink, Span, StdSink, StreamPolicy,
+    Text, WriteStop, write_all,
 };
 use std::alloc::Global;
 use std::io::{ErrorKind, Read, Write};

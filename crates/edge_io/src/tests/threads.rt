@@ -2,7 +2,7 @@
 
 use crate::crossing::{sendable, shareable};
 use crate::{
-    Addr, FragPolicy, Items, Link, Literal, LiteralMaker, MemHost, MemSink, Moment, OpenGate,
+    Addr, FragPolicy, Gate, Items, Link, Literal, LiteralMaker, MemHost, MemSink, Moment, OpenGate,
     PatternFlags, Refusal, Span, StreamPolicy, Text,
 };
 
