@@ -1,8 +1,9 @@
 //! One list of jobs of three flows, in lanes of any number and in any cut into batches: the same answers.
 //!
-//! The jobs are packets of UDP. The first rule sets a bit where it finds an `a`, and the second matches a `b`
-//! where the bit stands: so the answer to a `b` tells what stood before it in its own flow. The payloads
-//! are long, so that a batch of several is worth threads.
+//! The jobs are packets of UDP. The first rule matches a `b` where the bit stands, the second sets it where
+//! it finds an `a`, and the third is the first again: so the answer to a `b` tells what stood before it in
+//! its own flow, and the answer to `ab` which rules see what that packet sets. The payloads are long, so
+//! that a batch of several is worth threads.
 
 ghost use Rattle.std.specs.Prelude.{◌≡◌, ◌+◌, ◌<◌, ◌≤◌, ◌^◌, All, IfOk, OnOk, length};
 ghost use Rattle.conf_parser.specs.Sound.{IsStreamConfig};
@@ -22,15 +23,15 @@ use std::test::Fail;
 use std::thread::Threads;
 
 const RULES: &str =
-    r#"alert udp any any -> any any (msg:"first"; content:"a"; flowbits:set,x; sid:1;)#alert udp any any -> any any (msg:"second"; content:"b"; flowbits:isset,x; sid:2;)"#;
+    r#"alert udp any any -> any any (msg:"early"; content:"b"; flowbits:isset,x; sid:3;)#alert udp any any -> any any (msg:"first"; content:"a"; flowbits:set,x; sid:1;)#alert udp any any -> any any (msg:"second"; content:"b"; flowbits:isset,x; sid:2;)"#;
 
-/// Each line is the one list of jobs, a flow and a letter each, cut into batches.
-const CUTS: &str = "0:a 1:b 2:a 0:b 1:a 2:b 1:b
-0:a|1:b|2:a|0:b|1:a|2:b|1:b
-0:a 1:b 2:a|0:b 1:a 2:b 1:b";
+/// Each line is the one list of jobs, a flow and its letters each, cut into batches.
+const CUTS: &str = "0:a 1:b 2:ab 0:b 1:a 2:b 1:b
+0:a|1:b|2:ab|0:b|1:a|2:b|1:b
+0:a 1:b 2:ab|0:b 1:a 2:b 1:b";
 
 /// The places of the rules that match the one item of each job, and how many candidates there were.
-const ANSWERS: &str = "0[0] 1[] 2[0] 3[1] 4[0] 5[1] 6[1] tries 7";
+const ANSWERS: &str = "0[1] 1[] 2[12] 3[02] 4[1] 5[02] 6[02] tries 13";
 
 /// Bytes that no rule looks for, before the letter of a packet.
 const LEAD: usize = 20000;

@@ -106,14 +106,20 @@ alert udp any any -> any any (content:"cd"; sid:1;)
 alert udp any any -> any any (sid:1;)
 alert udp any any -> any any (content:"|BF|Z"; sid:1;)
 alert udp any any -> any any (content:"xy"; sid:1;)
-alert udp any any -> any any (content:"D"; sid:1;)"#;
+alert udp any any -> any any (content:"D"; sid:1;)
+alert udp any any -> any any (content:"xABC"; nocase; sid:1;)
+alert udp any any -> any any (content:"bc"; nocase; sid:2;)"#;
 
 /// What an item carries, its ports, its payload and the candidates: all suffixes, twice the same, nothing, a
-/// word that breaks off, a byte that differs as cases do, another protocol.
-const WITHIN_ROWS: &str = "udp|1|80|xABcDx|77 0 1 2 3 4 5 8 
+/// word that breaks off, a letter that would go on with the payload before, a word behind another letter and
+/// behind its own in the other case, a byte that differs as cases do, another protocol.
+const WITHIN_ROWS: &str = "udp|1|80|xABcDx|77 0 1 2 3 4 5 8 9 10 
 udp|1|80|cdcd|77 2 4 5 8 
 udp|1|80||77 5 
-udp|1|80|abcabc|77 3 5 
+udp|1|80|abcabc|77 3 5 10 
+udp|1|80|d|77 5 8 
+udp|1|80|zabc|77 3 5 10 
+udp|1|80|XaBc|77 3 5 9 10 
 udp|1|80|ÿz|77 5 6 
 udp|1|80|ßz|77 5 
 fragment|0|0|abcd|77 ";
@@ -163,6 +169,8 @@ const CHOICES: &str = r#"@none
 content:!"abc"; fast_pattern;@none
 content:"ab"; content:!"abcd"; content:"xyz";@2 0 3
 content:"abc"; content:"xyz";@0 0 3
+content:"abcd"; content:"x"; fast_pattern;@1 0 1
+content:!"abcd"; fast_pattern; content:"ab";@1 0 2
 content:"abcd"; content:"x"; fast_pattern:only;@1 0 1
 content:"abcdef"; content:"wxyz"; fast_pattern:1,2;@1 1 2"#;
 
@@ -188,9 +196,9 @@ fn choices(rt: HostRuntime) -> Result<(), Fail> {
 fn many_rules(rt: HostRuntime) -> Result<(), Fail> {
     let alloc = rt.alloc();
     let mut rules = Vec::new(alloc);
-    for number in 100000..160000u32 {
+    for number in 1..60001u32 {
         let line = format!(in alloc;
-            "alert udp any any -> any any (content:\"aaaaaaaa{number}\"; sid:1;)"
+            "alert udp any any -> any any (content:\"aaaaaaaa{number:05}\"; sid:{number};)"
         )?;
         rules.push(rule_of(alloc, &line)?)?;
     }
@@ -200,7 +208,7 @@ fn many_rules(rt: HostRuntime) -> Result<(), Fail> {
     for _letter in 0..65000u32 {
         payload.push_str("a")?;
     }
-    payload.push_str("100006")?;
+    payload.push_str("00007")?;
     for _turn in 0..2000u32 {
         let text = found(alloc, &groups, &item("udp", 1, 80), &payload)?;
         assert!(rt; text.as_str() == "77 6 ", "one walk");
