@@ -29,6 +29,7 @@ fragment: ip 10.0.0.1 1000 -> any 80@true@a fragment is ip
 back: ip 10.0.0.1 1000 -> any 80@false@ip asks no port
 tcp: ip 10.0.0.1 1 -> any 1@true@ip asks no port of tcp
 tcp: flags:S;@true@S of S
+tcp: flags:+S;@true@+S of S
 syn-ack: flags:S;@false@S of SA
 syn-ack: flags:+S;@true@+S of SA
 syn-ack: flags:+SF;@false@+SF of SA
@@ -125,6 +126,7 @@ id stream@false
 fragoffset@(false, true) (true, false)
 fragoffset stream@false
 ip_proto@(false, true) (true, false)
+ip_proto stream@true
 seq@(false, true) (true, false)
 seq udp@false
 ack@(false, true) (true, false)

@@ -260,7 +260,8 @@ fn payloads_match_or_do_not(rt: HostRuntime) -> Result<(), Fail> {
 
 /// Three letters in any places and a fourth that is nowhere: no place is asked twice for one option. The
 /// four options take at most 4 * 2001 visits, by the clause of `payload_matches`; a search that goes back
-/// takes more than a thousand million.
+/// takes more than a thousand million. By the same clause the first of the rows above, two options on
+/// `abxabc`, takes at most 2 * 7.
 #[test]
 fn sets_of_places_are_gone_through_once(rt: HostRuntime) -> Result<(), Fail> {
     let options =
