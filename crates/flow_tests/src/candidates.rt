@@ -92,7 +92,7 @@ fn check_rows(rt: &impl Abort, alloc: Global, lines: &str, rows: &str) -> Result
         let payload = cells.next().unwrap_or("");
         let wanted = cells.next().unwrap_or("");
         let text = found(alloc, &groups, &item(kind, sport, dport), payload)?;
-        assert!(rt; text.as_str() == wanted, "{row}");
+        assert!(rt; text.as_str().trim_end() == wanted, "{row}");
     }
     Ok(())
 }
@@ -113,16 +113,16 @@ alert udp any any -> any any (content:"bc"; nocase; sid:2;)"#;
 /// What an item carries, its ports, its payload and the candidates: all suffixes, twice the same, nothing, a
 /// word that breaks off, a letter that would go on with the payload before, a word behind another letter and
 /// behind its own in the other case, a byte that differs as cases do, another protocol.
-const WITHIN_ROWS: &str = "udp|1|80|xABcDx|77 0 1 2 3 4 5 8 9 10 
-udp|1|80|cdcd|77 2 4 5 8 
-udp|1|80||77 5 
-udp|1|80|abcabc|77 3 5 10 
-udp|1|80|d|77 5 8 
-udp|1|80|zabc|77 3 5 10 
-udp|1|80|XaBc|77 3 5 9 10 
-udp|1|80|ÿz|77 5 6 
-udp|1|80|ßz|77 5 
-fragment|0|0|abcd|77 ";
+const WITHIN_ROWS: &str = "udp|1|80|xABcDx|77 0 1 2 3 4 5 8 9 10
+udp|1|80|cdcd|77 2 4 5 8
+udp|1|80||77 5
+udp|1|80|abcabc|77 3 5 10
+udp|1|80|d|77 5 8
+udp|1|80|zabc|77 3 5 10
+udp|1|80|XaBc|77 3 5 9 10
+udp|1|80|ÿz|77 5 6
+udp|1|80|ßz|77 5
+fragment|0|0|abcd|77";
 
 #[test]
 fn patterns_within_patterns(rt: HostRuntime) -> Result<(), Fail> {
@@ -149,15 +149,15 @@ alert tcp any 80:90 <> any 80:90 (sid:1;)
 alert tcp any !1024: -> any any (sid:1;)
 alert udp any any -> any [0,65535] (sid:1;)"#;
 
-const HEADER_ROWS: &str = "stream|9|80|a|77 0 1 2 3 4 5 13 16 
-stream|80|9|b|77 3 5 11 12 13 14 16 
-stream|80|80|a|77 0 1 2 3 4 5 12 13 15 16 
-stream|2000|81|b|77 5 11 
-udp|1|80|a|77 4 5 6 7 
-udp|1|65535|b|77 5 7 17 
-udp|1|0|b|77 5 7 17 
-icmp|0|0|A|77 4 5 8 9 
-fragment|0|0|a|77 4 5 ";
+const HEADER_ROWS: &str = "stream|9|80|a|77 0 1 2 3 4 5 13 16
+stream|80|9|b|77 3 5 11 12 13 14 16
+stream|80|80|a|77 0 1 2 3 4 5 12 13 15 16
+stream|2000|81|b|77 5 11
+udp|1|80|a|77 4 5 6 7
+udp|1|65535|b|77 5 7 17
+udp|1|0|b|77 5 7 17
+icmp|0|0|A|77 4 5 8 9
+fragment|0|0|a|77 4 5";
 
 #[test]
 fn headers_that_fit(rt: HostRuntime) -> Result<(), Fail> {
