@@ -21,7 +21,7 @@ use Rattle.flow_lanes.specs.Engines.{Making}
 use Rattle.flow_lanes.specs.Flows.{Detection, FlowState, all_items, flow_of, flow_of_work, flow_state, hits, hits_in, items, same_flow, same_number, session_at_hand, state_after, state_behind, tries, work_items}
 use Rattle.flow_lanes.specs.Items.{alone_items, finish_items, packet_items}
 use Rattle.flow_lanes.specs.ItemHits.{Trying}
-use Rattle.flow_lanes.specs.Kept.{Sets, facts_after_packet, kept_in}
+use Rattle.flow_lanes.specs.Kept.{KeepsOthers, Sets, facts_after_packet, kept_in}
 use Rattle.flow_lanes.specs.Sessions.{Packet}
 use Rattle.flow_lanes.specs.Sound.{FlowFacts, IsSoundFor, facts_behind, facts_behind_work}
 use Rattle.flow_lanes.specs.Standing.{AnswersJob, CountsTries, DetectsBy, HasDone, KeptFlow, LaneState, LearnsJob, Stands, facts_kept, is_of_flow, kept_behind, kept_of, known_of, state_kept}
@@ -30,19 +30,18 @@ use Rattle.flow_lanes.specs.Whole.{IsDone, IsDoneBy, found_for, items_for, kept_
 use Rattle.flow_lanes.proofs.LaneJobs.{HasDone-stands, Stands-finds}
 use Rattle.flow_lanes.proofs.Short.{job_short}
 
--- a choice by one test twice
-cond_twice : {A : Type 0} (b : Bool) (x y z : A) → cond b x (cond b y z) ≡ cond b x z
-cond_twice true x y z = refl
-cond_twice false x y z = refl
+cond_else : {A : Type 0} (b : Bool) (x y z : A) → (b ≡ false → y ≡ z) → cond b x y ≡ cond b x z
+cond_else true x y z same = refl
+cond_else false x y z same = same refl
 
 cond_then : {A : Type 0} (b : Bool) (x y z : A) → (b ≡ true → x ≡ y) → cond b x z ≡ cond b y z
 cond_then true x y z same = same refl
 cond_then false x y z same = refl
 
--- what is taken and then kept is kept
-pub sets_both : (flow : ℕ) (kept : Option KeptFlow) (old mid new : List (ℕ × KeptFlow)) → Sets flow None old mid → Sets flow kept mid new → Sets flow kept old new
-sets_both flow kept old mid new taken put =
-    λ other. put other ∙ ap (λ (x : Option KeptFlow). cond (other == flow) kept x) (taken other) ∙ cond_twice (other == flow) kept None (kept_in old other)
+-- what is kept of a flow, after what concerned it alone
+pub sets_both : (flow : ℕ) (kept : Option KeptFlow) (old mid new : List (ℕ × KeptFlow)) → KeepsOthers flow old mid → Sets flow kept mid new → Sets flow kept old new
+sets_both flow kept old mid new others put =
+    λ other. put other ∙ cond_else (other == flow) kept (kept_in mid other) (kept_in old other) (others other)
 
 -- so the flow of the job goes on, and no other
 sets_flows : (flow : ℕ) (kept : Option KeptFlow) (by : Option KeptFlow → Option KeptFlow) (old new : List (ℕ × KeptFlow)) → Sets flow kept old new → kept ≡ by (kept_in old flow)
@@ -94,15 +93,15 @@ finish-facts moment flow old new sets = sets_facts flow None (λ f. facts_behind
 -- the parts of what is done are those of the definition
 module _ {P : Type 0} (finds : P → List ℕ → Option Span) (set : Rules P) (making : Making) (moment : Moment) where
   pub do-packet : (flow : ℕ) (head : ItemHead) (payload : List ℕ) (to_dst to_src : Toward) (old mid new : List (ℕ × KeptFlow)) (found : Option KeptFlow) (kept : KeptFlow) (tally : Tally)
-      → found ≡ kept_in old flow → Sets flow None old mid → Sets flow (Some kept) mid new
+      → found ≡ kept_in old flow → KeepsOthers flow old mid → Sets flow (Some kept) mid new
       → ((means : Means) (trying : Trying) → TriesBy finds means set trying
       → DetectsOn trying (packet_items making (record { head = head; payload = payload; moment = moment; to_dst = to_dst; to_src = to_src }) (session_at_hand (state_kept found))) (state_kept found) (record { tally = tally; state = kept.found }))
       → tally.tries ≡ candidates_of set.rules (all_items (packet_items making (record { head = head; payload = payload; moment = moment; to_dst = to_dst; to_src = to_src }) (session_at_hand (state_kept found))))
       → kept.facts ≡ facts_after_packet (record { head = head; payload = payload; moment = moment; to_dst = to_dst; to_src = to_src }) (facts_kept found)
       → IsDone finds set making moment (work.Packet flow head payload to_dst to_src) old new tally
-  do-packet flow head payload to_dst to_src old mid new found kept tally is taken put detects tries facts =
+  do-packet flow head payload to_dst to_src old mid new found kept tally is others put detects tries facts =
       let p : Packet = record { head = head; payload = payload; moment = moment; to_dst = to_dst; to_src = to_src } in
-      let sets = sets_both flow (Some kept) old mid new taken put in
+      let sets = sets_both flow (Some kept) old mid new others put in
       let facts_are : kept.facts ≡ facts_after_packet p (facts_kept (kept_in old flow)) = facts ∙ ap (λ (f : Option KeptFlow). facts_after_packet p (facts_kept f)) is in
       record {
         done = λ means trying by.

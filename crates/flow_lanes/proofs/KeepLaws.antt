@@ -2,7 +2,7 @@
 use Rattle.std.proofs.Common.{◌≡◌, ℕ, ◌==◌, Bool, cond, List, [], ◌∷◌, Option, Some, refl, sym, ◌∙◌, arith}
 use Rattle.std.specs.Map.{lookup}
 use Rattle.std.proofs.lemmas.Bool.Decides.{nat_tests}
-use Rattle.flow_lanes.specs.Kept.{Sets, kept_in}
+use Rattle.flow_lanes.specs.Kept.{KeepsOthers, Sets, kept_in}
 use Rattle.flow_lanes.specs.Standing.{KeptFlow}
 
 same_test : (a b : ℕ) → (a == b) ≡ (b == a)
@@ -16,3 +16,8 @@ looked_up flow (entry ∷ flows) = λ i. cond (same_test flow entry.0 i) (Some e
 pub sets-from : (flow : ℕ) (kept : Option KeptFlow) (old new : List (ℕ × KeptFlow))
     → ((other : ℕ) → lookup (λ key. other == key) new ≡ cond (flow == other) kept (lookup (λ key. other == key) old)) → Sets flow kept old new
 sets-from flow kept old new updates = λ other. sym (looked_up other new) ∙ updates other ∙ (λ i. cond (same_test flow other i) kept (looked_up other old i))
+
+-- so of all other flows what was kept is kept
+pub others-stay : (flow : ℕ) (kept : Option KeptFlow) (old new : List (ℕ × KeptFlow))
+    → ((other : ℕ) → lookup (λ key. other == key) new ≡ cond (flow == other) kept (lookup (λ key. other == key) old)) → KeepsOthers flow old new
+others-stay flow kept old new updates = λ other apart. sets-from flow kept old new updates other ∙ (λ i. cond (apart i) kept (kept_in old other))

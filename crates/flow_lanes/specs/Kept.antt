@@ -1,7 +1,7 @@
 -- What holds of a flow that is kept, and what its jobs find of it.
 --
 -- To try it on: behind two packets of a flow, no side of its session reaches further than 2 * 2^31 places.
-use Rattle.std.specs.Prelude.{◌≡◌, ℕ, ◌+◌, ◌*◌, ◌^◌, ◌≤◌, ◌==◌, Bool, List, Option, Some, None, IfSome, if◌then◌else◌}
+use Rattle.std.specs.Prelude.{◌≡◌, ℕ, ◌+◌, ◌*◌, ◌^◌, ◌≤◌, ◌==◌, Bool, false, List, Option, Some, None, IfSome, if◌then◌else◌}
 use Rattle.std.specs.Map.{lookup}
 use Rattle.std.specs.Option.{option_map_or}
 use Rattle.flow_lanes.specs.declared.keeping.Flow.TheInside.{Inside}
@@ -40,3 +40,7 @@ kept_in flows flow = lookup (λ other. other == flow) flows
 -- of this flow this is kept, of all others what was
 abbrev pub Sets : ℕ → Option KeptFlow → List (ℕ × KeptFlow) → List (ℕ × KeptFlow) → Type 0
 Sets flow kept old new = (other : ℕ) → kept_in new other ≡ (if other == flow then kept else kept_in old other)
+
+-- of all other flows what was kept is kept
+abbrev pub KeepsOthers : ℕ → List (ℕ × KeptFlow) → List (ℕ × KeptFlow) → Type 0
+KeepsOthers flow old new = (other : ℕ) → (other == flow) ≡ false → kept_in new other ≡ kept_in old other

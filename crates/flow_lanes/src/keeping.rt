@@ -2,7 +2,7 @@
 
 ghost use Rattle.std.specs.Prelude.{◌≡◌, List, ℕ, None, Some, IfOk, OnOk};
 ghost use Rattle.flow_lanes.specs.Flows.{bits_at_hand, session_at_hand};
-ghost use Rattle.flow_lanes.specs.Kept.{IsFoundBy, Sets, kept_in};
+ghost use Rattle.flow_lanes.specs.Kept.{IsFoundBy, KeepsOthers, Sets, kept_in};
 ghost use Rattle.flow_lanes.specs.Standing.{facts_kept, state_kept};
 
 use crate::facts::FlowFacts;
@@ -66,6 +66,16 @@ fn taken_apart(found: Option<FlowState>) -> (Option<Session>, Option<Bits>)
 }
 
 impl Flow {
+    /// What is kept, whose session and bits are no longer here then.
+    fn taken(&mut self) -> Flow
+        ensures { result ≡ self.old }
+    {
+        Flow {
+            facts: self.facts,
+            found: self.found.take(),
+        }
+    }
+
     /// What its next job finds.
     fn apart(self) -> FoundFlow
         ensures facts { result.facts ≡ Some self.facts }
@@ -100,7 +110,18 @@ pub(crate) fn found_flow(kept: Option<Flow>) -> FoundFlow
     }
 }
 
-/// Takes what is kept of a flow.
+/// Takes what is kept of a flow. It keeps its place among the flows, for what is kept of it next.
+pub(crate) fn take_kept(flows: &mut Flows, flow: u64) -> Option<Flow>
+    ensures kept { result ≡ kept_in flows.old.entries flow }
+    ensures others { KeepsOthers flow flows.old.entries flows.new.entries }
+{
+    match flows.get_mut(&flow) {
+        None => None,
+        Some(kept) => Some(kept.taken()),
+    }
+}
+
+/// Takes what is kept of a flow that ends.
 pub(crate) fn take_flow(flows: &mut Flows, flow: u64) -> Option<Flow>
     ensures kept { result ≡ kept_in flows.old.entries flow }
     ensures taken { Sets flow None flows.old.entries flows.new.entries }

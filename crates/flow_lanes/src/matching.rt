@@ -1,7 +1,8 @@
 //! One rule on one item.
 
-ghost use Rattle.std.specs.Prelude.{◌≡◌, ℕ, ◌<◌, ◌↔◌, List, Option, length, All, IsTrue, IfOk};
+ghost use Rattle.std.specs.Prelude.{◌≡◌, ℕ, ◌<◌, ◌↔◌, List, Option, true, length, All, IsTrue, IfOk};
 ghost use Rattle.rule_parser.specs.declared.rule.Rule.{Rule};
+ghost use Rattle.fast_pattern.specs.Candidates.{is_candidate};
 ghost use Rattle.header_eval.specs.Fields.{field_holds};
 ghost use Rattle.option_eval.specs.Places.{Means, PayloadMatches};
 ghost use Rattle.option_eval.specs.RuleSet.{FindWhatIsMeant, IsRuleAt};
@@ -98,4 +99,11 @@ pub fn hits_are_one()
         → (places : List ℕ) × AreHits means rules item bits places }
     ensures one { (means : Means) (rules : List Rule) (item : Item) (bits : Option Seen) (xs ys : List ℕ)
         → AreHits means rules item bits xs → AreHits means rules item bits ys → xs ≡ ys }
+{}
+
+/// A law for callers: a rule that matches an item is a candidate for it (`fast_pattern`). So no rule that
+/// matches is left out where candidates alone are tried.
+pub fn matching_rules_are_candidates()
+    ensures { (means : Means) (rule : Rule) (item : Item) (bits : Seen) → RuleMatches means rule item bits
+        → is_candidate item.head.body item.payload rule ≡ true }
 {}

@@ -15,7 +15,7 @@ ghost use Rattle.flow_lanes.specs.Whole.{IsDone, known_for};
 use crate::arrival::Arrival;
 use crate::flow::{PacketDone, alone_done, finish_done, packet_done};
 use crate::job::Work;
-use crate::keeping::{Flows, keep_flow, take_flow};
+use crate::keeping::{Flows, keep_flow, take_flow, take_kept};
 use crate::settings::Settings;
 use crate::tally::Tally;
 use edge_io::{Moment, NoMemory, Pattern};
@@ -41,7 +41,7 @@ fn do_packet<P: Pattern>(
     ensures { IfOk result (IsDone P.finds set.now (making_of settings.now) p.now.moment
         (works.Packet flow p.now.head.now p.now.payload.now p.now.to_dst p.now.to_src) flows.old.entries flows.new.entries) }
 {
-    let found = take_flow(flows, flow);
+    let found = take_kept(flows, flow);
     let PacketDone { tally, kept } = packet_done(alloc, settings, set, groups, p, found)?;
     keep_flow(flows, flow, kept)?;
     Ok(tally)

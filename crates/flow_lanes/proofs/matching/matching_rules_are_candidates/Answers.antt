@@ -1,0 +1,5 @@
+use Rattle.flow_lanes.proofs.Candidates.{matching-candidate}
+use Rattle.flow_lanes.proofs.matching.matching_rules_are_candidates.Goals as goal
+
+pub returns : goal.returns
+returns c = λ means rule item bits matches. matching-candidate means rule item bits matches
