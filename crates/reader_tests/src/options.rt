@@ -383,6 +383,10 @@ content:!"abc"; distance:1; fast_pattern:0,2;@OptionValue
 pcre:"/a";@OptionValue
 pcre:"/a/r";@OptionValue
 pcre:"/a/zU";@OptionValue
+pcre:"/é/";@OptionValue@an expression that is not ASCII
+pcre:"/é/U";@OptionValue@the same, before its flags
+pcre:"/a\/U";@OptionValue@an expression that ends in a backslash, before its flags
+pcre:"/a/"x;@OptionValue@a byte behind the closing quote
 byte_test:11,=,1,0,string;@OptionValue
 byte_test:0,^,1,0;@OptionValue
 byte_test:1,=,1x,n;@OptionValue

@@ -15,13 +15,14 @@ use Rattle.rule_parser.specs.declared.draft.Draft.{Draft}
 use Rattle.rule_parser.specs.declared.fault.Fault.TheVariants.{OptionValue, OutsideProfile, Limit}
 use Rattle.rule_parser.specs.declared.option.Base.{Base}
 use Rattle.rule_parser.specs.declared.option.Base.TheVariants as base
+use Rattle.rule_parser.specs.declared.option.Cmp.{Cmp}
 use Rattle.rule_parser.specs.declared.option.Num.{Num}
 use Rattle.rule_parser.specs.declared.option.Opt.TheVariants as opt
 use Rattle.rule_parser.specs.ByteOptions.{Part, first_part, next_part, no_words, once_only, with_times, with_post, with_multiple, shared_word, jump_word, extract_word, word_of, words_of, lacks_string, fetch_of, jump_of, extract_of, Comparison, comparison_of, operator_of, offset_of, byte_test_option, byte_jump_option, with_name, byte_extract_option, data_words, parts_behind, isdataat_option}
 use Rattle.rule_parser.specs.Contents.{negation}
 use Rattle.rule_parser.specs.Drafts.{kept_count, kept}
 use Rattle.rule_parser.specs.Names.{is_name, place_among, number_or_named}
-use Rattle.rule_parser.specs.Sound.{IsFetch, bytes_of_base}
+use Rattle.rule_parser.specs.Sound.{IsFetch, bytes_of_base, is_test}
 use Rattle.rule_parser.proofs.SoundDrafts.{AreNamed, IsSoundDraft, names_after, kept-more, kept-sound}
 use Rattle.rule_parser.proofs.SoundSteps.{then_ok, any_ok, kind_ok, if_ok, fold_ok}
 use Rattle.rule_parser.proofs.SoundValues.{IsIn, IsSignedIn, IsNumBelow, number_in-within, signed_in-within, num-named, place_among-below, signed_or_named-below, number_or_named-below}
@@ -127,6 +128,20 @@ unwrapped_align (Some align) h = go (align == 0) (align == 2 || align == 4) h
     go true c h = refl
     go false c h = h
 
+-- an operator is a comparison of byte_test
+operator-tests : (negated : Bool) (text : List ℕ) → IfOk (operator_of negated text) (λ how. IsTrue (is_test how))
+unfolding operator_of
+operator-tests negated text =
+    let Tests : Cmp → Type 0 = λ how. IsTrue (is_test how) in
+    if_ok Tests (bytes_eq text (codes "<")) _ _ (λ _. refl) (λ _.
+    if_ok Tests (bytes_eq text (codes ">")) _ _ (λ _. refl) (λ _.
+    if_ok Tests (bytes_eq text (codes "=")) _ _ (λ _. refl) (λ _.
+    if_ok Tests (bytes_eq text (codes "<=")) _ _ (λ _. refl) (λ _.
+    if_ok Tests (bytes_eq text (codes ">=")) _ _ (λ _. refl) (λ _.
+    if_ok Tests (bytes_eq text (codes "&")) _ _ (λ _. refl) (λ _.
+    if_ok Tests (bytes_eq text (codes "^")) (Err OutsideProfile) _ (λ _. tt) (λ _.
+    if_ok Tests (negated && length text == 0) _ (Err OptionValue) (λ _. refl) (λ _. tt))))))))
+
 module _ (classes : ℕ) (draft : Draft) (sound : IsSoundDraft classes draft) where
   -- the count of bytes, and an offset
   count_ok : (text : List ℕ) → IfOk (or_kind OptionValue (number_in 1 10 text)) (IsIn 1 10)
@@ -136,15 +151,15 @@ module _ (classes : ℕ) (draft : Draft) (sound : IsSoundDraft classes draft) wh
   offset_ok part = signed_or_named-below (negsuc 65534) (pos 65535) draft.names part.left part.text
 
   IsCompared : Comparison → Type 0
-  IsCompared comparison = IsNumBelow (length draft.names) (pos 0) (pos 4294967295) comparison.value
+  IsCompared comparison = IsNumBelow (length draft.names) (pos 0) (pos 4294967295) comparison.value × IsTrue (is_test comparison.cmp)
 
   comparison_ok : (count : Part) → IfOk (comparison_of draft.names count) IsCompared
   unfolding comparison_of IsCompared
   comparison_ok count =
       then_ok (λ _. Unit {0}) IsCompared (next_part count) _ (any_ok (next_part count)) (λ operator _.
-      then_ok (λ _. Unit {0}) IsCompared (operator_of (negation operator.text).0 (negation operator.text).1) _ (any_ok (operator_of (negation operator.text).0 (negation operator.text).1)) (λ how _.
+      then_ok (λ how. IsTrue (is_test how)) IsCompared (operator_of (negation operator.text).0 (negation operator.text).1) _ (operator-tests (negation operator.text).0 (negation operator.text).1) (λ how tests.
       then_ok (λ _. Unit {0}) IsCompared (next_part operator) _ (any_ok (next_part operator)) (λ against _.
-      then_ok (IsNumBelow (length draft.names) (pos 0) (pos 4294967295)) IsCompared (number_or_named 0 4294967295 draft.names against.left against.text) _ (number_or_named-below 0 4294967295 draft.names against.left against.text) (λ number below. below))))
+      then_ok (IsNumBelow (length draft.names) (pos 0) (pos 4294967295)) IsCompared (number_or_named 0 4294967295 draft.names against.left against.text) _ (number_or_named-below 0 4294967295 draft.names against.left against.text) (λ number below. (below, tests)))))
 
   pub byte_test-sound : (left : ℕ) (value : List ℕ) → IfOk (byte_test_option draft left value) (IsSoundDraft classes)
   unfolding byte_test_option IsCompared
@@ -157,7 +172,7 @@ module _ (classes : ℕ) (draft : Draft) (sound : IsSoundDraft classes draft) wh
       then_ok (IsNumBelow (length draft.names) (negsuc 65534) (pos 65535)) (IsSoundDraft classes) (offset_of draft place) _ (offset_ok place) (λ offset below.
       then_ok AreWords (IsSoundDraft classes) (words_of Test place.behind) _ (words_of-words Test place.behind) (λ words h.
       then_ok (IsFetch names) (IsSoundDraft classes) (fetch_of bytes offset words) _ (fetch-of names (length draft.names) bytes offset words sound.kept.named within below h) (λ fetch is_fetch.
-      kept-sound classes draft (opt.ByteTest fetch comparison.negated comparison.cmp comparison.value) sound (is_fetch, num-named names (length draft.names) (pos 0) (pos 4294967295) comparison.value sound.kept.named compared) (refl, λ names. refl)))))))
+      kept-sound classes draft (opt.ByteTest fetch comparison.negated comparison.cmp comparison.value) sound (is_fetch, num-named names (length draft.names) (pos 0) (pos 4294967295) comparison.value sound.kept.named compared.0, compared.1) (refl, λ names. refl)))))))
 
   pub byte_jump-sound : (left : ℕ) (value : List ℕ) → IfOk (byte_jump_option draft left value) (IsSoundDraft classes)
   unfolding byte_jump_option

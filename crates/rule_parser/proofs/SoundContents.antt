@@ -139,7 +139,7 @@ rawbytes-sound classes draft sound value =
 -- a place stands with any fast pattern but `only`
 fast-placed : (content : Content) (relative : Bool) (from room : Option Num) (mode : FastMode) → is_only mode ≡ false → IsFast content mode → IsFast (record content { relative = relative; from = from; room = room }) mode
 fast-placed content relative from room fast.No other h = tt
-fast-placed content relative from room fast.Yes other h = tt
+fast-placed content relative from room fast.Yes other h = h
 fast-placed content relative from room fast.Only other h = absurd (true≢ other)
   where
     true≢ : true ≡ false → ⊥
@@ -228,12 +228,12 @@ unplaced None (Some room) e = cc
 unplaced (Some from) room e = cc
 
 -- a fast pattern that may stand on a content
-fast-on : (content : Content) (mode : FastMode) (negated : Bool) → IsMode (length content.bytes) mode → ((is_only mode && negated) || ((is_only mode || negated) && has_room content)) ≡ false → IsFast (record content { fast = fast_on negated mode }) (fast_on negated mode)
-fast-on content mode true h bars = tt
-fast-on content fast.No false h bars = tt
-fast-on content fast.Yes false h bars = tt
-fast-on content fast.Only false h bars = unplaced content.from content.room bars
-fast-on content (fast.Part from len) false h bars = h
+fast-on : (content : Content) (mode : FastMode) (negated : Bool) → content.negated ≡ negated → IsMode (length content.bytes) mode → ((is_only mode && negated) || ((is_only mode || negated) && has_room content)) ≡ false → IsFast (record content { fast = fast_on negated mode }) (fast_on negated mode)
+fast-on content mode true e h bars = tt
+fast-on content fast.No false e h bars = tt
+fast-on content fast.Yes false e h bars = e
+fast-on content fast.Only false e h bars = let free = unplaced content.from content.room bars in (free.0, free.1, e)
+fast-on content (fast.Part from len) false e h bars = (h.0, h.1, e)
 
 only-on : (mode : FastMode) (negated : Bool) → (is_only mode || negated) ≡ false → is_only (fast_on negated mode) ≡ false
 only-on fast.No true e = refl
@@ -261,7 +261,7 @@ fast_pattern-sound classes draft sound value =
         held = record {
           place = before.held.place;
           known = before.held.known;
-          content = (before.held.content.0, before.held.content.1, before.held.content.2, fast-on held.content mode held.content.negated fits stands);
+          content = (before.held.content.0, before.held.content.1, before.held.content.2, fast-on held.content mode held.content.negated refl fits stands);
           placeless = only-on mode held.content.negated;
         };
         count = before.count;

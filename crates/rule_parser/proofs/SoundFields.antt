@@ -1,9 +1,11 @@
 -- Options on numbers of a header keep a rule sound.
-use Rattle.std.proofs.Common.{ℕ, ◌+◌, ◌≤◌, ◌==◌, ◌&&◌, Bool, true, false, cond, Option, Some, None, Ok, Err, List, [], length, take, drop, is_some, refl, arith, IfSome, IfOk}
+use Rattle.std.proofs.Common.{ℕ, ◌+◌, ◌≤◌, ◌≡◌, ◌==◌, ◌&&◌, ◌||◌, Bool, true, false, cond, Option, Some, None, Ok, Err, List, [], length, take, drop, is_some, refl, arith, inl, inr, IfSome, IfOk, IsTrue}
 use Rattle.net_lists.specs.Numbers.{number_in}
 use Rattle.net_lists.specs.Stops.{or_kind}
 use Rattle.rule_parser.specs.declared.draft.Draft.{Draft}
 use Rattle.rule_parser.specs.declared.fault.Fault.TheVariants.{OptionValue}
+use Rattle.rule_parser.specs.declared.fields.Sign.{Sign}
+use Rattle.rule_parser.specs.declared.fields.Sign.TheVariants.{Plain, Equal, Not, Below, Above, UpTo, From}
 use Rattle.rule_parser.specs.declared.option.Cmp.{Cmp}
 use Rattle.rule_parser.specs.declared.option.Cmp.TheVariants as cmp
 use Rattle.rule_parser.specs.declared.option.Field.{Field}
@@ -11,10 +13,11 @@ use Rattle.rule_parser.specs.declared.option.Field.TheVariants as field
 use Rattle.rule_parser.specs.declared.option.Opt.{Opt}
 use Rattle.rule_parser.specs.declared.option.Opt.TheVariants as opt
 use Rattle.rule_parser.specs.Drafts.{kept}
-use Rattle.rule_parser.specs.Fields.{sign_of, cmp_of, allows, signed_compare, end_of, ttl_range, dsize_range, place_of, ttl_to, behind_above, dsize_to, dsize_at, protocol_of, protocol_to, compare_of, field_option, dsize_option, sameip_option}
-use Rattle.rule_parser.specs.Sound.{most_of, IsOption}
+use Rattle.rule_parser.specs.Fields.{sign_of, cmp_of, is_plain, is_not, is_strict, allows, signed_compare, end_of, ttl_range, dsize_range, place_of, ttl_to, behind_above, dsize_to, dsize_at, protocol_of, protocol_to, compare_of, field_option, dsize_option, sameip_option}
+use Rattle.rule_parser.specs.Sound.{most_of, is_equal, is_unequal, compares, AreEnds, IsOption}
+use Rattle.rule_parser.specs.Sound as ranges
 use Rattle.rule_parser.proofs.SoundDrafts.{IsSoundDraft, IsPlain, names_after, kept-sound}
-use Rattle.rule_parser.proofs.SoundSteps.{then_ok, kind_ok, if_ok}
+use Rattle.rule_parser.proofs.SoundSteps.{then_ok, kind_ok, if_ok, some_weaken}
 use Rattle.rule_parser.proofs.SoundValues.{IsIn, number_in-within}
 
 -- an option that stands anywhere, and is no fast pattern
@@ -30,15 +33,87 @@ pub anywhere : (option : Opt) → ((names : List ℕ) → IsOption names option)
 unfolding IsAnywhere
 anywhere option h plain = (h, plain)
 
-compare-anywhere : (field : Field) (how : Cmp) (low high : ℕ) → low ≤ most_of field → high ≤ most_of field → IsAnywhere (opt.Compare field how low high)
-compare-anywhere field how low high least most = anywhere (opt.Compare field how low high) (λ names. (least, most)) (refl, λ names. refl)
+compare-anywhere : (field : Field) (how : Cmp) (low high : ℕ) → low ≤ most_of field → high ≤ most_of field → IsTrue (compares field how) → AreEnds how low high → IsAnywhere (opt.Compare field how low high)
+compare-anywhere field how low high least most has ends = anywhere (opt.Compare field how low high) (λ names. (least, most, has, ends)) (refl, λ names. refl)
+
+-- what a sign compares by is among the comparisons of a field that has the sign
+plain-compares : (sign : Sign) → is_plain sign ≡ true → IsTrue (is_equal (cmp_of sign))
+plain-compares Plain e = refl
+plain-compares Equal e = cc
+plain-compares Not e = cc
+plain-compares Below e = cc
+plain-compares Above e = cc
+plain-compares UpTo e = cc
+plain-compares From e = cc
+
+not-compares : (sign : Sign) → (is_plain sign || is_not sign) ≡ true → IsTrue (is_equal (cmp_of sign) || is_unequal (cmp_of sign))
+not-compares Plain e = refl
+not-compares Equal e = cc
+not-compares Not e = refl
+not-compares Below e = cc
+not-compares Above e = cc
+not-compares UpTo e = cc
+not-compares From e = cc
+
+strict-compares : (sign : Sign) → (is_plain sign || is_strict sign) ≡ true → IsTrue (is_equal (cmp_of sign) || ranges.is_strict (cmp_of sign))
+strict-compares Plain e = refl
+strict-compares Equal e = cc
+strict-compares Not e = cc
+strict-compares Below e = refl
+strict-compares Above e = refl
+strict-compares UpTo e = cc
+strict-compares From e = cc
+
+any-compares : (sign : Sign) → ((is_plain sign || is_not sign) || is_strict sign) ≡ true → IsTrue ((is_equal (cmp_of sign) || is_unequal (cmp_of sign)) || ranges.is_strict (cmp_of sign))
+any-compares Plain e = refl
+any-compares Equal e = cc
+any-compares Not e = refl
+any-compares Below e = refl
+any-compares Above e = refl
+any-compares UpTo e = cc
+any-compares From e = cc
+
+ttl-compares : (sign : Sign) → allows field.Ttl sign ≡ true → IsTrue (compares field.Ttl (cmp_of sign))
+ttl-compares Plain e = refl
+ttl-compares Equal e = refl
+ttl-compares Not e = cc
+ttl-compares Below e = refl
+ttl-compares Above e = refl
+ttl-compares UpTo e = refl
+ttl-compares From e = refl
+
+dsize-compares : (sign : Sign) → (is_plain sign || is_strict sign) ≡ true → IsTrue (compares field.Dsize (cmp_of sign))
+dsize-compares Plain e = refl
+dsize-compares Equal e = cc
+dsize-compares Not e = cc
+dsize-compares Below e = refl
+dsize-compares Above e = refl
+dsize-compares UpTo e = cc
+dsize-compares From e = cc
+
+allowed-compares : (field : Field) (sign : Sign) → allows field sign ≡ true → IsTrue (compares field (cmp_of sign))
+allowed-compares field.Ttl sign e = ttl-compares sign e
+allowed-compares field.Tos sign e = not-compares sign e
+allowed-compares field.Window sign e = not-compares sign e
+allowed-compares field.FragOffset sign e = any-compares sign e
+allowed-compares field.IpProto sign e = any-compares sign e
+allowed-compares field.Itype sign e = strict-compares sign e
+allowed-compares field.Icode sign e = strict-compares sign e
+allowed-compares field.Dsize sign e = dsize-compares sign e
+allowed-compares field.Id sign e = plain-compares sign e
+allowed-compares field.Seq sign e = plain-compares sign e
+allowed-compares field.Ack sign e = plain-compares sign e
+allowed-compares field.IcmpId sign e = plain-compares sign e
+allowed-compares field.IcmpSeq sign e = plain-compares sign e
 
 signed-anywhere : (field : Field) (text : List ℕ) → IfOk (signed_compare field text) IsAnywhere
 unfolding signed_compare
 signed-anywhere field text =
-    then_ok (IsIn 0 (most_of field)) IsAnywhere (cond (allows field (sign_of text).0) (or_kind OptionValue (number_in 0 (most_of field) (sign_of text).1)) (Err OptionValue)) _
-    (if_ok (IsIn 0 (most_of field)) (allows field (sign_of text).0) _ (Err OptionValue) (λ _. kind_ok (IsIn 0 (most_of field)) OptionValue (number_in 0 (most_of field) (sign_of text).1) (number_in-within 0 (most_of field) (sign_of text).1)) (λ _. tt))
-    (λ number within. compare-anywhere field (cmp_of (sign_of text).0) number number within.1 within.1)
+    let Fits : ℕ → Type 0 = λ number. IsIn 0 (most_of field) number × (allows field (sign_of text).0 ≡ true) in
+    let number = number_in 0 (most_of field) (sign_of text).1 in
+    then_ok Fits IsAnywhere (cond (allows field (sign_of text).0) (or_kind OptionValue number) (Err OptionValue)) _
+    (if_ok Fits (allows field (sign_of text).0) _ (Err OptionValue) (λ e. kind_ok Fits OptionValue number (some_weaken (IsIn 0 (most_of field)) Fits number (λ _ within. (within, e)) (number_in-within 0 (most_of field) (sign_of text).1))) (λ _. tt))
+    (λ found fits. compare-anywhere field (cmp_of (sign_of text).0) found found fits.0.1 fits.0.1 (allowed-compares field (sign_of text).0 fits.1) (inr refl))
 
 end_of-most : (lacking : ℕ) (text : List ℕ) → lacking ≤ 4294967295 → IfSome (end_of lacking text) (λ number. number ≤ 4294967295)
 end_of-most lacking text h = go (length text == 0)
@@ -56,14 +131,14 @@ unfolding ttl_range
 ttl_range-anywhere low high =
     then_ok (λ number. number ≤ 4294967295) IsAnywhere (or_kind OptionValue (end_of 0 low)) _ (kind_ok (λ number. number ≤ 4294967295) OptionValue (end_of 0 low) (end_of-most 0 low (omega arith))) (λ least first.
     then_ok (λ number. number ≤ 4294967295) IsAnywhere (or_kind OptionValue (end_of 4294967295 high)) _ (kind_ok (λ number. number ≤ 4294967295) OptionValue (end_of 4294967295 high) (end_of-most 4294967295 high (omega arith))) (λ most last.
-    if_ok IsAnywhere (length low == 0 && length high == 0) (Err OptionValue) (Ok (opt.Compare field.Ttl cmp.Within least most)) (λ _. tt) (λ _. compare-anywhere field.Ttl cmp.Within least most first last)))
+    if_ok IsAnywhere (length low == 0 && length high == 0) (Err OptionValue) (Ok (opt.Compare field.Ttl cmp.Within least most)) (λ _. tt) (λ _. compare-anywhere field.Ttl cmp.Within least most first last refl (inl refl))))
 
 dsize_range-anywhere : (low high : List ℕ) → IfOk (dsize_range low high) IsAnywhere
 unfolding dsize_range
 dsize_range-anywhere low high =
     then_ok (IsIn 0 65535) IsAnywhere (or_kind OptionValue (number_in 0 65535 low)) _ (kind_ok (IsIn 0 65535) OptionValue (number_in 0 65535 low) (number_in-within 0 65535 low)) (λ least first.
     then_ok (IsIn 0 65535) IsAnywhere (or_kind OptionValue (number_in 0 65535 high)) _ (kind_ok (IsIn 0 65535) OptionValue (number_in 0 65535 high) (number_in-within 0 65535 high)) (λ most last.
-    compare-anywhere field.Dsize cmp.Within least most first.1 last.1))
+    compare-anywhere field.Dsize cmp.Within least most first.1 last.1 refl (inl refl)))
 
 ttl_to-anywhere : (text : List ℕ) (place : Option ℕ) → IfOk (ttl_to text place) IsAnywhere
 ttl_to-anywhere text None = signed-anywhere field.Ttl text
@@ -82,7 +157,7 @@ protocol_of-most name = grind arith
 
 protocol_to-anywhere : (text : List ℕ) (number : Option ℕ) → IfSome number (λ number. number ≤ 4294967295) → IfOk (protocol_to text number) IsAnywhere
 protocol_to-anywhere text None h = signed-anywhere field.IpProto text
-protocol_to-anywhere text (Some number) h = compare-anywhere field.IpProto cmp.Eq number number h h
+protocol_to-anywhere text (Some number) h = compare-anywhere field.IpProto cmp.Eq number number h h refl (inr refl)
 
 compare_of-anywhere : (which : Field) (text : List ℕ) → IfOk (compare_of which text) IsAnywhere
 unfolding compare_of

@@ -1,18 +1,17 @@
 -- Expressions keep a rule sound.
-use Rattle.std.proofs.Common.{◌≡◌, ℕ, ◌<◌, ◌≤◌, ◌==◌, ◌&&◌, Bool, true, false, not, cond, Result, Err, List, [], ◌∷◌, length, nat_lt, refl, arith, IfOk, All}
+use Rattle.std.proofs.Common.{◌≡◌, ℕ, ◌<◌, ◌≤◌, ◌==◌, ◌&&◌, Bool, true, false, not, Ok, Err, List, [], ◌∷◌, length, nat_lt, refl, arith, IfOk, All}
 use Rattle.std.specs.List.{list_all}
 use Rattle.std.proofs.lemmas.Bool.Decides.{nat_tests}
 use Rattle.std.proofs.lemmas.List.Elements.{All-nil, All-cons}
 use Rattle.net_lists.specs.Stops.{or_kind}
 use Rattle.rule_parser.specs.declared.draft.Draft.{Draft}
-use Rattle.rule_parser.specs.declared.fault.Fault.{Fault}
 use Rattle.rule_parser.specs.declared.fault.Fault.TheVariants.{OptionValue, Limit}
 use Rattle.rule_parser.specs.declared.option.Opt.TheVariants as opt
 use Rattle.rule_parser.specs.declared.quoted.Style.TheVariants.{Pattern}
 use Rattle.rule_parser.specs.declared.quoted.Place.TheVariants.{Plain}
 use Rattle.rule_parser.specs.Contents.{negation}
 use Rattle.rule_parser.specs.Drafts.{kept}
-use Rattle.rule_parser.specs.Patterns.{no_flags, flags_of, pattern_flags, is_ascii, slashed, pcre_option}
+use Rattle.rule_parser.specs.Patterns.{no_flags, flags_of, pattern_flags, is_ascii, slashed, expression_of, pcre_option}
 use Rattle.rule_parser.specs.Quotes.{quoted, meaning}
 use Rattle.rule_parser.proofs.SoundDrafts.{IsSoundDraft, kept-sound}
 use Rattle.rule_parser.proofs.SoundSteps.{then_ok, any_ok, if_ok}
@@ -29,21 +28,23 @@ all_ascii (byte ∷ rest) e = All-cons (λ byte. byte < 128) byte rest (first (n
     others true c h = h
     others false c h = cc
 
+-- an expression is ASCII
+expression-ascii : (inside : List ℕ) → IfOk (expression_of inside) (All (λ byte. byte < 128))
+unfolding expression_of
+expression-ascii inside =
+    then_ok (λ _. Unit {0}) (All (λ byte. byte < 128)) (or_kind OptionValue (meaning Pattern Plain inside)) _ (any_ok (or_kind OptionValue (meaning Pattern Plain inside))) (λ text _.
+    if_ok (All (λ byte. byte < 128)) (list_all is_ascii text) (Ok text) (Err OptionValue) (all_ascii text) (λ _. tt))
+
 pub pcre-sound : (classes : ℕ) (draft : Draft) → IsSoundDraft classes draft → (value : List ℕ) → IfOk (pcre_option draft value) (IsSoundDraft classes)
 unfolding pcre_option
 pcre-sound classes draft sound value =
     then_ok (λ _. Unit {0}) (IsSoundDraft classes) (or_kind OptionValue (quoted (negation value).1)) _ (any_ok (or_kind OptionValue (quoted (negation value).1))) (λ parts _.
     then_ok (λ _. Unit {0}) (IsSoundDraft classes) (or_kind OptionValue (slashed parts.0)) _ (any_ok (or_kind OptionValue (slashed parts.0))) (λ halves _.
+    then_ok (All (λ byte. byte < 128)) (IsSoundDraft classes) (expression_of halves.0) _ (expression-ascii halves.0) (λ text ascii.
     then_ok (λ _. Unit {0}) (IsSoundDraft classes) (flags_of no_flags halves.1) _ (any_ok (flags_of no_flags halves.1)) (λ flags _.
-    let expression : Result (List ℕ) Fault = cond (length parts.1 == 0) (or_kind OptionValue (meaning Pattern Plain halves.0)) (Err OptionValue) in
-    then_ok (λ _. Unit {0}) (IsSoundDraft classes) expression _ (any_ok expression) (λ text _.
-    if_ok (IsSoundDraft classes) (not (list_all is_ascii text)) (Err OptionValue) _ (λ _. tt) (λ ascii.
+    if_ok (IsSoundDraft classes) (not (length parts.1 == 0)) (Err OptionValue) _ (λ _. tt) (λ _.
     if_ok (IsSoundDraft classes) (nat_lt 4096 (length text)) (Err Limit) (kept draft (opt.Pcre text (pattern_flags flags) flags.relative (negation value).0)) (λ _. tt) (λ short.
-    kept-sound classes draft (opt.Pcre text (pattern_flags flags) flags.relative (negation value).0) sound (fits (length text) short, all_ascii text (held (list_all is_ascii text) ascii)) (refl, λ names. refl)))))))
+    kept-sound classes draft (opt.Pcre text (pattern_flags flags) flags.relative (negation value).0) sound (fits (length text) short, ascii) (refl, λ names. refl)))))))
   where
     fits : (len : ℕ) → nat_lt 4096 len ≡ false → len ≤ 4096
     fits len short = grind (arith, nat_tests)
-
-    held : (b : Bool) → not b ≡ false → b ≡ true
-    held true e = refl
-    held false e = cc

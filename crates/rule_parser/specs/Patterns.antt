@@ -2,8 +2,8 @@
 --
 -- The expression stands between the first byte of the quoted text, a `/`, and the last `/` in it. The flags
 -- are i, s, m, x and R (the search begins where the option before ended), each at most once; any other
--- capital letter is a flag of Snort's that this detector has not. The flags are looked at before what stands
--- behind the closing quote (own). An expression is ASCII and has at most 4096 bytes (own).
+-- capital letter is a flag of Snort's that this detector has not. The expression is looked at first, then the
+-- flags, then what stands behind the closing quote (own). An expression is ASCII and has at most 4096 bytes (own).
 -- To try it on: `"/a\/b/Ri"` is the expression `a/b`, in either case, from where the option before ended.
 use Rattle.std.specs.Prelude.{ℕ, ◌-◌, ◌==◌, ◌&&◌, Bool, true, false, not, Option, Some, None, Result, Ok, Err, List, [], ◌∷◌, length, take, drop, nat_le, nat_lt, if◌then◌else◌}
 use Rattle.std.specs.List.{list_all, suffix_len}
@@ -65,11 +65,17 @@ unfoldable pub slashed : List ℕ → Option (List ℕ × List ℕ)
 slashed [] = None
 slashed (first ∷ rest) = if first == 47 then slashed_at rest (length rest - suffix_len is_no_slash rest) else None
 
+-- what an expression between slashes stands for, where it is ASCII
+unfoldable pub expression_of : List ℕ → Result (List ℕ) Fault
+expression_of inside = do
+  text ← or_kind OptionValue (meaning Pattern Plain inside)
+  if list_all is_ascii text then Ok text else Err OptionValue
+
 -- `pcre:[!]"/re/flags"`
 unfoldable pub pcre_option : Draft → List ℕ → Result Draft Fault
 pcre_option draft value = do
   parts ← or_kind OptionValue (quoted (negation value).1)
   halves ← or_kind OptionValue (slashed parts.0)
+  text ← expression_of halves.0
   flags ← flags_of no_flags halves.1
-  text ← if length parts.1 == 0 then or_kind OptionValue (meaning Pattern Plain halves.0) else Err OptionValue
-  if not (list_all is_ascii text) then Err OptionValue else if nat_lt 4096 (length text) then Err Limit else kept draft (opt.Pcre text (pattern_flags flags) flags.relative (negation value).0)
+  if not (length parts.1 == 0) then Err OptionValue else if nat_lt 4096 (length text) then Err Limit else kept draft (opt.Pcre text (pattern_flags flags) flags.relative (negation value).0)

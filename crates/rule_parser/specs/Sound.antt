@@ -2,7 +2,7 @@
 --
 -- To try it on: a rule whose first option reads an offset from an extracted name is not sound, since no
 -- option before it extracts one.
-use Rattle.std.specs.Prelude.{◌≡◌, ℕ, ◌+◌, ◌<◌, ◌≤◌, ◌==◌, ◌||◌, ⊤, ℤ, pos, negsuc, ◌≤ℤ◌, Bool, true, false, None, List, [], ◌∷◌, length, Contains, IfSome, IsTrue, All, count_by}
+use Rattle.std.specs.Prelude.{◌≡◌, ℕ, ◌+◌, ◌<◌, ◌≤◌, ◌==◌, ◌&&◌, ◌||◌, ◌⊎◌, ⊤, ℤ, pos, negsuc, ◌≤ℤ◌, Bool, true, false, not, None, List, [], ◌∷◌, length, Contains, IfSome, IsTrue, All, count_by}
 use Rattle.conf_parser.specs.declared.classes.Class.{Class}
 use Rattle.rule_parser.specs.declared.option.Base.{Base}
 use Rattle.rule_parser.specs.declared.option.Base.TheVariants as base
@@ -36,12 +36,12 @@ IsNum names least most (num.Name place) = Contains names place
 abbrev pub IsOffset : List ℕ → Num → Type 0
 IsOffset names offset = IsNum names (negsuc 65534) (pos 65535) offset
 
--- a part of a content stands within it
+-- a fast pattern is no negated content; a part of a content stands within it
 abbrev pub IsFast : Content → FastMode → Type 0
 IsFast content fast.No = ⊤
-IsFast content fast.Yes = ⊤
-IsFast content fast.Only = (content.from ≡ None) × (content.room ≡ None)
-IsFast content (fast.Part from len) = (1 ≤ len) × (from + len ≤ length content.bytes)
+IsFast content fast.Yes = content.negated ≡ false
+IsFast content fast.Only = (content.from ≡ None) × (content.room ≡ None) × (content.negated ≡ false)
+IsFast content (fast.Part from len) = (1 ≤ len) × (from + len ≤ length content.bytes) × (content.negated ≡ false)
 
 -- a content of 1 to 2048 bytes with its place and its room
 abbrev pub IsContent : List ℕ → Content → Type 0
@@ -64,6 +64,52 @@ is_order cmp.And = false
 is_order cmp.Within = false
 is_order _ = true
 
+-- comparisons of these kinds: with `=`; not equal; with `<` or `>`; within two ends; by common bits
+abbrev pub is_equal : Cmp → Bool
+is_equal cmp.Eq = true
+is_equal _ = false
+
+abbrev pub is_unequal : Cmp → Bool
+is_unequal cmp.Ne = true
+is_unequal _ = false
+
+abbrev pub is_strict : Cmp → Bool
+is_strict cmp.Lt = true
+is_strict cmp.Gt = true
+is_strict _ = false
+
+abbrev pub is_within : Cmp → Bool
+is_within cmp.Within = true
+is_within _ = false
+
+abbrev pub is_common : Cmp → Bool
+is_common cmp.And = true
+is_common _ = false
+
+-- the comparisons of byte_test, where "not equal" is a negated `=`
+abbrev pub is_test : Cmp → Bool
+is_test cmp = not (is_unequal cmp) && not (is_within cmp)
+
+-- the comparisons that a field has
+abbrev pub compares : Field → Cmp → Bool
+compares field.Ttl cmp = not (is_unequal cmp) && not (is_common cmp)
+compares field.Tos cmp = is_equal cmp || is_unequal cmp
+compares field.Window cmp = is_equal cmp || is_unequal cmp
+compares field.FragOffset cmp = (is_equal cmp || is_unequal cmp) || is_strict cmp
+compares field.IpProto cmp = (is_equal cmp || is_unequal cmp) || is_strict cmp
+compares field.Itype cmp = is_equal cmp || is_strict cmp
+compares field.Icode cmp = is_equal cmp || is_strict cmp
+compares field.Dsize cmp = (is_equal cmp || is_strict cmp) || is_within cmp
+compares field.Id cmp = is_equal cmp
+compares field.Seq cmp = is_equal cmp
+compares field.Ack cmp = is_equal cmp
+compares field.IcmpId cmp = is_equal cmp
+compares field.IcmpSeq cmp = is_equal cmp
+
+-- one number stands at both ends, but for a range
+abbrev pub AreEnds : Cmp → ℕ → ℕ → Type 0
+AreEnds cmp low high = IsTrue (is_within cmp) ⊎ (low ≡ high)
+
 -- not either side
 abbrev pub is_named_side : Side → Bool
 is_named_side side.Either = false
@@ -73,14 +119,14 @@ is_named_side _ = true
 abbrev pub IsOption : List ℕ → Opt → Type 0
 IsOption names (opt.Content content) = IsContent names content
 IsOption names (opt.Pcre text flags relative negated) = (length text ≤ 4096) × All (λ byte. byte < 128) text
-IsOption names (opt.ByteTest fetch not cmp value) = IsFetch names fetch × IsNum names (pos 0) (pos 4294967295) value
+IsOption names (opt.ByteTest fetch not cmp value) = IsFetch names fetch × IsNum names (pos 0) (pos 4294967295) value × IsTrue (is_test cmp)
 IsOption names (opt.ByteJump fetch times align beginning post) = IsFetch names fetch × (times ≤ 65535) × (negsuc 65534 ≤ℤ post) × (post ≤ℤ pos 65535)
 IsOption names (opt.ByteExtract fetch name times align) = IsFetch names fetch × (name < 2) × (times ≤ 65535) × IsTrue (align == 0 || (align == 2 || align == 4))
 IsOption names (opt.IsDataAt at relative negated) = IsNum names (pos 0) (pos 65535) at
 IsOption names (opt.Flow flow) = ⊤
 IsOption names (opt.Flags mode bits mask) = (bits < 256) × (mask < 256)
 IsOption names (opt.FragBits mode bits) = bits < 8
-IsOption names (opt.Compare field cmp low high) = (low ≤ most_of field) × (high ≤ most_of field)
+IsOption names (opt.Compare field cmp low high) = (low ≤ most_of field) × (high ≤ most_of field) × IsTrue (compares field cmp) × AreEnds cmp low high
 IsOption names opt.SameIp = ⊤
 IsOption names (opt.BitTest bit want) = bit < 1024
 IsOption names (opt.BitDo change bit) = bit < 1024

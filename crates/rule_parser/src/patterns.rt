@@ -1,10 +1,8 @@
 //! Regular expressions.
-ghost use Rattle.std.specs.Prelude.{◌≡◌, ◌≤◌, ◌+◌, ◌==◌, length, option_map, Ok, Err, if◌then◌else◌};
+ghost use Rattle.std.specs.Prelude.{◌≡◌, ◌≤◌, ◌+◌, length, option_map, Ok, Err, if◌then◌else◌};
 ghost use Rattle.std.specs.List.{list_all, suffix_len};
-ghost use Rattle.net_lists.specs.Stops.{Gives, or_kind};
-ghost use Rattle.rule_parser.specs.declared.quoted.Place.TheVariants.{Plain};
-ghost use Rattle.rule_parser.specs.Quotes.{meaning};
-ghost use Rattle.rule_parser.specs.Patterns.{no_flags, no_flag, with_flag, flags_of, pattern_flags, is_no_slash, slashed, is_ascii, pcre_option};
+ghost use Rattle.net_lists.specs.Stops.{Gives};
+ghost use Rattle.rule_parser.specs.Patterns.{no_flags, no_flag, with_flag, flags_of, pattern_flags, is_no_slash, slashed, is_ascii, expression_of, pcre_option};
 
 use crate::Opt;
 use crate::contents::negation;
@@ -159,14 +157,16 @@ fn is_ascii(text: &[u8]) -> bool
     text.iter().all(|byte| *byte < 128)
 }
 
-/// What an expression between slashes stands for, where nothing stands behind its quotes.
-fn expression(alloc: Global, behind: &[u8], text: &[u8]) -> Result<Text, Stop<Fault>>
-    ensures { Gives result (if length behind.now == 0 then or_kind Fault.OptionValue (meaning Style.Pattern Plain text.now) else Err Fault.OptionValue) }
+/// What an expression between slashes stands for, where it is ASCII.
+#[tactic(auto, unfolding(crate::specs::Patterns::expression_of))]
+fn expression(alloc: Global, text: &[u8]) -> Result<Text, Stop<Fault>>
+    ensures { Gives result (expression_of text.now) }
 {
-    if !behind.is_empty() {
+    let text = meaning(alloc, Style::Pattern, text)?;
+    if !is_ascii(text.bytes()) {
         return Err(Stop::Wrong(Fault::OptionValue));
     }
-    meaning(alloc, Style::Pattern, text)
+    Ok(text)
 }
 
 #[tactic(auto, unfolding(crate::specs::Patterns::pcre_option))]
@@ -176,9 +176,9 @@ pub(crate) fn pcre_option(alloc: Global, draft: Draft, value: &[u8]) -> Result<D
     let (negated, rest) = negation(value);
     let (inside, behind) = quoted(rest).ok_or(Fault::OptionValue)?;
     let (expression_text, letters) = slashed(inside).ok_or(Fault::OptionValue)?;
+    let text = expression(alloc, expression_text)?;
     let flags = Flags::read(letters)?;
-    let text = expression(alloc, behind, expression_text)?;
-    if !is_ascii(text.bytes()) {
+    if !behind.is_empty() {
         return Err(Stop::Wrong(Fault::OptionValue));
     }
     if text.bytes().len() > MOST_BYTES {
