@@ -1,14 +1,15 @@
 //! Whole lines of rules: which are read, what their options stand for, and which fault decides where there are
 //! several. Each was worked out by hand from the grammar of the manual's chapter 3.
 
-use crate::rows::{Call, check_lines};
-use conf_parser::Classes;
+use crate::rows::{Call, check_lines, text_of};
+use conf_parser::{Classes, Loaded, load};
+use edge_io::MemHost;
 use net_lists::{Vars, is_name};
-use rule_parser::{BitNames, Rule, RuleFault, read_rule};
+use rule_parser::{BitNames, Rule, RuleFault, RuleKind, read_rule};
 use std::alloc::Global;
 use std::test::Fail;
 
-/// Variables: E is `any`, H a list of addresses, P one of ports, and L a list of 1025 ports.
+/// Variables: E is `any`, H a list of addresses, P one of ports, L a list of 1025 ports, and three that users have.
 fn variables(alloc: Global) -> Result<Vars, Fail> {
     let mut vars = Vars::new(alloc);
     let ones = format!(in alloc; "[1{}]", ",1".repeat(alloc, 1024)?)?;
@@ -17,6 +18,9 @@ fn variables(alloc: Global) -> Result<Vars, Fail> {
         ("H", "[10.0.0.0/8,!10.1.0.0/16]"),
         ("P", "[80,8080]"),
         ("L", ones.as_str()),
+        ("EXTERNAL_NET", "any"),
+        ("HOME_NET", "10.0.0.0/8"),
+        ("HTTP_PORTS", "[80,8080]"),
     ] {
         if is_name(name.as_bytes()) {
             vars.define(name.as_bytes(), value.as_bytes(), false)?;
@@ -51,30 +55,46 @@ impl Call for Lines {
 
 /// Lines, each with an `@` and what it gives behind it.
 const LINES: &str =
-    r#"alert udp any any -> any any (msg:"t"; content:"abc"; depth:3; sid:1;)@rule 1 1 false
-alert udp any any -> any any (msg:"t"; content:"abcd"; depth:4; sid:2;)@rule 2 1 false
-alert ip any any -> any any (content:"AAAABBBB"; flow:only_frag; sid:2;)@rule 2 2 false
-alert udp any any -> any any (content:"ab"; content:"c"; distance:0; within:1; sid:1;)@rule 1 2 false
-alert udp any any -> any any (pcre:"/ab/"; content:"c"; distance:0; within:1; sid:1;)@rule 1 2 false
-alert udp any any -> any any (byte_jump:1,0; isdataat:0,relative; sid:1;)@rule 1 2 false
-alert udp any any -> any any (content:"ab"; content:!"X"; within:5; sid:1;)@rule 1 2 false
-alert tcp any any -> any 80 (msg:"t"; content:"attk"; sid:1;)@rule 1 1 false
-alert tcp any any -> any any (content:"abc"; flow:only_stream; sid:1;)@rule 1 2 false
-alert tcp any any -> any any (flags:S; sid:2;)@rule 2 1 false
-alert tcp any any -> any any (flags:+S; sid:2;)@rule 2 1 false
-alert udp any any -> any any (content:"a"; flowbits:set,x; flowbits:noalert; sid:1;)@rule 1 2 true
-alert udp any any -> any any (content:"b"; flowbits:isset,x; sid:2;)@rule 2 2 false
-alert udp any any -> any any (content:"a"; detection_filter:track by_src, count 2, seconds 60; sid:1;)@rule 1 1 false
-alert udp any any -> any any (content:"xABC"; nocase; sid:1;)@rule 1 1 false
-pass udp any any -> any any (content:"a"; sid:1;)@rule 1 1 false
-alert udp any any -> any any (pcre:"/AB/i"; content:"c"; distance:0; sid:1;)@rule 1 2 false
-alert udp any any -> any 53 (msg:"g"; content:"gen-749"; sid:2;)@rule 2 1 false
+    r#"alert udp any any -> any any (msg:"t"; content:"abc"; sid:1;)@rule 1 1 false@row 1, also 19, 24 and 28
+alert udp any any -> any any (msg:"t"; content:"abc"; depth:3; sid:1;)@rule 1 1 false@row 4
+alert udp any any -> any any (msg:"t"; content:"abcd"; depth:4; sid:2;)@rule 2 1 false@row 4
+alert ip any any -> any any (msg:"t"; content:"AAAAAAAAAAAAAAAABBBBBBBB"; flow:only_frag; sid:1;)@rule 1 2 false@row 5
+alert ip any any -> any any (msg:"t"; content:"BBBBBBBBBBBBBBBBBBBBBBBB"; flow:only_frag; sid:2;)@rule 2 2 false@row 5
+alert udp any any -> any any (msg:"t"; content:"ab"; content:"c"; distance:0; within:1; sid:1;)@rule 1 2 false@row 7
+alert udp any any -> any any (msg:"t"; pcre:"/ab/"; content:"c"; distance:0; within:1; sid:1;)@rule 1 2 false@row 7
+alert udp any any -> any any (msg:"t"; byte_jump:1,0; sid:1;)@rule 1 1 false@row 8
+alert udp any any -> any any (msg:"t"; byte_jump:1,0; isdataat:0,relative; sid:1;)@rule 1 2 false@row 8
+alert udp any any -> any any (msg:"t"; content:"ab"; content:!"X"; within:5; sid:1;)@rule 1 2 false@row 9
+alert tcp any any -> any 80 (msg:"t"; content:"attk"; sid:1;)@rule 1 1 false@row 10
+alert tcp any any -> any any (msg:"t"; content:"abc"; flow:only_stream; sid:1;)@rule 1 2 false@row 11
+alert tcp any any -> any any (msg:"t"; content:"ZWgh"; flow:only_stream; sid:1;)@rule 1 2 false@row 12
+alert tcp any any -> any any (msg:"t"; content:"efgh"; flow:only_stream; sid:2;)@rule 2 2 false@row 12
+alert tcp any any -> any any (msg:"t"; content:"evil"; flow:only_stream; sid:1;)@rule 1 2 false@rows 13 and 15
+alert tcp any any -> any any (msg:"t"; flags:S; sid:2;)@rule 2 1 false@row 13
+alert udp any any -> any any (msg:"t"; content:"a"; flowbits:set,x; flowbits:noalert; sid:1;)@rule 1 2 true@row 14
+alert udp any any -> any any (msg:"t"; content:"b"; flowbits:isset,x; sid:2;)@rule 2 2 false@row 14
+alert udp any any -> any any (msg:"t"; content:"a"; detection_filter:track by_src, count 2, seconds 60; sid:1;)@rule 1 1 false@row 16
+alert tcp any any -> any 80 (msg:"t"; content:"x"; http_uri; sid:1;)@OutsideProfile 0 0@row 19
+alert udp any any -> any any (msg:"t"; content:"xABC"; nocase; sid:1;)@rule 1 1 false@row 20
+alert udp any any -> any any (msg:"t"; content:"bc"; nocase; sid:2;)@rule 2 1 false@row 20
+pass udp any any -> any any (content:"a"; sid:1;)@rule 1 1 false@row 23
+alert udp any any -> any any (msg:"t"; content:"b"; sid:2;)@rule 2 1 false@row 23
+alert udp any any -> any any (msg:"t"; pcre:"/AB/i"; content:"c"; distance:0; sid:1;)@rule 1 2 false@row 25
+alert udp any any -> any any (msg:"t"; pcre:"/a(?=b)/"; sid:1;)@rule 1 1 false@row 25, refused by a maker
+alert udp any any -> any 53 (msg:"g"; content:"gen-749"; sid:2;)@rule 2 1 false@row 26
+alert udp $X any -> any any (sid:1;)@UnknownVariable 11 12@row 28
+alert udp any any -> any any (msg:"t";)@MissingSid 0 0@row 28
+alert tcp any any -> any any (msg:"t"; flags:S; sid:1;)@rule 1 1 false@R4.a
+alert tcp any any -> any any (msg:"t"; flags:+S; sid:2;)@rule 2 1 false@R4.a
+alert icmp any any -> any any (msg:"t"; itype:8; sid:1;)@rule 1 1 false@R4.c
+alert udp any any -> any any (msg:"t"; content:"|61 62|c"; depth:3; content:!"zz"; sid:1;)@rule 1 2 false@R5.a
+alert udp any any -> any any (msg:"t"; content:"a"; offset:1; distance:1; sid:1;)@MisplacedModifier 0 0@R5.b
+alert udp any any -> any any (msg:"t"; stream_size:client,~,3; sid:1;)@OptionValue 0 0@R17.c
+alert udp any any -> any any (msg:"t"; stream_reassemble:disable,both,fastpath; sid:1;)@OutsideProfile 0 0@R17.c
 alert tcp any any -> any any (content:"evil"; flow:established; sid:1;)@rule 1 2 false
 alert udp any any -> any any (byte_extract:1,0,n; content:"b"; offset:n; depth:1; sid:1;)@rule 1 2 false
 alert udp any any -> any any (byte_test:2,=,256,0; sid:1;)@rule 1 1 false
 alert udp any any -> any any (byte_test:2,=,256,0,little; sid:1;)@rule 1 1 false
-alert icmp any any -> any any (msg:"t"; itype:8; sid:1;)@rule 1 1 false
-alert udp any any -> any any (content:"|61 62|c"; depth:3; content:!"zz"; sid:1;)@rule 1 2 false
 alert tcp any any -> any any (content:"b"; flow:no_stream; stream_size:client,>,3; sid:1;)@rule 1 3 false
 alert tcp any any -> any any (content:"off"; stream_reassemble:disable,client,noalert; sid:1;)@rule 1 2 true
 alert tcp $E any -> $H $P (flow:to_server,established; content:"attack"; fast_pattern; nocase; sid:1000001;)@rule 1000001 2 false
@@ -138,10 +158,7 @@ alert udp any any -> any any (sid:1; metadata:a b)@OptionSyntax 0 0
 alert udp any any -> any any (sid:1; metadata)@OptionSyntax 0 0
 alert udp any any -> any any (x; sid:0;)@UnknownOption 0 0
 alert udp any any -> any any (sid:0; x;)@OptionValue 0 0
-alert udp any any -> any any (stream_size:client,~,3; sid:1;)@OptionValue 0 0
-alert udp any any -> any any (content:"a"; offset:1; distance:1; sid:1;)@MisplacedModifier 0 0
 alert udp any any -> any any (classtype:c; nocase;)@MisplacedModifier 0 0
-alert udp any any -> any any (msg:"t";)@MissingSid 0 0
 alert udp any any -> any any ()@MissingSid 0 0
 alert udp any any -> any any (   )@MissingSid 0 0
 alert udp any any -> any any (classtype:c; msg:"t";)@MissingSid 0 0
@@ -150,7 +167,6 @@ alert udp any any -> any any (reference:a\; sid:1;)@MissingSid 0 0
 alert udp any any -> any any (classtype:c; sid:1;)@UnknownClass 0 0
 alert udp any any -> any any (classtype:c; priority:1; sid:1;)@UnknownClass 0 0
 alert udp any any -> any any (sid:1; priority:2; classtype:c d;)@UnknownClass 0 0
-alert udp $X any -> any any (sid:1;)@UnknownVariable 11 12
 alert udp any $Ports => any any (sid:1;)@UnknownVariable 15 20
 alert udp [1.2.3.4,$(X)] any -> any any (sid:1;)@UnknownVariable 21 22
 alert udp any any -> $(Q:?needQ) any (sid:1;)@UnknownVariable 26 31
@@ -166,8 +182,6 @@ alert udp any $L -> any any (sid:1;)@Limit 0 0
 alert udp any [$L,2] => any any (sid:1;)@Limit 0 0
 alert udp any any -> any !$L (x;)@Limit 0 0
 alert udp any any -> any any (byte_extract:1,0,a; byte_extract:1,0,b; byte_extract:1,0,c; sid:0;)@Limit 0 0
-alert tcp any any -> any 80 (msg:"t"; content:"x"; http_uri; sid:1;)@OutsideProfile 0 0
-alert tcp any any -> any any (stream_reassemble:disable,both,fastpath; sid:1;)@OutsideProfile 0 0
 alert udp any any -> any any (flowbits:setx,a; sid:1;)@OutsideProfile 0 0
 "#;
 
@@ -232,5 +246,75 @@ fn a_refused_rule_leaves_no_names_of_flowbits(rt: HostRuntime) -> Result<(), Fai
         kept_options(rt.alloc(), second, &mut bits)?.as_str(),
         wanted
     );
+    Ok(())
+}
+
+/// What a rule says of itself, under a configuration with two classes: action, protocol, whether source and
+/// destination may be exchanged, message, numbers, class, priority, whether it gives no event, and its filter.
+#[derive(Drop)]
+struct Heads {
+    loaded: Loaded,
+}
+
+impl Call for Heads {
+    fn answer(&self, alloc: Global, given: &str) -> Result<String, Fail> {
+        let vars = variables(alloc)?;
+        let classes = &self.loaded.config.classes;
+        let mut bits = BitNames::new(alloc);
+        let rule = read_rule(alloc, given.as_bytes(), &vars, classes, &mut bits)
+            .ok()
+            .ok_or("a rule")?;
+        let (action, proto, both) = (rule.action, rule.proto, rule.both);
+        let (gid, sid, rev) = (rule.gid, rule.sid, rule.rev);
+        let (class, priority) = (rule.class, rule.priority);
+        let (silent, period) = (rule.noalert, rule.period);
+        let msg = text_of(rule.msg.bytes())?;
+        Ok(
+            format!(in alloc; "{action:?} {proto:?} {both} {msg} {gid}:{sid}:{rev} {class:?} {priority} {silent} {period:?}")?,
+        )
+    }
+}
+
+/// Lines, each with an `@` and what the rule says of itself behind it.
+const HEADS: &str = r#"alert udp any any -> any any (msg:"t"; content:"abc"; classtype:c; sid:1;)@Alert Udp false t 1:1:0 Some(0) 2 false None@R4.b
+alert udp any any -> any any (classtype:c; priority:7; gid:9; sid:1; rev:3;)@Alert Udp false  9:1:3 Some(0) 7 false None@a priority of its own
+alert udp any any -> any any (priority:0; sid:2; classtype:c;)@Alert Udp false  1:2:0 Some(0) 0 false None@a priority of its own, before the class
+alert tcp $EXTERNAL_NET any -> $HOME_NET $HTTP_PORTS (msg:"LOCAL attack word"; flow:to_server,established; content:"attack"; fast_pattern; nocase; classtype:web-application-attack; sid:1000001; rev:2;)@Alert Tcp false LOCAL attack word 1:1000001:2 Some(1) 1 false None@row 18
+pass icmp any any <> any any (msg:"a\;b\"c\\"; priority:4294967295; sid:4294967295;)@Pass Icmp true a;b"c\ 1:4294967295:0 None 4294967295 false None
+alert ip any any -> any any (msg:"t"; content:"a"; detection_filter:track by_src, count 2, seconds 60; sid:1;)@Alert Ip false t 1:1:0 None 0 false Some(Period { by_src: true, count: 2, seconds: 60 })@row 16
+alert udp any any -> any any (msg:"t"; content:"a"; flowbits:set,x; flowbits:noalert; sid:1;)@Alert Udp false t 1:1:0 None 0 true None@row 14"#;
+
+#[test]
+fn rules_say_what_they_are(rt: HostRuntime) -> Result<(), Fail> {
+    let alloc = rt.alloc();
+    let mut host = MemHost::new(alloc);
+    host.put(
+        "r",
+        b"config classification: c,Some class,2\nconfig classification: web-application-attack,Web Application Attack,1\n",
+    )?;
+    let mut loaded = Loaded::new(alloc);
+    load(alloc, &mut host, "r", &mut Vars::new(alloc), &mut loaded)?;
+    check_lines(&rt, alloc, &Heads { loaded }, HEADS)
+}
+
+#[test]
+fn there_are_1024_names_of_flowbits(rt: HostRuntime) -> Result<(), Fail> {
+    let mut bits = BitNames::new(rt.alloc());
+    for number in 0..1024u32 {
+        let line =
+            format!(in rt.alloc(); "alert ip any any -> any any (flowbits:set,n{number}; sid:1;)")?;
+        let _ = kept_options(rt.alloc(), line.as_str(), &mut bits)?;
+    }
+    let known = "alert ip any any -> any any (flowbits:isset,n1023; sid:1;)";
+    assert_eq!(rt;
+        kept_options(rt.alloc(), known, &mut bits)?.as_str(),
+        "[BitTest { bit: 1023, want: true }]"
+    );
+    let one_more = "alert ip any any -> any any (flowbits:set,m; sid:1;)";
+    let kind = match read(rt.alloc(), one_more, &mut bits)? {
+        Ok(_) => None,
+        Err(fault) => Some(fault.kind),
+    };
+    assert_eq!(rt; kind, Some(RuleKind::Limit));
     Ok(())
 }
