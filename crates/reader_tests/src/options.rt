@@ -40,13 +40,7 @@ impl Call for Options {
             &mut bits,
         ) {
             Ok(_) => Ok(String::from_str(alloc, "read")?),
-            Err(
-                RuleFault {
-                    kind,
-                    from: _,
-                    to: _,
-                },
-            ) => Ok(format!(in alloc; "{kind:?}")?),
+            Err(RuleFault { kind, .. }) => Ok(format!(in alloc; "{kind:?}")?),
         }
     }
 }

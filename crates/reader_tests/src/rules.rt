@@ -54,43 +54,42 @@ impl Call for Lines {
 }
 
 /// Lines, each with an `@` and what it gives behind it.
-const LINES: &str =
-    r#"alert udp any any -> any any (msg:"t"; content:"abc"; sid:1;)@rule 1 1 false@row 1, also 19, 24 and 28
-alert udp any any -> any any (msg:"t"; content:"abc"; depth:3; sid:1;)@rule 1 1 false@row 4
-alert udp any any -> any any (msg:"t"; content:"abcd"; depth:4; sid:2;)@rule 2 1 false@row 4
-alert ip any any -> any any (msg:"t"; content:"AAAAAAAAAAAAAAAABBBBBBBB"; flow:only_frag; sid:1;)@rule 1 2 false@row 5
-alert ip any any -> any any (msg:"t"; content:"BBBBBBBBBBBBBBBBBBBBBBBB"; flow:only_frag; sid:2;)@rule 2 2 false@row 5
-alert udp any any -> any any (msg:"t"; content:"ab"; content:"c"; distance:0; within:1; sid:1;)@rule 1 2 false@row 7
-alert udp any any -> any any (msg:"t"; pcre:"/ab/"; content:"c"; distance:0; within:1; sid:1;)@rule 1 2 false@row 7
-alert udp any any -> any any (msg:"t"; byte_jump:1,0; sid:1;)@rule 1 1 false@row 8
-alert udp any any -> any any (msg:"t"; byte_jump:1,0; isdataat:0,relative; sid:1;)@rule 1 2 false@row 8
-alert udp any any -> any any (msg:"t"; content:"ab"; content:!"X"; within:5; sid:1;)@rule 1 2 false@row 9
-alert tcp any any -> any 80 (msg:"t"; content:"attk"; sid:1;)@rule 1 1 false@row 10
-alert tcp any any -> any any (msg:"t"; content:"abc"; flow:only_stream; sid:1;)@rule 1 2 false@row 11
-alert tcp any any -> any any (msg:"t"; content:"ZWgh"; flow:only_stream; sid:1;)@rule 1 2 false@row 12
-alert tcp any any -> any any (msg:"t"; content:"efgh"; flow:only_stream; sid:2;)@rule 2 2 false@row 12
-alert tcp any any -> any any (msg:"t"; content:"evil"; flow:only_stream; sid:1;)@rule 1 2 false@rows 13 and 15
-alert tcp any any -> any any (msg:"t"; flags:S; sid:2;)@rule 2 1 false@row 13
-alert udp any any -> any any (msg:"t"; content:"a"; flowbits:set,x; flowbits:noalert; sid:1;)@rule 1 2 true@row 14
-alert udp any any -> any any (msg:"t"; content:"b"; flowbits:isset,x; sid:2;)@rule 2 2 false@row 14
-alert udp any any -> any any (msg:"t"; content:"a"; detection_filter:track by_src, count 2, seconds 60; sid:1;)@rule 1 1 false@row 16
-alert tcp any any -> any 80 (msg:"t"; content:"x"; http_uri; sid:1;)@OutsideProfile 0 0@row 19
-alert udp any any -> any any (msg:"t"; content:"xABC"; nocase; sid:1;)@rule 1 1 false@row 20
-alert udp any any -> any any (msg:"t"; content:"bc"; nocase; sid:2;)@rule 2 1 false@row 20
-pass udp any any -> any any (content:"a"; sid:1;)@rule 1 1 false@row 23
-alert udp any any -> any any (msg:"t"; content:"b"; sid:2;)@rule 2 1 false@row 23
-alert udp any any -> any any (msg:"t"; pcre:"/AB/i"; content:"c"; distance:0; sid:1;)@rule 1 2 false@row 25
-alert udp any any -> any any (msg:"t"; pcre:"/a(?=b)/"; sid:1;)@rule 1 1 false@row 25, refused by a maker
-alert udp any any -> any 53 (msg:"g"; content:"gen-749"; sid:2;)@rule 2 1 false@row 26
-alert udp $X any -> any any (sid:1;)@UnknownVariable 11 12@row 28
-alert udp any any -> any any (msg:"t";)@MissingSid 0 0@row 28
-alert tcp any any -> any any (msg:"t"; flags:S; sid:1;)@rule 1 1 false@R4.a
-alert tcp any any -> any any (msg:"t"; flags:+S; sid:2;)@rule 2 1 false@R4.a
-alert icmp any any -> any any (msg:"t"; itype:8; sid:1;)@rule 1 1 false@R4.c
-alert udp any any -> any any (msg:"t"; content:"|61 62|c"; depth:3; content:!"zz"; sid:1;)@rule 1 2 false@R5.a
-alert udp any any -> any any (msg:"t"; content:"a"; offset:1; distance:1; sid:1;)@MisplacedModifier 0 0@R5.b
-alert udp any any -> any any (msg:"t"; stream_size:client,~,3; sid:1;)@OptionValue 0 0@R17.c
-alert udp any any -> any any (msg:"t"; stream_reassemble:disable,both,fastpath; sid:1;)@OutsideProfile 0 0@R17.c
+const LINES: &str = r#"alert udp any any -> any any (msg:"t"; content:"abc"; sid:1;)@rule 1 1 false
+alert udp any any -> any any (msg:"t"; content:"abc"; depth:3; sid:1;)@rule 1 1 false
+alert udp any any -> any any (msg:"t"; content:"abcd"; depth:4; sid:2;)@rule 2 1 false
+alert ip any any -> any any (msg:"t"; content:"AAAAAAAAAAAAAAAABBBBBBBB"; flow:only_frag; sid:1;)@rule 1 2 false
+alert ip any any -> any any (msg:"t"; content:"BBBBBBBBBBBBBBBBBBBBBBBB"; flow:only_frag; sid:2;)@rule 2 2 false
+alert udp any any -> any any (msg:"t"; content:"ab"; content:"c"; distance:0; within:1; sid:1;)@rule 1 2 false
+alert udp any any -> any any (msg:"t"; pcre:"/ab/"; content:"c"; distance:0; within:1; sid:1;)@rule 1 2 false
+alert udp any any -> any any (msg:"t"; byte_jump:1,0; sid:1;)@rule 1 1 false
+alert udp any any -> any any (msg:"t"; byte_jump:1,0; isdataat:0,relative; sid:1;)@rule 1 2 false
+alert udp any any -> any any (msg:"t"; content:"ab"; content:!"X"; within:5; sid:1;)@rule 1 2 false
+alert tcp any any -> any 80 (msg:"t"; content:"attk"; sid:1;)@rule 1 1 false
+alert tcp any any -> any any (msg:"t"; content:"abc"; flow:only_stream; sid:1;)@rule 1 2 false
+alert tcp any any -> any any (msg:"t"; content:"ZWgh"; flow:only_stream; sid:1;)@rule 1 2 false
+alert tcp any any -> any any (msg:"t"; content:"efgh"; flow:only_stream; sid:2;)@rule 2 2 false
+alert tcp any any -> any any (msg:"t"; content:"evil"; flow:only_stream; sid:1;)@rule 1 2 false
+alert tcp any any -> any any (msg:"t"; flags:S; sid:2;)@rule 2 1 false
+alert udp any any -> any any (msg:"t"; content:"a"; flowbits:set,x; flowbits:noalert; sid:1;)@rule 1 2 true
+alert udp any any -> any any (msg:"t"; content:"b"; flowbits:isset,x; sid:2;)@rule 2 2 false
+alert udp any any -> any any (msg:"t"; content:"a"; detection_filter:track by_src, count 2, seconds 60; sid:1;)@rule 1 1 false
+alert tcp any any -> any 80 (msg:"t"; content:"x"; http_uri; sid:1;)@OutsideProfile 0 0
+alert udp any any -> any any (msg:"t"; content:"xABC"; nocase; sid:1;)@rule 1 1 false
+alert udp any any -> any any (msg:"t"; content:"bc"; nocase; sid:2;)@rule 2 1 false
+pass udp any any -> any any (content:"a"; sid:1;)@rule 1 1 false
+alert udp any any -> any any (msg:"t"; content:"b"; sid:2;)@rule 2 1 false
+alert udp any any -> any any (msg:"t"; pcre:"/AB/i"; content:"c"; distance:0; sid:1;)@rule 1 2 false
+alert udp any any -> any any (msg:"t"; pcre:"/a(?=b)/"; sid:1;)@rule 1 1 false@an expression that a maker may refuse
+alert udp any any -> any 53 (msg:"g"; content:"gen-749"; sid:2;)@rule 2 1 false
+alert udp $X any -> any any (sid:1;)@UnknownVariable 11 12
+alert udp any any -> any any (msg:"t";)@MissingSid 0 0
+alert tcp any any -> any any (msg:"t"; flags:S; sid:1;)@rule 1 1 false
+alert tcp any any -> any any (msg:"t"; flags:+S; sid:2;)@rule 2 1 false
+alert icmp any any -> any any (msg:"t"; itype:8; sid:1;)@rule 1 1 false
+alert udp any any -> any any (msg:"t"; content:"|61 62|c"; depth:3; content:!"zz"; sid:1;)@rule 1 2 false
+alert udp any any -> any any (msg:"t"; content:"a"; offset:1; distance:1; sid:1;)@MisplacedModifier 0 0
+alert udp any any -> any any (msg:"t"; stream_size:client,~,3; sid:1;)@OptionValue 0 0
+alert udp any any -> any any (msg:"t"; stream_reassemble:disable,both,fastpath; sid:1;)@OutsideProfile 0 0
 alert tcp any any -> any any (content:"evil"; flow:established; sid:1;)@rule 1 2 false
 alert udp any any -> any any (byte_extract:1,0,n; content:"b"; offset:n; depth:1; sid:1;)@rule 1 2 false
 alert udp any any -> any any (byte_test:2,=,256,0; sid:1;)@rule 1 1 false
@@ -269,20 +268,21 @@ impl Call for Heads {
         let (class, priority) = (rule.class, rule.priority);
         let (silent, period) = (rule.noalert, rule.period);
         let msg = text_of(rule.msg.bytes())?;
-        Ok(
-            format!(in alloc; "{action:?} {proto:?} {both} {msg} {gid}:{sid}:{rev} {class:?} {priority} {silent} {period:?}")?,
-        )
+        Ok(format!(in alloc;
+            "{action:?} {proto:?} {both} {msg} {gid}:{sid}:{rev} {class:?} {priority} {silent} {period:?}"
+        )?)
     }
 }
 
 /// Lines, each with an `@` and what the rule says of itself behind it.
-const HEADS: &str = r#"alert udp any any -> any any (msg:"t"; content:"abc"; classtype:c; sid:1;)@Alert Udp false t 1:1:0 Some(0) 2 false None@R4.b
+const HEADS: &str =
+    r#"alert udp any any -> any any (msg:"t"; content:"abc"; classtype:c; sid:1;)@Alert Udp false t 1:1:0 Some(0) 2 false None
 alert udp any any -> any any (classtype:c; priority:7; gid:9; sid:1; rev:3;)@Alert Udp false  9:1:3 Some(0) 7 false None@a priority of its own
 alert udp any any -> any any (priority:0; sid:2; classtype:c;)@Alert Udp false  1:2:0 Some(0) 0 false None@a priority of its own, before the class
-alert tcp $EXTERNAL_NET any -> $HOME_NET $HTTP_PORTS (msg:"LOCAL attack word"; flow:to_server,established; content:"attack"; fast_pattern; nocase; classtype:web-application-attack; sid:1000001; rev:2;)@Alert Tcp false LOCAL attack word 1:1000001:2 Some(1) 1 false None@row 18
+alert tcp $EXTERNAL_NET any -> $HOME_NET $HTTP_PORTS (msg:"LOCAL attack word"; flow:to_server,established; content:"attack"; fast_pattern; nocase; classtype:web-application-attack; sid:1000001; rev:2;)@Alert Tcp false LOCAL attack word 1:1000001:2 Some(1) 1 false None
 pass icmp any any <> any any (msg:"a\;b\"c\\"; priority:4294967295; sid:4294967295;)@Pass Icmp true a;b"c\ 1:4294967295:0 None 4294967295 false None
-alert ip any any -> any any (msg:"t"; content:"a"; detection_filter:track by_src, count 2, seconds 60; sid:1;)@Alert Ip false t 1:1:0 None 0 false Some(Period { by_src: true, count: 2, seconds: 60 })@row 16
-alert udp any any -> any any (msg:"t"; content:"a"; flowbits:set,x; flowbits:noalert; sid:1;)@Alert Udp false t 1:1:0 None 0 true None@row 14"#;
+alert ip any any -> any any (msg:"t"; content:"a"; detection_filter:track by_src, count 2, seconds 60; sid:1;)@Alert Ip false t 1:1:0 None 0 false Some(Period { by_src: true, count: 2, seconds: 60 })
+alert udp any any -> any any (msg:"t"; content:"a"; flowbits:set,x; flowbits:noalert; sid:1;)@Alert Udp false t 1:1:0 None 0 true None"#;
 
 #[test]
 fn rules_say_what_they_are(rt: HostRuntime) -> Result<(), Fail> {
@@ -301,8 +301,9 @@ fn rules_say_what_they_are(rt: HostRuntime) -> Result<(), Fail> {
 fn there_are_1024_names_of_flowbits(rt: HostRuntime) -> Result<(), Fail> {
     let mut bits = BitNames::new(rt.alloc());
     for number in 0..1024u32 {
-        let line =
-            format!(in rt.alloc(); "alert ip any any -> any any (flowbits:set,n{number}; sid:1;)")?;
+        let line = format!(in rt.alloc();
+            "alert ip any any -> any any (flowbits:set,n{number}; sid:1;)"
+        )?;
         let _ = kept_options(rt.alloc(), line.as_str(), &mut bits)?;
     }
     let known = "alert ip any any -> any any (flowbits:isset,n1023; sid:1;)";
