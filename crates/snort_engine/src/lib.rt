@@ -20,6 +20,7 @@ mod counts;
 mod detect;
 mod detector;
 mod events;
+mod laws;
 mod lines;
 mod made;
 mod pieces;
@@ -31,4 +32,5 @@ mod stop;
 mod watch;
 
 pub use detector::run;
+pub use laws::first_lines_stand;
 pub use status::Status;
