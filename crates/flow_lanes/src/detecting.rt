@@ -14,10 +14,10 @@ ghost use Rattle.flow_lanes.specs.Tried.{TriesAll, TriesBy, candidates_of};
 ghost use Rattle.flow_lanes.specs.Working.{EndsApart, items_of_parts, own_item};
 
 use crate::answer::Hits;
+use crate::boxed::BoxedSession;
 use crate::item::Item;
 use crate::keeping::FlowState;
 use crate::parts::Parts;
-use crate::session::Session;
 use crate::steering::steer;
 use crate::tally::{Tally, try_items, try_own};
 use edge_io::{NoMemory, Pattern};
@@ -81,12 +81,17 @@ fn try_current<P: Pattern>(
 }
 
 /// A session behind its items, with its bits.
-fn state_with(rules: &[Rule], hits: &[Hits], mut session: Session, bits: Option<Bits>) -> FlowState
+fn state_with(
+    rules: &[Rule],
+    hits: &[Hits],
+    mut session: BoxedSession,
+    bits: Option<Bits>,
+) -> FlowState
     ensures state { result ≡ record { session = steered rules.now hits.now session; bits = unwrap_or bits empty } }
     ensures within { (places : ℕ) → AreWithin session places places → AreWithin result.session places places }
     ensures same { result.session.state ≡ session.state }
 {
-    steer(rules, hits, &mut session);
+    steer(rules, hits, &mut session.inner);
     FlowState {
         session,
         bits: bits_or_none(bits),
@@ -97,7 +102,7 @@ fn state_with(rules: &[Rule], hits: &[Hits], mut session: Session, bits: Option<
 fn state_behind(
     rules: &[Rule],
     hits: &[Hits],
-    session: Option<Session>,
+    session: Option<BoxedSession>,
     bits: Option<Bits>,
 ) -> Option<FlowState>
     ensures state { result ≡ option_map (λ session. record { session = steered rules.now hits.now session; bits = unwrap_or bits empty }) session }

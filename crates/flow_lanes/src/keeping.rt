@@ -5,8 +5,8 @@ ghost use Rattle.flow_lanes.specs.Flows.{bits_at_hand, session_at_hand};
 ghost use Rattle.flow_lanes.specs.Kept.{IsFoundBy, KeepsOthers, Sets, kept_in};
 ghost use Rattle.flow_lanes.specs.Standing.{facts_kept, state_kept};
 
+use crate::boxed::BoxedSession;
 use crate::facts::FlowFacts;
-use crate::session::Session;
 use edge_io::NoMemory;
 use flowbit_state::Bits;
 use std::collections::HashMap;
@@ -15,7 +15,7 @@ use std::marker::Model;
 /// A session that stands between two jobs, and its bits.
 #[derive(Drop)]
 pub(crate) struct FlowState {
-    pub session: Session,
+    pub session: BoxedSession,
     pub bits: Bits,
 }
 
@@ -50,12 +50,12 @@ pub(crate) type Flows = HashMap<u64, Flow>;
 #[derive(Drop)]
 pub(crate) struct FoundFlow {
     pub facts: Option<FlowFacts>,
-    pub session: Option<Session>,
+    pub session: Option<BoxedSession>,
     pub bits: Option<Bits>,
 }
 
 /// The session and its bits apart.
-fn taken_apart(found: Option<FlowState>) -> (Option<Session>, Option<Bits>)
+fn taken_apart(found: Option<FlowState>) -> (Option<BoxedSession>, Option<Bits>)
     ensures session { result.0 ≡ session_at_hand found }
     ensures bits { result.1 ≡ bits_at_hand found }
 {

@@ -9,6 +9,7 @@
 mod answer;
 mod arrival;
 mod batch;
+mod boxed;
 mod cutting;
 mod detecting;
 mod facts;

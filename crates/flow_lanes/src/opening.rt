@@ -10,6 +10,7 @@ ghost use Rattle.flow_lanes.specs.Sides.{left_payloads};
 ghost use Rattle.flow_lanes.specs.Working.{opened_by, stretches_of};
 
 use crate::arrival::Arrival;
+use crate::boxed::BoxedSession;
 use crate::item::Item;
 use crate::session::{Session, Stretches};
 use crate::settings::Settings;
@@ -27,13 +28,13 @@ pub(crate) struct Opened {
     /// What is left of one that goes on.
     pub left: Option<Stretches>,
     /// The packet's session, if it has one.
-    pub session: Option<Session>,
+    pub session: Option<BoxedSession>,
 }
 
 /// The items of a session that has ended, if one stood.
 pub(crate) fn items_closed(
     alloc: Global,
-    found: Option<Session>,
+    found: Option<BoxedSession>,
     moment: Moment,
 ) -> Result<Items<Item>, NoMemory>
     requires { IsWithin found (2 ^ 63) }
@@ -46,7 +47,7 @@ pub(crate) fn items_closed(
 }
 
 /// Takes what is left of stretches that have ended.
-fn take_left(alloc: Global, found: &mut Option<Session>) -> Result<Option<Stretches>, NoMemory>
+fn take_left(alloc: Global, found: &mut Option<BoxedSession>) -> Result<Option<Stretches>, NoMemory>
     requires { IsWithin found.old (2 ^ 63) }
     ensures stretches { IfOk result (λ left. left ≡ option_map (stretches_of left_payloads) found.old) }
     ensures state { OnOk result (found.new ≡ option_map settled found.old) }
@@ -55,33 +56,40 @@ fn take_left(alloc: Global, found: &mut Option<Session>) -> Result<Option<Stretc
     match found {
         None => Ok(None),
         Some(session) => {
-            let left = session.take_left(alloc)?;
+            let left = session.inner.take_left(alloc)?;
             Ok(Some(left))
         }
     }
 }
 
 /// A session that the packet begins, with the bases that it sets.
-fn begun(alloc: Global, settings: &Settings, p: &Arrival, step: &Step, state: Phases) -> Session
+fn begun(
+    alloc: Global,
+    settings: &Settings,
+    p: &Arrival,
+    step: &Step,
+    state: Phases,
+) -> Result<BoxedSession, NoMemory>
     requires { HasLimits (making_of settings.now) }
-    ensures state { result ≡ with_bases step.now (begun_session (making_of settings.now) (packet_of p.now) step.now state) }
-    ensures within { AreWithin result 0 0 }
+    ensures state { IfOk result (λ session. session ≡ with_bases step.now (begun_session (making_of settings.now) (packet_of p.now) step.now state)) }
+    ensures within { IfOk result (λ session. AreWithin session 0 0) }
 {
     let mut session = Session::begin(alloc, settings, p, step, state);
     session.set_bases(step);
-    session
+    let boxed = BoxedSession::new(alloc, session)?;
+    Ok(boxed)
 }
 
 /// A session that goes on, with the bases that the packet sets.
-fn continued(found: Option<Session>, step: &Step, state: Phases) -> Option<Session>
+fn continued(found: Option<BoxedSession>, step: &Step, state: Phases) -> Option<BoxedSession>
     ensures state { result ≡ option_map (λ session. with_bases step.now (record session { state = state })) found }
     ensures within { (places : ℕ) → IsWithin found places → IsWithin result places }
 {
     match found {
         None => None,
         Some(mut session) => {
-            session.state = state;
-            session.set_bases(step);
+            session.inner.state = state;
+            session.inner.set_bases(step);
             Some(session)
         }
     }
@@ -89,17 +97,22 @@ fn continued(found: Option<Session>, step: &Step, state: Phases) -> Option<Sessi
 
 /// A session that the packet begins, where it has one.
 #[tactic(auto, unfolding(crate::specs::Sessions::session_of))]
-fn begun_if_tracked(alloc: Global, settings: &Settings, p: &Arrival, told: &Told) -> Option<Session>
+fn begun_if_tracked(
+    alloc: Global,
+    settings: &Settings,
+    p: &Arrival,
+    told: &Told,
+) -> Result<Option<BoxedSession>, NoMemory>
     requires limits { HasLimits (making_of settings.now) }
     requires fresh { told.now.step.begun ≡ told.now.step.tracked }
-    ensures session { (found : Option Standing) → result ≡ session_of (making_of settings.now) (packet_of p.now) found told.now.step told.now.state }
-    ensures within { IsWithin result 0 }
+    ensures session { (found : Option Standing) → IfOk result (λ session. session ≡ session_of (making_of settings.now) (packet_of p.now) found told.now.step told.now.state) }
+    ensures within { IfOk result (λ session. IsWithin session 0) }
 {
-    if told.step.tracked {
-        Some(begun(alloc, settings, p, &told.step, told.state))
-    } else {
-        None
+    if !told.step.tracked {
+        return Ok(None);
     }
+    let session = begun(alloc, settings, p, &told.step, told.state)?;
+    Ok(Some(session))
 }
 
 /// The packet's session behind one that ended before it.
@@ -108,7 +121,7 @@ fn reopened(
     settings: &Settings,
     p: &Arrival,
     told: &Told,
-    found: Option<Session>,
+    found: Option<BoxedSession>,
 ) -> Result<Opened, NoMemory>
     requires limits { HasLimits (making_of settings.now) }
     requires within { IsWithin found (2 ^ 63) }
@@ -118,7 +131,7 @@ fn reopened(
     ensures within { IfOk result (λ opened. IsWithin opened.session 0) }
 {
     let ended = items_closed(alloc, found, p.moment)?;
-    let session = begun_if_tracked(alloc, settings, p, told);
+    let session = begun_if_tracked(alloc, settings, p, told)?;
     Ok(Opened {
         ended,
         left: None,
@@ -133,19 +146,20 @@ fn session_now(
     settings: &Settings,
     p: &Arrival,
     told: &Told,
-    kept: Option<Session>,
-) -> Option<Session>
+    kept: Option<BoxedSession>,
+) -> Result<Option<BoxedSession>, NoMemory>
     requires limits { HasLimits (making_of settings.now) }
     ensures opened { (found : Option Standing) → kept ≡ option_map settled found
-        → result ≡ session_of (making_of settings.now) (packet_of p.now) found told.now.step told.now.state }
-    ensures within { (places : ℕ) → IsWithin kept places → IsWithin result places }
+        → IfOk result (λ session. session ≡ session_of (making_of settings.now) (packet_of p.now) found told.now.step told.now.state) }
+    ensures within { (places : ℕ) → IsWithin kept places → IfOk result (λ session. IsWithin session places) }
 {
     if !told.step.tracked {
-        None
+        Ok(None)
     } else if told.step.begun {
-        Some(begun(alloc, settings, p, &told.step, told.state))
+        let session = begun(alloc, settings, p, &told.step, told.state)?;
+        Ok(Some(session))
     } else {
-        continued(kept, &told.step, told.state)
+        Ok(continued(kept, &told.step, told.state))
     }
 }
 
@@ -155,7 +169,7 @@ fn opened_on(
     settings: &Settings,
     p: &Arrival,
     told: &Told,
-    mut found: Option<Session>,
+    mut found: Option<BoxedSession>,
 ) -> Result<Opened, NoMemory>
     requires limits { HasLimits (making_of settings.now) }
     requires within { IsWithin found (2 ^ 63) }
@@ -164,7 +178,7 @@ fn opened_on(
     ensures within { (places : ℕ) → IsWithin found places → IfOk result (λ opened. IsWithin opened.session places) }
 {
     let left = take_left(alloc, &mut found)?;
-    let session = session_now(alloc, settings, p, told, found);
+    let session = session_now(alloc, settings, p, told, found)?;
     Ok(Opened {
         ended: Items::new(alloc),
         left,
@@ -178,7 +192,7 @@ pub(crate) fn opened_for(
     settings: &Settings,
     p: &Arrival,
     told: &Told,
-    found: Option<Session>,
+    found: Option<BoxedSession>,
 ) -> Result<Opened, NoMemory>
     requires limits { HasLimits (making_of settings.now) }
     requires within { IsWithin found (2 ^ 63) }

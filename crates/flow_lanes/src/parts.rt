@@ -10,9 +10,10 @@ ghost use Rattle.flow_lanes.specs.Sides.{held_payloads};
 ghost use Rattle.flow_lanes.specs.Working.{EndsApart, items_of_parts, maybe_items, own_head, parts_from, sizes_behind, stretches_of};
 
 use crate::arrival::Arrival;
+use crate::boxed::BoxedSession;
 use crate::item::Item;
 use crate::opening::{Opened, items_closed, opened_for};
-use crate::session::{Session, Stretches, is_from_client};
+use crate::session::{Stretches, is_from_client};
 use crate::settings::Settings;
 use crate::streams::{push_acked, push_maybe};
 use crate::taking::{Taken, take_packet};
@@ -36,25 +37,25 @@ pub(crate) struct Parts {
     /// The packet has a session.
     pub tracked: bool,
     /// That session behind the job, if it stands.
-    pub session: Option<Session>,
+    pub session: Option<BoxedSession>,
 }
 
 /// How far the data of a session reach, if there is one.
-fn sizes_behind(after: &Option<Session>) -> (u64, u64)
+fn sizes_behind(after: &Option<BoxedSession>) -> (u64, u64)
     ensures { result ≡ sizes_behind after.now }
 {
     match after {
         None => (0, 0),
-        Some(session) => session.sizes(),
+        Some(session) => session.inner.sizes(),
     }
 }
 
 /// The session facts of a packet: sizes are told of a TCP session that is established.
-fn facts_of(p: &Arrival, step: &Step, after: &Option<Session>) -> SessionFacts
+fn facts_of(p: &Arrival, step: &Step, after: &Option<BoxedSession>) -> SessionFacts
     ensures { result ≡ facts_of (packet_of p.now) step.now after.now }
 {
     let sizes = match after {
-        Some(session) if p.is_tcp() && step.established => Some(session.sizes()),
+        Some(session) if p.is_tcp() && step.established => Some(session.inner.sizes()),
         _ => None,
     };
     SessionFacts {
@@ -71,7 +72,7 @@ fn own_head(
     p: &Arrival,
     step: &Step,
     queued: bool,
-    after: &Option<Session>,
+    after: &Option<BoxedSession>,
 ) -> Option<ItemHead>
     ensures { result ≡ own_head inserts (packet_of p.now) step.now queued after.now }
 {
@@ -85,14 +86,14 @@ fn own_head(
 }
 
 /// All that the session still holds.
-fn take_held(alloc: Global, after: &mut Option<Session>) -> Result<Option<Stretches>, NoMemory>
+fn take_held(alloc: Global, after: &mut Option<BoxedSession>) -> Result<Option<Stretches>, NoMemory>
     requires { IsWithin after.old (2 ^ 63) }
     ensures { IfOk result (λ held. held ≡ option_map (stretches_of held_payloads) after.old) }
 {
     match after {
         None => Ok(None),
         Some(session) => {
-            let held = session.take_held(alloc)?;
+            let held = session.inner.take_held(alloc)?;
             Ok(Some(held))
         }
     }
@@ -104,7 +105,7 @@ fn push_held(
     out: &mut Vec<Item>,
     moment: Moment,
     sizes: (u64, u64),
-    mut after: Option<Session>,
+    mut after: Option<BoxedSession>,
 ) -> Result<(), NoMemory>
     requires { IsWithin after (2 ^ 63) }
     ensures { OnOk result (out.new.items ≡ out.old.items ++ maybe_items moment sizes (option_map (stretches_of held_payloads) after)) }
@@ -119,8 +120,8 @@ fn ended_or_on(
     out: &mut Vec<Item>,
     moment: Moment,
     ends: bool,
-    after: Option<Session>,
-) -> Result<Option<Session>, NoMemory>
+    after: Option<BoxedSession>,
+) -> Result<Option<BoxedSession>, NoMemory>
     requires { IsWithin after (2 ^ 63) }
     ensures items { OnOk result (out.new.items ≡ out.old.items ++ (if ends then maybe_items moment (sizes_behind after) (option_map (stretches_of held_payloads) after) else [])) }
     ensures session { IfOk result (λ session. session ≡ (if ends then None else after)) }
@@ -173,7 +174,7 @@ pub(crate) fn packet_parts(
     alloc: Global,
     settings: &Settings,
     p: &Arrival,
-    found: Option<Session>,
+    found: Option<BoxedSession>,
 ) -> Result<Parts, NoMemory>
     requires limits { HasLimits (making_of settings.now) }
     requires protocol { HasSessions p.now.head.now.body }
@@ -196,7 +197,7 @@ pub(crate) fn packet_parts(
 pub(crate) fn finish_parts(
     alloc: Global,
     moment: Moment,
-    found: Option<Session>,
+    found: Option<BoxedSession>,
 ) -> Result<Parts, NoMemory>
     requires { IsWithin found (2 ^ 63) }
     ensures items { IfOk result (λ parts. items_of_parts [] parts ≡ finish_items moment found) }

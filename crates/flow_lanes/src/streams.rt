@@ -5,6 +5,7 @@ ghost use Rattle.flow_lanes.specs.Items.{closing_items, head_between};
 ghost use Rattle.flow_lanes.specs.Reach.{AreWithin};
 ghost use Rattle.flow_lanes.specs.Working.{maybe_acked, maybe_items, stretch_items, stretches_items};
 
+use crate::boxed::BoxedSession;
 use crate::cutting::Stretch;
 use crate::item::Item;
 use crate::session::{Session, Stretches};
@@ -112,15 +113,16 @@ pub(crate) fn push_acked(
 #[tactic(auto, unfolding(crate::specs::Items::closing_items))]
 pub(crate) fn closing_items(
     alloc: Global,
-    mut session: Session,
+    mut session: BoxedSession,
     moment: Moment,
 ) -> Result<Items<Item>, NoMemory>
     requires { AreWithin session (2 ^ 63) (2 ^ 63) }
     ensures { IfOk result (λ items. items ≡ closing_items session moment) }
 {
-    let sizes = session.sizes();
+    let inner: &mut Session = &mut session.inner;
+    let sizes = inner.sizes();
     let mut out = Vec::new(alloc);
-    push_stretches(&mut out, moment, sizes, session.take_left(alloc)?)?;
-    push_stretches(&mut out, moment, sizes, session.take_held(alloc)?)?;
+    push_stretches(&mut out, moment, sizes, inner.take_left(alloc)?)?;
+    push_stretches(&mut out, moment, sizes, inner.take_held(alloc)?)?;
     Ok(Items::from_vec(out))
 }

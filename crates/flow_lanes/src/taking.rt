@@ -8,6 +8,7 @@ ghost use Rattle.flow_lanes.specs.Sessions.{after_ack, after_data};
 ghost use Rattle.flow_lanes.specs.Working.{taken_by};
 
 use crate::arrival::Arrival;
+use crate::boxed::BoxedSession;
 use crate::cutting::Stretch;
 use crate::session::Session;
 use edge_io::NoMemory;
@@ -44,7 +45,7 @@ pub(crate) fn take_packet(
     alloc: Global,
     p: &Arrival,
     step: &Step,
-    session: &mut Option<Session>,
+    session: &mut Option<BoxedSession>,
 ) -> Result<Taken, NoMemory>
     requires within { IsWithin session.old (2 ^ 63 - 2 ^ 31) }
     requires size { length p.now.payload.now ≤ 65535 }
@@ -57,6 +58,6 @@ pub(crate) fn take_packet(
             acked: None,
             queued: false,
         }),
-        Some(session) => take_both(alloc, p, step, session),
+        Some(session) => take_both(alloc, p, step, &mut session.inner),
     }
 }
