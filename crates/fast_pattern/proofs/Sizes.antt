@@ -25,7 +25,7 @@ content-small : (names : List ℕ) (place most : ℕ) (content : Content) (fast 
 content-small names place most content mode.No here short is = (omega arith, short)
 content-small names place most content mode.Yes here short is = (omega arith, short)
 content-small names place most content mode.Only here short is = (omega arith, short)
-content-small names place most content (mode.Part from len) here short is = let end = is.1.0 in (omega (arith, end), omega (arith, end))
+content-small names place most content (mode.Part from len) here short is = (omega (arith, is.1), omega (arith, is.1))
 
 module _ (most : ℕ) where
   with-content : (names : List ℕ) (place : ℕ) (content : Content) (later : List Sought) (b : Bool) → place < most → IsContent names content → AllOf (IsSmall most) later → AllOf (IsSmall most) (with (cond b None (Some (sought_at place content))) later)
