@@ -37,6 +37,7 @@ pub(crate) struct WatchedMaker<'a, W> {
 }
 
 impl<'a, W: Watcher> WatchedMaker<'a, W> {
+    /// A maker that has refused nothing yet, whose patterns tell this watcher of each search.
     pub fn new(alloc: Global, watcher: &'a W) -> WatchedMaker<'a, W> {
         WatchedMaker {
             maker: LiteralMaker::new(alloc),
