@@ -4,9 +4,9 @@ use Rattle.std.specs.Prelude.{decimal, codes}
 use Rattle.std.proofs.lemmas.Grind.{common_steps}
 use Rattle.std.proofs.lemmas.List.{append-nil, length-append}
 use Rattle.std.proofs.Math.Seq.{take-append_seam}
-use Rattle.conf_parser.specs.declared.classes.Class.{Class}
+use Rattle.conf_types.specs.declared.classes.Class.{Class}
 use Rattle.packet_decode.specs.declared.item.ItemHead.{ItemHead}
-use Rattle.rule_parser.specs.declared.rule.Rule.{Rule}
+use Rattle.rule_types.specs.declared.rule.Rule.{Rule}
 use Rattle.alert_fast.specs.Calendar.{date_of}
 use Rattle.alert_fast.specs.Pieces.{digits}
 use Rattle.alert_fast.specs.Line.{time_text, date_text, clock_text, rule_mark, marked_msg, class_text, priority_text, protocol_text, dotted_text, address_text, source_port, destination_port, port_text, line_text}

@@ -13,8 +13,8 @@ use Rattle.edge_io.specs.declared.address.Addr.TheVariants.{V4, V6}
 use Rattle.packet_decode.specs.declared.item.ItemHead.{ItemHead}
 use Rattle.packet_decode.specs.declared.packet.Body.{Body}
 use Rattle.packet_decode.specs.declared.packet.Body.TheVariants.{Tcp, Udp, Icmp, Other, Fragment, Stream}
-use Rattle.conf_parser.specs.declared.classes.Class.{Class}
-use Rattle.rule_parser.specs.declared.rule.Rule.{Rule}
+use Rattle.conf_types.specs.declared.classes.Class.{Class}
+use Rattle.rule_types.specs.declared.rule.Rule.{Rule}
 use Rattle.alert_fast.specs.Calendar.{CivilDate, date_of}
 use Rattle.alert_fast.specs.Pieces.{digits}
 

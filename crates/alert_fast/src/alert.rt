@@ -7,10 +7,10 @@ use crate::address::push_address;
 use crate::pieces::Piece::{Bytes, Number};
 use crate::pieces::{push_pieces, six_digits, three_digits, two_digits};
 use crate::utc::utc_time;
-use conf_parser::Classes;
+use conf_types::Classes;
 use edge_io::{Moment, NoMemory};
 use packet_decode::{Body, ItemHead};
-use rule_parser::Rule;
+use rule_types::Rule;
 
 /// Appends the line of an item that the rule matches, with a line feed, in the form of Snort's fast
 /// alerts (Snort Users Manual 2.9, section 2.6.2):

@@ -1,4 +1,3 @@
-pub mod PolicyNames
 pub mod ListKinds
 pub mod NamesAre
 pub mod StreamParts

@@ -9,7 +9,7 @@ use Rattle.net_lists.specs.Folds.{draft_behind}
 use Rattle.conf_parser.specs.declared.line.ConfKind.{ConfKind}
 use Rattle.conf_parser.specs.Values.{◌>>=◌, or_kind, mapped}
 use Rattle.conf_parser.specs.Options.{paired, settings_behind}
-use Rattle.conf_parser.specs.Sound.{IsWithin}
+use Rattle.conf_types.specs.Sound.{IsWithin}
 
 -- the value of a reading has this property, if there is a value
 pub record Holds {A : Type 0} (P : A → Type 0) (r : Result A ConfKind) : Type 0 where

@@ -6,17 +6,18 @@ use Rattle.net_lists.specs.Cutting.{first_word, behind_word, comma_parts}
 use Rattle.net_lists.specs.Folds.{draft_behind}
 use Rattle.net_lists.specs.Numbers.{number_in}
 use Rattle.net_lists.specs.Variables.{Variables}
-use Rattle.conf_parser.specs.declared.classes.Class.{Class}
-use Rattle.conf_parser.specs.declared.config.QueueLimits.{QueueLimits}
+use Rattle.conf_types.specs.declared.classes.Class.{Class}
+use Rattle.conf_types.specs.declared.config.QueueLimits.{QueueLimits}
 use Rattle.conf_parser.specs.declared.events.FilterDraft.{FilterDraft}
 use Rattle.conf_parser.specs.declared.events.FilterName.{FilterName}
 use Rattle.conf_parser.specs.declared.events.FilterName.TheVariants as name
-use Rattle.conf_parser.specs.declared.filter.EventFilter.{EventFilter}
-use Rattle.conf_parser.specs.declared.filter.Suppress.{Suppress}
+use Rattle.conf_types.specs.declared.filter.EventFilter.{EventFilter}
+use Rattle.conf_types.specs.declared.filter.Suppress.{Suppress}
 use Rattle.conf_parser.specs.declared.line.ConfKind.TheVariants.{BadValue, Limit}
-use Rattle.conf_parser.specs.Config.{class_of, class_place, with_class, classification, queue_setting, event_queue}
+use Rattle.conf_types.specs.Classes.{class_place}
+use Rattle.conf_parser.specs.Config.{class_of, with_class, classification, queue_setting, event_queue}
 use Rattle.conf_parser.specs.Events.{filter_name, once, filter_value, filter_part, no_parts, filter_of, has_filter, with_filter, read_filter, event_filter, with_suppress, read_suppress, suppress, is_source, names_rule_alone}
-use Rattle.conf_parser.specs.Sound.{IsWithin, IsFilter, AreQueueLimits}
+use Rattle.conf_types.specs.Sound.{IsWithin, IsFilter, AreQueueLimits}
 use Rattle.conf_parser.specs.Values.{or_kind}
 use Rattle.conf_parser.proofs.Soundness.{Holds, Any, anything, given, refused, choice, unless, free, kinded, chained, changed, folded, ranged, numbered, set, pushed-few}
 

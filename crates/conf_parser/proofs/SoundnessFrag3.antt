@@ -3,12 +3,13 @@ use Rattle.std.proofs.Common.{◌≡◌, ℕ, ◌≤◌, false, List, [], ◌∷
 use Rattle.std.specs.Prelude.{IfSome, All, nat_le, unwrap_or}
 use Rattle.std.proofs.lemmas.List.Elements.{All-push, All-nil}
 use Rattle.net_lists.specs.Variables.{Variables}
-use Rattle.conf_parser.specs.declared.config.FragEngine.{FragEngine}
+use Rattle.conf_types.specs.declared.config.FragEngine.{FragEngine}
 use Rattle.conf_parser.specs.declared.draft.FragDraft.{FragDraft}
 use Rattle.conf_parser.specs.Options.{settings_behind}
 use Rattle.conf_parser.specs.Values.{setting_text}
-use Rattle.conf_parser.specs.Frag3.{global_setting, with_max_frags, frag3_global, first_engine, stands_alone, engine_setting, with_engine, frag3_engine}
-use Rattle.conf_parser.specs.Sound.{IsWithin, IsFragEngine, IsFragConfig}
+use Rattle.conf_types.specs.Defaults.{default_frag_engine}
+use Rattle.conf_parser.specs.Frag3.{global_setting, with_max_frags, frag3_global, stands_alone, engine_setting, with_engine, frag3_engine}
+use Rattle.conf_types.specs.Sound.{IsWithin, IsFragEngine, IsFragConfig}
 use Rattle.conf_parser.specs.Settings.{frag_of}
 use Rattle.conf_parser.proofs.Soundness.{Holds, Any, anything, given, refused, choice, unless, same, free, chained, ranged, numbered, set, pushed-few}
 
@@ -38,7 +39,7 @@ module _ (variables : Variables) where
   engine_setting-sound engine name None sound = search (choice, given, refused, sound) depth 9
   engine_setting-sound engine name (Some value) sound = search (choice, numbered, free, refused, sound) depth 12
 
-  first-sound : IsFragEngine first_engine
+  first-sound : IsFragEngine default_frag_engine
   first-sound = record { timeout = (omega arith, omega arith); min_ttl = (omega arith, omega arith) }
 
   with_engine-sound : (draft : FragDraft) (engine : FragEngine) → IsFragDraft draft → IsFragEngine engine → Holds IsFragDraft (with_engine draft engine)
@@ -55,8 +56,8 @@ module _ (variables : Variables) where
   unfolding frag3_engine
   frag3_engine-sound draft rest sound =
       chained Any IsFragDraft (setting_text rest) _ (anything (setting_text rest)) (λ text any.
-      chained IsFragEngine IsFragDraft (settings_behind stands_alone (engine_setting variables) first_engine text) _
-      (set IsFragEngine stands_alone (engine_setting variables) engine_setting-sound first_engine text first-sound)
+      chained IsFragEngine IsFragDraft (settings_behind stands_alone (engine_setting variables) default_frag_engine text) _
+      (set IsFragEngine stands_alone (engine_setting variables) engine_setting-sound default_frag_engine text first-sound)
       (λ engine one. with_engine-sound draft engine sound one))
 
 -- before the first line

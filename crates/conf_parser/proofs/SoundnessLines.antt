@@ -25,7 +25,7 @@ use Rattle.conf_parser.specs.Events.{event_filter, suppress}
 use Rattle.conf_parser.specs.Frag3.{frag3_global, frag3_engine}
 use Rattle.conf_parser.specs.Names.{directive_named, config_name, preprocessor_name}
 use Rattle.conf_parser.specs.Settings.{first_draft, config_of}
-use Rattle.conf_parser.specs.Sound.{IsFilter, AreQueueLimits, IsSound}
+use Rattle.conf_types.specs.Sound.{IsFilter, AreQueueLimits, IsSound}
 use Rattle.conf_parser.specs.Spots.{Spot}
 use Rattle.conf_parser.specs.Stream5.{stream5_global, stream5_tcp, stream5_udp}
 use Rattle.conf_parser.specs.Values.{or_kind, mapped, name_of, behind_name, behind_colon}

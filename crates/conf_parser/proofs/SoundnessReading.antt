@@ -12,7 +12,7 @@ use Rattle.conf_parser.specs.declared.reading.Read.{Read}
 use Rattle.conf_parser.specs.Loading.{IsWhole, IsLoading}
 use Rattle.conf_parser.specs.Reading.{Contents, Whole, read_files}
 use Rattle.conf_parser.specs.Settings.{config_of}
-use Rattle.conf_parser.specs.Sound.{IsSound}
+use Rattle.conf_types.specs.Sound.{IsSound}
 use Rattle.conf_parser.proofs.Keeping.{LinesKeep, whole-keeps}
 use Rattle.conf_parser.proofs.Soundness.{Holds}
 use Rattle.conf_parser.proofs.SoundnessLines.{IsSoundDraft, Kept, first_draft-sound, config_of-sound, conf_line-sound}

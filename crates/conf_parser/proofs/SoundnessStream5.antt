@@ -10,7 +10,7 @@ use Rattle.net_lists.specs.Numbers.{number_in}
 use Rattle.net_lists.specs.Variables.{Variables}
 use Rattle.net_lists.specs.declared.part.Part.{Part as PortPart}
 use Rattle.net_lists.specs.declared.part.Bounds.{Bounds}
-use Rattle.conf_parser.specs.declared.config.StreamEngine.{StreamEngine}
+use Rattle.conf_types.specs.declared.config.StreamEngine.{StreamEngine}
 use Rattle.conf_parser.specs.declared.draft.StreamDraft.{StreamDraft}
 use Rattle.conf_parser.specs.declared.draft.StreamGlobal.{StreamGlobal}
 use Rattle.conf_parser.specs.declared.line.ConfKind.{ConfKind}
@@ -24,7 +24,8 @@ use Rattle.conf_parser.specs.declared.stream5.TcpDraft.{TcpDraft}
 use Rattle.conf_parser.specs.declared.stream5.TcpName.{TcpName}
 use Rattle.conf_parser.specs.declared.stream5.TcpName.TheVariants as tcp
 use Rattle.conf_parser.specs.Settings.{stream_of, default_global}
-use Rattle.conf_parser.specs.Sound.{IsWithin, IsStreamEngine, IsStreamConfig}
+use Rattle.conf_types.specs.Sound.{IsWithin, IsStreamEngine, IsStreamConfig}
+use Rattle.conf_types.specs.Defaults.{default_stream_engine}
 use Rattle.conf_parser.specs.Stream5.{complete, lacking, onward, whole, stream_parts, global_name, global_value, wants_value, named_global, global_part, global_values, with_global, stream5_global, udp_part, udp_timeout, with_udp, stream5_udp, tcp_name, limit_from, queue_limit, handshake_seconds, side, port_words, with_ports, ports_value, engine_value, tcp_value, lacks_value, named_tcp, tcp_part, first_tcp, engine_of, tcp_settings, with_engine, stream5_tcp}
 use Rattle.conf_parser.specs.Values.{◌>>=◌, or_kind, mapped, is_empty, is_word, setting_text}
 use Rattle.conf_parser.proofs.Soundness.{Holds, Any, anything, given, refused, choice, unless, same, free, kinded, chained, changed, folded, ranged, numbered, number-within, pushed-few}
@@ -103,7 +104,8 @@ udp_part-sound partial part within =
     let lacks = lacking-sound (IsWithin 1 86400) partial within in
     let valued = choice Q (is_empty (behind_word part)) (Ok (lacking partial)) (onward partial (or_kind BadValue (number_in 1 86400 (behind_word part)))) lacks read in
     let named = choice Q (is_word (first_word part) (codes "timeout")) _ (Err BadValue) valued (refused Q BadValue) in
-    choice Q (is_word (first_word part) (codes "ignore_any_rules")) (Ok partial) _ (given Q partial within) named
+    let alone = choice Q (is_empty (behind_word part)) (Ok partial) (Err BadValue) (given Q partial within) (refused Q BadValue) in
+    choice Q (is_word (first_word part) (codes "ignore_any_rules")) _ _ alone named
 
 udp_timeout-sound : (text : List ℕ) → Holds (IsWithin 1 86400) (udp_timeout text)
 unfolding udp_timeout
@@ -189,6 +191,7 @@ module _ (variables : Variables) where
   tcp_part-sound partial part sound = chained Any (Part Tcp) (or_kind BadValue (tcp_name (first_word part))) _ (anything _) (λ name any. named_tcp-sound partial name (behind_word part) sound)
 
   first-sound : Tcp first_tcp
+  unfolding default_stream_engine
   first-sound = record { timeout = (omega arith, omega arith); handshake = tt; bytes_limit = (omega arith, omega arith); segs_limit = (omega arith, omega arith) }
 
   tcp_settings-sound : (text : List ℕ) → Holds Tcp (tcp_settings variables text)

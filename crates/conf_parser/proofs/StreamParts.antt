@@ -1,5 +1,5 @@
 -- A text without bytes has no words, as it has no settings.
-use Rattle.std.proofs.Common.{◌≡◌, ℕ, suc, ◌==◌, true, List, [], ◌∷◌, length, refl}
+use Rattle.std.proofs.Common.{◌≡◌, ℕ, suc, List, [], ◌∷◌, length, refl}
 use Rattle.net_lists.specs.Cutting.{words, words_between, pieces_between}
 use Rattle.conf_parser.specs.Stream5.{stream_parts}
 

@@ -3,7 +3,7 @@
 -- (Snort Users Manual 2.9, sections 2.1.3 and 3.4.6.)
 -- To try it on: `checksum_mode: none all noudp` leaves all but UDP; `classification: a,Some text,2` is a class,
 -- and a second line of the name `a` changes nothing.
-use Rattle.std.specs.Prelude.{ℕ, ◌&&◌, ◌||◌, ◌++◌, not, Bool, true, false, Option, Some, None, Result, Ok, Err, List, [], ◌∷◌, length, position, is_some, codes, bytes_eq, nat_le, if◌then◌else◌}
+use Rattle.std.specs.Prelude.{ℕ, ◌&&◌, ◌||◌, ◌++◌, not, Bool, true, false, Option, Some, None, Result, Ok, Err, List, [], ◌∷◌, length, is_some, codes, nat_le, if◌then◌else◌}
 use Rattle.std.specs.List.{list_any}
 use Rattle.edge_io.specs.Bytes.{trimmed}
 use Rattle.net_lists.specs.Addresses.{cut}
@@ -11,8 +11,9 @@ use Rattle.net_lists.specs.Numbers.{number_in}
 use Rattle.net_lists.specs.Cutting.{words, settings}
 use Rattle.net_lists.specs.Folds.{draft_behind}
 use Rattle.packet_decode.specs.declared.checks.Checks.{Checks}
-use Rattle.conf_parser.specs.declared.classes.Class.{Class}
-use Rattle.conf_parser.specs.declared.config.QueueLimits.{QueueLimits}
+use Rattle.conf_types.specs.Classes.{class_place}
+use Rattle.conf_types.specs.declared.classes.Class.{Class}
+use Rattle.conf_types.specs.declared.config.QueueLimits.{QueueLimits}
 use Rattle.conf_parser.specs.declared.line.ConfKind.{ConfKind}
 use Rattle.conf_parser.specs.declared.line.ConfKind.TheVariants.{BadValue, Limit}
 use Rattle.conf_parser.specs.Values.{◌>>=◌, or_kind, mapped, is_word, is_empty}
@@ -31,10 +32,6 @@ class_of value = do
   text ← or_kind BadValue (cut 44 name.1)
   priority ← or_kind BadValue (number_in 1 2147483647 (trimmed text.1))
   class_with (trimmed name.0) (trimmed text.0) priority
-
--- the place of the class of this name
-abbrev pub class_place : List Class → List ℕ → Option ℕ
-class_place classes name = position (λ class. bytes_eq class.name name) classes
 
 -- the classes with one more, unless its name is there; at most 1024
 unfoldable pub with_class : List Class → Class → Result (List Class) ConfKind

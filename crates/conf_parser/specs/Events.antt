@@ -10,12 +10,12 @@ use Rattle.net_lists.specs.Numbers.{number_in}
 use Rattle.net_lists.specs.Variables.{Variables}
 use Rattle.net_lists.specs.Cutting.{comma_parts, first_word, behind_word}
 use Rattle.net_lists.specs.Folds.{draft_behind}
-use Rattle.conf_parser.specs.declared.filter.EventFilter.{EventFilter}
-use Rattle.conf_parser.specs.declared.filter.FilterKind.{FilterKind}
-use Rattle.conf_parser.specs.declared.filter.FilterKind.TheVariants as kind
-use Rattle.conf_parser.specs.declared.filter.Track.{Track}
-use Rattle.conf_parser.specs.declared.filter.Track.TheVariants.{BySrc, ByDst}
-use Rattle.conf_parser.specs.declared.filter.Suppress.{Suppress}
+use Rattle.conf_types.specs.declared.filter.EventFilter.{EventFilter}
+use Rattle.conf_types.specs.declared.filter.FilterKind.{FilterKind}
+use Rattle.conf_types.specs.declared.filter.FilterKind.TheVariants as kind
+use Rattle.conf_types.specs.declared.filter.Track.{Track}
+use Rattle.conf_types.specs.declared.filter.Track.TheVariants.{BySrc, ByDst}
+use Rattle.conf_types.specs.declared.filter.Suppress.{Suppress}
 use Rattle.conf_parser.specs.declared.events.FilterName.{FilterName}
 use Rattle.conf_parser.specs.declared.events.FilterName.TheVariants as name
 use Rattle.conf_parser.specs.declared.events.FilterDraft.{FilterDraft}

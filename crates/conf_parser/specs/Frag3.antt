@@ -6,15 +6,15 @@
 -- second line without `bind_to` is Duplicate.
 use Rattle.std.specs.Prelude.{ℕ, ◌&&◌, ◌||◌, ◌++◌, Bool, true, false, Option, Some, None, Result, Ok, Err, List, [], ◌∷◌, length, is_some, is_none, codes, nat_le, if◌then◌else◌}
 use Rattle.std.specs.List.{list_any}
-use Rattle.edge_io.specs.declared.policy.FragPolicy.TheVariants as policy
 use Rattle.net_lists.specs.Numbers.{number_in}
 use Rattle.net_lists.specs.Variables.{Variables}
-use Rattle.conf_parser.specs.declared.config.FragEngine.{FragEngine}
+use Rattle.conf_types.specs.declared.config.FragEngine.{FragEngine}
+use Rattle.conf_types.specs.Defaults.{default_frag_engine}
 use Rattle.conf_parser.specs.declared.draft.FragDraft.{FragDraft}
 use Rattle.conf_parser.specs.declared.line.ConfKind.{ConfKind}
 use Rattle.conf_parser.specs.declared.line.ConfKind.TheVariants.{BadValue, Duplicate, Limit}
 use Rattle.conf_parser.specs.Values.{◌>>=◌, or_kind, mapped, is_word, setting_text, expanded_addresses}
-use Rattle.conf_parser.specs.Policies.{frag_policy}
+use Rattle.edge_io.specs.Policies.{frag_policy}
 use Rattle.conf_parser.specs.Options.{settings_behind}
 
 -- settings of `frag3_global` that change nothing
@@ -39,10 +39,6 @@ frag3_global draft rest = do
   text ← setting_text rest
   frags ← settings_behind (λ name. false) global_setting 8192 text
   with_max_frags draft frags
-
--- an engine before its settings
-abbrev pub first_engine : FragEngine
-first_engine = record { bind = None; policy = policy.Bsd; timeout = 60; min_ttl = 1 }
 
 -- the setting of an engine that has no value, and changes nothing
 abbrev pub stands_alone : List ℕ → Bool
@@ -78,5 +74,5 @@ with_engine draft engine =
 unfoldable pub frag3_engine : Variables → FragDraft → List ℕ → Result FragDraft ConfKind
 frag3_engine variables draft rest = do
   text ← setting_text rest
-  engine ← settings_behind stands_alone (engine_setting variables) first_engine text
+  engine ← settings_behind stands_alone (engine_setting variables) default_frag_engine text
   with_engine draft engine

@@ -1,5 +1,4 @@
 pub mod Values
-pub mod Policies
 pub mod Options
 pub mod Settings
 pub mod Spots
@@ -13,7 +12,6 @@ pub mod ConfLine
 pub mod Lines
 pub mod Reading
 pub mod Loaded
-pub mod Sound
 pub mod Steps
 pub mod Loading
 pub mod Places

@@ -3,18 +3,16 @@
 -- (Snort Users Manual 2.9, chapter 2; the defaults are those of its tables, but for those marked as our own.)
 -- To try it on: with no line at all all four checksums are checked, 3 of 8 events are written, and neither
 -- frag3 nor stream5 works.
-use Rattle.std.specs.Prelude.{ℕ, Bool, true, false, ◌&&◌, not, Option, Some, None, List, [], ◌∷◌, unwrap_or, is_some, if◌then◌else◌}
-use Rattle.std.specs.Option.{option_map}
+use Rattle.std.specs.Prelude.{Bool, true, false, ◌&&◌, not, Option, Some, None, List, [], ◌∷◌, unwrap_or, is_some, if◌then◌else◌}
 use Rattle.packet_decode.specs.declared.checks.Checks.{Checks}
-use Rattle.conf_parser.specs.declared.config.Config.{Config}
-use Rattle.conf_parser.specs.declared.config.QueueLimits.{QueueLimits}
-use Rattle.conf_parser.specs.declared.config.FragConfig.{FragConfig}
-use Rattle.conf_parser.specs.declared.config.StreamConfig.{StreamConfig}
+use Rattle.conf_types.specs.declared.config.Config.{Config}
+use Rattle.conf_types.specs.declared.config.QueueLimits.{QueueLimits}
+use Rattle.conf_types.specs.declared.config.FragConfig.{FragConfig}
+use Rattle.conf_types.specs.declared.config.StreamConfig.{StreamConfig}
 use Rattle.conf_parser.specs.declared.draft.Draft.{Draft}
 use Rattle.conf_parser.specs.declared.draft.FragDraft.{FragDraft}
 use Rattle.conf_parser.specs.declared.draft.StreamDraft.{StreamDraft}
 use Rattle.conf_parser.specs.declared.draft.StreamGlobal.{StreamGlobal}
-use Rattle.conf_parser.specs.Values.{is_empty}
 
 -- every checksum is checked
 abbrev pub all_checks : Checks

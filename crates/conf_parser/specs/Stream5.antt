@@ -6,9 +6,8 @@
 -- value is a part that lacks, and counts at the end of the line.
 -- To try it on: `stream5_tcp: timeout, bind_to 10.0` is a bad address list, and `stream5_tcp: timeout` a bad
 -- value; `ports client 21, ports both 80` are the client ports 21 and 80 and the server port 80.
-use Rattle.std.specs.Prelude.{ℕ, ◌==◌, ◌&&◌, ◌||◌, ◌++◌, not, Bool, true, false, Option, Some, None, Result, Ok, Err, List, [], ◌∷◌, length, map, is_some, is_none, option_and_then, codes, nat_le, if◌then◌else◌}
+use Rattle.std.specs.Prelude.{ℕ, ◌==◌, ◌&&◌, ◌||◌, ◌++◌, Bool, true, false, Option, Some, None, Result, Ok, Err, List, [], ◌∷◌, length, map, is_some, is_none, option_and_then, codes, nat_le, if◌then◌else◌}
 use Rattle.std.specs.List.{list_any}
-use Rattle.edge_io.specs.declared.policy.StreamPolicy.TheVariants as policy
 use Rattle.net_lists.specs.declared.part.Part.{Part}
 use Rattle.net_lists.specs.declared.part.Bounds.{Bounds}
 use Rattle.net_lists.specs.Parts.{one_port}
@@ -16,7 +15,8 @@ use Rattle.net_lists.specs.Numbers.{number_in}
 use Rattle.net_lists.specs.Variables.{Variables}
 use Rattle.net_lists.specs.Cutting.{words, comma_parts, first_word, behind_word}
 use Rattle.net_lists.specs.Folds.{draft_behind}
-use Rattle.conf_parser.specs.declared.config.StreamEngine.{StreamEngine}
+use Rattle.conf_types.specs.declared.config.StreamEngine.{StreamEngine}
+use Rattle.conf_types.specs.Defaults.{default_ports, default_stream_engine}
 use Rattle.conf_parser.specs.declared.draft.StreamDraft.{StreamDraft}
 use Rattle.conf_parser.specs.declared.draft.StreamGlobal.{StreamGlobal}
 use Rattle.conf_parser.specs.declared.stream5.Partial.{Partial}
@@ -30,7 +30,7 @@ use Rattle.conf_parser.specs.declared.stream5.TcpName.TheVariants as tcp
 use Rattle.conf_parser.specs.declared.line.ConfKind.{ConfKind}
 use Rattle.conf_parser.specs.declared.line.ConfKind.TheVariants.{BadValue, OutsideProfile, Duplicate, Limit}
 use Rattle.conf_parser.specs.Values.{◌>>=◌, or_kind, mapped, is_word, is_empty, setting_text, expanded_addresses, yes_or_no}
-use Rattle.conf_parser.specs.Policies.{stream_policy}
+use Rattle.edge_io.specs.Policies.{stream_policy}
 use Rattle.conf_parser.specs.Settings.{default_global}
 
 -- the settings of a line's text: none where it is empty
@@ -116,10 +116,11 @@ stream5_global draft rest = do
   values ← global_values text
   with_global draft values
 
--- one setting of `stream5_udp`: its timeout
+-- one setting of `stream5_udp`: its timeout, or `ignore_any_rules`, which stands alone
 unfoldable pub udp_part : Partial ℕ → List ℕ → Result (Partial ℕ) ConfKind
 udp_part partial part =
-    if is_word (first_word part) (codes "ignore_any_rules") then Ok partial
+    if is_word (first_word part) (codes "ignore_any_rules") then
+    if is_empty (behind_word part) then Ok partial else Err BadValue
     else if is_word (first_word part) (codes "timeout") then
     if is_empty (behind_word part) then Ok (lacking partial)
     else onward partial (or_kind BadValue (number_in 1 86400 (behind_word part)))
@@ -258,22 +259,9 @@ named_tcp variables partial name value =
 unfoldable pub tcp_part : Variables → Partial TcpDraft → List ℕ → Result (Partial TcpDraft) ConfKind
 tcp_part variables partial part = or_kind BadValue (tcp_name (first_word part)) >>= λ name. named_tcp variables partial name (behind_word part)
 
--- the ports of servers whose clients' data are put together, where no `ports` setting stands
-abbrev pub default_ports : List ℕ
-default_ports = 21 ∷ 23 ∷ 25 ∷ 42 ∷ 53 ∷ 80 ∷ 110 ∷ 111 ∷ 135 ∷ 136 ∷ 137 ∷ 139 ∷ 143 ∷ 445 ∷ 513 ∷ 514 ∷ 1433 ∷ 1521 ∷ 2401 ∷ 3306 ∷ []
-
--- an engine before its settings
+-- an engine before its settings: its ports come behind the last of them
 abbrev pub first_engine : StreamEngine
-first_engine = record {
-  bind = None;
-  policy = policy.Bsd;
-  timeout = 30;
-  handshake = None;
-  bytes_limit = 1048576;
-  segs_limit = 2621;
-  client_ports = None;
-  server_ports = None;
-}
+first_engine = record default_stream_engine { client_ports = None }
 
 -- before the first setting
 abbrev pub first_tcp : TcpDraft

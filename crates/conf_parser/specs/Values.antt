@@ -6,7 +6,7 @@
 -- A value is expanded whole before it is read as a list, so a fault of its expansion comes first.
 -- (Snort Users Manual 2.9, section 2.1; the kinds are our own.)
 -- To try it on: without variables `[$A,10.0.0]` is refused as an unknown variable A, not as a bad list.
-use Rattle.std.specs.Prelude.{ℕ, ◌-◌, ◌+◌, ◌==◌, ◌&&◌, ◌||◌, not, Bool, true, false, Option, Some, None, Result, Ok, Err, List, [], ◌∷◌, length, take, drop, codes, bytes_eq, nat_le, if◌then◌else◌}
+use Rattle.std.specs.Prelude.{ℕ, ◌==◌, ◌&&◌, ◌||◌, not, Bool, true, false, Option, Some, None, Result, Ok, Err, List, [], ◌∷◌, length, take, drop, codes, bytes_eq, nat_le, if◌then◌else◌}
 use Rattle.std.specs.List.{prefix_len, list_all}
 use Rattle.edge_io.specs.Bytes.{is_blank, trimmed, slice}
 pub use Rattle.edge_io.specs.OnResult.{◌>>=◌}

@@ -6,11 +6,10 @@ ghost use Rattle.conf_parser.specs.Config.{class_with, class_of, with_class, cla
 ghost use Rattle.std.specs.List.{list_any};
 ghost use Rattle.net_lists.specs.Cutting.{settings};
 
-use crate::classes::{Class, Classes, MOST_CLASSES};
-use crate::config::QueueLimits;
 use crate::line::ConfKind;
 use crate::options::{SettingStep, settings_behind};
 use crate::settings::{ALL_CHECKS, NO_CHECKS};
+use conf_types::{Class, Classes, MOST_CLASSES, QueueLimits};
 use edge_io::Text;
 use net_lists::{PartStep, Parts, Stop, number_in, trimmed};
 use packet_decode::Checks;

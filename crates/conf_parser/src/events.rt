@@ -4,9 +4,9 @@ ghost use Rattle.net_lists.specs.Numbers.{number_in};
 ghost use Rattle.net_lists.specs.Stops.{Gives};
 ghost use Rattle.conf_parser.specs.Events.{track_of, is_source, filter_name, filter_kind, once, filter_value, filter_part, no_parts, filter_of, read_filter, has_filter, with_filter, event_filter, next_word, part_behind, stands, suppress_value, placed_part, suppress_part, first_part, tracked, suppress_of, read_suppress, with_suppress, suppress};
 
-use crate::filter::{EventFilter, FilterKind, Suppress, Track};
 use crate::line::ConfKind;
 use crate::value::expanded_addresses;
+use conf_types::{EventFilter, FilterKind, Suppress, Track};
 use edge_io::Items;
 use net_lists::{AddrList, PartStep, Parts, Stop, TryPartStep, Vars, first_word, number_in};
 use std::alloc::Global;

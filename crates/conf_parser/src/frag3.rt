@@ -1,14 +1,13 @@
 //! The frag3 lines.
 ghost use Rattle.std.specs.Prelude.{◌≡◌, false, Some, option_copied, length};
 ghost use Rattle.net_lists.specs.Stops.{Gives};
-ghost use Rattle.conf_parser.specs.Frag3.{is_unread_global, global_setting, with_max_frags, frag3_global, first_engine, stands_alone, is_unread, engine_setting, has_default, with_engine, frag3_engine};
+ghost use Rattle.conf_parser.specs.Frag3.{is_unread_global, global_setting, with_max_frags, frag3_global, stands_alone, is_unread, engine_setting, has_default, with_engine, frag3_engine};
 
-use crate::config::FragEngine;
 use crate::draft::FragDraft;
 use crate::line::ConfKind;
 use crate::options::{SettingStep, settings_behind};
-use crate::policies::frag_policy;
 use crate::value::{expanded_addresses, setting_text};
+use conf_types::{DEFAULT_FRAG_ENGINE, FragEngine};
 use edge_io::FragPolicy;
 use net_lists::{Stop, Vars, number_in};
 use std::alloc::Global;
@@ -115,7 +114,7 @@ fn valued_setting(
     ensures { Gives result (engine_setting vars.now engine name.now (Some value.now)) }
 {
     if name == b"policy".as_slice() {
-        let policy = frag_policy(value).ok_or(ConfKind::BadValue)?;
+        let policy = FragPolicy::read(value).ok_or(ConfKind::BadValue)?;
         Ok(FragEngine { policy, ..engine })
     } else if name == b"timeout".as_slice() {
         let timeout = number_in(1, 3600, value).ok_or(ConfKind::BadValue)?;
@@ -213,12 +212,6 @@ pub fn frag3_engine(
     ensures { Gives result (frag3_engine vars.now draft rest.now) }
 {
     let text = setting_text(rest)?;
-    let first = FragEngine {
-        bind: None,
-        policy: FragPolicy::Bsd,
-        timeout: 60,
-        min_ttl: 1,
-    };
-    let engine = settings_behind(text, &EngineStep { alloc, vars }, first)?;
+    let engine = settings_behind(text, &EngineStep { alloc, vars }, DEFAULT_FRAG_ENGINE)?;
     with_engine(draft, engine)
 }

@@ -6,13 +6,10 @@
 //! on in the order in which they are read. The setup of a run stands on this crate.
 #![tactic(auto)]
 
-mod classes;
 mod conf_line;
-mod config;
 mod config_lines;
 mod draft;
 mod events;
-mod filter;
 mod frag3;
 mod given;
 mod line;
@@ -21,7 +18,6 @@ mod loaded;
 mod loading;
 mod name;
 mod options;
-mod policies;
 mod reading;
 mod settings;
 mod steps;
@@ -31,9 +27,10 @@ mod tcp;
 mod value;
 mod variables;
 
-pub use classes::{Class, Classes};
-pub use config::{Config, FragConfig, FragEngine, QueueLimits, StreamConfig, StreamEngine};
-pub use filter::{EventFilter, FilterKind, Suppress, Track};
+pub use conf_types::{
+    Class, Classes, Config, EventFilter, FilterKind, FragConfig, FragEngine, QueueLimits,
+    StreamConfig, StreamEngine, Suppress, Track,
+};
 pub use line::{ConfFault, ConfKind, Line, LoadStop, Warning};
 pub use loaded::Loaded;
 pub use loading::load;

@@ -2,9 +2,9 @@
 ghost use Rattle.std.specs.Prelude.{◌≡◌};
 ghost use Rattle.conf_parser.specs.Loaded.{nothing_loaded};
 
-use crate::config::Config;
 use crate::line::{Line, Warning};
 use crate::settings::{config_of, first_draft};
+use conf_types::Config;
 use edge_io::{Items, Text};
 use std::alloc::Global;
 

@@ -7,7 +7,7 @@ ghost use Rattle.conf_parser.specs.Reading.{told, file_count, file_read, lines_r
 ghost use Rattle.conf_parser.specs.Steps.{MayBeRead, most_files};
 ghost use Rattle.conf_parser.specs.Loaded.{loaded_of};
 ghost use Rattle.conf_parser.specs.Places.{StandInFiles};
-ghost use Rattle.conf_parser.specs.Sound.{IsSound};
+ghost use Rattle.conf_types.specs.Sound.{IsSound};
 ghost use Rattle.conf_parser.specs.Loading.{GoesOn, HasCause, LoadsFile, StopsAtLarge, StopsAtFile, whole_next, inner, opened_of, opened_count, opened_next, IsLoading, EndsUnlessFailed, HandsOut, HasFailed};
 
 use crate::draft::Settings;

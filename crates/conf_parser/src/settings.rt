@@ -3,8 +3,8 @@ ghost use Rattle.std.specs.Prelude.{◌≡◌};
 ghost use Rattle.conf_parser.specs.Settings.{all_checks, no_checks, default_queue, default_global, first_draft, frag_of, stream_of, config_of};
 
 use crate::Classes;
-use crate::config::{Config, FragConfig, QueueLimits, StreamConfig};
 use crate::draft::{Draft, FragDraft, StreamDraft, StreamGlobal};
+use conf_types::{Config, FragConfig, QueueLimits, StreamConfig};
 use edge_io::Items;
 use packet_decode::Checks;
 use std::alloc::Global;

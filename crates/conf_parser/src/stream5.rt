@@ -2,11 +2,11 @@
 ghost use Rattle.std.specs.Prelude.{◌≡◌, option_copied, option_map, length};
 ghost use Rattle.conf_parser.specs.Stream5.{stream_parts, whole, is_unread_global, global_name, track_icmp, global_value, wants_value, named_global, global_part, global_values, with_global, stream5_global, udp_timeout, udp_part, with_udp, stream5_udp};
 
-use crate::config::StreamEngine;
 use crate::draft::{StreamDraft, StreamGlobal};
 use crate::line::ConfKind;
 use crate::settings::DEFAULT_GLOBAL;
 use crate::value::{setting_text, yes_or_no};
+use conf_types::StreamEngine;
 use edge_io::Items;
 use net_lists::{PartStep, Parts, PortPart, first_word, number_in};
 
@@ -272,7 +272,11 @@ fn udp_part(partial: Partial<u32>, part: &[u8]) -> Result<Partial<u32>, ConfKind
 {
     let (word, value) = first_word(part);
     if word == b"ignore_any_rules".as_slice() {
-        return Ok(partial);
+        return if value.is_empty() {
+            Ok(partial)
+        } else {
+            Err(ConfKind::BadValue)
+        };
     }
     if word != b"timeout".as_slice() {
         return Err(ConfKind::BadValue);

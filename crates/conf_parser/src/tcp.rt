@@ -3,14 +3,14 @@ ghost use Rattle.std.specs.Prelude.{◌≡◌, ◌++◌, Some, IfOk, map, if◌t
 ghost use Rattle.net_lists.specs.Parts.{one_port};
 ghost use Rattle.conf_parser.specs.Values.{mapped};
 ghost use Rattle.net_lists.specs.Stops.{Gives};
-ghost use Rattle.conf_parser.specs.Stream5.{whole, is_unread_tcp, tcp_name, limit_from, queue_limit, handshake_seconds, side, port_word, port_words, joined_ports, with_client, with_server, with_ports, ports_value, engine_value, tcp_value, lacks_ports, lacks_value, named_tcp, tcp_part, tcp_settings, default_ports, first_tcp, engine_of, has_default, with_engine, stream5_tcp};
+ghost use Rattle.conf_types.specs.Defaults.{default_ports};
+ghost use Rattle.conf_parser.specs.Stream5.{whole, is_unread_tcp, tcp_name, limit_from, queue_limit, handshake_seconds, side, port_word, port_words, joined_ports, with_client, with_server, with_ports, ports_value, engine_value, tcp_value, lacks_ports, lacks_value, named_tcp, tcp_part, tcp_settings, first_tcp, engine_of, has_default, with_engine, stream5_tcp};
 
-use crate::config::StreamEngine;
 use crate::draft::StreamDraft;
 use crate::line::ConfKind;
-use crate::policies::stream_policy;
 use crate::stream5::{Partial, Side, TcpDraft, TcpName, stream_parts};
 use crate::value::{expanded_addresses, setting_text};
+use conf_types::{DEFAULT_PORTS, DEFAULT_STREAM_SETTINGS, StreamEngine, StreamSettings};
 use edge_io::{Items, NoMemory, StreamPolicy};
 use net_lists::{
     Bounds, Parts, PortList, PortPart, Stop, TryPartStep, Vars, first_word, number_in,
@@ -22,12 +22,6 @@ const MOST_ENGINES: usize = 1024;
 
 /// The most that may be queued.
 const MOST_QUEUED: u32 = 1073741824;
-
-/// The ports of servers whose clients' data are put together, where no `ports` setting stands.
-const DEFAULT_PORTS: [u16; 20] = [
-    21, 23, 25, 42, 53, 80, 110, 111, 135, 136, 137, 139, 143, 445, 513, 514, 1433, 1521, 2401,
-    3306,
-];
 
 /// Whether this setting changes nothing.
 #[tactic(auto, unfolding(crate::specs::Stream5::is_unread_tcp))]
@@ -295,7 +289,7 @@ fn engine_value(
 {
     match name {
         TcpName::Policy => {
-            let policy = stream_policy(value).ok_or(ConfKind::BadValue)?;
+            let policy = StreamPolicy::read(value).ok_or(ConfKind::BadValue)?;
             Ok(StreamEngine { policy, ..engine })
         }
         TcpName::Timeout => {
@@ -513,17 +507,25 @@ fn whole_tcp(partial: Partial<TcpDraft>) -> Result<TcpDraft, ConfKind>
 }
 
 /// Before the first setting.
+#[tactic(auto, unfolding(conf_types::specs::Defaults::default_stream_engine))]
 fn first_tcp() -> TcpDraft
     ensures { result ≡ first_tcp }
 {
+    let StreamSettings {
+        policy,
+        timeout,
+        handshake,
+        bytes_limit,
+        segs_limit,
+    } = DEFAULT_STREAM_SETTINGS;
     TcpDraft {
         engine: StreamEngine {
             bind: None,
-            policy: StreamPolicy::Bsd,
-            timeout: 30,
-            handshake: None,
-            bytes_limit: 1048576,
-            segs_limit: 2621,
+            policy,
+            timeout,
+            handshake,
+            bytes_limit,
+            segs_limit,
             client_ports: None,
             server_ports: None,
         },

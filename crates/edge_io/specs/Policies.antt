@@ -4,7 +4,7 @@
 -- 2007; which row a stream policy has is this project's own choice.
 -- To try it on: hpux10 has the row of bsd-right, and vista that of first; `BSD-Right` is the name of
 -- a fragment policy and of no stream policy.
-use Rattle.std.specs.Prelude.{◌≡◌, ℕ, List, map, codes}
+use Rattle.std.specs.Prelude.{ℕ, Bool, Option, List, [], ◌∷◌, map, find, bytes_eq, codes}
 use Rattle.std.specs.Char.{to_ascii_lowercase}
 use Rattle.edge_io.specs.declared.policy.FragPolicy.{FragPolicy}
 use Rattle.edge_io.specs.declared.policy.FragPolicy.TheVariants as frag
@@ -66,5 +66,21 @@ stream_name stream.Irix = codes "irix"
 stream_name stream.Macos = codes "macos"
 
 -- the text is this name, in either ASCII case
-abbrev pub IsNamed : List ℕ → List ℕ → Type 0
-IsNamed text name = map to_ascii_lowercase text ≡ name
+abbrev pub is_named : List ℕ → List ℕ → Bool
+is_named text name = bytes_eq (map to_ascii_lowercase text) (map to_ascii_lowercase name)
+
+-- all fragment policies
+abbrev pub frag_policies : List FragPolicy
+frag_policies = frag.First ∷ frag.Last ∷ frag.Bsd ∷ frag.BsdRight ∷ frag.Linux ∷ frag.Windows ∷ frag.Solaris ∷ []
+
+-- all stream policies
+abbrev pub stream_policies : List StreamPolicy
+stream_policies = stream.First ∷ stream.Last ∷ stream.Bsd ∷ stream.Linux ∷ stream.OldLinux ∷ stream.Windows ∷ stream.Win2003 ∷ stream.Vista ∷ stream.Solaris ∷ stream.Hpux ∷ stream.Hpux10 ∷ stream.Irix ∷ stream.Macos ∷ []
+
+-- the fragment policy of this name
+unfoldable pub frag_policy : List ℕ → Option FragPolicy
+frag_policy name = find (λ policy. is_named name (frag_name policy)) frag_policies
+
+-- the stream policy of this name
+unfoldable pub stream_policy : List ℕ → Option StreamPolicy
+stream_policy name = find (λ policy. is_named name (stream_name policy)) stream_policies

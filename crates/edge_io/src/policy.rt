@@ -1,7 +1,7 @@
-ghost use Rattle.std.specs.Prelude.{◌≡◌, All, IfSome, IfNone};
+ghost use Rattle.std.specs.Prelude.{◌≡◌};
 ghost use Rattle.edge_io.specs.declared.policy.FragPolicy.{FragPolicy};
 ghost use Rattle.edge_io.specs.declared.policy.StreamPolicy.{StreamPolicy};
-ghost use Rattle.edge_io.specs.Policies.{frag_name, frag_preference, stream_name, stream_preference, IsNamed};
+ghost use Rattle.edge_io.specs.Policies.{frag_name, frag_preference, stream_name, stream_preference, is_named, frag_policy, stream_policy};
 
 /// Which of two overlapping pieces a receiving host keeps: a row of the overlap table.
 #[derive(Clone, Copy, Debug, PartialEq, Eq)]
@@ -46,6 +46,13 @@ pub enum StreamPolicy {
     Macos,
 }
 
+/// The text is this name, in either ASCII case.
+fn is_named(text: &[u8], name: &[u8]) -> bool
+    ensures { result ≡ is_named text.now name.now }
+{
+    text.eq_ignore_ascii_case(name)
+}
+
 impl FragPolicy {
     const ALL: [FragPolicy; 7] = [
         FragPolicy::First,
@@ -58,14 +65,14 @@ impl FragPolicy {
     ];
 
     /// The policy of this name, in either ASCII case. Takes no memory.
+    #[tactic(auto, unfolding(crate::specs::Policies::frag_policy))]
     pub fn read(name: &[u8]) -> Option<FragPolicy>
-        ensures some { IfSome result (λ policy. IsNamed name.now (frag_name policy)) }
-        ensures none { IfNone result ((policy : FragPolicy) → ¬ IsNamed name.now (frag_name policy)) }
+        ensures { result ≡ frag_policy name.now }
     {
         FragPolicy::ALL
             .iter()
             .copied()
-            .find(|policy| name.eq_ignore_ascii_case(policy.name()))
+            .find(|policy| is_named(name, policy.name()))
     }
 
     /// Its name in lower case.
@@ -117,23 +124,14 @@ impl StreamPolicy {
     ];
 
     /// The policy of this name, in either ASCII case. Takes no memory.
+    #[tactic(auto, unfolding(crate::specs::Policies::stream_policy))]
     pub fn read(name: &[u8]) -> Option<StreamPolicy>
-        ensures some { IfSome result (λ policy. IsNamed name.now (stream_name policy)) }
-        ensures none { IfNone result ((policy : StreamPolicy) → ¬ IsNamed name.now (stream_name policy)) }
+        ensures { result ≡ stream_policy name.now }
     {
-        StreamPolicy::among(&StreamPolicy::ALL, name)
-    }
-
-    /// The first of these policies that has this name. They are a parameter so that the proof needn't
-    /// go over the thirteen by name.
-    fn among(policies: &[StreamPolicy], name: &[u8]) -> Option<StreamPolicy>
-        ensures some { IfSome result (λ policy. IsNamed name.now (stream_name policy)) }
-        ensures none { IfNone result (All (λ policy. ¬ IsNamed name.now (stream_name policy)) policies.now) }
-    {
-        policies
+        StreamPolicy::ALL
             .iter()
             .copied()
-            .find(|policy| name.eq_ignore_ascii_case(policy.name()))
+            .find(|policy| is_named(name, policy.name()))
     }
 
     /// Its name in lower case.

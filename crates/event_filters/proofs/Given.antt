@@ -4,10 +4,10 @@ use Rattle.std.specs.Prelude.{Option, All, length}
 use Rattle.edge_io.specs.Along.{trail, trail_from, chained}
 use Rattle.edge_io.proofs.Along.{trail-more}
 use Rattle.packet_decode.specs.declared.item.ItemHead.{ItemHead}
-use Rattle.conf_parser.specs.declared.config.Config.{Config}
-use Rattle.conf_parser.specs.Sound.{IsSound}
-use Rattle.rule_parser.specs.declared.rule.Rule.{Rule}
-use Rattle.rule_parser.specs.Sound.{IsTriable}
+use Rattle.conf_types.specs.declared.config.Config.{Config}
+use Rattle.conf_types.specs.Sound.{IsSound}
+use Rattle.rule_types.specs.declared.rule.Rule.{Rule}
+use Rattle.rule_types.specs.Sound.{IsTriable}
 use Rattle.event_filters.specs.declared.counting.Key.{Key}
 use Rattle.event_filters.specs.declared.counting.Line.{Line}
 use Rattle.event_filters.specs.declared.counting.Window.{Window}

@@ -8,7 +8,7 @@ use Rattle.std.proofs.lemmas.Grind.{common_steps}
 use Rattle.std.proofs.lemmas.List.{append-nil, take_all, take-append-le, length-take}
 use Rattle.std.proofs.lemmas.List.Elements.{filter_more}
 use Rattle.std.proofs.lemmas.List.Sums.{fold-append}
-use Rattle.rule_parser.specs.declared.rule.Rule.{Rule}
+use Rattle.rule_types.specs.declared.rule.Rule.{Rule}
 use Rattle.event_filters.specs.Queue.{joined, ordered, gives_event, first_events, with_event}
 
 insert-later : (next : ℕ) (later : List ℕ) (n event : ℕ) → insert (next ∷ later) (1 + n) event ≡ next ∷ insert later n event

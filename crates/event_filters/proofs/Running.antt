@@ -7,7 +7,7 @@ use Rattle.std.proofs.lemmas.List.Elements.{filter-append}
 use Rattle.edge_io.specs.Along.{trail, trail_from}
 use Rattle.edge_io.proofs.Along.{trail_from-append, trail-more}
 use Rattle.packet_decode.specs.declared.item.ItemHead.{ItemHead}
-use Rattle.rule_parser.specs.declared.rule.Rule.{Rule}
+use Rattle.rule_types.specs.declared.rule.Rule.{Rule}
 use Rattle.event_filters.specs.declared.counting.Count.{Count}
 use Rattle.event_filters.specs.declared.counting.Key.{Key}
 use Rattle.event_filters.specs.declared.counting.Window.{Window}

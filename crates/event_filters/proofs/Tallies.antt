@@ -4,11 +4,11 @@ use Rattle.std.specs.Prelude.{Option, slice_get, option_and_then, unwrap_or, All
 use Rattle.std.specs.Option.{option_map}
 use Rattle.std.proofs.lemmas.Option.{slice_get-map, slice_get_within, get_or_from_slice_get}
 use Rattle.packet_decode.specs.declared.item.ItemHead.{ItemHead}
-use Rattle.conf_parser.specs.declared.filter.EventFilter.{EventFilter}
-use Rattle.conf_parser.specs.Sound.{IsFilter}
-use Rattle.rule_parser.specs.declared.rule.Period.{Period}
-use Rattle.rule_parser.specs.declared.rule.Rule.{Rule}
-use Rattle.rule_parser.specs.Sound.{IsTriable}
+use Rattle.conf_types.specs.declared.filter.EventFilter.{EventFilter}
+use Rattle.conf_types.specs.Sound.{IsFilter}
+use Rattle.rule_types.specs.declared.rule.Period.{Period}
+use Rattle.rule_types.specs.declared.rule.Rule.{Rule}
+use Rattle.rule_types.specs.Sound.{IsTriable}
 use Rattle.event_filters.specs.declared.counting.Count.{Count}
 use Rattle.event_filters.specs.declared.counting.Key.{Key}
 use Rattle.event_filters.specs.Counting.{Event}

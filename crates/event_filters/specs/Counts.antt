@@ -2,9 +2,9 @@
 use Rattle.std.specs.Prelude.{ℕ, List, Option, slice_get, option_and_then}
 use Rattle.std.specs.Option.{option_map}
 use Rattle.packet_decode.specs.declared.item.ItemHead.{ItemHead}
-use Rattle.conf_parser.specs.declared.filter.EventFilter.{EventFilter}
-use Rattle.rule_parser.specs.declared.rule.Period.{Period}
-use Rattle.rule_parser.specs.declared.rule.Rule.{Rule}
+use Rattle.conf_types.specs.declared.filter.EventFilter.{EventFilter}
+use Rattle.rule_types.specs.declared.rule.Period.{Period}
+use Rattle.rule_types.specs.declared.rule.Rule.{Rule}
 use Rattle.event_filters.specs.declared.counting.Count.{Count}
 use Rattle.event_filters.specs.Events.{period_key, period_line, filter_key, filter_line}
 

@@ -25,15 +25,15 @@ use Rattle.edge_io.specs.Along.{chained}
 use Rattle.edge_io.specs.declared.address.Addr.{Addr}
 use Rattle.net_lists.specs.Verdicts.{has_address, is_listed}
 use Rattle.packet_decode.specs.declared.item.ItemHead.{ItemHead}
-use Rattle.conf_parser.specs.declared.config.Config.{Config}
-use Rattle.conf_parser.specs.declared.filter.EventFilter.{EventFilter}
-use Rattle.conf_parser.specs.declared.filter.FilterKind.{FilterKind}
-use Rattle.conf_parser.specs.declared.filter.FilterKind.TheVariants as filters
-use Rattle.conf_parser.specs.declared.filter.Suppress.{Suppress}
-use Rattle.conf_parser.specs.declared.filter.Track.{Track}
-use Rattle.conf_parser.specs.declared.filter.Track.TheVariants.{BySrc, ByDst}
-use Rattle.rule_parser.specs.declared.rule.Period.{Period}
-use Rattle.rule_parser.specs.declared.rule.Rule.{Rule}
+use Rattle.conf_types.specs.declared.config.Config.{Config}
+use Rattle.conf_types.specs.declared.filter.EventFilter.{EventFilter}
+use Rattle.conf_types.specs.declared.filter.FilterKind.{FilterKind}
+use Rattle.conf_types.specs.declared.filter.FilterKind.TheVariants as filters
+use Rattle.conf_types.specs.declared.filter.Suppress.{Suppress}
+use Rattle.conf_types.specs.declared.filter.Track.{Track}
+use Rattle.conf_types.specs.declared.filter.Track.TheVariants.{BySrc, ByDst}
+use Rattle.rule_types.specs.declared.rule.Period.{Period}
+use Rattle.rule_types.specs.declared.rule.Rule.{Rule}
 use Rattle.event_filters.specs.declared.counting.Key.{Key}
 use Rattle.event_filters.specs.declared.counting.Kind.{Kind}
 use Rattle.event_filters.specs.declared.counting.Kind.TheVariants.{Limit, Threshold, Both, Above}

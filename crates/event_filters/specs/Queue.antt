@@ -10,13 +10,13 @@
 use Rattle.std.specs.Prelude.{ℕ, Bool, true, false, not, ◌&&◌, if◌then◌else◌, nat_lt, List, [], ◌∷◌, Option, length, map, max, fold, take, slice_get, slice_index, unwrap_or}
 use Rattle.std.specs.List.{filter, list_any}
 use Rattle.std.specs.Option.{option_map, option_map_or}
-use Rattle.conf_parser.specs.declared.config.QueueLimits.{QueueLimits}
+use Rattle.conf_types.specs.declared.config.QueueLimits.{QueueLimits}
 use Rattle.event_filters.specs.declared.queue.Order.{Order}
-use Rattle.rule_parser.specs.declared.option.Opt.{Opt}
-use Rattle.rule_parser.specs.declared.option.Opt.TheVariants as opt
-use Rattle.rule_parser.specs.declared.rule.Action.{Action}
-use Rattle.rule_parser.specs.declared.rule.Action.TheVariants.{Alert, Pass}
-use Rattle.rule_parser.specs.declared.rule.Rule.{Rule}
+use Rattle.rule_types.specs.declared.option.Opt.{Opt}
+use Rattle.rule_types.specs.declared.option.Opt.TheVariants as opt
+use Rattle.rule_types.specs.declared.rule.Action.{Action}
+use Rattle.rule_types.specs.declared.rule.Action.TheVariants.{Alert, Pass}
+use Rattle.rule_types.specs.declared.rule.Rule.{Rule}
 
 -- the actions
 abbrev pub is_alert : Action → Bool

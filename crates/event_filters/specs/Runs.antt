@@ -3,9 +3,9 @@ use Rattle.std.specs.Prelude.{◌≡◌, ℕ, ◌<◌, ◌++◌, not, List, Opti
 use Rattle.std.specs.List.{filter}
 use Rattle.edge_io.specs.Along.{trail, trail_from}
 use Rattle.packet_decode.specs.declared.item.ItemHead.{ItemHead}
-use Rattle.conf_parser.specs.declared.filter.EventFilter.{EventFilter}
-use Rattle.conf_parser.specs.declared.filter.Suppress.{Suppress}
-use Rattle.rule_parser.specs.declared.rule.Rule.{Rule}
+use Rattle.conf_types.specs.declared.filter.EventFilter.{EventFilter}
+use Rattle.conf_types.specs.declared.filter.Suppress.{Suppress}
+use Rattle.rule_types.specs.declared.rule.Rule.{Rule}
 use Rattle.event_filters.specs.declared.counting.Key.{Key}
 use Rattle.event_filters.specs.declared.counting.Line.{Line}
 use Rattle.event_filters.specs.declared.counting.Window.{Window}

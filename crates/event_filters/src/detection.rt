@@ -7,7 +7,7 @@ ghost use Rattle.event_filters.specs.Runs.{Stays};
 
 use crate::counting::{Count, Key, Kind, Line, Windows, lets_through, tracked};
 use packet_decode::ItemHead;
-use rule_parser::Rule;
+use rule_types::Rule;
 
 /// How the rule's detection filter counts its match, if it has one.
 fn period_count(rule: &Rule, head: &ItemHead, place: u32) -> Option<Count>

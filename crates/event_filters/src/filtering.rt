@@ -8,9 +8,9 @@ use crate::counting::{Count, Key, Windows, lets_through, tracked};
 use crate::detection::push;
 use crate::lines::filter_line;
 use crate::suppress::is_suppressed;
-use conf_parser::{EventFilter, Suppress};
+use conf_types::{EventFilter, Suppress};
 use packet_decode::ItemHead;
-use rule_parser::Rule;
+use rule_types::Rule;
 
 /// The lines that events go through, the rules, and of each rule the places of its filters.
 #[derive(Clone, Copy)]

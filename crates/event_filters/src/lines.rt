@@ -5,9 +5,9 @@ ghost use Rattle.event_filters.specs.Queue.{longest_content};
 
 use crate::counting::{Kind, Line};
 use crate::queue::longest_content;
-use conf_parser::{EventFilter, FilterKind};
+use conf_types::{EventFilter, FilterKind};
 use edge_io::NoMemory;
-use rule_parser::Rule;
+use rule_types::Rule;
 use std::alloc::Global;
 
 fn kind_of(kind: FilterKind) -> Kind

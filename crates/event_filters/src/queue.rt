@@ -3,8 +3,8 @@ ghost use Rattle.std.specs.Prelude.{◌≡◌, ◌+◌, ◌<◌, ◌≤◌, [], 
 ghost use Rattle.std.specs.List.{list_any, position_or_len};
 ghost use Rattle.event_filters.specs.Queue.{is_alert, passes_item, gives_event, content_size, longest_content, priority_at, order_of, joined, ordered, first_events, with_event, queued_by};
 
-use conf_parser::QueueLimits;
-use rule_parser::{Action, Opt, Rule};
+use conf_types::QueueLimits;
+use rule_types::{Action, Opt, Rule};
 
 fn is_alert(action: Action) -> bool
     ensures { result ≡ is_alert action }

@@ -3,10 +3,10 @@ ghost use Rattle.std.specs.Prelude.{◌≡◌, ◌&&◌};
 ghost use Rattle.std.specs.List.{list_any};
 ghost use Rattle.event_filters.specs.Events.{address_of, drops, is_suppressed, speaks_of};
 
-use conf_parser::{Suppress, Track};
+use conf_types::{Suppress, Track};
 use edge_io::Addr;
 use packet_decode::ItemHead;
-use rule_parser::Rule;
+use rule_types::Rule;
 
 /// Whether the line speaks of the rule's events.
 fn speaks_of(line: &Suppress, rule: &Rule) -> bool

@@ -11,8 +11,8 @@ use Rattle.std.proofs.Common.{inl, inr, get_or-set_same, get_or-set_other}
 use Rattle.std.specs.Cmp.{nat_cmp_total, unsigned_tied}
 use Rattle.std.specs.Ordering.{nat_cmp, eq_by_cmp}
 use Rattle.std.specs.FinSet.{FinSet, empty, insert, remove, contains, contains-empty, contains-insert, contains-remove, same_set, nat_cmp-IsAntisymmetric}
-use Rattle.rule_parser.specs.declared.option.BitChange.{BitChange}
-use Rattle.rule_parser.specs.declared.option.BitChange.TheVariants.{Set, Unset, Toggle}
+use Rattle.rule_types.specs.declared.option.BitChange.{BitChange}
+use Rattle.rule_types.specs.declared.option.BitChange.TheVariants.{Set, Unset, Toggle}
 use Rattle.flowbit_state.specs.Changes.{changed, bit_after}
 use Rattle.flowbit_state.specs.Words.{is_bit, is_set, set_below, set_in}
 

@@ -5,8 +5,8 @@
 use Rattle.std.specs.Prelude.{ℕ, Bool, true, false, not, if◌then◌else◌}
 use Rattle.std.specs.Ordering.{nat_cmp}
 use Rattle.std.specs.FinSet.{FinSet, contains, insert, remove}
-use Rattle.rule_parser.specs.declared.option.BitChange.{BitChange}
-use Rattle.rule_parser.specs.declared.option.BitChange.TheVariants.{Set, Unset, Toggle}
+use Rattle.rule_types.specs.declared.option.BitChange.{BitChange}
+use Rattle.rule_types.specs.declared.option.BitChange.TheVariants.{Set, Unset, Toggle}
 
 -- the set behind a change of a bit
 abbrev pub changed : BitChange → ℕ → FinSet nat_cmp → FinSet nat_cmp

@@ -4,7 +4,7 @@ ghost use Rattle.flowbit_state.specs.Changes.{changed};
 
 use crate::words::Words;
 use edge_io::NoMemory;
-use rule_parser::BitChange;
+use rule_types::BitChange;
 use std::alloc::Global;
 use std::marker::Model;
 

@@ -3,7 +3,7 @@
 use crate::Bits;
 use edge_io::NoMemory;
 use edge_io::crossing::{sendable, shareable};
-use rule_parser::BitChange;
+use rule_types::BitChange;
 use std::alloc::Global;
 use std::process::Abort;
 use std::test::Fail;

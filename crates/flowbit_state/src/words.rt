@@ -3,7 +3,7 @@ ghost use Rattle.std.specs.FinSet.{empty, contains};
 ghost use Rattle.flowbit_state.specs.Changes.{changed, bit_after};
 ghost use Rattle.flowbit_state.specs.Words.{is_bit};
 
-use rule_parser::BitChange;
+use rule_types::BitChange;
 use std::marker::Model;
 
 /// The bits of a word.

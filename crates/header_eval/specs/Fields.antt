@@ -21,20 +21,20 @@ use Rattle.packet_decode.specs.declared.packet.Body.{Body}
 use Rattle.packet_decode.specs.declared.packet.Body.TheVariants as body
 use Rattle.packet_decode.specs.declared.packet.IpHead.{IpHead}
 use Rattle.packet_decode.specs.declared.packet.TcpHead.{TcpHead}
-use Rattle.rule_parser.specs.declared.option.Cmp.{Cmp}
-use Rattle.rule_parser.specs.declared.option.Cmp.TheVariants as cmp
-use Rattle.rule_parser.specs.declared.option.Field.{Field}
-use Rattle.rule_parser.specs.declared.option.Field.TheVariants as field
-use Rattle.rule_parser.specs.declared.option.FlowOpt.{FlowOpt}
-use Rattle.rule_parser.specs.declared.option.Mode.{Mode}
-use Rattle.rule_parser.specs.declared.option.Mode.TheVariants as mode
-use Rattle.rule_parser.specs.declared.option.Opt.{Opt}
-use Rattle.rule_parser.specs.declared.option.Opt.TheVariants as opt
-use Rattle.rule_parser.specs.declared.option.Side.{Side}
-use Rattle.rule_parser.specs.declared.option.Side.TheVariants as side
-use Rattle.rule_parser.specs.declared.rule.Proto.{Proto}
-use Rattle.rule_parser.specs.declared.rule.Proto.TheVariants as proto
-use Rattle.rule_parser.specs.declared.rule.Rule.{Rule}
+use Rattle.rule_types.specs.declared.option.Cmp.{Cmp}
+use Rattle.rule_types.specs.declared.option.Cmp.TheVariants as cmp
+use Rattle.rule_types.specs.declared.option.Field.{Field}
+use Rattle.rule_types.specs.declared.option.Field.TheVariants as field
+use Rattle.rule_types.specs.declared.option.FlowOpt.{FlowOpt}
+use Rattle.rule_types.specs.declared.option.Mode.{Mode}
+use Rattle.rule_types.specs.declared.option.Mode.TheVariants as mode
+use Rattle.rule_types.specs.declared.option.Opt.{Opt}
+use Rattle.rule_types.specs.declared.option.Opt.TheVariants as opt
+use Rattle.rule_types.specs.declared.option.Side.{Side}
+use Rattle.rule_types.specs.declared.option.Side.TheVariants as side
+use Rattle.rule_types.specs.declared.rule.Proto.{Proto}
+use Rattle.rule_types.specs.declared.rule.Proto.TheVariants as proto
+use Rattle.rule_types.specs.declared.rule.Rule.{Rule}
 use Rattle.header_eval.specs.declared.header.End.{End}
 
 -- The header.

@@ -2,7 +2,7 @@
 ghost use Rattle.std.specs.Prelude.{◌≡◌};
 ghost use Rattle.header_eval.specs.Fields.{compares, bits_hold};
 
-use rule_parser::{Cmp, Mode};
+use rule_types::{Cmp, Mode};
 
 /// A number against another, or against two ends which are inside.
 pub(crate) fn compares(cmp: Cmp, number: u64, low: u32, high: u32) -> bool

@@ -8,7 +8,7 @@ use crate::kind::{is_stream, tcp_of};
 use crate::sizes::sizes_hold;
 use edge_io::Addr;
 use packet_decode::{Body, IpHead, ItemHead, TcpHead};
-use rule_parser::{Cmp, Field, Mode, Opt};
+use rule_types::{Cmp, Field, Mode, Opt};
 
 /// A number that each packet has, and no stretch of a stream.
 fn of_packet(head: &ItemHead, number: u64) -> Option<u64>

@@ -4,7 +4,7 @@ ghost use Rattle.header_eval.specs.Fields.{agrees, agrees_known, flow_holds};
 
 use crate::kind::{is_rebuilt, is_stream};
 use packet_decode::ItemHead;
-use rule_parser::FlowOpt;
+use rule_types::FlowOpt;
 
 /// What is asked of a fact, if anything is.
 fn agrees(asked: Option<bool>, fact: bool) -> bool

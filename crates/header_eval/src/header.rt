@@ -5,7 +5,7 @@ ghost use Rattle.header_eval.specs.Fields.{is_of, source_port, destination_port,
 use edge_io::Addr;
 use net_lists::{AddrList, PortList};
 use packet_decode::{Body, ItemHead};
-use rule_parser::{Proto, Rule};
+use rule_types::{Proto, Rule};
 
 /// An end of an item: its address, and its port where the item has ports.
 #[derive(Clone, Copy)]

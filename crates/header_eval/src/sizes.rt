@@ -3,7 +3,7 @@ ghost use Rattle.std.specs.Prelude.{◌≡◌};
 ghost use Rattle.header_eval.specs.Fields.{sizes_hold};
 
 use crate::compare::compares;
-use rule_parser::{Cmp, Side};
+use rule_types::{Cmp, Side};
 
 /// Whether the side's size, client first, is as the option asks; where it isn't known, it is not.
 pub(crate) fn sizes_hold(sizes: Option<(u64, u64)>, side: Side, cmp: Cmp, size: u32) -> bool

@@ -1,4 +1,3 @@
-pub mod PolicyNames
 pub mod FirstLines
 pub mod Networks
 pub mod Places

@@ -20,7 +20,7 @@ use Rattle.host_table.specs.declared.fault.HostFault.{HostFault}
 use Rattle.host_table.specs.declared.fault.HostFault.TheVariants.{BadLine, Twice}
 use Rattle.host_table.specs.declared.host_line.HostLine.{HostLine}
 use Rattle.host_table.specs.Lines.{Numbered}
-use Rattle.host_table.specs.Policies.{frag_policy, stream_policy}
+use Rattle.edge_io.specs.Policies.{frag_policy, stream_policy}
 
 -- one address, of one version
 abbrev pub same_addr : Addr → Addr → Bool

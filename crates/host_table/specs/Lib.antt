@@ -1,5 +1,4 @@
 pub mod Lines
-pub mod Policies
 pub mod HostLine
 pub mod Hosts
 pub mod Keys

@@ -3,9 +3,8 @@ ghost use Rattle.std.specs.Prelude.{◌≡◌, IfSome};
 ghost use Rattle.net_lists.specs.Addresses.{IsNetwork};
 ghost use Rattle.net_lists.specs.Cutting.{words};
 ghost use Rattle.host_table.specs.HostLine.{named, entry_of, entry_of_words};
-ghost use Rattle.host_table.specs.Policies.{frag_policy, stream_policy};
+ghost use Rattle.edge_io.specs.Policies.{frag_policy, stream_policy};
 
-use crate::policies::{frag_policy, stream_policy};
 use edge_io::{FragPolicy, StreamPolicy};
 use net_lists::{Network, Parts};
 
@@ -27,7 +26,7 @@ fn named_frag(word: &[u8]) -> Option<Option<FragPolicy>>
     if word == b"-".as_slice() {
         return Some(None);
     }
-    Some(Some(frag_policy(word)?))
+    Some(Some(FragPolicy::read(word)?))
 }
 
 /// The stream policy that a word names, `-` for none.
@@ -38,7 +37,7 @@ fn named_stream(word: &[u8]) -> Option<Option<StreamPolicy>>
     if word == b"-".as_slice() {
         return Some(None);
     }
-    Some(Some(stream_policy(word)?))
+    Some(Some(StreamPolicy::read(word)?))
 }
 
 impl HostLine {

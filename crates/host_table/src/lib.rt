@@ -11,7 +11,6 @@ mod host_line;
 mod hosts;
 mod key;
 mod lines;
-mod policies;
 mod read;
 
 pub use edge_io::{FragPolicy, Preference, StreamPolicy};

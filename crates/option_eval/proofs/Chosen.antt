@@ -4,9 +4,9 @@ use Rattle.std.specs.List.{AllZip}
 use Rattle.std.proofs.lemmas.Bool.Decides.{nat_tests}
 use Rattle.std.proofs.lemmas.List.Elements.{All-nil, All-cons}
 use Rattle.edge_io.specs.declared.pattern.Span.{Span}
-use Rattle.rule_parser.specs.declared.option.Opt.{Opt}
-use Rattle.rule_parser.specs.declared.option.Opt.TheVariants as opt
-use Rattle.rule_parser.specs.Sound.{IsOption, AreOptions, names_behind}
+use Rattle.rule_types.specs.declared.option.Opt.{Opt}
+use Rattle.rule_types.specs.declared.option.Opt.TheVariants as opt
+use Rattle.rule_types.specs.Sound.{IsOption, AreOptions, names_behind}
 use Rattle.option_eval.specs.Ready.{IsInRange}
 use Rattle.option_eval.specs.RuleSet.{IsMade, SameMeaning}
 use Rattle.option_eval.specs.Numbers.{Standing}

@@ -3,8 +3,8 @@ use Rattle.std.proofs.Common.{◌≡◌, ℕ, ◌+◌, ◌<◌, ◌≤◌, ⊎_e
 use Rattle.std.proofs.lemmas.Bool.{false≢true}
 use Rattle.std.proofs.lemmas.Int.{ints}
 use Rattle.memchr.specs.Find.{IsFirst}
-use Rattle.rule_parser.specs.declared.option.Content.{Content}
-use Rattle.rule_parser.specs.declared.option.Opt.TheVariants as opt
+use Rattle.rule_types.specs.declared.option.Content.{Content}
+use Rattle.rule_types.specs.declared.option.Opt.TheVariants as opt
 use Rattle.option_eval.specs.Numbers.{Standing, number_if}
 use Rattle.option_eval.specs.Places.{Means, Sought, StandsAt, Leads, is_only, sought, at_place}
 use Rattle.option_eval.specs.Sets.{Gathers, IsWithin, Occurs, IsHitFrom, IsLedTo, LeadsFrom, standing, reach_from, reach_room, folds_case, content_origin}

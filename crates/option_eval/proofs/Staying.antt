@@ -2,10 +2,10 @@
 use Rattle.std.proofs.Common.{◌≡◌, ℕ, ◌+◌, ℤ, pos, ◌+ℤ◌, ◌<ℤ◌, Bool, true, false, not, ◌&&◌, ◌||◌, cond, List, length, drop, MatchBool, refl, sym, ap, subst, ◌∙◌, Option, Some, None, option_map, unwrap_or}
 use Rattle.std.proofs.lemmas.Bool.{false≢true}
 use Rattle.edge_io.specs.declared.pattern.Span.{Span}
-use Rattle.rule_parser.specs.declared.option.Content.{Content}
-use Rattle.rule_parser.specs.declared.option.Fetch.{Fetch}
-use Rattle.rule_parser.specs.declared.option.Opt.{Opt}
-use Rattle.rule_parser.specs.declared.option.Opt.TheVariants as opt
+use Rattle.rule_types.specs.declared.option.Content.{Content}
+use Rattle.rule_types.specs.declared.option.Fetch.{Fetch}
+use Rattle.rule_types.specs.declared.option.Opt.{Opt}
+use Rattle.rule_types.specs.declared.option.Opt.TheVariants as opt
 use Rattle.option_eval.specs.Kinds.{is_relative, is_test, IsJump}
 use Rattle.option_eval.specs.Numbers.{Standing, fetched, origin, number_if, number_of}
 use Rattle.option_eval.specs.Places.{Means, Leads, StandsAt, Sought, Unless, is_only, sought, is_payload_option, is_extract, at_place}

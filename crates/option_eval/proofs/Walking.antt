@@ -7,9 +7,9 @@ use Rattle.std.proofs.lemmas.List.Elements.{Contains-get_or}
 use Rattle.std.proofs.lemmas.List.Sums.{sum_by-cons}
 use Rattle.edge_io.specs.declared.fault.NoMemory.{NoMemory}
 use Rattle.edge_io.specs.declared.pattern.Span.{Span}
-use Rattle.rule_parser.specs.declared.option.Fetch.{Fetch}
-use Rattle.rule_parser.specs.declared.option.Opt.{Opt}
-use Rattle.rule_parser.specs.declared.option.Opt.TheVariants as opt
+use Rattle.rule_types.specs.declared.option.Fetch.{Fetch}
+use Rattle.rule_types.specs.declared.option.Opt.{Opt}
+use Rattle.rule_types.specs.declared.option.Opt.TheVariants as opt
 use Rattle.option_eval.specs.Kinds.{is_relative, is_test, needs_place}
 use Rattle.option_eval.specs.Numbers.{Standing, Fetched, fetched, rounded_up}
 use Rattle.option_eval.specs.Places.{Means, Leads, StandsAt, Sought, is_only, sought, is_payload_option, is_extract, at_place}

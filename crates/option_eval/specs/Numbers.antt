@@ -9,11 +9,11 @@ use Rattle.std.specs.List.{take_while}
 use Rattle.byteorder.specs.Endian.{big_from, little_from}
 use Rattle.edge_io.specs.Bytes.{slice}
 use Rattle.edge_io.specs.OnOption.{◌>>=◌}
-use Rattle.rule_parser.specs.declared.option.Base.{Base}
-use Rattle.rule_parser.specs.declared.option.Base.TheVariants as base
-use Rattle.rule_parser.specs.declared.option.Fetch.{Fetch}
-use Rattle.rule_parser.specs.declared.option.Num.{Num}
-use Rattle.rule_parser.specs.declared.option.Num.TheVariants as num
+use Rattle.rule_types.specs.declared.option.Base.{Base}
+use Rattle.rule_types.specs.declared.option.Base.TheVariants as base
+use Rattle.rule_types.specs.declared.option.Fetch.{Fetch}
+use Rattle.rule_types.specs.declared.option.Num.{Num}
+use Rattle.rule_types.specs.declared.option.Num.TheVariants as num
 
 -- where an option begins and ends: a place of the payload, and the extracted values by their names
 pub record Standing : Type 0 where

@@ -11,14 +11,14 @@ use Rattle.memchr.specs.Find.{OccursAt}
 use Rattle.edge_io.specs.declared.pattern.PatternFlags.{PatternFlags}
 use Rattle.edge_io.specs.declared.pattern.Span.{Span}
 use Rattle.edge_io.specs.Matching.{folded}
-use Rattle.rule_parser.specs.declared.option.Cmp.{Cmp}
-use Rattle.rule_parser.specs.declared.option.Cmp.TheVariants as cmp
-use Rattle.rule_parser.specs.declared.option.Content.{Content}
-use Rattle.rule_parser.specs.declared.option.FastMode.{FastMode}
-use Rattle.rule_parser.specs.declared.option.FastMode.TheVariants as fast
-use Rattle.rule_parser.specs.declared.option.Opt.{Opt}
-use Rattle.rule_parser.specs.declared.option.Opt.TheVariants as opt
-use Rattle.rule_parser.specs.declared.rule.Rule.{Rule}
+use Rattle.rule_types.specs.declared.option.Cmp.{Cmp}
+use Rattle.rule_types.specs.declared.option.Cmp.TheVariants as cmp
+use Rattle.rule_types.specs.declared.option.Content.{Content}
+use Rattle.rule_types.specs.declared.option.FastMode.{FastMode}
+use Rattle.rule_types.specs.declared.option.FastMode.TheVariants as fast
+use Rattle.rule_types.specs.declared.option.Opt.{Opt}
+use Rattle.rule_types.specs.declared.option.Opt.TheVariants as opt
+use Rattle.rule_types.specs.declared.rule.Rule.{Rule}
 use Rattle.option_eval.specs.Numbers.{Standing, Fetched, number_of, number_if, origin, fetched, rounded_up}
 
 -- what a text with flags finds in bytes, for a maker of patterns

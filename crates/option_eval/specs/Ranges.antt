@@ -1,7 +1,7 @@
 -- The ranges of the numbers that an option reads.
 use Rattle.std.specs.Prelude.{ℕ, ◌^◌, ◌≤◌, ℤ, pos, neg_ℤ, ◌≤ℤ◌, ◌<ℤ◌}
-use Rattle.rule_parser.specs.Sound.{bytes_of_base}
-use Rattle.rule_parser.specs.declared.option.Base.{Base}
+use Rattle.rule_types.specs.Sound.{bytes_of_base}
+use Rattle.rule_types.specs.declared.option.Base.{Base}
 
 -- a number that is told, or was extracted
 abbrev pub IsSmall : ℤ → Type 0

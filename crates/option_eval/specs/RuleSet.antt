@@ -7,9 +7,9 @@ use Rattle.std.specs.List.{AllZip}
 use Rattle.edge_io.specs.declared.pattern.PatternFlags.{PatternFlags}
 use Rattle.edge_io.specs.declared.pattern.Refusal.{Refusal}
 use Rattle.edge_io.specs.declared.pattern.Span.{Span}
-use Rattle.rule_parser.specs.declared.option.Opt.{Opt}
-use Rattle.rule_parser.specs.declared.option.Opt.TheVariants as opt
-use Rattle.rule_parser.specs.declared.rule.Rule.{Rule}
+use Rattle.rule_types.specs.declared.option.Opt.{Opt}
+use Rattle.rule_types.specs.declared.option.Opt.TheVariants as opt
+use Rattle.rule_types.specs.declared.rule.Rule.{Rule}
 use Rattle.option_eval.specs.Places.{Means}
 
 -- the rules in order, and for each rule the made pattern of each of its options, where it has one

@@ -2,8 +2,8 @@
 use Rattle.std.specs.Prelude.{◌≡◌, ℕ, ◌+◌, ◌<◌, ◌≤◌, ℤ, pos, ◌+ℤ◌, ◌≤ℤ◌, Bool, ◌&&◌, ◌||◌, not, ◌⊎◌, List, [], ◌∷◌, ◌++◌, length, Contains, Option, Some, None, IfSome, MatchBool, unwrap_or, if◌then◌else◌}
 use Rattle.memchr.specs.Find.{OccursAt}
 use Rattle.edge_io.specs.Matching.{folded}
-use Rattle.rule_parser.specs.declared.option.Content.{Content}
-use Rattle.rule_parser.specs.declared.option.Opt.{Opt}
+use Rattle.rule_types.specs.declared.option.Content.{Content}
+use Rattle.rule_types.specs.declared.option.Opt.{Opt}
 use Rattle.option_eval.specs.Numbers.{Standing, number_if}
 use Rattle.option_eval.specs.Places.{Means, Leads, StandsAt, is_only, sought}
 use Rattle.option_eval.specs.declared.reach.Reach.{Reach}

@@ -1,6 +1,6 @@
 -- A walk through options from a set of places, and what it costs.
 use Rattle.std.specs.Prelude.{◌≡◌, ℕ, ◌+◌, ◌*◌, false, List, [], ◌∷◌, Contains, count_by}
-use Rattle.rule_parser.specs.declared.option.Opt.{Opt}
+use Rattle.rule_types.specs.declared.option.Opt.{Opt}
 use Rattle.option_eval.specs.Numbers.{Standing}
 use Rattle.option_eval.specs.Places.{Means, IsWay, is_payload_option, is_extract}
 use Rattle.option_eval.specs.Sets.{standing}

@@ -1,7 +1,7 @@
 //! Where a content stands, and where it leads from a set of places.
 
 ghost use Rattle.std.specs.Prelude.{◌≡◌, ℕ, ◌+◌, ◌<◌, ◌≤◌, ◌↔◌, false, [], ◌∷◌, length, IsTrue, IfOk, MatchBool, not};
-ghost use Rattle.rule_parser.specs.declared.option.Opt.TheVariants.{Content as content_option};
+ghost use Rattle.rule_types.specs.declared.option.Opt.TheVariants.{Content as content_option};
 ghost use Rattle.std.specs.Option.{ForSome};
 ghost use Rattle.option_eval.specs.Numbers.{number_if};
 ghost use Rattle.option_eval.specs.Places.{Means, is_only};
@@ -15,7 +15,7 @@ use crate::reach::Reach;
 use crate::sweep::{Places, sweep};
 use edge_io::NoMemory;
 use memchr::memmem::Finder;
-use rule_parser::{Content, FastMode, Num};
+use rule_types::{Content, FastMode, Num};
 use smallvec::SmallVec;
 use std::alloc::Global;
 use std::sync::ledger::Ledger;

@@ -7,7 +7,7 @@ ghost use Rattle.option_eval.specs.Ranges.{IsSmall, IsShort};
 ghost use Rattle.option_eval.specs.Sets.{standing};
 
 use byteorder::{BigEndian, ByteOrder, LittleEndian};
-use rule_parser::{Base, Fetch, Num};
+use rule_types::{Base, Fetch, Num};
 
 /// The values of a rule's two names.
 pub(crate) type Values = [u64; 2];

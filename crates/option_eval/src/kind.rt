@@ -5,7 +5,7 @@ ghost use Rattle.option_eval.specs.Kinds.{is_relative, is_test, needs_place};
 ghost use Rattle.option_eval.specs.Places.{is_payload_option};
 
 use crate::content::is_only;
-use rule_parser::Opt;
+use rule_types::Opt;
 
 /// Whether an option asks something of the payload.
 pub(crate) fn is_payload_option(option: &Opt) -> bool

@@ -1,7 +1,7 @@
 //! Where an option leads from one place.
 
 ghost use Rattle.std.specs.Prelude.{◌≡◌, ℕ, ◌+◌, ◌^◌, ◌<◌, ◌≤◌, ◌↔◌, pos, ◌+ℤ◌, ◌<ℤ◌, List, true, false, not, length, drop, IsTrue, IfOk, IfSome, if◌then◌else◌};
-ghost use Rattle.rule_parser.specs.declared.option.Opt.TheVariants as opt;
+ghost use Rattle.rule_types.specs.declared.option.Opt.TheVariants as opt;
 ghost use Rattle.option_eval.specs.Kinds.{is_test, IsJump};
 ghost use Rattle.option_eval.specs.Numbers.{fetched};
 ghost use Rattle.option_eval.specs.Places.{Means, Compares, SharesBit, jump};
@@ -15,7 +15,7 @@ use crate::content::content_stands;
 use crate::fetch::{Fetched, Values, fetched_number, number, origin, rounded_up};
 use crate::made::Made;
 use edge_io::{NoMemory, Pattern, Span};
-use rule_parser::{Cmp, Content, Fetch, Num, Opt};
+use rule_types::{Cmp, Content, Fetch, Num, Opt};
 
 /// Whether two numbers have a bit in common.
 fn shares_bit(number: u64, value: i128) -> bool

@@ -8,7 +8,7 @@ ghost use Rattle.option_eval.specs.RuleSet.{IsMade, RefusesText, RefusesOneOf, S
 use crate::made::Made;
 use edge_io::{MakeFault, NoMemory, PatternFlags, PatternMaker, Text};
 use memchr::memmem::Finder;
-use rule_parser::{Content, Opt};
+use rule_types::{Content, Opt};
 use std::alloc::Global;
 
 /// Why a rule was not pushed.

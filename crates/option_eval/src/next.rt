@@ -17,7 +17,7 @@ use crate::led::{led_place, test_holds};
 use crate::made::Made;
 use crate::sweep::Places;
 use edge_io::{NoMemory, Pattern};
-use rule_parser::Opt;
+use rule_types::Opt;
 use smallvec::SmallVec;
 use std::alloc::Global;
 use std::sync::ledger::Ledger;

@@ -1,7 +1,7 @@
 //! Rules in their order, with what was made of them.
 
 ghost use Rattle.std.specs.Prelude.{◌≡◌, ℕ, ◌+◌, ◌<◌, ◌≤◌, ◌↔◌, length, IsTrue, IfOk};
-ghost use Rattle.rule_parser.specs.declared.rule.Rule.{Rule};
+ghost use Rattle.rule_types.specs.declared.rule.Rule.{Rule};
 ghost use Rattle.option_eval.specs.Places.{Means, PayloadMatches};
 ghost use Rattle.option_eval.specs.RuleSet.{FindWhatIsMeant, IsRuleAt};
 ghost use Rattle.option_eval.specs.Walks.{ExtractsNothing, visits_of};
@@ -11,7 +11,7 @@ use crate::made::Made;
 use crate::making::{PushFault, make_all};
 use crate::walk::is_passed;
 use edge_io::{NoMemory, Pattern, PatternMaker};
-use rule_parser::Rule;
+use rule_types::Rule;
 use std::alloc::Global;
 use std::marker::Model;
 use std::sync::ledger::Ledger;
@@ -81,7 +81,7 @@ impl<P> RuleSet<P> {
 
 impl<P: Pattern> RuleSet<P> {
     ghost use Rattle.std.specs.Prelude.{[], ◌∷◌, ◌++◌, OnOk, OnErr};
-    ghost use Rattle.rule_parser.specs.Sound.{IsTriable};
+    ghost use Rattle.rule_types.specs.Sound.{IsTriable};
     ghost use Rattle.option_eval.specs.RuleSet.{FindWhatIsMeant, RefusesOneOf, SameMeaning};
 
     /// Makes the patterns of a rule, in their order, and appends it.

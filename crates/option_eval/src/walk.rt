@@ -2,7 +2,7 @@
 
 ghost use Rattle.std.specs.Prelude.{◌≡◌, ℕ, ◌+◌, ◌<◌, ◌≤◌, ◌↔◌, ◌∷◌, length, map, slice_set, IsTrue, IfOk};
 ghost use Rattle.std.specs.List.{AllZip};
-ghost use Rattle.rule_parser.specs.declared.option.Opt.TheVariants as opt;
+ghost use Rattle.rule_types.specs.declared.option.Opt.TheVariants as opt;
 ghost use Rattle.option_eval.specs.Next.{next_set};
 ghost use Rattle.option_eval.specs.Places.{Means};
 ghost use Rattle.option_eval.specs.Ready.{IsReady, IsInRange, pattern_of};
@@ -16,7 +16,7 @@ use crate::kind::needs_place;
 use crate::made::Made;
 use crate::next::{Next, next_places};
 use edge_io::{NoMemory, Pattern};
-use rule_parser::{Fetch, Opt};
+use rule_types::{Fetch, Opt};
 use std::alloc::Global;
 use std::sync::ledger::Ledger;
 

@@ -21,7 +21,7 @@ use Rattle.packet_decode.specs.Versions.{icmp_protocol, version_of}
 use Rattle.ipv6_decode.specs.declared.walk.Walk.{Walk}
 use Rattle.ipv6_decode.specs.Decoding6.{decoded6, packet_at, packet_behind, upper_at, walk_start}
 use Rattle.ipv6_decode.specs.Headers.{behind_fragment_header, behind_header, behind_length_field, fragment_head, head_at, is_at_header, most_headers, packet_stop, walk_end}
-use Rattle.conf_parser.specs.declared.config.FragConfig.{FragConfig}
+use Rattle.conf_types.specs.declared.config.FragConfig.{FragConfig}
 use Rattle.frag3_core.specs.declared.answer.Datagram.{Datagram}
 use Rattle.frag3_core.specs.declared.answer.Ignored.{Ignored}
 use Rattle.frag3_core.specs.declared.answer.Taken.TheVariants as answer

@@ -13,10 +13,10 @@ use Rattle.net_lists.specs.Verdicts.{has_address, is_listed}
 use Rattle.net_lists.proofs.Listed.{listed, address_yes, address_no}
 use Rattle.host_table.specs.declared.host_line.HostLine.{HostLine}
 use Rattle.host_table.specs.Hosts.{frag_policy_at}
-use Rattle.conf_parser.specs.declared.config.FragConfig.{FragConfig}
-use Rattle.conf_parser.specs.declared.config.FragEngine.{FragEngine}
-use Rattle.conf_parser.specs.declared.config.StreamEngine.{StreamEngine}
-use Rattle.conf_parser.specs.Frag3.{first_engine}
+use Rattle.conf_types.specs.declared.config.FragConfig.{FragConfig}
+use Rattle.conf_types.specs.declared.config.FragEngine.{FragEngine}
+use Rattle.conf_types.specs.declared.config.StreamEngine.{StreamEngine}
+use Rattle.conf_types.specs.Defaults.{default_frag_engine}
 use Rattle.frag3_core.specs.declared.answer.FragRules.{FragRules}
 use Rattle.record_jobs.specs.Way.{frag_engine, frag_rules, is_bound, stream_place}
 
@@ -40,7 +40,7 @@ pub rules_by-engine : (hosts : List HostLine) (config : FragConfig) (addr : Addr
 unfolding frag_rules frag_engine
 rules_by-engine hosts config addr engines host engine all said found =
     ap (λ (h : Option FragPolicy). rules_by h engine) said
-    ∙ ap (λ (o : Option FragEngine). rules_by (frag_policy_at hosts addr) (unwrap_or o first_engine))
+    ∙ ap (λ (o : Option FragEngine). rules_by (frag_policy_at hosts addr) (unwrap_or o default_frag_engine))
     (found ∙ ap (λ (es : List FragEngine). option_or (find (λ (e : FragEngine). is_bound addr e.bind) es) (find (λ (e : FragEngine). is_none e.bind) es)) all)
 
 -- an engine's place is within the engines, or their number

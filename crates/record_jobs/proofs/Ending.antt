@@ -4,7 +4,7 @@ use Rattle.std.specs.Option.{option_map, option_to_list}
 use Rattle.std.proofs.lemmas.List.{length-take, map-append, take_more}
 use Rattle.std.proofs.lemmas.List.Elements.{All-from_recursion}
 use Rattle.edge_io.specs.declared.moment.Moment.{Moment}
-use Rattle.conf_parser.specs.declared.config.FragConfig.{FragConfig}
+use Rattle.conf_types.specs.declared.config.FragConfig.{FragConfig}
 use Rattle.frag3_core.specs.Trackers.{Frag3State, state_after}
 use Rattle.stream5_sessions.specs.Caches.{FlowsState, HasSeen}
 use Rattle.stream5_sessions.specs.Liveness.{MaxFlows, live_flows}

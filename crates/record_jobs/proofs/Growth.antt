@@ -10,7 +10,7 @@ use Rattle.edge_io.specs.Along.{trail}
 use Rattle.edge_io.proofs.Along.{trail-append}
 use Rattle.edge_io.specs.declared.moment.Moment.{Moment}
 use Rattle.packet_decode.specs.Decoding.{Fields}
-use Rattle.conf_parser.specs.declared.config.FragConfig.{FragConfig}
+use Rattle.conf_types.specs.declared.config.FragConfig.{FragConfig}
 use Rattle.frag3_core.specs.Trackers.{Frag3State, Fragment, after, state_after}
 use Rattle.frag3_core.proofs.Laws.{state_after-push}
 use Rattle.flow_lanes.specs.declared.job.Job.{Job}

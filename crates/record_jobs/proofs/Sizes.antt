@@ -10,7 +10,7 @@ use Rattle.std.proofs.lemmas.List.FromFn.{length-range_with_len}
 use Rattle.edge_io.specs.declared.moment.Moment.{Moment}
 use Rattle.packet_decode.specs.declared.packet.IpHead.{IpHead}
 use Rattle.packet_decode.specs.Decoding.{Fields}
-use Rattle.conf_parser.specs.declared.config.FragConfig.{FragConfig}
+use Rattle.conf_types.specs.declared.config.FragConfig.{FragConfig}
 use Rattle.overlap_core.specs.Overlap.{chosen_byte}
 use Rattle.frag3_core.specs.declared.answer.FragRules.{FragRules}
 use Rattle.frag3_core.specs.declared.answer.Ignored.{Ignored}

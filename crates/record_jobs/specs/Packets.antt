@@ -21,7 +21,7 @@ use Rattle.packet_decode.specs.declared.packet.Body.{Body}
 use Rattle.packet_decode.specs.declared.packet.Body.TheVariants as body
 use Rattle.packet_decode.specs.declared.skip.Skip.{Skip}
 use Rattle.packet_decode.specs.Decoding.{Fields}
-use Rattle.conf_parser.specs.declared.config.FragConfig.{FragConfig}
+use Rattle.conf_types.specs.declared.config.FragConfig.{FragConfig}
 use Rattle.frag3_core.specs.declared.answer.Datagram.{Datagram}
 use Rattle.frag3_core.specs.declared.answer.Taken.{Taken}
 use Rattle.frag3_core.specs.declared.answer.Taken.TheVariants as answer

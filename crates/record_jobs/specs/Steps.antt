@@ -8,7 +8,7 @@ use Rattle.packet_decode.specs.declared.item.ItemKind.TheVariants as kind
 use Rattle.packet_decode.specs.declared.skip.Skip.{Skip}
 use Rattle.packet_decode.specs.declared.skip.Skip.TheVariants as skip
 use Rattle.packet_decode.specs.Decoding.{Fields}
-use Rattle.conf_parser.specs.declared.config.FragConfig.{FragConfig}
+use Rattle.conf_types.specs.declared.config.FragConfig.{FragConfig}
 use Rattle.frag3_core.specs.declared.answer.Datagram.{Datagram}
 use Rattle.frag3_core.specs.Trackers.{Frag3State, after}
 use Rattle.stream5_sessions.specs.declared.flows.Touch.{Touch}

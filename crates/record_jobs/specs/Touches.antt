@@ -11,7 +11,7 @@ use Rattle.edge_io.specs.Along.{trail}
 use Rattle.packet_decode.specs.declared.packet.Body.{Body}
 use Rattle.packet_decode.specs.declared.packet.Body.TheVariants as body
 use Rattle.packet_decode.specs.declared.packet.IpHead.{IpHead}
-use Rattle.conf_parser.specs.declared.config.StreamConfig.{StreamConfig}
+use Rattle.conf_types.specs.declared.config.StreamConfig.{StreamConfig}
 use Rattle.stream5_sessions.specs.declared.flows.Touch.{Touch}
 use Rattle.stream5_sessions.specs.declared.key.Key.{Key}
 use Rattle.stream5_sessions.specs.Keys.{key_of}

@@ -20,14 +20,13 @@ use Rattle.packet_decode.specs.declared.checks.Checks.{Checks}
 use Rattle.pcap_input.specs.declared.capture.Record.{Record}
 use Rattle.host_table.specs.declared.host_line.HostLine.{HostLine}
 use Rattle.host_table.specs.Hosts.{frag_policy_at, stream_policy_at}
-use Rattle.conf_parser.specs.declared.config.FragConfig.{FragConfig}
-use Rattle.conf_parser.specs.declared.config.FragEngine.{FragEngine}
-use Rattle.conf_parser.specs.declared.config.StreamConfig.{StreamConfig}
-use Rattle.conf_parser.specs.declared.config.StreamEngine.{StreamEngine}
-use Rattle.conf_parser.specs.Frag3.{first_engine}
+use Rattle.conf_types.specs.declared.config.FragConfig.{FragConfig}
+use Rattle.conf_types.specs.declared.config.FragEngine.{FragEngine}
+use Rattle.conf_types.specs.declared.config.StreamConfig.{StreamConfig}
+use Rattle.conf_types.specs.declared.config.StreamEngine.{StreamEngine}
+use Rattle.conf_types.specs.Defaults.{default_frag_engine, stream_engine_at}
 use Rattle.frag3_core.specs.declared.answer.FragRules.{FragRules}
 use Rattle.flow_lanes.specs.declared.job.Toward.{Toward}
-use Rattle.flow_lanes.specs.Engines.{engine_at}
 use Rattle.record_jobs.specs.declared.config.FrontConfig.{FrontConfig}
 use Rattle.record_jobs.specs.declared.time.Time.{Time}
 
@@ -61,7 +60,7 @@ is_bound addr (Some list) = is_listed (has_address addr) list
 -- the engine of an address
 unfoldable pub frag_engine : List FragEngine → Addr → FragEngine
 frag_engine engines addr =
-    unwrap_or (option_or (find (λ engine. is_bound addr engine.bind) engines) (find (λ engine. is_none engine.bind) engines)) first_engine
+    unwrap_or (option_or (find (λ engine. is_bound addr engine.bind) engines) (find (λ engine. is_none engine.bind) engines)) default_frag_engine
 
 -- what a fragment to this address is taken by
 unfoldable pub frag_rules : List HostLine → FragConfig → Addr → FragRules
@@ -81,7 +80,7 @@ stream_place engines addr =
 -- how data sent to this address are put together
 unfoldable pub stream_preference_at : Way → Addr → Preference
 stream_preference_at way addr =
-    stream_preference (unwrap_or (stream_policy_at way.hosts addr) (engine_at way.stream.engines (stream_place way.stream.engines addr)).policy)
+    stream_preference (unwrap_or (stream_policy_at way.hosts addr) (stream_engine_at way.stream.engines (stream_place way.stream.engines addr)).policy)
 
 -- so many seconds have gone by since the capture's first record, where a handshake is asked for after them
 abbrev pub is_due : Time → Option ℕ → Bool
@@ -94,5 +93,5 @@ unfoldable pub toward_address : Way → Bool → Time → Addr → Toward
 toward_address way tcp time addr = let place : ℕ = stream_place way.stream.engines addr in record {
   engine = place;
   preference = stream_preference_at way addr;
-  needed = tcp && is_due time (engine_at way.stream.engines place).handshake;
+  needed = tcp && is_due time (stream_engine_at way.stream.engines place).handshake;
 }

@@ -1,4 +1,4 @@
-use conf_parser::Config;
+use conf_types::Config;
 use host_table::Hosts;
 use packet_decode::Checks;
 

@@ -3,13 +3,12 @@ ghost use Rattle.std.specs.Prelude.{◌≡◌, ◌+◌, ◌*◌, ◌≤◌, Bool
 ghost use Rattle.std.specs.List.{find};
 ghost use Rattle.std.specs.Option.{option_copied, option_or};
 ghost use Rattle.edge_io.specs.Policies.{frag_preference};
-ghost use Rattle.flow_lanes.specs.Engines.{engine_at};
 ghost use Rattle.record_jobs.specs.Way.{frag_rules, is_bound, is_due, stream_place, stream_preference_at, toward_address, way_of};
 
 use crate::config::FrontConfig;
 use crate::time::Time;
-use conf_parser::{FragConfig, FragEngine, StreamEngine};
-use edge_io::{Addr, FragPolicy, Preference, StreamPolicy};
+use conf_types::{DEFAULT_FRAG_ENGINE, FragConfig, FragEngine, StreamEngine};
+use edge_io::{Addr, FragPolicy, Preference};
 use flow_lanes::Toward;
 use frag3_core::FragRules;
 use host_table::Hosts;
@@ -67,7 +66,12 @@ pub(crate) fn frag_rules(hosts: &Hosts, config: &FragConfig, addr: Addr) -> Frag
     let host = hosts.frag_policy(addr);
     match frag_engine(config.engines.as_slice(), addr) {
         Some(engine) => rules_of(host, engine.policy, engine.timeout, engine.min_ttl),
-        None => rules_of(host, FragPolicy::Bsd, 60, 1),
+        None => rules_of(
+            host,
+            DEFAULT_FRAG_ENGINE.policy,
+            DEFAULT_FRAG_ENGINE.timeout,
+            DEFAULT_FRAG_ENGINE.min_ttl,
+        ),
     }
 }
 
@@ -97,31 +101,6 @@ fn stream_place(engines: &[StreamEngine], addr: Addr) -> usize
         .unwrap_or(engines.len())
 }
 
-/// What the engine at a place says; behind the last one stand the defaults.
-#[derive(Clone, Copy)]
-struct Settings {
-    policy: StreamPolicy,
-    handshake: Option<u32>,
-}
-
-/// The settings of the engine at a place.
-#[tactic(auto, unfolding(conf_parser::specs::Stream5::engine_of))]
-fn settings_at(engines: &[StreamEngine], place: usize) -> Settings
-    ensures policy { result.policy ≡ (engine_at engines.now place).policy }
-    ensures handshake { result.handshake ≡ (engine_at engines.now place).handshake }
-{
-    match engines.get(place) {
-        Some(engine) => Settings {
-            policy: engine.policy,
-            handshake: engine.handshake,
-        },
-        None => Settings {
-            policy: StreamPolicy::Bsd,
-            handshake: None,
-        },
-    }
-}
-
 /// Whether so many seconds have gone by since the capture's first record.
 fn is_due(time: Time, handshake: Option<u32>) -> bool
     ensures { result ≡ is_due time handshake }
@@ -143,7 +122,7 @@ pub(crate) fn toward(by: &FrontConfig<'_>, tcp: bool, time: Time, addr: Addr) ->
 {
     let engines = by.config.stream.engines.as_slice();
     let place = stream_place(engines, addr);
-    let settings = settings_at(engines, place);
+    let settings = by.config.stream.settings_at(place);
     let host = by.hosts.stream_policy(addr);
     Toward {
         engine: place as u32,

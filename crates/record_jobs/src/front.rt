@@ -1,6 +1,6 @@
 //! The records of a capture, one by one, and their jobs.
 ghost use Rattle.std.specs.Prelude.{◌≡◌, ◌+◌, ◌^◌, ◌<◌, ◌≤◌, [], length, option_map, take, IfOk, IfSome, OnOk, OnErr};
-ghost use Rattle.conf_parser.specs.Sound.{IsFragConfig, IsSound};
+ghost use Rattle.conf_types.specs.Sound.{IsFragConfig, IsSound};
 ghost use Rattle.record_jobs.specs.Fronts.{GivesFinishes, StandsFor, TakesRecord, TellsCounts};
 ghost use Rattle.record_jobs.specs.Steps.{Steps};
 ghost use Rattle.record_jobs.specs.Way.{linked, way_of};
@@ -11,7 +11,7 @@ use crate::config::FrontConfig;
 use crate::counts::RecordCounts;
 use crate::time::Time;
 use crate::touches::{touched, whole_key};
-use conf_parser::FragConfig;
+use conf_types::FragConfig;
 use edge_io::{Link, Moment, NoMemory};
 use flow_lanes::Job;
 use frag3_core::Frag3;

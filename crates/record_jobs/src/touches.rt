@@ -6,7 +6,7 @@ ghost use Rattle.record_jobs.specs.Way.{way_of};
 
 use crate::config::FrontConfig;
 use crate::item::Whole;
-use conf_parser::StreamConfig;
+use conf_types::StreamConfig;
 use edge_io::NoMemory;
 use packet_decode::{Body, IpHead};
 use stream5_sessions::{End, Flows, Key, Touch};

@@ -4,9 +4,9 @@ use Rattle.net_lists.specs.Numbers.{number_in}
 use Rattle.rule_parser.specs.declared.byte_words.Which.TheVariants.{Test, Jump}
 use Rattle.rule_parser.specs.declared.byte_words.Words.{Words}
 use Rattle.rule_parser.specs.declared.draft.Draft.{Draft}
-use Rattle.rule_parser.specs.declared.option.Fetch.{Fetch}
-use Rattle.rule_parser.specs.declared.option.Num.{Num}
-use Rattle.rule_parser.specs.declared.option.Opt.TheVariants as opt
+use Rattle.rule_types.specs.declared.option.Fetch.{Fetch}
+use Rattle.rule_types.specs.declared.option.Num.{Num}
+use Rattle.rule_types.specs.declared.option.Opt.TheVariants as opt
 use Rattle.rule_parser.specs.ByteOptions.{Part, first_part, next_part, words_of, fetch_of, jump_of, Comparison, comparison_of, byte_test_option, byte_jump_option}
 use Rattle.rule_parser.specs.Drafts.{kept}
 use Rattle.rule_parser.specs.Names.{signed_or_named}

@@ -5,7 +5,7 @@ use Rattle.std.proofs.Math.Seq.{take-append_seam, drop-append_seam}
 use Rattle.edge_io.specs.Bytes.{is_blank, without_front_blanks}
 use Rattle.net_lists.specs.Cutting.{front_len, depth_behind, first_word, behind_word}
 use Rattle.net_lists.specs.declared.stop.Stop.{Stop}
-use Rattle.conf_parser.specs.declared.classes.Class.{Class}
+use Rattle.conf_types.specs.declared.classes.Class.{Class}
 use Rattle.rule_parser.specs.declared.draft.Draft.{Draft}
 use Rattle.rule_parser.specs.declared.fault.Fault.{Fault}
 use Rattle.rule_parser.specs.declared.header.HeaderTexts.{HeaderTexts}

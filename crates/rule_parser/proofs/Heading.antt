@@ -9,8 +9,8 @@ use Rattle.net_lists.specs.Cutting.{first_word}
 use Rattle.net_lists.specs.Variables.{Variables}
 use Rattle.rule_parser.specs.declared.fault.Fault.{Fault}
 use Rattle.rule_parser.specs.declared.header.HeaderTexts.{HeaderTexts}
-use Rattle.rule_parser.specs.declared.rule.Action.{Action}
-use Rattle.rule_parser.specs.declared.rule.Proto.{Proto}
+use Rattle.rule_types.specs.declared.rule.Action.{Action}
+use Rattle.rule_types.specs.declared.rule.Proto.{Proto}
 use Rattle.rule_parser.specs.Headers.{IsGiven, IsAddressWord, IsPortWord, IsHeader, action_of, proto_of, direction_of}
 use Rattle.rule_parser.specs.HeaderTexts.{AreTexts}
 

@@ -1,6 +1,6 @@
 -- A line has one meaning.
 use Rattle.std.proofs.Common.{◌≡◌, ℕ, Option, Some, Result, Ok, Err, List, length, sym, ◌∙◌, ap, subst, inl, inr, arith}
-use Rattle.conf_parser.specs.declared.classes.Class.{Class}
+use Rattle.conf_types.specs.declared.classes.Class.{Class}
 use Rattle.net_lists.specs.declared.part.AddrBounds.{AddrBounds}
 use Rattle.net_lists.specs.declared.part.Bounds.{Bounds}
 use Rattle.net_lists.specs.declared.part.Part.{Part}
@@ -14,7 +14,7 @@ use Rattle.net_lists.proofs.ListParts.{read}
 use Rattle.rule_parser.specs.declared.fault.Fault.{Fault}
 use Rattle.rule_parser.specs.declared.fault.Fault.TheVariants as fault
 use Rattle.rule_parser.specs.declared.fault.RuleFault.{RuleFault}
-use Rattle.rule_parser.specs.declared.rule.Rule.{Rule}
+use Rattle.rule_types.specs.declared.rule.Rule.{Rule}
 use Rattle.rule_parser.specs.Headers.{After, IsReadAs, IsAddressWord, IsPortWord, IsHeader, expanded_word}
 use Rattle.rule_parser.specs.RuleLine.{IsRuleLine, IsAnswered, AnswersAs}
 

@@ -2,7 +2,7 @@
 use Rattle.std.proofs.Common.{◌≡◌, ℕ, ◌+◌, ◌-◌, ◌<◌, Bool, true, false, Option, Some, None, Result, Ok, Err, List, [], ◌∷◌, length, take, drop, refl, ap, sym, ◌∙◌, cond, arith, length-drop, length-take}
 use Rattle.std.proofs.lemmas.List.{take_rest}
 use Rattle.std.specs.List.{list_all}
-use Rattle.conf_parser.specs.declared.classes.Class.{Class}
+use Rattle.conf_types.specs.declared.classes.Class.{Class}
 use Rattle.edge_io.specs.Bytes.{is_blank}
 use Rattle.edge_io.specs.OnResult.{◌>>=◌}
 use Rattle.net_lists.specs.declared.stop.Stop.{Stop}

@@ -1,11 +1,11 @@
 -- Laws of quoted texts, as their loops go through them.
 use Rattle.std.proofs.Common.{◌≡◌, ℕ, ◌+◌, ◌<◌, ◌≤◌, ◌==◌, ◌&&◌, ◌++◌, Bool, true, false, not, Option, Some, None, List, [], ◌∷◌, length, drop, get_or, refl, ap, sym, ◌∙◌, append_assoc, arith}
-use Rattle.std.proofs.lemmas.List.{append-nil, at_drop_more, at_drop_all}
+use Rattle.std.proofs.lemmas.List.{at_drop_more, at_drop_all}
 use Rattle.std.specs.Option.{option_map}
 use Rattle.rule_parser.specs.declared.quoted.Style.{Style}
 use Rattle.rule_parser.specs.declared.quoted.Place.{Place}
 use Rattle.rule_parser.specs.declared.quoted.Step.{Step}
-use Rattle.rule_parser.specs.Quotes.{closing_len, step_at, bytes_of, may_end, meaning}
+use Rattle.rule_parser.specs.Quotes.{closing_len, step_at, bytes_of, end_bytes, meaning}
 
 -- these bytes in front
 abbrev pub in_front : List ℕ → Option (List ℕ) → Option (List ℕ)
@@ -28,13 +28,9 @@ meaning-some : (style : Style) (place : Place) (byte : ℕ) (rest out : List ℕ
 unfolding meaning
 meaning-some style place byte rest out step some = rw (some, meaning) (in_front-in_front out (bytes_of step.slash step.byte) (meaning style step.place rest))
 
-meaning-nil : (style : Style) (place : Place) (out : List ℕ) → may_end place ≡ true → in_front out (meaning style place []) ≡ Some out
+meaning-nil : (style : Style) (place : Place) (out : List ℕ) → in_front out (meaning style place []) ≡ in_front out (end_bytes style place)
 unfolding meaning
-meaning-nil style place out ends = rw (ends, meaning) (ap (λ (t : List ℕ). Some t) (append-nil out))
-
-meaning-begun : (style : Style) (place : Place) (out : List ℕ) → may_end place ≡ false → in_front out (meaning style place []) ≡ None
-unfolding meaning
-meaning-begun style place out begun = rw (begun, meaning) refl
+meaning-nil style place out = refl
 
 -- what was given and the meaning behind it, one byte on
 pub meaning-step : (style : Style) (place : Place) (text out : List ℕ) (i : ℕ) (step : Step) → i < length text → step_at style place (get_or text i 0) ≡ Some step
@@ -47,11 +43,9 @@ pub meaning-stop : (style : Style) (place : Place) (text out : List ℕ) (i : �
 meaning-stop style place text out i h none =
     at_drop_more (λ rest. in_front out (meaning style place rest)) text i 0 h ∙ meaning-none style place (get_or text i 0) (drop (i + 1) text) out none
 
-pub meaning-end : (style : Style) (place : Place) (text out : List ℕ) (i : ℕ) → length text ≤ i → may_end place ≡ true → in_front out (meaning style place (drop i text)) ≡ Some out
-meaning-end style place text out i h ends = at_drop_all (λ rest. in_front out (meaning style place rest)) text i h ∙ meaning-nil style place out ends
-
-pub meaning-open : (style : Style) (place : Place) (text out : List ℕ) (i : ℕ) → length text ≤ i → may_end place ≡ false → in_front out (meaning style place (drop i text)) ≡ None
-meaning-open style place text out i h begun = at_drop_all (λ rest. in_front out (meaning style place rest)) text i h ∙ meaning-begun style place out begun
+-- behind the last byte, what the end gives
+pub meaning-end : (style : Style) (place : Place) (text out : List ℕ) (i : ℕ) → length text ≤ i → in_front out (meaning style place (drop i text)) ≡ in_front out (end_bytes style place)
+meaning-end style place text out i h = at_drop_all (λ rest. in_front out (meaning style place rest)) text i h ∙ meaning-nil style place out
 
 -- a place so many bytes later
 abbrev pub shifted : ℕ → Option ℕ → Option ℕ
@@ -94,4 +88,4 @@ shifted-zero (Some len) = ap (λ (n : ℕ). Some n) (omega arith)
 
 pub ruleset closing = (closing-step, closing-here, closing-end, shifted-zero)
 
-pub ruleset meanings = (in_front-none, meaning-step, meaning-stop, meaning-end, meaning-open)
+pub ruleset meanings = (in_front-none, meaning-step, meaning-stop, meaning-end)

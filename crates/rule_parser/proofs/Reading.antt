@@ -1,7 +1,7 @@
 -- What is known of a rule that is read.
 use Rattle.std.proofs.Common.{◌≡◌, ℕ, ◌+◌, ◌≤◌, Option, Some, None, Result, Ok, Err, List, length, refl, sym, inl, inr}
 use Rattle.std.specs.Prelude.{IfSome}
-use Rattle.conf_parser.specs.declared.classes.Class.{Class}
+use Rattle.conf_types.specs.declared.classes.Class.{Class}
 use Rattle.net_lists.specs.Variables.{Variables}
 use Rattle.net_lists.specs.declared.stop.Stop.{Stop}
 use Rattle.net_lists.specs.declared.stop.Stop.TheVariants.{NoMemory, Wrong}
@@ -10,13 +10,13 @@ use Rattle.rule_parser.specs.declared.draft.ClassName.TheVariants as class
 use Rattle.rule_parser.specs.declared.draft.Draft.{Draft}
 use Rattle.rule_parser.specs.declared.fault.Fault.{Fault}
 use Rattle.rule_parser.specs.declared.header.Header.{Header}
-use Rattle.rule_parser.specs.declared.rule.Rule.{Rule}
+use Rattle.rule_types.specs.declared.rule.Rule.{Rule}
 use Rattle.rule_parser.specs.Bits.{GivesWith, IsGivenWith}
 use Rattle.rule_parser.specs.Drafts.{empty_draft}
 use Rattle.rule_parser.specs.Faults.{stop_fault}
 use Rattle.rule_parser.specs.Headers.{IsGiven, IsHeader, behind_header}
 use Rattle.rule_parser.specs.RuleLine.{IsClassOf, rule_options, rule_body, IsRuleLine, IsAnswered}
-use Rattle.rule_parser.specs.Sound.{IsSound}
+use Rattle.rule_types.specs.Sound.{IsSound}
 use Rattle.rule_parser.specs.Written.{outside, option_texts}
 use Rattle.rule_parser.proofs.SoundDrafts.{IsKnown, empty-sound}
 use Rattle.rule_parser.proofs.SoundOptions.{rule_options-sound, rule_body-sound}

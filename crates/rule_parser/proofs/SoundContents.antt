@@ -9,18 +9,18 @@ use Rattle.net_lists.specs.Stops.{or_kind}
 use Rattle.rule_parser.specs.declared.draft.Draft.{Draft}
 use Rattle.rule_parser.specs.declared.draft.Held.{Held}
 use Rattle.rule_parser.specs.declared.fault.Fault.TheVariants.{OptionValue, Misplaced, Limit}
-use Rattle.rule_parser.specs.declared.option.Content.{Content}
-use Rattle.rule_parser.specs.declared.option.FastMode.{FastMode}
-use Rattle.rule_parser.specs.declared.option.FastMode.TheVariants as fast
-use Rattle.rule_parser.specs.declared.option.Num.{Num}
-use Rattle.rule_parser.specs.declared.option.Num.TheVariants as num
+use Rattle.rule_types.specs.declared.option.Content.{Content}
+use Rattle.rule_types.specs.declared.option.FastMode.{FastMode}
+use Rattle.rule_types.specs.declared.option.FastMode.TheVariants as fast
+use Rattle.rule_types.specs.declared.option.Num.{Num}
+use Rattle.rule_types.specs.declared.option.Num.TheVariants as num
 use Rattle.rule_parser.specs.declared.quoted.Style.TheVariants.{Bytes}
 use Rattle.rule_parser.specs.declared.quoted.Place.TheVariants.{Plain}
 use Rattle.rule_parser.specs.Contents.{negation, plain_content, with_content, with_bytes, content_option, with_last, nocase_option, rawbytes_option, bars_from, bars_room, place_text, known_before, from_option, room_of, room_option, fast_part, fast_mode, is_only, fast_on, has_room, bars_fast, fast_pattern_option}
 use Rattle.rule_parser.specs.Drafts.{kept_count, settled}
 use Rattle.rule_parser.specs.Names.{signed_or_named}
 use Rattle.rule_parser.specs.Quotes.{meaning}
-use Rattle.rule_parser.specs.Sound.{IsFast, IsContent, is_chosen, is_fast}
+use Rattle.rule_types.specs.Sound.{IsFast, IsContent, is_chosen, is_fast}
 use Rattle.rule_parser.specs.Texts.{quoted_whole}
 use Rattle.rule_parser.proofs.SoundDrafts.{AreNamed, AreKept, IsHeld, IsSoundDraft, names_after, fast_held, count_held, settled-options, settled-names, settled-length, settled-fast}
 use Rattle.rule_parser.proofs.SoundSteps.{then_ok, any_ok, kind_ok, if_ok}

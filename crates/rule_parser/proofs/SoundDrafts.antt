@@ -10,13 +10,13 @@ use Rattle.rule_parser.specs.declared.draft.ClassName.TheVariants as class
 use Rattle.rule_parser.specs.declared.draft.Draft.{Draft}
 use Rattle.rule_parser.specs.declared.draft.Held.{Held}
 use Rattle.rule_parser.specs.declared.fault.Fault.TheVariants.{Limit}
-use Rattle.rule_parser.specs.declared.option.Content.{Content}
-use Rattle.rule_parser.specs.declared.option.Opt.{Opt}
-use Rattle.rule_parser.specs.declared.option.Opt.TheVariants as opt
+use Rattle.rule_types.specs.declared.option.Content.{Content}
+use Rattle.rule_types.specs.declared.option.Opt.{Opt}
+use Rattle.rule_types.specs.declared.option.Opt.TheVariants as opt
 use Rattle.rule_parser.proofs.SoundSteps.{if_ok}
 use Rattle.rule_parser.specs.Contents.{is_only}
 use Rattle.rule_parser.specs.Drafts.{empty_draft, kept_count, kept, with_held}
-use Rattle.rule_parser.specs.Sound.{IsContent, IsOption, AreOptions, names_behind, is_chosen, is_fast}
+use Rattle.rule_types.specs.Sound.{IsContent, IsOption, AreOptions, names_behind, is_chosen, is_fast}
 
 -- the names that stand behind these options
 abbrev pub names_after : List ℕ → List Opt → List ℕ

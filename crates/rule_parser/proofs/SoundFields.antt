@@ -6,16 +6,16 @@ use Rattle.rule_parser.specs.declared.draft.Draft.{Draft}
 use Rattle.rule_parser.specs.declared.fault.Fault.TheVariants.{OptionValue}
 use Rattle.rule_parser.specs.declared.fields.Sign.{Sign}
 use Rattle.rule_parser.specs.declared.fields.Sign.TheVariants.{Plain, Equal, Not, Below, Above, UpTo, From}
-use Rattle.rule_parser.specs.declared.option.Cmp.{Cmp}
-use Rattle.rule_parser.specs.declared.option.Cmp.TheVariants as cmp
-use Rattle.rule_parser.specs.declared.option.Field.{Field}
-use Rattle.rule_parser.specs.declared.option.Field.TheVariants as field
-use Rattle.rule_parser.specs.declared.option.Opt.{Opt}
-use Rattle.rule_parser.specs.declared.option.Opt.TheVariants as opt
+use Rattle.rule_types.specs.declared.option.Cmp.{Cmp}
+use Rattle.rule_types.specs.declared.option.Cmp.TheVariants as cmp
+use Rattle.rule_types.specs.declared.option.Field.{Field}
+use Rattle.rule_types.specs.declared.option.Field.TheVariants as field
+use Rattle.rule_types.specs.declared.option.Opt.{Opt}
+use Rattle.rule_types.specs.declared.option.Opt.TheVariants as opt
 use Rattle.rule_parser.specs.Drafts.{kept}
 use Rattle.rule_parser.specs.Fields.{sign_of, cmp_of, is_plain, is_not, is_strict, allows, signed_compare, end_of, ttl_range, dsize_range, place_of, ttl_to, behind_above, dsize_to, dsize_at, protocol_of, protocol_to, compare_of, field_option, dsize_option, sameip_option}
-use Rattle.rule_parser.specs.Sound.{most_of, is_equal, is_unequal, compares, AreEnds, IsOption}
-use Rattle.rule_parser.specs.Sound as ranges
+use Rattle.rule_types.specs.Sound.{most_of, is_equal, is_unequal, compares, AreEnds, IsOption}
+use Rattle.rule_types.specs.Sound as ranges
 use Rattle.rule_parser.proofs.SoundDrafts.{IsSoundDraft, IsPlain, names_after, kept-sound}
 use Rattle.rule_parser.proofs.SoundSteps.{then_ok, kind_ok, if_ok, some_weaken}
 use Rattle.rule_parser.proofs.SoundValues.{IsIn, number_in-within}

@@ -15,15 +15,15 @@ use Rattle.rule_parser.specs.declared.fault.Fault.TheVariants.{OptionValue, Limi
 use Rattle.rule_parser.specs.declared.flags.Letters.{Letters}
 use Rattle.rule_parser.specs.declared.flowbits.BitWord.{BitWord}
 use Rattle.rule_parser.specs.declared.flowbits.BitWord.TheVariants as word
-use Rattle.rule_parser.specs.declared.option.Mode.{Mode}
-use Rattle.rule_parser.specs.declared.option.Mode.TheVariants as mode
-use Rattle.rule_parser.specs.declared.option.Opt.TheVariants as opt
+use Rattle.rule_types.specs.declared.option.Mode.{Mode}
+use Rattle.rule_types.specs.declared.option.Mode.TheVariants as mode
+use Rattle.rule_types.specs.declared.option.Opt.TheVariants as opt
 use Rattle.rule_parser.specs.ByteOptions.{Part, first_part, next_part}
 use Rattle.rule_parser.specs.Drafts.{kept}
 use Rattle.rule_parser.specs.Flags.{no_flow, flow_word, flow_option, no_letters, mode_of, flag_bit, frag_bit, with_bit, with_mode, if_any, flag_step, frag_step, flag_letters, frag_letters, frag_signed, mask_of, flags_parts, flags_option, fragbits_option}
 use Rattle.rule_parser.specs.Flowbits.{bit_option, bit_word, numbered, with_names, last_name, bit_parts, noalert, flowbits_parts, flowbits_option}
 use Rattle.rule_parser.specs.Names.{place_among}
-use Rattle.rule_parser.specs.Sound.{is_order, is_named_side}
+use Rattle.rule_types.specs.Sound.{is_order, is_named_side}
 use Rattle.rule_parser.specs.Steering.{side_of, sized_side, size_cmp, size_parts, stream_size_option, switched, quiet, reassemble_parts, stream_reassemble_option}
 use Rattle.rule_parser.proofs.SoundDrafts.{IsSoundDraft, kept-sound}
 use Rattle.rule_parser.proofs.SoundSteps.{then_ok, any_ok, kind_ok, if_ok}

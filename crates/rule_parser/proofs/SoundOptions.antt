@@ -5,7 +5,7 @@ use Rattle.std.specs.Option.{unwrap_or}
 use Rattle.std.proofs.lemmas.List.Quantifiers.{position-Some}
 use Rattle.edge_io.specs.Bytes.{is_blank}
 use Rattle.net_lists.specs.Stops.{or_kind}
-use Rattle.conf_parser.specs.declared.classes.Class.{Class}
+use Rattle.conf_types.specs.declared.classes.Class.{Class}
 use Rattle.rule_parser.specs.declared.draft.ClassName.{ClassName}
 use Rattle.rule_parser.specs.declared.draft.ClassName.TheVariants as class
 use Rattle.rule_parser.specs.declared.draft.Draft.{Draft}
@@ -28,8 +28,9 @@ use Rattle.rule_parser.specs.Flags.{flow_option, flags_option, fragbits_option}
 use Rattle.rule_parser.specs.Flowbits.{flowbits_option}
 use Rattle.rule_parser.specs.Periods.{detection_filter_option}
 use Rattle.rule_parser.specs.RuleLine.{in_parentheses, rule_options, class_of, finished, rule_body}
-use Rattle.rule_parser.specs.RuleOption.{class_place, option_name, no_name, with_value, text_option, modifier_option, payload_option, session_option, named_option, rule_option}
-use Rattle.rule_parser.specs.Sound.{IsSound, is_fast}
+use Rattle.conf_types.specs.Classes.{class_place}
+use Rattle.rule_parser.specs.RuleOption.{option_name, no_name, with_value, text_option, modifier_option, payload_option, session_option, named_option, rule_option}
+use Rattle.rule_types.specs.Sound.{IsSound, is_fast}
 use Rattle.rule_parser.specs.Steering.{stream_size_option, stream_reassemble_option}
 use Rattle.rule_parser.specs.Texts.{msg_option, gid_option, sid_option, rev_option, priority_option, classtype_option}
 use Rattle.rule_parser.specs.Written.{written, outside, option_texts}

@@ -8,7 +8,7 @@ use Rattle.rule_parser.specs.declared.draft.Draft.{Draft}
 use Rattle.rule_parser.specs.declared.fault.Fault.TheVariants.{OptionValue, Limit}
 use Rattle.rule_parser.specs.declared.quoted.Style.TheVariants.{Message}
 use Rattle.rule_parser.specs.declared.quoted.Place.TheVariants.{Plain}
-use Rattle.rule_parser.specs.declared.rule.Period.{Period}
+use Rattle.rule_types.specs.declared.rule.Period.{Period}
 use Rattle.rule_parser.specs.Periods.{behind_key, tracked, counted, period_parts, detection_filter_option}
 use Rattle.rule_parser.specs.Quotes.{meaning}
 use Rattle.rule_parser.specs.Texts.{once, gid_option, sid_option, rev_option, priority_option, quoted_whole, msg_option, class_named, classtype_option}

@@ -6,10 +6,10 @@ use Rattle.std.proofs.lemmas.List.Quantifiers.{position-Some}
 use Rattle.edge_io.specs.OnOption.{◌>>=◌}
 use Rattle.net_lists.specs.Numbers.{whole_number, kept_in, number_in, signed_number, signed_kept_in, signed_in}
 use Rattle.rule_parser.specs.declared.fault.Fault.TheVariants.{OptionValue}
-use Rattle.rule_parser.specs.declared.option.Num.{Num}
-use Rattle.rule_parser.specs.declared.option.Num.TheVariants.{Value, Name}
+use Rattle.rule_types.specs.declared.option.Num.{Num}
+use Rattle.rule_types.specs.declared.option.Num.TheVariants.{Value, Name}
 use Rattle.rule_parser.specs.Names.{is_name, place_among, name_at, named, or_named, as_signed, signed_or_named, number_or_named}
-use Rattle.rule_parser.specs.Sound.{IsNum}
+use Rattle.rule_types.specs.Sound.{IsNum}
 use Rattle.rule_parser.proofs.SoundSteps.{if_ok}
 use Rattle.rule_parser.proofs.SoundDrafts.{AreNamed}
 

@@ -24,14 +24,14 @@ use Rattle.rule_parser.specs.declared.byte_words.Words.{Words}
 use Rattle.rule_parser.specs.declared.draft.Draft.{Draft}
 use Rattle.rule_parser.specs.declared.fault.Fault.{Fault}
 use Rattle.rule_parser.specs.declared.fault.Fault.TheVariants.{OptionValue, OutsideProfile, Limit}
-use Rattle.rule_parser.specs.declared.option.Base.{Base}
-use Rattle.rule_parser.specs.declared.option.Base.TheVariants as base
-use Rattle.rule_parser.specs.declared.option.Cmp.{Cmp}
-use Rattle.rule_parser.specs.declared.option.Cmp.TheVariants as cmp
-use Rattle.rule_parser.specs.declared.option.Fetch.{Fetch}
-use Rattle.rule_parser.specs.declared.option.Num.{Num}
-use Rattle.rule_parser.specs.declared.option.Opt.{Opt}
-use Rattle.rule_parser.specs.declared.option.Opt.TheVariants as opt
+use Rattle.rule_types.specs.declared.option.Base.{Base}
+use Rattle.rule_types.specs.declared.option.Base.TheVariants as base
+use Rattle.rule_types.specs.declared.option.Cmp.{Cmp}
+use Rattle.rule_types.specs.declared.option.Cmp.TheVariants as cmp
+use Rattle.rule_types.specs.declared.option.Fetch.{Fetch}
+use Rattle.rule_types.specs.declared.option.Num.{Num}
+use Rattle.rule_types.specs.declared.option.Opt.{Opt}
+use Rattle.rule_types.specs.declared.option.Opt.TheVariants as opt
 use Rattle.rule_parser.specs.Contents.{negation}
 use Rattle.rule_parser.specs.Drafts.{kept}
 use Rattle.rule_parser.specs.Names.{is_name, place_among, signed_or_named, number_or_named}

@@ -17,11 +17,11 @@ use Rattle.rule_parser.specs.declared.draft.Draft.{Draft}
 use Rattle.rule_parser.specs.declared.draft.Held.{Held}
 use Rattle.rule_parser.specs.declared.fault.Fault.{Fault}
 use Rattle.rule_parser.specs.declared.fault.Fault.TheVariants.{OptionValue, Misplaced, Limit}
-use Rattle.rule_parser.specs.declared.option.Content.{Content}
-use Rattle.rule_parser.specs.declared.option.FastMode.{FastMode}
-use Rattle.rule_parser.specs.declared.option.FastMode.TheVariants as fast
-use Rattle.rule_parser.specs.declared.option.Num.{Num}
-use Rattle.rule_parser.specs.declared.option.Num.TheVariants as num
+use Rattle.rule_types.specs.declared.option.Content.{Content}
+use Rattle.rule_types.specs.declared.option.FastMode.{FastMode}
+use Rattle.rule_types.specs.declared.option.FastMode.TheVariants as fast
+use Rattle.rule_types.specs.declared.option.Num.{Num}
+use Rattle.rule_types.specs.declared.option.Num.TheVariants as num
 use Rattle.rule_parser.specs.declared.quoted.Style.TheVariants.{Bytes}
 use Rattle.rule_parser.specs.declared.quoted.Place.TheVariants.{Plain}
 use Rattle.rule_parser.specs.Drafts.{kept_count, settled}

@@ -14,14 +14,14 @@ use Rattle.rule_parser.specs.declared.fault.Fault.{Fault}
 use Rattle.rule_parser.specs.declared.fault.Fault.TheVariants.{OptionValue}
 use Rattle.rule_parser.specs.declared.fields.Sign.{Sign}
 use Rattle.rule_parser.specs.declared.fields.Sign.TheVariants.{Plain, Equal, Not, Below, Above, UpTo, From}
-use Rattle.rule_parser.specs.declared.option.Cmp.{Cmp}
-use Rattle.rule_parser.specs.declared.option.Cmp.TheVariants as cmp
-use Rattle.rule_parser.specs.declared.option.Field.{Field}
-use Rattle.rule_parser.specs.declared.option.Field.TheVariants as field
-use Rattle.rule_parser.specs.declared.option.Opt.{Opt}
-use Rattle.rule_parser.specs.declared.option.Opt.TheVariants as opt
+use Rattle.rule_types.specs.declared.option.Cmp.{Cmp}
+use Rattle.rule_types.specs.declared.option.Cmp.TheVariants as cmp
+use Rattle.rule_types.specs.declared.option.Field.{Field}
+use Rattle.rule_types.specs.declared.option.Field.TheVariants as field
+use Rattle.rule_types.specs.declared.option.Opt.{Opt}
+use Rattle.rule_types.specs.declared.option.Opt.TheVariants as opt
 use Rattle.rule_parser.specs.Drafts.{kept}
-use Rattle.rule_parser.specs.Sound.{most_of}
+use Rattle.rule_types.specs.Sound.{most_of}
 
 -- the sign in front of a number, `<` (60), `=` (61), `>` (62), `!` (33), and what stands behind it
 abbrev pub below_sign : List ℕ → Sign × List ℕ

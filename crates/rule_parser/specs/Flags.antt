@@ -16,10 +16,10 @@ use Rattle.rule_parser.specs.declared.draft.Draft.{Draft}
 use Rattle.rule_parser.specs.declared.fault.Fault.{Fault}
 use Rattle.rule_parser.specs.declared.fault.Fault.TheVariants.{OptionValue}
 use Rattle.rule_parser.specs.declared.flags.Letters.{Letters}
-use Rattle.rule_parser.specs.declared.option.FlowOpt.{FlowOpt}
-use Rattle.rule_parser.specs.declared.option.Mode.{Mode}
-use Rattle.rule_parser.specs.declared.option.Mode.TheVariants as mode
-use Rattle.rule_parser.specs.declared.option.Opt.TheVariants as opt
+use Rattle.rule_types.specs.declared.option.FlowOpt.{FlowOpt}
+use Rattle.rule_types.specs.declared.option.Mode.{Mode}
+use Rattle.rule_types.specs.declared.option.Mode.TheVariants as mode
+use Rattle.rule_types.specs.declared.option.Opt.TheVariants as opt
 use Rattle.rule_parser.specs.Drafts.{kept}
 
 -- nothing is asked

@@ -12,9 +12,9 @@ use Rattle.edge_io.specs.OnResult.{◌>>=◌}
 use Rattle.rule_parser.specs.declared.draft.Draft.{Draft}
 use Rattle.rule_parser.specs.declared.fault.Fault.{Fault}
 use Rattle.rule_parser.specs.declared.fault.Fault.TheVariants.{OptionValue, OutsideProfile, Limit}
-use Rattle.rule_parser.specs.declared.option.BitChange.TheVariants.{Set, Unset, Toggle}
-use Rattle.rule_parser.specs.declared.option.Opt.{Opt}
-use Rattle.rule_parser.specs.declared.option.Opt.TheVariants as opt
+use Rattle.rule_types.specs.declared.option.BitChange.TheVariants.{Set, Unset, Toggle}
+use Rattle.rule_types.specs.declared.option.Opt.{Opt}
+use Rattle.rule_types.specs.declared.option.Opt.TheVariants as opt
 use Rattle.rule_parser.specs.declared.flowbits.BitWord.{BitWord}
 use Rattle.rule_parser.specs.declared.flowbits.BitWord.TheVariants as word
 use Rattle.rule_parser.specs.ByteOptions.{Part, first_part, next_part}

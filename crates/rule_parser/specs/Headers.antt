@@ -22,10 +22,10 @@ use Rattle.net_lists.specs.declared.stop.Stop.TheVariants.{NoMemory, Wrong}
 use Rattle.rule_parser.specs.declared.fault.Fault.{Fault}
 use Rattle.rule_parser.specs.declared.fault.Fault.TheVariants as fault
 use Rattle.rule_parser.specs.declared.header.Header.{Header}
-use Rattle.rule_parser.specs.declared.rule.Action.{Action}
-use Rattle.rule_parser.specs.declared.rule.Action.TheVariants as action
-use Rattle.rule_parser.specs.declared.rule.Proto.{Proto}
-use Rattle.rule_parser.specs.declared.rule.Proto.TheVariants as proto
+use Rattle.rule_types.specs.declared.rule.Action.{Action}
+use Rattle.rule_types.specs.declared.rule.Action.TheVariants as action
+use Rattle.rule_types.specs.declared.rule.Proto.{Proto}
+use Rattle.rule_types.specs.declared.rule.Proto.TheVariants as proto
 
 -- the first step's fault, or what the next step gives for its value
 abbrev pub After : {X Y : Type 0} → (Result X Fault → Type 0) → (X → Result Y Fault → Type 0) → Result Y Fault → Type 0

@@ -1,4 +1,3 @@
-pub mod Sound
 pub mod Drafts
 pub mod Names
 pub mod Quotes

@@ -11,8 +11,8 @@ use Rattle.net_lists.specs.Numbers.{number_in, signed_in}
 use Rattle.net_lists.specs.Variables.{begins_name, continues_name}
 use Rattle.rule_parser.specs.declared.fault.Fault.{Fault}
 use Rattle.rule_parser.specs.declared.fault.Fault.TheVariants.{OptionValue, Unknown}
-use Rattle.rule_parser.specs.declared.option.Num.{Num}
-use Rattle.rule_parser.specs.declared.option.Num.TheVariants.{Value, Name}
+use Rattle.rule_types.specs.declared.option.Num.{Num}
+use Rattle.rule_types.specs.declared.option.Num.TheVariants.{Value, Name}
 
 -- whether a text has the form of a name
 abbrev pub is_name : List ℕ → Bool

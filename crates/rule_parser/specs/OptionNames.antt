@@ -3,8 +3,8 @@
 -- To try it on: `http_uri` and `rpc` are outside the profile, `sid` is a name, and `Sid` is none.
 use Rattle.std.specs.Prelude.{ℕ, ◌||◌, Bool, Option, Some, None, List, bytes_eq, codes, nat_eq, if◌then◌else◌}
 use Rattle.std.specs.List.{starts_with}
-use Rattle.rule_parser.specs.declared.option.Field.{Field}
-use Rattle.rule_parser.specs.declared.option.Field.TheVariants as field
+use Rattle.rule_types.specs.declared.option.Field.{Field}
+use Rattle.rule_types.specs.declared.option.Field.TheVariants as field
 use Rattle.rule_parser.specs.declared.names.TextName.{TextName}
 use Rattle.rule_parser.specs.declared.names.TextName.TheVariants as text
 use Rattle.rule_parser.specs.declared.names.Modifier.{Modifier}

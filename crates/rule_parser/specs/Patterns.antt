@@ -1,10 +1,12 @@
 -- Regular expressions (Snort Users Manual 2.9, section 3.5.30): `pcre:[!]"/re/flags"`.
 --
--- The expression stands between the first byte of the quoted text, a `/`, and the last `/` in it. The flags
+-- The expression stands between the first byte of the quoted text, a `/`, and the last `/` in it; a lone
+-- backslash in front of the last `/` stays (own). The flags
 -- are i, s, m, x and R (the search begins where the option before ended), each at most once; any other
 -- capital letter is a flag of Snort's that this detector has not. The expression is looked at first, then the
 -- flags, then what stands behind the closing quote (own). An expression is ASCII and has at most 4096 bytes (own).
--- To try it on: `"/a\/b/Ri"` is the expression `a/b`, in either case, from where the option before ended.
+-- To try it on: `"/a\/b/Ri"` is the expression `a/b`, in either case, from where the option before ended;
+-- `"/a\/i"` is the expression `a\`, in either case.
 use Rattle.std.specs.Prelude.{ℕ, ◌-◌, ◌==◌, ◌&&◌, Bool, true, false, not, Option, Some, None, Result, Ok, Err, List, [], ◌∷◌, length, take, drop, nat_le, nat_lt, if◌then◌else◌}
 use Rattle.std.specs.List.{list_all, suffix_len}
 use Rattle.edge_io.specs.OnResult.{◌>>=◌}
@@ -13,7 +15,7 @@ use Rattle.net_lists.specs.Stops.{or_kind}
 use Rattle.rule_parser.specs.declared.draft.Draft.{Draft}
 use Rattle.rule_parser.specs.declared.fault.Fault.{Fault}
 use Rattle.rule_parser.specs.declared.fault.Fault.TheVariants.{OptionValue, OutsideProfile, Limit}
-use Rattle.rule_parser.specs.declared.option.Opt.TheVariants as opt
+use Rattle.rule_types.specs.declared.option.Opt.TheVariants as opt
 use Rattle.rule_parser.specs.declared.patterns.Flags.{Flags}
 use Rattle.rule_parser.specs.declared.quoted.Style.TheVariants.{Pattern}
 use Rattle.rule_parser.specs.declared.quoted.Place.TheVariants.{Plain}

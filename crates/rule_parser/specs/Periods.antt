@@ -10,7 +10,7 @@ use Rattle.net_lists.specs.Stops.{or_kind}
 use Rattle.rule_parser.specs.declared.draft.Draft.{Draft}
 use Rattle.rule_parser.specs.declared.fault.Fault.{Fault}
 use Rattle.rule_parser.specs.declared.fault.Fault.TheVariants.{OptionValue}
-use Rattle.rule_parser.specs.declared.rule.Period.{Period}
+use Rattle.rule_types.specs.declared.rule.Period.{Period}
 
 -- what stands behind this word in a part
 unfoldable pub behind_key : List ℕ → List ℕ → Result (List ℕ) Fault

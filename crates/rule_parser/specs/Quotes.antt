@@ -4,7 +4,7 @@
 -- the byte behind it along. What a backslash and its byte stand for depends on the option: in a message the
 -- byte itself; in a content the byte itself, and between bars stand pairs of hex digits, with blanks between
 -- the pairs (Snort Users Manual 2.9, section 3.5.1); in a pattern `\"`, `\;`, `\:` and `\/` stand for their
--- second byte, and any other pair for itself (own).
+-- second byte, and any other pair for itself, as does a backslash with no byte behind it (own).
 -- To try it on: `"a\"|62 63|"` is the content `a"bc` and the message `a"|62 63|`.
 use Rattle.std.specs.Prelude.{ℕ, ◌+◌, ◌-◌, ◌*◌, ◌==◌, ◌&&◌, ◌||◌, Bool, true, false, not, Option, Some, None, List, [], ◌∷◌, ◌++◌, take, drop, nat_le, is_some, if◌then◌else◌}
 use Rattle.std.specs.Option.{option_map}
@@ -99,16 +99,22 @@ bytes_of slash None = []
 bytes_of true (Some byte) = 92 ∷ byte ∷ []
 bytes_of false (Some byte) = byte ∷ []
 
--- no pair is begun, and no bar is open
-abbrev pub may_end : Place → Bool
-may_end Plain = true
-may_end Escaped = false
-may_end Bars = false
-may_end (Half first) = false
+-- a backslash with no byte behind it is no pair: in a pattern it stands for itself
+abbrev pub lone_backslash : Style → Option (List ℕ)
+lone_backslash Bytes = None
+lone_backslash Message = None
+lone_backslash Pattern = Some (92 ∷ [])
+
+-- what the end of a text gives: it has no open bar, and no half of a pair of digits
+abbrev pub end_bytes : Style → Place → Option (List ℕ)
+end_bytes style Plain = Some []
+end_bytes style Escaped = lone_backslash style
+end_bytes style Bars = None
+end_bytes style (Half first) = None
 
 -- what a quoted text stands for
 unfoldable pub meaning : Style → Place → List ℕ → Option (List ℕ)
-meaning style place [] = if may_end place then Some [] else None
+meaning style place [] = end_bytes style place
 meaning style place (byte ∷ rest) = elim (step_at style place byte) [
   | None ↦ None
   | Some step ↦ option_map (λ behind. bytes_of step.slash step.byte ++ behind) (meaning style step.place rest)

@@ -13,7 +13,7 @@ use Rattle.edge_io.specs.Bytes.{is_blank}
 use Rattle.edge_io.specs.OnResult.{◌>>=◌}
 use Rattle.net_lists.specs.Stops.{or_kind}
 use Rattle.net_lists.specs.Variables.{Variables}
-use Rattle.conf_parser.specs.declared.classes.Class.{Class}
+use Rattle.conf_types.specs.declared.classes.Class.{Class}
 use Rattle.rule_parser.specs.declared.draft.ClassName.{ClassName}
 use Rattle.rule_parser.specs.declared.draft.ClassName.TheVariants as class
 use Rattle.rule_parser.specs.declared.draft.Draft.{Draft}
@@ -22,7 +22,7 @@ use Rattle.rule_parser.specs.declared.fault.Fault.TheVariants.{OptionSyntax, Mis
 use Rattle.rule_parser.specs.declared.fault.RuleFault.{RuleFault}
 use Rattle.rule_parser.specs.declared.fault.RuleKind.TheVariants.{NoMemory}
 use Rattle.rule_parser.specs.declared.header.Header.{Header}
-use Rattle.rule_parser.specs.declared.rule.Rule.{Rule}
+use Rattle.rule_types.specs.declared.rule.Rule.{Rule}
 use Rattle.rule_parser.specs.Drafts.{empty_draft, settled}
 use Rattle.rule_parser.specs.Faults.{plain, rule_fault}
 use Rattle.rule_parser.specs.Headers.{After, IsHeader, behind_header}

@@ -5,10 +5,11 @@
 -- An option that wants a value and has none has a wrong value.
 -- To try it on: `sid:7` behind `sid:6`, `sid` and `nocase:` behind a content are wrong values; `nocase`
 -- before any content is misplaced, and `http_uri` is outside the profile.
-use Rattle.std.specs.Prelude.{ℕ, ◌==◌, true, false, Option, Some, None, Result, Ok, List, length, bytes_eq, codes, position, if◌then◌else◌}
+use Rattle.std.specs.Prelude.{ℕ, ◌==◌, true, false, Option, Some, None, Result, Ok, List, length, bytes_eq, codes, if◌then◌else◌}
 use Rattle.edge_io.specs.OnResult.{◌>>=◌}
 use Rattle.net_lists.specs.Stops.{or_kind}
-use Rattle.conf_parser.specs.declared.classes.Class.{Class}
+use Rattle.conf_types.specs.Classes.{class_place}
+use Rattle.conf_types.specs.declared.classes.Class.{Class}
 use Rattle.rule_parser.specs.declared.draft.Draft.{Draft}
 use Rattle.rule_parser.specs.declared.fault.Fault.{Fault}
 use Rattle.rule_parser.specs.declared.fault.Fault.TheVariants.{OptionValue, OptionSyntax, UnknownOption, OutsideProfile}
@@ -33,10 +34,6 @@ use Rattle.rule_parser.specs.Periods.{detection_filter_option}
 use Rattle.rule_parser.specs.Steering.{stream_size_option, stream_reassemble_option}
 use Rattle.rule_parser.specs.Texts.{msg_option, gid_option, sid_option, rev_option, priority_option, classtype_option}
 use Rattle.rule_parser.specs.Written.{written}
-
--- the place of a class by its name
-abbrev pub class_place : List Class → List ℕ → Option ℕ
-class_place classes name = position (λ class. bytes_eq class.name name) classes
 
 -- the first of two names that is there
 abbrev pub or_name : Option Name → Option Name → Option Name

@@ -29,52 +29,50 @@ pub(crate) fn negation(text: &[u8]) -> (bool, &[u8])
     }
 }
 
-impl Content {
-    /// A content before its modifiers.
-    fn plain(negated: bool, bytes: Text) -> Content
-        ensures { result ≡ plain_content negated bytes }
-    {
-        Content {
-            bytes,
-            negated,
-            nocase: false,
-            relative: false,
-            from: None,
-            room: None,
-            fast: FastMode::No,
+/// A content before its modifiers.
+fn plain_content(negated: bool, bytes: Text) -> Content
+    ensures { result ≡ plain_content negated bytes }
+{
+    Content {
+        bytes,
+        negated,
+        nocase: false,
+        relative: false,
+        from: None,
+        room: None,
+        fast: FastMode::No,
+    }
+}
+
+/// Whether a place is told by `offset` or `depth`.
+fn is_placed(content: &Content) -> bool
+    ensures { result ≡ is_placed content.now }
+{
+    (content.from.is_some() || content.room.is_some()) && !content.relative
+}
+
+/// Whether `offset`, or `distance`, may not stand any more.
+fn bars_from(relative: bool, content: &Content) -> bool
+    ensures { result ≡ bars_from relative content.now }
+{
+    content.from.is_some()
+        || if relative {
+            is_placed(content)
+        } else {
+            content.relative
         }
-    }
+}
 
-    /// Whether a place is told by `offset` or `depth`.
-    fn is_placed(&self) -> bool
-        ensures { result ≡ is_placed self.now }
-    {
-        (self.from.is_some() || self.room.is_some()) && !self.relative
-    }
-
-    /// Whether `offset`, or `distance`, may not stand any more.
-    fn bars_from(&self, relative: bool) -> bool
-        ensures { result ≡ bars_from relative self.now }
-    {
-        self.from.is_some()
-            || if relative {
-                self.is_placed()
-            } else {
-                self.relative
-            }
-    }
-
-    /// Whether `depth`, or `within`, may not stand any more.
-    fn bars_room(&self, relative: bool) -> bool
-        ensures { result ≡ bars_room relative self.now }
-    {
-        self.room.is_some()
-            || if relative {
-                self.is_placed()
-            } else {
-                self.relative
-            }
-    }
+/// Whether `depth`, or `within`, may not stand any more.
+fn bars_room(relative: bool, content: &Content) -> bool
+    ensures { result ≡ bars_room relative content.now }
+{
+    content.room.is_some()
+        || if relative {
+            is_placed(content)
+        } else {
+            content.relative
+        }
 }
 
 /// The draft with this content apart and the one before in its place.
@@ -106,7 +104,7 @@ fn with_bytes(draft: Draft, negated: bool, bytes: Text) -> Result<Draft, Stop<Fa
     if bytes.bytes().len() > MOST_BYTES || draft.is_full() {
         return Err(Stop::Wrong(Fault::Limit));
     }
-    Ok(with_content(draft, Content::plain(negated, bytes))?)
+    Ok(with_content(draft, plain_content(negated, bytes))?)
 }
 
 #[tactic(auto, unfolding(crate::specs::Contents::content_option))]
@@ -196,7 +194,7 @@ pub(crate) fn from_option(
     ensures { result ≡ from_option relative draft left (option_copied value.entry) }
 {
     let held = draft.held.ok_or(Fault::Misplaced)?;
-    let text = place_text(held.content.bars_from(relative), held.placeless, value)?;
+    let text = place_text(bars_from(relative, &held.content), held.placeless, value)?;
     let known = first_names(draft.names.as_slice(), held.known);
     let from = signed_or_named(-65535, 65535, known, left, text)?;
     let content = Content {
@@ -236,7 +234,7 @@ pub(crate) fn room_option(
     ensures { result ≡ room_option relative draft left (option_copied value.entry) }
 {
     let held = draft.held.ok_or(Fault::Misplaced)?;
-    let text = place_text(held.content.bars_room(relative), held.placeless, value)?;
+    let text = place_text(bars_room(relative, &held.content), held.placeless, value)?;
     let known = first_names(draft.names.as_slice(), held.known);
     let room = room_of(held.content.bytes.bytes().len(), known, left, text)?;
     let content = Content {
@@ -250,53 +248,51 @@ pub(crate) fn room_option(
     })
 }
 
-impl FastMode {
-    /// A part of a content of so many bytes.
-    #[tactic(auto, unfolding(crate::specs::Contents::fast_part))]
-    fn part(size: usize, value: &[u8]) -> Result<FastMode, Fault>
-        ensures { result ≡ fast_part size (comma_parts value.now) }
-    {
-        let mut parts = Parts::commas(value);
-        let (Some(first), Some(second), None) = (parts.next(), parts.next(), parts.next()) else {
-            return Err(Fault::OptionValue);
-        };
-        let from = number_in(0, 2048, first).ok_or(Fault::OptionValue)?;
-        let len = number_in(1, 2048, second).ok_or(Fault::OptionValue)?;
-        if from as usize + len as usize > size {
-            return Err(Fault::OptionValue);
-        }
-        Ok(FastMode::Part { from, len })
+/// A part of a content of so many bytes.
+#[tactic(auto, unfolding(crate::specs::Contents::fast_part))]
+fn fast_part(size: usize, value: &[u8]) -> Result<FastMode, Fault>
+    ensures { result ≡ fast_part size (comma_parts value.now) }
+{
+    let mut parts = Parts::commas(value);
+    let (Some(first), Some(second), None) = (parts.next(), parts.next(), parts.next()) else {
+        return Err(Fault::OptionValue);
+    };
+    let from = number_in(0, 2048, first).ok_or(Fault::OptionValue)?;
+    let len = number_in(1, 2048, second).ok_or(Fault::OptionValue)?;
+    if from as usize + len as usize > size {
+        return Err(Fault::OptionValue);
     }
+    Ok(FastMode::Part { from, len })
+}
 
-    /// What the value of a `fast_pattern` says.
-    #[tactic(auto, unfolding(crate::specs::Contents::fast_mode))]
-    fn read(size: usize, value: Option<&[u8]>) -> Result<FastMode, Fault>
-        ensures { result ≡ fast_mode size (option_copied value.entry) }
-    {
-        let Some(value) = value else {
-            return Ok(FastMode::Yes);
-        };
-        if value == b"only".as_slice() {
-            return Ok(FastMode::Only);
-        }
-        FastMode::part(size, value)
+/// What the value of a `fast_pattern` says.
+#[tactic(auto, unfolding(crate::specs::Contents::fast_mode))]
+fn fast_mode(size: usize, value: Option<&[u8]>) -> Result<FastMode, Fault>
+    ensures { result ≡ fast_mode size (option_copied value.entry) }
+{
+    let Some(value) = value else {
+        return Ok(FastMode::Yes);
+    };
+    if value == b"only".as_slice() {
+        return Ok(FastMode::Only);
     }
+    fast_part(size, value)
+}
 
-    fn is_only(self) -> bool
-        ensures { result ≡ is_only self }
-    {
-        match self {
-            FastMode::Only => true,
-            FastMode::No | FastMode::Yes | FastMode::Part { .. } => false,
-        }
+fn is_only(mode: FastMode) -> bool
+    ensures { result ≡ is_only mode }
+{
+    match mode {
+        FastMode::Only => true,
+        FastMode::No | FastMode::Yes | FastMode::Part { .. } => false,
     }
+}
 
-    /// What stands on a content.
-    fn on(self, negated: bool) -> FastMode
-        ensures { result ≡ fast_on negated self }
-    {
-        if negated { FastMode::No } else { self }
-    }
+/// What stands on a content.
+fn fast_on(negated: bool, mode: FastMode) -> FastMode
+    ensures { result ≡ fast_on negated mode }
+{
+    if negated { FastMode::No } else { mode }
 }
 
 /// Whether a `fast_pattern` of this form may not stand on the content.
@@ -304,7 +300,7 @@ fn bars_fast(mode: FastMode, content: &Content) -> bool
     ensures { result ≡ bars_fast mode content.now }
 {
     let has_room = content.from.is_some() || content.room.is_some();
-    (mode.is_only() && content.negated) || ((mode.is_only() || content.negated) && has_room)
+    (is_only(mode) && content.negated) || ((is_only(mode) || content.negated) && has_room)
 }
 
 /// The last content, where no `fast_pattern` stands yet.
@@ -322,12 +318,12 @@ pub(crate) fn fast_pattern_option(draft: Draft, value: Option<&[u8]>) -> Result<
     ensures { result ≡ fast_pattern_option draft (option_copied value.entry) }
 {
     let held = held_for_fast(draft.fast, draft.held)?;
-    let mode = FastMode::read(held.content.bytes.bytes().len(), value)?;
+    let mode = fast_mode(held.content.bytes.bytes().len(), value)?;
     if bars_fast(mode, &held.content) {
         return Err(Fault::OptionValue);
     }
-    let placeless = mode.is_only() || held.content.negated;
-    let fast = mode.on(held.content.negated);
+    let placeless = is_only(mode) || held.content.negated;
+    let fast = fast_on(held.content.negated, mode);
     let content = Content {
         fast,
         ..held.content

@@ -2,7 +2,7 @@
 ghost use Rattle.std.specs.Prelude.{◌≡◌, ◌<◌, length, option_copied, IfSome};
 ghost use Rattle.net_lists.specs.Stops.{Gives};
 ghost use Rattle.rule_parser.specs.Fields.{sign_of, cmp_of, is_plain, is_not, is_strict, allows, against, signed_compare, end_of, ttl_range, dsize_range, place_of, behind_above, protocol_of, compare_of, ttl_to, dsize_at, protocol_to, field_option, dsize_option, sameip_option};
-ghost use Rattle.rule_parser.specs.Sound.{most_of};
+ghost use Rattle.rule_types.specs.Sound.{most_of};
 
 use crate::draft::Draft;
 use crate::fault::Fault;
@@ -71,56 +71,54 @@ impl Sign {
     }
 }
 
-impl Field {
-    /// Whether the field has this sign.
-    fn allows(self, sign: Sign) -> bool
-        ensures { result ≡ allows self sign }
-    {
-        match self {
-            Field::Ttl => !sign.is_not(),
-            Field::Tos | Field::Window => sign.is_plain() || sign.is_not(),
-            Field::FragOffset | Field::IpProto => {
-                sign.is_plain() || sign.is_not() || sign.is_strict()
-            }
-            Field::Itype | Field::Icode | Field::Dsize => sign.is_plain() || sign.is_strict(),
-            Field::Id | Field::Seq | Field::Ack | Field::IcmpId | Field::IcmpSeq => sign.is_plain(),
+/// Whether the field has this sign.
+fn allows(field: Field, sign: Sign) -> bool
+    ensures { result ≡ allows field sign }
+{
+    match field {
+        Field::Ttl => !sign.is_not(),
+        Field::Tos | Field::Window => sign.is_plain() || sign.is_not(),
+        Field::FragOffset | Field::IpProto => {
+            sign.is_plain() || sign.is_not() || sign.is_strict()
         }
+        Field::Itype | Field::Icode | Field::Dsize => sign.is_plain() || sign.is_strict(),
+        Field::Id | Field::Seq | Field::Ack | Field::IcmpId | Field::IcmpSeq => sign.is_plain(),
     }
+}
 
-    /// The greatest number of the field.
-    fn most(self) -> u32
-        ensures { result ≡ most_of self }
-    {
-        if self == Field::Dsize {
-            65535
-        } else {
-            u32::MAX
-        }
+/// The greatest number of the field.
+fn most_of(field: Field) -> u32
+    ensures { result ≡ most_of field }
+{
+    if field == Field::Dsize {
+        65535
+    } else {
+        u32::MAX
     }
+}
 
-    fn against(self, cmp: Cmp, number: u32) -> Opt
-        ensures { result ≡ against self cmp number }
-    {
-        Opt::Compare {
-            field: self,
-            cmp,
-            low: number,
-            high: number,
-        }
+fn against(field: Field, cmp: Cmp, number: u32) -> Opt
+    ensures { result ≡ against field cmp number }
+{
+    Opt::Compare {
+        field,
+        cmp,
+        low: number,
+        high: number,
     }
+}
 
-    /// A number, a sign before it perhaps.
-    #[tactic(auto, unfolding(crate::specs::Fields::signed_compare))]
-    fn signed_compare(self, text: &[u8]) -> Result<Opt, Fault>
-        ensures { result ≡ signed_compare self text.now }
-    {
-        let (sign, rest) = sign_of(text);
-        if !self.allows(sign) {
-            return Err(Fault::OptionValue);
-        }
-        let number = number_in(0, self.most(), rest).ok_or(Fault::OptionValue)?;
-        Ok(self.against(sign.cmp(), number))
+/// A number, a sign before it perhaps.
+#[tactic(auto, unfolding(crate::specs::Fields::signed_compare))]
+fn signed_compare(field: Field, text: &[u8]) -> Result<Opt, Fault>
+    ensures { result ≡ signed_compare field text.now }
+{
+    let (sign, rest) = sign_of(text);
+    if !allows(field, sign) {
+        return Err(Fault::OptionValue);
     }
+    let number = number_in(0, most_of(field), rest).ok_or(Fault::OptionValue)?;
+    Ok(against(field, sign.cmp(), number))
 }
 
 /// An end of a range, or what stands for one that lacks.
@@ -177,7 +175,7 @@ fn ttl_of(text: &[u8]) -> Result<Opt, Fault>
     ensures { result ≡ ttl_to text.now (place_of 45 text.now) }
 {
     match place_of(b'-', text) {
-        None => Field::Ttl.signed_compare(text),
+        None => signed_compare(Field::Ttl, text),
         Some(place) => ttl_range(&text[..place], &text[place + 1..]),
     }
 }
@@ -195,10 +193,10 @@ fn dsize_of(text: &[u8]) -> Result<Opt, Fault>
     ensures { result ≡ dsize_at text.now (place_of 60 text.now) }
 {
     let Some(place) = place_of(b'<', text) else {
-        return Field::Dsize.signed_compare(text);
+        return signed_compare(Field::Dsize, text);
     };
     match behind_above(&text[place + 1..]) {
-        None => Field::Dsize.signed_compare(text),
+        None => signed_compare(Field::Dsize, text),
         Some(high) => dsize_range(&text[..place], high),
     }
 }
@@ -224,8 +222,8 @@ fn ip_proto_of(text: &[u8]) -> Result<Opt, Fault>
     ensures { result ≡ protocol_to text.now (protocol_of text.now) }
 {
     match protocol_of(text) {
-        None => Field::IpProto.signed_compare(text),
-        Some(number) => Ok(Field::IpProto.against(Cmp::Eq, number)),
+        None => signed_compare(Field::IpProto, text),
+        Some(number) => Ok(against(Field::IpProto, Cmp::Eq, number)),
     }
 }
 
@@ -238,7 +236,7 @@ fn compare_of(field: Field, text: &[u8]) -> Result<Opt, Fault>
         Field::Ttl => ttl_of(text),
         Field::Dsize => dsize_of(text),
         Field::IpProto => ip_proto_of(text),
-        _ => field.signed_compare(text),
+        _ => signed_compare(field, text),
     }
 }
 

@@ -10,114 +10,130 @@ use crate::fault::Fault;
 use crate::{FlowOpt, Mode, Opt};
 use net_lists::{PartStep, Parts, Stop};
 
-impl FlowOpt {
-    /// Nothing is asked.
-    fn nothing() -> FlowOpt
-        ensures { result ≡ no_flow }
-    {
-        FlowOpt {
-            established: None,
-            stateless: false,
-            from_client: None,
-            stream: None,
-            frag: None,
-        }
+/// Nothing is asked.
+fn no_flow() -> FlowOpt
+    ensures { result ≡ no_flow }
+{
+    FlowOpt {
+        established: None,
+        stateless: false,
+        from_client: None,
+        stream: None,
+        frag: None,
     }
+}
 
-    /// This, where its group has no word yet.
-    fn unless(self, stands: bool) -> Result<FlowOpt, Fault>
-        ensures { result ≡ first_of_group stands self }
-    {
-        if stands {
-            Err(Fault::OptionValue)
-        } else {
-            Ok(self)
-        }
+/// This, where its group has no word yet.
+fn first_of_group(stands: bool, flow: FlowOpt) -> Result<FlowOpt, Fault>
+    ensures { result ≡ first_of_group stands flow }
+{
+    if stands {
+        Err(Fault::OptionValue)
+    } else {
+        Ok(flow)
     }
+}
 
-    /// With a word on the session.
-    #[tactic(auto, unfolding(crate::specs::Flags::session_word))]
-    fn session_word(self, word: &[u8]) -> Result<FlowOpt, Fault>
-        ensures { result ≡ session_word self word.now }
-    {
-        let stands = self.established.is_some() || self.stateless;
-        if word == b"established".as_slice() {
+/// With a word on the session.
+#[tactic(auto, unfolding(crate::specs::Flags::session_word))]
+fn session_word(flow: FlowOpt, word: &[u8]) -> Result<FlowOpt, Fault>
+    ensures { result ≡ session_word flow word.now }
+{
+    let stands = flow.established.is_some() || flow.stateless;
+    if word == b"established".as_slice() {
+        first_of_group(
+            stands,
             FlowOpt {
                 established: Some(true),
-                ..self
-            }
-            .unless(stands)
-        } else if word == b"not_established".as_slice() {
+                ..flow
+            },
+        )
+    } else if word == b"not_established".as_slice() {
+        first_of_group(
+            stands,
             FlowOpt {
                 established: Some(false),
-                ..self
-            }
-            .unless(stands)
-        } else if word == b"stateless".as_slice() {
+                ..flow
+            },
+        )
+    } else if word == b"stateless".as_slice() {
+        first_of_group(
+            stands,
             FlowOpt {
                 stateless: true,
-                ..self
-            }
-            .unless(stands)
-        } else {
-            Err(Fault::OptionValue)
-        }
+                ..flow
+            },
+        )
+    } else {
+        Err(Fault::OptionValue)
     }
+}
 
-    /// With a word on how the item came to be, or on the session.
-    #[tactic(auto, unfolding(crate::specs::Flags::item_word))]
-    fn item_word(self, word: &[u8]) -> Result<FlowOpt, Fault>
-        ensures { result ≡ item_word self word.now }
-    {
-        if word == b"only_stream".as_slice() {
+/// With a word on how the item came to be, or on the session.
+#[tactic(auto, unfolding(crate::specs::Flags::item_word))]
+fn item_word(flow: FlowOpt, word: &[u8]) -> Result<FlowOpt, Fault>
+    ensures { result ≡ item_word flow word.now }
+{
+    if word == b"only_stream".as_slice() {
+        first_of_group(
+            flow.stream.is_some(),
             FlowOpt {
                 stream: Some(true),
-                ..self
-            }
-            .unless(self.stream.is_some())
-        } else if word == b"no_stream".as_slice() {
+                ..flow
+            },
+        )
+    } else if word == b"no_stream".as_slice() {
+        first_of_group(
+            flow.stream.is_some(),
             FlowOpt {
                 stream: Some(false),
-                ..self
-            }
-            .unless(self.stream.is_some())
-        } else if word == b"only_frag".as_slice() {
+                ..flow
+            },
+        )
+    } else if word == b"only_frag".as_slice() {
+        first_of_group(
+            flow.frag.is_some(),
             FlowOpt {
                 frag: Some(true),
-                ..self
-            }
-            .unless(self.frag.is_some())
-        } else if word == b"no_frag".as_slice() {
+                ..flow
+            },
+        )
+    } else if word == b"no_frag".as_slice() {
+        first_of_group(
+            flow.frag.is_some(),
             FlowOpt {
                 frag: Some(false),
-                ..self
-            }
-            .unless(self.frag.is_some())
-        } else {
-            self.session_word(word)
-        }
+                ..flow
+            },
+        )
+    } else {
+        session_word(flow, word)
     }
+}
 
-    /// With one word more.
-    #[tactic(auto, unfolding(crate::specs::Flags::flow_word))]
-    fn word(self, word: &[u8]) -> Result<FlowOpt, Fault>
-        ensures { result ≡ flow_word self word.now }
-    {
-        if word == b"to_server".as_slice() || word == b"from_client".as_slice() {
+/// With one word more.
+#[tactic(auto, unfolding(crate::specs::Flags::flow_word))]
+fn flow_word(flow: FlowOpt, word: &[u8]) -> Result<FlowOpt, Fault>
+    ensures { result ≡ flow_word flow word.now }
+{
+    if word == b"to_server".as_slice() || word == b"from_client".as_slice() {
+        first_of_group(
+            flow.from_client.is_some(),
             FlowOpt {
                 from_client: Some(true),
-                ..self
-            }
-            .unless(self.from_client.is_some())
-        } else if word == b"to_client".as_slice() || word == b"from_server".as_slice() {
+                ..flow
+            },
+        )
+    } else if word == b"to_client".as_slice() || word == b"from_server".as_slice() {
+        first_of_group(
+            flow.from_client.is_some(),
             FlowOpt {
                 from_client: Some(false),
-                ..self
-            }
-            .unless(self.from_client.is_some())
-        } else {
-            self.item_word(word)
-        }
+                ..flow
+            },
+        )
+    } else {
+        item_word(flow, word)
     }
 }
 
@@ -128,7 +144,7 @@ impl PartStep<FlowOpt, Fault> for FlowWords {
     ghost next_draft = { λ _ flow word. flow_word flow word };
 
     fn next(&self, flow: FlowOpt, word: &[u8]) -> Result<FlowOpt, Fault> {
-        flow.word(word)
+        flow_word(flow, word)
     }
 }
 
@@ -136,7 +152,7 @@ impl PartStep<FlowOpt, Fault> for FlowWords {
 fn flow_words(value: &[u8]) -> Result<FlowOpt, Fault>
     ensures { result ≡ draft_behind flow_word no_flow (comma_parts value.now) }
 {
-    Parts::commas(value).fold_by(&FlowWords, FlowOpt::nothing())
+    Parts::commas(value).fold_by(&FlowWords, no_flow())
 }
 
 #[tactic(auto, unfolding(crate::specs::Flags::flow_option))]

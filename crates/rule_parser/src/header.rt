@@ -26,49 +26,45 @@ pub(crate) struct Header {
     pub both: bool,
 }
 
-impl Action {
-    #[tactic(auto, unfolding(crate::specs::Headers::action_of))]
-    fn read(word: &[u8]) -> Result<Action, Fault>
-        ensures { result ≡ action_of word.now }
-    {
-        if word == b"alert".as_slice() {
-            Ok(Action::Alert)
-        } else if word == b"pass".as_slice() {
-            Ok(Action::Pass)
-        } else if word == b"log".as_slice() {
-            Err(Fault::OutsideProfile)
-        } else if word == b"activate".as_slice() {
-            Err(Fault::OutsideProfile)
-        } else if word == b"dynamic".as_slice() {
-            Err(Fault::OutsideProfile)
-        } else if word == b"drop".as_slice() {
-            Err(Fault::OutsideProfile)
-        } else if word == b"reject".as_slice() {
-            Err(Fault::OutsideProfile)
-        } else if word == b"sdrop".as_slice() {
-            Err(Fault::OutsideProfile)
-        } else {
-            Err(Fault::Action)
-        }
+#[tactic(auto, unfolding(crate::specs::Headers::action_of))]
+fn action_of(word: &[u8]) -> Result<Action, Fault>
+    ensures { result ≡ action_of word.now }
+{
+    if word == b"alert".as_slice() {
+        Ok(Action::Alert)
+    } else if word == b"pass".as_slice() {
+        Ok(Action::Pass)
+    } else if word == b"log".as_slice() {
+        Err(Fault::OutsideProfile)
+    } else if word == b"activate".as_slice() {
+        Err(Fault::OutsideProfile)
+    } else if word == b"dynamic".as_slice() {
+        Err(Fault::OutsideProfile)
+    } else if word == b"drop".as_slice() {
+        Err(Fault::OutsideProfile)
+    } else if word == b"reject".as_slice() {
+        Err(Fault::OutsideProfile)
+    } else if word == b"sdrop".as_slice() {
+        Err(Fault::OutsideProfile)
+    } else {
+        Err(Fault::Action)
     }
 }
 
-impl Proto {
-    #[tactic(auto, unfolding(crate::specs::Headers::proto_of))]
-    fn read(word: &[u8]) -> Result<Proto, Fault>
-        ensures { result ≡ proto_of word.now }
-    {
-        if word == b"tcp".as_slice() {
-            Ok(Proto::Tcp)
-        } else if word == b"udp".as_slice() {
-            Ok(Proto::Udp)
-        } else if word == b"icmp".as_slice() {
-            Ok(Proto::Icmp)
-        } else if word == b"ip".as_slice() {
-            Ok(Proto::Ip)
-        } else {
-            Err(Fault::Protocol)
-        }
+#[tactic(auto, unfolding(crate::specs::Headers::proto_of))]
+fn proto_of(word: &[u8]) -> Result<Proto, Fault>
+    ensures { result ≡ proto_of word.now }
+{
+    if word == b"tcp".as_slice() {
+        Ok(Proto::Tcp)
+    } else if word == b"udp".as_slice() {
+        Ok(Proto::Udp)
+    } else if word == b"icmp".as_slice() {
+        Ok(Proto::Icmp)
+    } else if word == b"ip".as_slice() {
+        Ok(Proto::Ip)
+    } else {
+        Err(Fault::Protocol)
     }
 }
 
@@ -222,8 +218,8 @@ impl Header {
     ) -> Result<Header, Stop<Fault>>
         ensures { (line : List ℕ) → AreTexts texts.now line → IsGiven result (IsHeader vars.now line) }
     {
-        let action = Action::read(word_of(texts.action))?;
-        let proto = Proto::read(word_of(texts.proto))?;
+        let action = action_of(word_of(texts.action))?;
+        let proto = proto_of(word_of(texts.proto))?;
         let src = address_word(alloc, vars, texts.src)?;
         let sports = port_word(alloc, vars, texts.sports)?;
         let both = direction_of(word_of(texts.direction))?;

@@ -1,8 +1,8 @@
 //! Rules: what a rule line says.
 //!
 //! A rule is a header, seven words that say which packets it speaks of, and options, tests of an
-//! item's header and payload (Snort Users Manual 2.9, chapter 3). `read_rule` reads one line. The crates
-//! that try rules on items stand on the types.
+//! item's header and payload (Snort Users Manual 2.9, chapter 3). `read_rule` reads one line. What a
+//! rule may say stands below, in `rule_types`.
 #![tactic(auto)]
 
 mod bits;
@@ -19,12 +19,10 @@ mod header;
 mod line;
 mod names;
 mod number;
-mod option;
 mod options;
 mod patterns;
 mod periods;
 mod quoted;
-mod rule;
 mod steering;
 mod texts;
 mod written;
@@ -32,7 +30,7 @@ mod written;
 pub use bits::BitNames;
 pub use fault::{RuleFault, RuleKind};
 pub use line::read_rule;
-pub use option::{
-    Base, BitChange, Cmp, Content, FastMode, Fetch, Field, FlowOpt, Mode, Num, Opt, Side,
+pub use rule_types::{
+    Action, Base, BitChange, Cmp, Content, FastMode, Fetch, Field, FlowOpt, Mode, Num, Opt, Period,
+    Proto, Rule, Side,
 };
-pub use rule::{Action, Period, Proto, Rule};

@@ -2,10 +2,10 @@
 ghost use Rattle.std.specs.Prelude.{◌≡◌, ◌+◌, ◌<◌, ◌≤◌, ◌++◌, ◌∷◌, [], List, ℕ, Result, length, option_copied, OnErr, IfOk, IfSome};
 ghost use Rattle.net_lists.specs.Stops.{Gives};
 ghost use Rattle.rule_parser.specs.declared.fault.Fault.{Fault};
-ghost use Rattle.rule_parser.specs.declared.rule.Rule.{Rule};
+ghost use Rattle.rule_types.specs.declared.rule.Rule.{Rule};
 ghost use Rattle.rule_parser.specs.Bits.{GivesWith, IsGivenWith, Begins};
 ghost use Rattle.rule_parser.specs.RuleLine.{in_parentheses, options_of, IsClassOf, class_of, class_priority, finished, rule_body, IsRuleLine, IsAnswered, AnswersAs};
-ghost use Rattle.rule_parser.specs.Sound.{IsSound};
+ghost use Rattle.rule_types.specs.Sound.{IsSound};
 ghost use Rattle.rule_parser.specs.Written.{outside, option_texts, AreOptionTexts, IsOptionText, options_text};
 
 use crate::Rule;
@@ -15,7 +15,7 @@ use crate::fault::{Fault, RuleFault, stop_fault};
 use crate::header::{Header, HeaderTexts};
 use crate::options::rule_option;
 use crate::written::{are_blank, first_option};
-use conf_parser::Classes;
+use conf_types::Classes;
 use edge_io::Text;
 use net_lists::{Stop, Vars};
 use std::alloc::Global;

@@ -24,7 +24,7 @@ use crate::texts::{
     classtype_option, gid_option, msg_option, priority_option, rev_option, sid_option,
 };
 use crate::written::written;
-use conf_parser::Classes;
+use conf_types::Classes;
 use net_lists::Stop;
 use std::alloc::Global;
 

@@ -1,7 +1,7 @@
 //! Texts in double quotes: messages, contents and patterns.
 ghost use Rattle.std.specs.Prelude.{◌≡◌, ◌<◌, ◌==◌, ◌&&◌, ◌++◌, false, not, length, option_map, IfSome, OnOk};
 ghost use Rattle.net_lists.specs.Stops.{Gives, or_kind};
-ghost use Rattle.rule_parser.specs.Quotes.{closing_len, quoted, hex_value, has_bars, frees, may_end, silent, giving, bytes_of, plain_step, escaped_step, bars_step, half_step, step_at, meaning};
+ghost use Rattle.rule_parser.specs.Quotes.{closing_len, quoted, hex_value, has_bars, frees, silent, giving, bytes_of, plain_step, escaped_step, bars_step, half_step, step_at, end_bytes, meaning};
 
 use crate::fault::Fault;
 use edge_io::Text;
@@ -35,17 +35,6 @@ pub(crate) struct Step {
     /// A backslash goes before the byte.
     pub slash: bool,
     pub byte: Option<u8>,
-}
-
-impl Place {
-    fn may_end(self) -> bool
-        ensures { result ≡ may_end self }
-    {
-        match self {
-            Place::Plain => true,
-            Place::Escaped | Place::Bars | Place::Half(_) => false,
-        }
-    }
 }
 
 impl Step {
@@ -208,6 +197,17 @@ fn step_at(style: Style, place: Place, byte: u8) -> Option<Step>
     }
 }
 
+/// What the end of a text gives where it stands: in a pattern a lone backslash is no pair.
+fn end_step(style: Style, place: Place) -> Option<Step>
+    ensures { option_map (λ step. bytes_of step.slash step.byte) result ≡ end_bytes style place }
+{
+    match (place, style) {
+        (Place::Plain, _) => Some(Step::silent(Place::Plain)),
+        (Place::Escaped, Style::Pattern) => Some(Step::giving(Place::Plain, b'\\')),
+        _ => None,
+    }
+}
+
 /// Adds what a step gives.
 fn push_step(out: &mut Vec<u8>, step: Step) -> Result<(), AllocError>
     ensures { OnOk result (out.new.items ≡ out.old.items ++ bytes_of step.slash step.byte) }
@@ -234,8 +234,7 @@ pub(crate) fn meaning(alloc: Global, style: Style, text: &[u8]) -> Result<Text, 
         push_step(&mut out, step)?;
         place = step.place;
     }
-    if !place.may_end() {
-        return Err(Stop::Wrong(Fault::OptionValue));
-    }
+    let step = end_step(style, place).ok_or(Fault::OptionValue)?;
+    push_step(&mut out, step)?;
     Ok(Text::from_vec(out))
 }

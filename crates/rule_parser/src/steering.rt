@@ -9,37 +9,35 @@ use crate::fault::Fault;
 use crate::{Cmp, Opt, Side};
 use net_lists::{Parts, Stop, number_in};
 
-impl Side {
-    /// A side, or both.
-    #[tactic(auto, unfolding(crate::specs::Steering::side_of))]
-    fn read(text: &[u8]) -> Result<Side, Fault>
-        ensures { result ≡ side_of text.now }
-    {
-        if text == b"client".as_slice() {
-            Ok(Side::Client)
-        } else if text == b"server".as_slice() {
-            Ok(Side::Server)
-        } else if text == b"both".as_slice() {
-            Ok(Side::Both)
-        } else if text == b"fastpath".as_slice() {
-            Err(Fault::OutsideProfile)
-        } else {
-            Err(Fault::OptionValue)
-        }
+/// A side, or both.
+#[tactic(auto, unfolding(crate::specs::Steering::side_of))]
+fn side_of(text: &[u8]) -> Result<Side, Fault>
+    ensures { result ≡ side_of text.now }
+{
+    if text == b"client".as_slice() {
+        Ok(Side::Client)
+    } else if text == b"server".as_slice() {
+        Ok(Side::Server)
+    } else if text == b"both".as_slice() {
+        Ok(Side::Both)
+    } else if text == b"fastpath".as_slice() {
+        Err(Fault::OutsideProfile)
+    } else {
+        Err(Fault::OptionValue)
     }
+}
 
-    /// The sides whose sizes are compared.
-    #[tactic(auto, unfolding(crate::specs::Steering::sized_side))]
-    fn read_sized(text: &[u8]) -> Result<Side, Fault>
-        ensures { result ≡ sized_side text.now }
-    {
-        if text == b"either".as_slice() {
-            Ok(Side::Either)
-        } else if text == b"fastpath".as_slice() {
-            Err(Fault::OptionValue)
-        } else {
-            Side::read(text)
-        }
+/// The sides whose sizes are compared.
+#[tactic(auto, unfolding(crate::specs::Steering::sized_side))]
+fn sized_side(text: &[u8]) -> Result<Side, Fault>
+    ensures { result ≡ sized_side text.now }
+{
+    if text == b"either".as_slice() {
+        Ok(Side::Either)
+    } else if text == b"fastpath".as_slice() {
+        Err(Fault::OptionValue)
+    } else {
+        side_of(text)
     }
 }
 
@@ -78,7 +76,7 @@ pub(crate) fn stream_size_option(draft: Draft, value: &[u8]) -> Result<Draft, St
     ) else {
         return Err(Stop::Wrong(Fault::OptionValue));
     };
-    let side = Side::read_sized(first)?;
+    let side = sized_side(first)?;
     let cmp = size_cmp(second)?;
     let value = number_in(0, u32::MAX, third).ok_or(Fault::OptionValue)?;
     draft.kept(Opt::StreamSize { side, cmp, value })
@@ -131,7 +129,7 @@ pub(crate) fn stream_reassemble_option(draft: Draft, value: &[u8]) -> Result<Dra
     let first = parts.next().ok_or(Fault::OptionValue)?;
     let on = switched(first)?;
     let second = parts.next().ok_or(Fault::OptionValue)?;
-    let side = Side::read(second)?;
+    let side = side_of(second)?;
     let noalert = quiet(parts)?;
     Draft {
         noalert: draft.noalert || noalert,

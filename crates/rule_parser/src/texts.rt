@@ -2,12 +2,12 @@
 ghost use Rattle.std.specs.Prelude.{◌≡◌, MatchResult, Ok, Err};
 ghost use Rattle.net_lists.specs.Stops.{Gives};
 ghost use Rattle.rule_parser.specs.Texts.{once, gid_option, sid_option, rev_option, priority_option, quoted_whole, msg_option, class_named, classtype_option};
-ghost use Rattle.rule_parser.specs.RuleOption.{class_place};
+ghost use Rattle.conf_types.specs.Classes.{class_place};
 
 use crate::draft::{ClassName, Draft};
 use crate::fault::Fault;
 use crate::quoted::{Style, meaning, quoted};
-use conf_parser::Classes;
+use conf_types::Classes;
 use net_lists::{Stop, number_in};
 use std::alloc::Global;
 

@@ -10,9 +10,9 @@ use Rattle.option_eval.specs.Places.{Means}
 use Rattle.option_eval.specs.RuleSet.{RefusesText, RefusesOneOf, Rules, SameMeaning, FindWhatIsMeant}
 use Rattle.rule_parser.specs.declared.fault.RuleFault.{RuleFault}
 use Rattle.rule_parser.specs.declared.fault.RuleKind.TheVariants as kind
-use Rattle.rule_parser.specs.declared.option.Opt.{Opt}
-use Rattle.rule_parser.specs.declared.option.Opt.TheVariants as opt
-use Rattle.rule_parser.specs.declared.rule.Rule.{Rule}
+use Rattle.rule_types.specs.declared.option.Opt.{Opt}
+use Rattle.rule_types.specs.declared.option.Opt.TheVariants as opt
+use Rattle.rule_types.specs.declared.rule.Rule.{Rule}
 use Rattle.rule_parser.specs.Faults.{plain}
 use Rattle.snort_setup.specs.Rules.{is_taken, most_rules, judged}
 use Rattle.snort_setup.specs.Steps.{refused_one, Grows, Refuses, IsAdded, IsJudged}

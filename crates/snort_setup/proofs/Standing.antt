@@ -13,9 +13,9 @@ use Rattle.std.proofs.lemmas.List.Folds.{list_any-append, list_any_none}
 use Rattle.edge_io.specs.declared.pattern.Refusal.{Refusal}
 use Rattle.conf_parser.specs.declared.line.Line.{Line}
 use Rattle.option_eval.specs.RuleSet.{RefusesText, RefusesOneOf}
-use Rattle.rule_parser.specs.declared.option.Opt.{Opt}
-use Rattle.rule_parser.specs.declared.option.Opt.TheVariants as opt
-use Rattle.rule_parser.specs.declared.rule.Rule.{Rule}
+use Rattle.rule_types.specs.declared.option.Opt.{Opt}
+use Rattle.rule_types.specs.declared.option.Opt.TheVariants as opt
+use Rattle.rule_types.specs.declared.rule.Rule.{Rule}
 use Rattle.snort_setup.specs.Rules.{Frame, Standing, RulesEnd, end_at, nothing_stands, is_among, IsRule, LineGives, RulesGive, behind_line}
 use Rattle.snort_setup.specs.Answers.{IsPattern, HasPatternOf, IsRefusedLine, AreRefused}
 use Rattle.snort_setup.specs.Steps.{refused_one, grown_by, Grows}

@@ -5,14 +5,14 @@ use Rattle.std.specs.Bool.{OnTrue}
 use Rattle.std.proofs.lemmas.Bool.{false≢true}
 use Rattle.std.proofs.lemmas.List.Elements.{All-push, All-same}
 use Rattle.edge_io.specs.declared.pattern.Refusal.{Refusal}
-use Rattle.conf_parser.specs.declared.classes.Class.{Class}
+use Rattle.conf_types.specs.declared.classes.Class.{Class}
 use Rattle.conf_parser.specs.declared.line.Line.{Line}
 use Rattle.option_eval.specs.RuleSet.{RefusesOneOf}
 use Rattle.rule_parser.specs.declared.fault.RuleFault.{RuleFault}
-use Rattle.rule_parser.specs.declared.rule.Rule.{Rule}
+use Rattle.rule_types.specs.declared.rule.Rule.{Rule}
 use Rattle.rule_parser.specs.declared.fault.RuleKind.TheVariants as kind
 use Rattle.rule_parser.specs.Faults.{plain}
-use Rattle.rule_parser.specs.Sound.{IsSound}
+use Rattle.rule_types.specs.Sound.{IsSound}
 use Rattle.snort_setup.specs.Rules.{Frame, Standing, is_taken, most_rules, judged, IsRule, IsFaulty, LineGives, is_skippable, rule_warning, rule_error, behind_fault, behind_line}
 use Rattle.snort_setup.specs.Steps.{is_memory, refused_one, Refuses, IsJudged}
 use Rattle.snort_setup.proofs.Judging.{refused-none}

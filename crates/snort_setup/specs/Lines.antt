@@ -5,7 +5,7 @@ use Rattle.edge_io.specs.declared.pattern.Refusal.{Refusal}
 use Rattle.conf_parser.specs.declared.line.Line.{Line}
 use Rattle.option_eval.specs.RuleSet.{RefusesOneOf}
 use Rattle.rule_parser.specs.declared.fault.RuleFault.{RuleFault}
-use Rattle.rule_parser.specs.declared.rule.Rule.{Rule}
+use Rattle.rule_types.specs.declared.rule.Rule.{Rule}
 use Rattle.snort_setup.specs.declared.rules.LinesIn as lines
 use Rattle.snort_setup.specs.declared.rules.Progress as progress
 use Rattle.snort_setup.specs.declared.rules.RulesEnd as ends

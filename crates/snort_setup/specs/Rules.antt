@@ -12,12 +12,12 @@ use Rattle.std.specs.Prelude.{◌≡◌, ◌⊎◌, ◌≢◌, ℕ, ◌+◌, ◌
 use Rattle.std.specs.List.{list_any}
 use Rattle.std.specs.Result.{MatchResult}
 use Rattle.net_lists.specs.Variables.{Variables}
-use Rattle.conf_parser.specs.declared.classes.Class.{Class}
+use Rattle.conf_types.specs.declared.classes.Class.{Class}
 use Rattle.conf_parser.specs.declared.line.Line.{Line}
 use Rattle.rule_parser.specs.declared.fault.RuleKind.{RuleKind}
 use Rattle.rule_parser.specs.declared.fault.RuleKind.TheVariants as kind
 use Rattle.rule_parser.specs.declared.fault.RuleFault.{RuleFault}
-use Rattle.rule_parser.specs.declared.rule.Rule.{Rule}
+use Rattle.rule_types.specs.declared.rule.Rule.{Rule}
 use Rattle.rule_parser.specs.Faults.{plain}
 use Rattle.rule_parser.specs.RuleLine.{IsRuleLine, IsAnswered}
 use Rattle.snort_setup.specs.Texts.{rule_text, shown_by, file_at, error_line, warning_line}

@@ -13,13 +13,13 @@ use Rattle.std.specs.FinMap.{get}
 use Rattle.edge_io.specs.Files.{Files}
 use Rattle.edge_io.specs.OnResult.{◌>>=◌}
 use Rattle.net_lists.specs.Variables.{Variables}
-use Rattle.conf_parser.specs.declared.config.Config.{Config}
+use Rattle.conf_types.specs.declared.config.Config.{Config}
 use Rattle.conf_parser.specs.declared.loaded.Loaded.{Loaded}
 use Rattle.conf_parser.specs.declared.line.Warning.{Warning}
 use Rattle.conf_parser.specs.Loaded.{loaded_of}
 use Rattle.conf_parser.specs.Loading.{first_files}
 use Rattle.conf_parser.specs.Reading.{Ended, Whole, Refused as RefusedAt, Asks, Contents, told, read_files}
-use Rattle.rule_parser.specs.declared.rule.Rule.{Rule}
+use Rattle.rule_types.specs.declared.rule.Rule.{Rule}
 use Rattle.host_table.specs.declared.fault.HostFault.{HostFault}
 use Rattle.host_table.specs.declared.host_line.HostLine.{HostLine}
 use Rattle.host_table.specs.Hosts.{hosts_of}

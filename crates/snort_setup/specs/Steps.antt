@@ -8,8 +8,8 @@ use Rattle.option_eval.specs.RuleSet.{RefusesOneOf}
 use Rattle.rule_parser.specs.declared.fault.RuleKind.{RuleKind}
 use Rattle.rule_parser.specs.declared.fault.RuleKind.TheVariants as kind
 use Rattle.rule_parser.specs.declared.fault.RuleFault.{RuleFault}
-use Rattle.rule_parser.specs.declared.option.Opt.{Opt}
-use Rattle.rule_parser.specs.declared.rule.Rule.{Rule}
+use Rattle.rule_types.specs.declared.option.Opt.{Opt}
+use Rattle.rule_types.specs.declared.rule.Rule.{Rule}
 use Rattle.rule_parser.specs.Faults.{plain}
 
 -- ---- the maker

@@ -1,6 +1,6 @@
 //! The rules that were accepted.
 ghost use Rattle.std.specs.Prelude.{◌≡◌, [], length, nat_le, IfOk};
-ghost use Rattle.rule_parser.specs.Sound.{IsTriable};
+ghost use Rattle.rule_types.specs.Sound.{IsTriable};
 ghost use Rattle.option_eval.specs.RuleSet.{FindWhatIsMeant, SameMeaning};
 ghost use Rattle.snort_setup.specs.Rules.{is_taken, judged, most_rules};
 ghost use Rattle.snort_setup.specs.Steps.{IsAdded, IsJudged, refused_one, Grows, Refuses};

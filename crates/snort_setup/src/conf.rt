@@ -3,7 +3,7 @@ ghost use Rattle.std.specs.Prelude.{◌≡◌, ◌≤◌, IfOk, IfErr, Some};
 ghost use Rattle.edge_io.specs.Files.{Files};
 ghost use Rattle.edge_io.specs.Told.{Rose};
 ghost use Rattle.conf_parser.specs.Reading.{told};
-ghost use Rattle.conf_parser.specs.Sound.{IsSound};
+ghost use Rattle.conf_types.specs.Sound.{IsSound};
 ghost use Rattle.snort_setup.specs.Words.{words_of, first_variables, HasName};
 ghost use Rattle.snort_setup.specs.Setup.{conf_read, conf_warnings};
 ghost use Rattle.snort_setup.specs.Answers.{HasCause};

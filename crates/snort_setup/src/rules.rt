@@ -1,6 +1,6 @@
 //! The rule lines of a configuration, one behind another.
 ghost use Rattle.std.specs.Prelude.{◌≡◌, ◌&&◌, All, IfOk};
-ghost use Rattle.rule_parser.specs.Sound.{IsSound};
+ghost use Rattle.rule_types.specs.Sound.{IsSound};
 ghost use Rattle.option_eval.specs.RuleSet.{FindWhatIsMeant, SameMeaning};
 ghost use Rattle.snort_setup.specs.Setup.{frame_of};
 ghost use Rattle.snort_setup.specs.Pieces.{reason_text};

@@ -2,9 +2,9 @@
 ghost use Rattle.std.specs.Prelude.{◌≡◌, ◌≤◌, All, IfOk, IfErr, Some};
 ghost use Rattle.edge_io.specs.Files.{Files};
 ghost use Rattle.edge_io.specs.Told.{Rose};
-ghost use Rattle.conf_parser.specs.Sound as conf;
+ghost use Rattle.conf_types.specs.Sound as conf;
 ghost use Rattle.conf_parser.specs.Reading.{Ended};
-ghost use Rattle.rule_parser.specs.Sound.{IsSound};
+ghost use Rattle.rule_types.specs.Sound.{IsSound};
 ghost use Rattle.option_eval.specs.RuleSet.{FindWhatIsMeant, SameMeaning};
 ghost use Rattle.snort_setup.specs.Words.{words_of, Words, HasName};
 ghost use Rattle.snort_setup.specs.Answers.{SetsUp, HasCause, HasOneSetup};

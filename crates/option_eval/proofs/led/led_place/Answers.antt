@@ -2,7 +2,7 @@ use Rattle.std.proofs.Common.{ℤ, false, subst, rules}
 use Rattle.std.proofs.lemmas.Int.{to_z-of_z}
 use Rattle.std.specs.Int.{w32}
 use mir.Val.{SFits}
-use Rattle.rule_parser.specs.declared.option.Opt.TheVariants as opt
+use Rattle.rule_types.specs.declared.option.Opt.TheVariants as opt
 use Rattle.option_eval.specs.Ready.{pattern_of}
 use Rattle.option_eval.proofs.Leading.{made_either}
 use Rattle.option_eval.specs.Sets.{LeadsFrom, LeadsOnlyTo}

@@ -1,6 +1,6 @@
 use Rattle.std.proofs.Common.{◌≡◌, ◌+◌, ◌++◌, ◌∷◌, [], take, map, arith, sym, ap, ◌∙◌}
 use Rattle.std.proofs.lemmas.List.{take_more}
-use Rattle.rule_parser.specs.declared.option.Opt.{Opt}
+use Rattle.rule_types.specs.declared.option.Opt.{Opt}
 use Rattle.option_eval.specs.Ready.{IsReady, pattern_of}
 use Rattle.option_eval.specs.RuleSet.{IsMade}
 use Rattle.option_eval.proofs.Chosen.{zip_push, map_push, made_same}

@@ -1,8 +1,8 @@
 use Rattle.std.proofs.Common.{◌-◌, ◌∷◌, ℕ, List, length, arith, get_or, take, drop, map, slice_set, Bool, refl, sym, ap, subst, ◌∙◌}
 use Rattle.std.proofs.lemmas.Bool.{false≢true, eqb-true}
 use Rattle.std.proofs.lemmas.Result.{IfOk-weaker}
-use Rattle.rule_parser.specs.declared.option.Opt.TheVariants as opt
-use Rattle.rule_parser.specs.declared.option.Opt.{Opt}
+use Rattle.rule_types.specs.declared.option.Opt.TheVariants as opt
+use Rattle.rule_types.specs.declared.option.Opt.{Opt}
 use Rattle.option_eval.specs.Next.{next_set}
 use Rattle.option_eval.specs.Ready.{IsReady, pattern_of}
 use Rattle.option_eval.specs.RuleSet.{IsMade}

@@ -3,7 +3,7 @@ use Rattle.std.proofs.Common.{◌≡◌, ◌∙◌, sym, subst, Result}
 use Rattle.net_lists.specs.Stops.{Gives}
 use Rattle.rule_parser.specs.declared.draft.Draft.{Draft}
 use Rattle.rule_parser.specs.declared.fault.Fault.{Fault}
-use Rattle.rule_parser.specs.declared.option.Opt.TheVariants as opt
+use Rattle.rule_types.specs.declared.option.Opt.TheVariants as opt
 use Rattle.rule_parser.specs.ByteOptions.{seen, seen_comparison, byte_test_option}
 use Rattle.rule_parser.specs.Drafts.{kept}
 use Rattle.rule_parser.proofs.ByteReading.{test-read}

@@ -6,4 +6,4 @@ use Rattle.rule_parser.proofs.flags.flow_words.Goals as goal
 
 pub returns : goal.returns
 returns c =
-    c.fold_by.ensures ∙ ap (λ flow. draft_behind flow_word flow c.commas.result) c.nothing.ensures ∙ ap (λ parts. draft_behind flow_word no_flow parts) c.commas.ensures
+    c.fold_by.ensures ∙ ap (λ flow. draft_behind flow_word flow c.commas.result) c.no_flow.ensures ∙ ap (λ parts. draft_behind flow_word no_flow parts) c.commas.ensures

@@ -1,6 +1,6 @@
 use Rattle.std.proofs.Common.{[], List, refl, sym, ap, subst, ◌∙◌}
 use Rattle.std.proofs.lemmas.List.Elements.{All-nil, All-same}
-use Rattle.rule_parser.specs.Sound.{IsSound}
+use Rattle.rule_types.specs.Sound.{IsSound}
 use Rattle.conf_parser.specs.declared.line.Line.{Line}
 use Rattle.option_eval.specs.RuleSet.{FindWhatIsMeant}
 use Rattle.snort_setup.specs.declared.rules.Progress.{Progress}

@@ -1,7 +1,7 @@
 -- The lines before lead to what stands, what stands is sound, and the maker means what it meant.
 use Rattle.std.proofs.Common.{length}
 use Rattle.std.specs.Prelude.{All}
-use Rattle.rule_parser.specs.Sound.{IsSound}
+use Rattle.rule_types.specs.Sound.{IsSound}
 use Rattle.option_eval.specs.RuleSet.{FindWhatIsMeant, SameMeaning}
 use Rattle.snort_setup.specs.Lines.{lines_frame, standing_of}
 use Rattle.snort_setup.specs.Steps.{grown_by, Grows}

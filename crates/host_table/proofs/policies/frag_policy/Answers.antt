@@ -1,5 +1,0 @@
-use Rattle.host_table.proofs.PolicyNames.{frag_read}
-use Rattle.host_table.proofs.policies.frag_policy.Goals as goal
-
-pub returns : goal.returns
-returns c = frag_read c.args.name.now c.read.result c.read.ensures.some c.read.ensures.none
