@@ -3,7 +3,7 @@ use Rattle.std.proofs.Common.{◌≡◌, ℕ, ◌+◌, ◌<◌, ◌≤◌, true,
 use Rattle.std.specs.List.{find}
 use Rattle.std.proofs.lemmas.List.{at_drop_more, drop_all}
 use Rattle.std.proofs.lemmas.Bool.Decides.{nat_tests}
-use Rattle.rule_parser.specs.declared.option.Opt.{Opt}
+use Rattle.rule_types.specs.declared.option.Opt.{Opt}
 use Rattle.fast_pattern.specs.declared.choice.Sought.{Sought}
 use Rattle.fast_pattern.specs.FastPattern.{sought_of, with, sought_from, longer, longest, or_else, chosen}
 

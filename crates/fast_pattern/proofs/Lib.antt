@@ -1,6 +1,7 @@
 pub mod Blocking
 pub mod Children
 pub mod Choosing
+pub mod Covering
 pub mod Filing
 pub mod Filling
 pub mod Growing
@@ -16,8 +17,11 @@ pub mod Ordering
 pub mod Ports
 pub mod Rowing
 pub mod Selecting
+pub mod Shallow
 pub mod Siding
+pub mod Sieving
 pub mod Sizes
+pub mod Slots
 pub mod Stepping
 pub mod Tries
 pub mod Walking

@@ -1,5 +1,5 @@
 -- An automaton that was made finds its patterns.
-use Rattle.std.proofs.Common.{◌≡◌, ℕ, ◌+◌, ◌*◌, ◌<◌, List, [], length, get_or, slice_index, sym, ap, subst, ◌∙◌, arith, ⊎_elim}
+use Rattle.std.proofs.Common.{◌≡◌, ℕ, ◌+◌, ◌*◌, ◌<◌, IfSome, List, [], length, get_or, slice_index, sym, ap, subst, ◌∙◌, arith, ⊎_elim}
 use Rattle.std.proofs.lemmas.List.{get_or-map, get_or_default, length-map}
 use Rattle.std.proofs.lemmas.Bool.{cases_eq}
 use Rattle.fast_pattern.specs.declared.automaton.Automaton.{Automaton}
@@ -8,7 +8,8 @@ use Rattle.fast_pattern.specs.Letters.{AllTold}
 use Rattle.fast_pattern.specs.Words.{word_of, word_at, words_of}
 use Rattle.fast_pattern.specs.Growing.{AreGrown}
 use Rattle.fast_pattern.specs.Outputs.{AreWords, IsLastOf, AreOwned, either, IsNext, AreLinked, IsLinking, AreNexts}
-use Rattle.fast_pattern.specs.Rows.{AreEntries, IsLayout}
+use Rattle.fast_pattern.specs.Rows.{AreEntries, IsLayout, IsShallow}
+use Rattle.fast_pattern.specs.Sieving.{Sifts}
 use Rattle.fast_pattern.specs.Finding.{words_in, Finds}
 use Rattle.fast_pattern.proofs.Linking.{trie-closed, next-same, next-fail, either-some, either-none}
 
@@ -24,7 +25,7 @@ are-words letters patterns grown is =
       word = λ place h. (is.each place (omega (arith, count))).word ∙ sym (word-in letters patterns place (omega (arith, count)));
     }
 
-module _ (automaton : Automaton) (patterns : List (List ℕ)) (grown : Grown) (firsts sames : List ℕ) (told : AllTold automaton.letters patterns) (below : (byte : ℕ) → slice_index automaton.letters byte < automaton.trie.width) (is : AreGrown automaton.letters patterns (record { trie = automaton.trie; ends = grown.ends })) (owned : AreOwned grown.ends.items (length automaton.trie.steps.items + 1) firsts sames (length grown.ends.items)) (links : IsLinking automaton.trie firsts automaton.fails.items automaton.heads.items (length automaton.trie.steps.items + 1)) (nexts : AreNexts grown.ends.items sames automaton.fails.items automaton.heads.items automaton.nexts.items (length grown.ends.items)) (laid : IsLayout automaton.trie automaton.fails.items automaton.heads.items (record { dense = automaton.dense; table = automaton.table; entries = automaton.entries })) where
+module _ (automaton : Automaton) (patterns : List (List ℕ)) (grown : Grown) (firsts sames : List ℕ) (told : AllTold automaton.letters patterns) (below : (byte : ℕ) → slice_index automaton.letters byte < automaton.trie.width) (is : AreGrown automaton.letters patterns (record { trie = automaton.trie; ends = grown.ends })) (owned : AreOwned grown.ends.items (length automaton.trie.steps.items + 1) firsts sames (length grown.ends.items)) (links : IsLinking automaton.trie firsts automaton.fails.items automaton.heads.items (length automaton.trie.steps.items + 1)) (nexts : AreNexts grown.ends.items sames automaton.fails.items automaton.heads.items automaton.nexts.items (length grown.ends.items)) (laid : IsLayout automaton.trie automaton.fails.items automaton.heads.items (record { dense = automaton.dense; table = automaton.table; entries = automaton.entries })) (shallow : IsShallow automaton.trie automaton.dense automaton.shallow) (sifts : IfSome automaton.sieve (λ sieve. Sifts sieve patterns)) where
   abbrev words : List (List ℕ)
   words = words_of automaton.trie.steps.items
 
@@ -96,6 +97,8 @@ module _ (automaton : Automaton) (patterns : List (List ℕ)) (grown : Grown) (f
     chains = λ state h. all.chains state h;
     nexts = is-next;
     count = nexts.count ∙ is.count;
+    shallow = λ state h low. shallow.short words is.deep is.trie laid.fits state h low;
+    sifts = sifts;
   }
     where
       none : (n : ℕ) → n + 0 ≡ n

@@ -7,9 +7,9 @@ use Rattle.std.proofs.lemmas.List.{length-map, get_or-map, map-append}
 use Rattle.std.proofs.lemmas.List.Prefix.{at_from_reads}
 use Rattle.edge_io.specs.Matching.{folded}
 use Rattle.memchr.specs.Find.{OccursAt}
-use Rattle.rule_parser.specs.declared.option.Content.{Content}
-use Rattle.rule_parser.specs.declared.option.Opt.{Opt}
-use Rattle.rule_parser.specs.declared.option.Opt.TheVariants as opt
+use Rattle.rule_types.specs.declared.option.Content.{Content}
+use Rattle.rule_types.specs.declared.option.Opt.{Opt}
+use Rattle.rule_types.specs.declared.option.Opt.TheVariants as opt
 use Rattle.fast_pattern.specs.declared.choice.Sought.{Sought}
 use Rattle.fast_pattern.specs.FastPattern.{sought_at, sought_of, with, sought_from, longest, chosen, part_bytes, bytes_of, pattern_of}
 use Rattle.fast_pattern.specs.Letters.{lower}

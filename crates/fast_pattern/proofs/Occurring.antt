@@ -12,10 +12,10 @@ use Rattle.fast_pattern.specs.Candidates.{occurs}
 use Rattle.fast_pattern.specs.Words.{begins, has_ended, word_of}
 use Rattle.fast_pattern.proofs.Words.{same_bools}
 
-abbrev Infix : List ℕ → List ℕ → Type 0
+abbrev pub Infix : List ℕ → List ℕ → Type 0
 Infix needle hay = (front : List ℕ) × (back : List ℕ) × (hay ≡ front ++ (needle ++ back))
 
-begins-split : (word text : List ℕ) → begins word text ≡ true → (back : List ℕ) × (text ≡ word ++ back)
+pub begins-split : (word text : List ℕ) → begins word text ≡ true → (back : List ℕ) × (text ≡ word ++ back)
 unfolding begins
 begins-split [] text b = (text, refl)
 begins-split (x ∷ word) [] b = absurd (false≢true b)
@@ -29,12 +29,12 @@ unfolding begins
 begins-front [] back = refl
 begins-front (x ∷ word) back = and_from (eqb x x) (begins word (word ++ back)) (eq-eqb x x refl) (begins-front word back)
 
-ended-here : (word text : List ℕ) → begins word text ≡ true → has_ended word text ≡ true
+pub ended-here : (word text : List ℕ) → begins word text ≡ true → has_ended word text ≡ true
 unfolding has_ended
 ended-here word [] b = b
 ended-here word (x ∷ text) b = or_left (begins word (x ∷ text)) (has_ended word text) b
 
-ended-infix : (word text : List ℕ) → has_ended word text ≡ true → Infix word text
+pub ended-infix : (word text : List ℕ) → has_ended word text ≡ true → Infix word text
 unfolding has_ended
 ended-infix word [] e = let s = begins-split word [] e in ([], s.0, s.1)
 ended-infix word (x ∷ text) e = ⊎_elim
@@ -42,7 +42,7 @@ ended-infix word (x ∷ text) e = ⊎_elim
     (λ later. let s = ended-infix word text later in (x ∷ s.0, s.1, ap (λ ys. x ∷ ys) s.2))
     (or_cases (begins word (x ∷ text)) (has_ended word text) e)
 
-infix-ended : (word front back : List ℕ) → has_ended word (front ++ (word ++ back)) ≡ true
+pub infix-ended : (word front back : List ℕ) → has_ended word (front ++ (word ++ back)) ≡ true
 unfolding has_ended
 infix-ended word [] back = ended-here word (word ++ back) (begins-front word back)
 infix-ended word (x ∷ front) back = or_right (begins word (x ∷ (front ++ (word ++ back)))) (has_ended word (front ++ (word ++ back))) (infix-ended word front back)

@@ -1,6 +1,6 @@
 -- The hits and the rules without a pattern, in order, as far as their headers fit: the candidates.
 use Rattle.std.proofs.Common.{◌≡◌, ℕ, suc, ◌+◌, ◌<◌, Bool, true, false, ◌&&◌, ◌||◌, cond, ltb, eqb, ◌==◌, Option, Some, None, List, [], ◌∷◌, ◌++◌, length, map, get_or, slice_get, All, sym, refl, ap, subst, ◌∙◌, arith, ⊎_elim}
-use Rattle.std.specs.List.{filter, dedup, list_any, Contains}
+use Rattle.std.specs.List.{filter, dedup, Contains}
 use Rattle.std.specs.List.Sorted.{IsPermutation, IsSorted, IsStrictlyIncreasing}
 use Rattle.std.specs.Ordering.{nat_cmp}
 use Rattle.std.proofs.lemmas.Option.{slice_get-get_or}
@@ -9,12 +9,12 @@ use Rattle.std.proofs.lemmas.List.Sorted.{list_any-IsPermutation}
 use Rattle.std.proofs.lemmas.List.Folds.{Any-from_list_any, list_any_at, list_any-append}
 use Rattle.std.proofs.lemmas.List.Kept.{Contains-dedup_nat, Contains-from_dedup}
 use Rattle.std.proofs.lemmas.Map.Keys.{IsStrictlyIncreasing-dedup}
-use Rattle.std.proofs.lemmas.Bool.{false≢true, eqb-true, eq-eqb, or_cases, cases_lt, cases_Bool, ltb-true, lt-ltb, le-ltb, and_parts, and_left}
+use Rattle.std.proofs.lemmas.Bool.{false≢true, eqb-true, eq-eqb, or_cases, cases_lt, cases_Bool, lt-ltb, le-ltb, and_parts}
 use Rattle.packet_decode.specs.declared.packet.Body.{Body}
 use Rattle.packet_decode.specs.declared.packet.Body.TheVariants as body
-use Rattle.rule_parser.specs.declared.rule.Proto.{Proto}
-use Rattle.rule_parser.specs.declared.rule.Proto.TheVariants as proto
-use Rattle.rule_parser.specs.declared.rule.Rule.{Rule}
+use Rattle.rule_types.specs.declared.rule.Proto.{Proto}
+use Rattle.rule_types.specs.declared.rule.Proto.TheVariants as proto
+use Rattle.rule_types.specs.declared.rule.Rule.{Rule}
 use Rattle.fast_pattern.specs.declared.header.Asked.{Asked}
 use Rattle.fast_pattern.specs.declared.groups.Groups.{Groups}
 use Rattle.fast_pattern.specs.FastPattern.{pattern_of}

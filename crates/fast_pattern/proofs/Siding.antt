@@ -1,5 +1,5 @@
 -- At which ports rules are asked for, and that a rule that fits is.
-use Rattle.std.proofs.Common.{◌≡◌, ℕ, ◌+◌, ◌<◌, ◌≤◌, ◌==◌, Bool, true, false, not, ◌&&◌, ◌||◌, cond, eqb, ltb, Option, Some, None, slice_get, List, [], ◌∷◌, ◌++◌, length, map, get_or, All, sym, refl, ap, subst, ◌∙◌, arith, ⊎_elim}
+use Rattle.std.proofs.Common.{◌≡◌, ℕ, ◌+◌, ◌<◌, ◌≤◌, ◌==◌, Bool, true, false, not, ◌&&◌, ◌||◌, cond, ltb, Option, Some, None, slice_get, List, [], ◌∷◌, ◌++◌, length, All, sym, refl, ap, subst, ◌∙◌, arith, ⊎_elim}
 use Rattle.std.specs.List.{list_any}
 use Rattle.std.proofs.lemmas.Bool.{false≢true, eqb-true, eq-eqb, ne_eqb, lt-ltb, le-ltb, cases_eq, cases_lt, and_parts, and_right, or_cases, or_left, or_right}
 use Rattle.std.proofs.lemmas.Option.{slice_get_past}
@@ -9,8 +9,8 @@ use Rattle.net_lists.specs.declared.part.Bounds.{Bounds}
 use Rattle.net_lists.specs.declared.part.Part.{Part}
 use Rattle.packet_decode.specs.declared.packet.Body.{Body}
 use Rattle.packet_decode.specs.declared.packet.Body.TheVariants as body
-use Rattle.rule_parser.specs.declared.rule.Proto.{Proto}
-use Rattle.rule_parser.specs.declared.rule.Proto.TheVariants as proto
+use Rattle.rule_types.specs.declared.rule.Proto.{Proto}
+use Rattle.rule_types.specs.declared.rule.Proto.TheVariants as proto
 use Rattle.fast_pattern.specs.declared.header.Asked.{Asked}
 use Rattle.fast_pattern.specs.declared.header.Kind.{Kind}
 use Rattle.fast_pattern.specs.declared.index.Entry.{Entry}
@@ -22,7 +22,7 @@ use Rattle.fast_pattern.specs.Candidates.{has_port, ports_fit, header_fits}
 use Rattle.fast_pattern.specs.Blocks.{lies_in, has, is_filed, entries_of, AddBlocks, AreBlocks, IsChained, AddFiled}
 use Rattle.fast_pattern.specs.Words.{word_at}
 use Rattle.fast_pattern.specs.Kinds.{is_for_some, is_plain}
-use Rattle.fast_pattern.specs.Sides.{is_any, key_of, stands_in, stands_some, stands_at, is_asked, is_sought, is_due, AreSoughtAt, AreFiled, IsSide, AreSides, AddSought}
+use Rattle.fast_pattern.specs.Sides.{is_any, key_of, stands_in, stands_some, stands_at, is_asked, is_sought, is_due, AreSoughtAt, AreFiled, IsSide, AddSought}
 use Rattle.fast_pattern.proofs.Filing.{filed-new}
 
 any-none : (ports : List (Part (Bounds ℕ))) → is_any ports ≡ true → ports ≡ []

@@ -2,13 +2,13 @@
 use Rattle.std.proofs.Common.{◌≡◌, ℕ, ◌+◌, ◌<◌, ◌≤◌, Bool, true, false, cond, ltb, Option, Some, None, List, [], ◌∷◌, length, IfSome, sym, ap, subst, ◌∙◌, arith}
 use Rattle.std.specs.Bool.{⊤}
 use Rattle.std.specs.List.{find}
-use Rattle.rule_parser.specs.declared.option.Content.{Content}
-use Rattle.rule_parser.specs.declared.option.FastMode.{FastMode}
-use Rattle.rule_parser.specs.declared.option.FastMode.TheVariants as mode
-use Rattle.rule_parser.specs.declared.option.Opt.{Opt}
-use Rattle.rule_parser.specs.declared.option.Opt.TheVariants as opt
-use Rattle.rule_parser.specs.declared.rule.Rule.{Rule}
-use Rattle.rule_parser.specs.Sound.{IsContent, IsFast, IsOption, AreOptions, names_behind, IsTriable}
+use Rattle.rule_types.specs.declared.option.Content.{Content}
+use Rattle.rule_types.specs.declared.option.FastMode.{FastMode}
+use Rattle.rule_types.specs.declared.option.FastMode.TheVariants as mode
+use Rattle.rule_types.specs.declared.option.Opt.{Opt}
+use Rattle.rule_types.specs.declared.option.Opt.TheVariants as opt
+use Rattle.rule_types.specs.declared.rule.Rule.{Rule}
+use Rattle.rule_types.specs.Sound.{IsContent, IsFast, IsOption, AreOptions, names_behind, IsTriable}
 use Rattle.fast_pattern.specs.declared.choice.Sought.{Sought}
 use Rattle.fast_pattern.specs.FastPattern.{first_of, size_of, sought_at, sought_of, with, sought_from, longer, longest, or_else, chosen}
 

@@ -6,7 +6,7 @@
 -- block has a number close to its own.
 -- To try it on: port 80 lies in 17 blocks: all ports (65536), the ports below 32768 (32768), and so on down
 -- to 80 and 81 (162), and 80 alone (161). The list 80:95 is the block 80:95 alone, with the number 176.
-use Rattle.std.specs.Prelude.{◌≡◌, ℕ, zero, suc, ◌+◌, ◌-◌, ◌*◌, ◌^◌, ◌<◌, ◌≤◌, ◌==◌, Bool, true, false, not, ◌&&◌, ◌||◌, List, ◌++◌, All, length, map, nat_lt, nat_le, take, slice_index_or, if◌then◌else◌}
+use Rattle.std.specs.Prelude.{◌≡◌, ℕ, zero, suc, ◌+◌, ◌-◌, ◌*◌, ◌^◌, ◌<◌, ◌≤◌, ◌==◌, Bool, not, ◌&&◌, ◌||◌, List, ◌++◌, All, length, map, nat_lt, nat_le, take, slice_index_or, if◌then◌else◌}
 use Rattle.std.specs.List.{list_any, list_all}
 use Rattle.net_lists.specs.declared.part.Bounds.{Bounds}
 use Rattle.net_lists.specs.declared.part.Part.{Part}

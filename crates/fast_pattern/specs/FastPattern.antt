@@ -7,12 +7,12 @@
 use Rattle.std.specs.Prelude.{ℕ, ◌+◌, List, [], ◌∷◌, Option, Some, None, length, take, drop, nat_lt, slice_get, if◌then◌else◌}
 use Rattle.std.specs.List.{find}
 use Rattle.std.specs.Option.{option_map}
-use Rattle.rule_parser.specs.declared.option.Content.{Content}
-use Rattle.rule_parser.specs.declared.option.FastMode.{FastMode}
-use Rattle.rule_parser.specs.declared.option.FastMode.TheVariants as mode
-use Rattle.rule_parser.specs.declared.option.Opt.{Opt}
-use Rattle.rule_parser.specs.declared.option.Opt.TheVariants as opt
-use Rattle.rule_parser.specs.Sound.{is_chosen}
+use Rattle.rule_types.specs.declared.option.Content.{Content}
+use Rattle.rule_types.specs.declared.option.FastMode.{FastMode}
+use Rattle.rule_types.specs.declared.option.FastMode.TheVariants as mode
+use Rattle.rule_types.specs.declared.option.Opt.{Opt}
+use Rattle.rule_types.specs.declared.option.Opt.TheVariants as opt
+use Rattle.rule_types.specs.Sound.{is_chosen}
 use Rattle.fast_pattern.specs.declared.choice.Fast.{Fast}
 use Rattle.fast_pattern.specs.declared.choice.Sought.{Sought}
 

@@ -3,7 +3,7 @@
 --
 -- To try it on: for the patterns he, she and his, a walk over `ushe` has marked and listed he and she, in
 -- the order in which their chain has them: she, he.
-use Rattle.std.specs.Prelude.{◌≡◌, ℕ, zero, suc, ◌+◌, ◌-◌, ◌*◌, ◌/◌, ◌%◌, ◌<◌, ◌≤◌, Bool, true, false, ◌&&◌, ◌||◌, List, [], ◌∷◌, length, map, nat_lt, slice_index, if◌then◌else◌}
+use Rattle.std.specs.Prelude.{◌≡◌, ℕ, zero, suc, ◌+◌, ◌-◌, ◌*◌, ◌/◌, ◌%◌, ◌<◌, ◌≤◌, Bool, true, false, ◌&&◌, ◌||◌, List, [], ◌∷◌, length, map, take, nat_lt, slice_index, if◌then◌else◌, IfSome}
 use Rattle.std.specs.List.Sorted.{IsPermutation}
 use Rattle.fast_pattern.specs.declared.automaton.Automaton.{Automaton}
 use Rattle.fast_pattern.specs.declared.seen.Seen.{Seen}
@@ -11,7 +11,8 @@ use Rattle.fast_pattern.specs.Letters.{AllTold}
 use Rattle.fast_pattern.specs.Marking.{is_marked}
 use Rattle.fast_pattern.specs.Words.{begins, has_ended, word_of, word_at, IsClosed, IsAt, IsTrieOf}
 use Rattle.fast_pattern.specs.Outputs.{AreWords, is_left, IsHead, IsNext, AreFailing}
-use Rattle.fast_pattern.specs.Rows.{sparse, place_of, state_of, HasEntry, AreRows, AreEntries}
+use Rattle.fast_pattern.specs.Sieving.{Sifts}
+use Rattle.fast_pattern.specs.Rows.{sparse, few_letters, place_of, state_of, HasEntry, AreRows, AreEntries}
 
 -- the numbers from one on, so many, for which the test holds, in ascending order
 unfoldable pub numbers : (ℕ → Bool) → ℕ → ℕ → List ℕ
@@ -74,14 +75,18 @@ pub record Finds (automaton : Automaton) (patterns : List (List ℕ)) : Type 0 w
   pub chains : (state : ℕ) → state < length words → IsHead (words_in automaton.letters patterns) (word_at words state) (slice_index automaton.heads.items state)
   pub nexts : AreChained (words_in automaton.letters patterns) automaton.nexts.items
   pub count : length automaton.nexts.items ≡ length patterns
+  pub shallow : (state : ℕ) → state < length words → place_of automaton.trie.width automaton.dense state < automaton.shallow
+      → length (word_at words state) ≤ few_letters
+  pub sifts : IfSome automaton.sieve (λ sieve. Sifts sieve patterns)
 
--- behind what was read the walk stands at a state's row, and has marked and listed what has ended
-pub record IsWalked (automaton : Automaton) (patterns words : List (List ℕ)) (read : List ℕ) (at : ℕ) (seen : Seen) (hits : List ℕ) : Type 0 where
+-- behind what was read, since when some patterns were marked, the walk stands at a state's row, and has marked and
+-- listed what has ended
+pub record IsWalked (automaton : Automaton) (patterns words : List (List ℕ)) (read : List ℕ) (at : ℕ) (old seen : Seen) (hits : List ℕ) : Type 0 where
   pub state : ℕ
   pub within : state < length words
   pub row : at ≡ place_of automaton.trie.width automaton.dense state
   pub is : IsAt words read (word_at words state)
-  pub marked : (place : ℕ) → place < length patterns → is_marked seen place ≡ is_ended patterns read place
+  pub marked : (place : ℕ) → place < length patterns → is_marked seen place ≡ (is_marked old place || is_ended patterns read place)
   pub listed : IsPermutation (numbers (is_marked seen) 0 (length patterns)) hits
 
 -- a move from the state with a place
@@ -93,8 +98,29 @@ pub record StepsBack (automaton : Automaton) (state letter entry : ℕ) : Type 0
   pub stepped : (patterns : List (List ℕ)) (finds : Finds automaton patterns) → state < length finds.words → letter < automaton.trie.width → HasEntry finds.words automaton.entries.items state letter entry
 
 -- whatever the patterns are that the automaton finds, the walk is right so far
-pub record Walks (automaton : Automaton) (read : List ℕ) (at : ℕ) (seen : Seen) (hits : List ℕ) : Type 0 where
-  pub walked : (patterns : List (List ℕ)) (finds : Finds automaton patterns) → IsWalked automaton (words_in automaton.letters patterns) finds.words read at seen hits
+pub record Walks (automaton : Automaton) (read : List ℕ) (at : ℕ) (old : Seen) (old_hits : List ℕ) (seen : Seen) (hits : List ℕ) : Type 0 where
+  pub walked : (patterns : List (List ℕ)) (finds : Finds automaton patterns)
+      → IsClosedUnder (words_in automaton.letters patterns) old
+      → IsPermutation (numbers (is_marked old) 0 (length (words_in automaton.letters patterns))) old_hits
+      → IsWalked automaton (words_in automaton.letters patterns) finds.words read at old seen hits
+
+-- no pattern but such as occur is marked, and each one is that begins before a place, wherever it ends
+pub record IsCovered (letters : List ℕ) (patterns : List (List ℕ)) (bytes : List ℕ) (done : ℕ) (seen : Seen) (hits : List ℕ) : Type 0 where
+  pub sound : (place : ℕ) → place < length patterns → is_marked seen place ≡ true → is_ended patterns (word_of letters bytes) place ≡ true
+  pub whole : (place end : ℕ) → place < length patterns → 0 < length (word_at patterns place) → end ≤ length bytes
+      → end < done + length (word_at patterns place) → begins (word_at patterns place) (word_of letters (take end bytes)) ≡ true → is_marked seen place ≡ true
+  pub closed : IsClosedUnder patterns seen
+  pub listed : IsPermutation (numbers (is_marked seen) 0 (length patterns)) hits
+
+-- the same for whatever patterns the automaton finds
+pub record Covers (automaton : Automaton) (bytes : List ℕ) (done : ℕ) (seen : Seen) (hits : List ℕ) : Type 0 where
+  pub covered : (patterns : List (List ℕ)) → Finds automaton patterns
+      → IsCovered automaton.letters (words_in automaton.letters patterns) bytes done seen hits
+
+-- where all that begins before one place was marked, all that begins before another is now
+pub record CoversOn (automaton : Automaton) (bytes : List ℕ) (from : ℕ) (old : Seen) (old_hits : List ℕ)
+    (to : ℕ) (new : Seen) (new_hits : List ℕ) : Type 0 where
+  pub on : Covers automaton bytes from old old_hits → Covers automaton bytes to new new_hits
 
 -- the chain of a state was marked and listed
 pub record Marks (automaton : Automaton) (at : ℕ) (old : Seen) (old_hits : List ℕ) (new : Seen) (new_hits : List ℕ) : Type 0 where

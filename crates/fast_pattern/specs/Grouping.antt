@@ -6,7 +6,7 @@
 use Rattle.std.specs.Prelude.{◌≡◌, ℕ, Bool, false, ◌&&◌, ◌||◌, List, [], ◌++◌, Option, Some, None, length, map, slice_get}
 use Rattle.packet_decode.specs.declared.item.ItemHead.{ItemHead}
 use Rattle.packet_decode.specs.declared.packet.Body.{Body}
-use Rattle.rule_parser.specs.declared.rule.Rule.{Rule}
+use Rattle.rule_types.specs.declared.rule.Rule.{Rule}
 use Rattle.fast_pattern.specs.declared.header.Asked.{Asked}
 use Rattle.fast_pattern.specs.declared.header.Kind.TheVariants as kinds
 use Rattle.fast_pattern.specs.declared.groups.Groups.{Groups}

@@ -11,4 +11,6 @@ pub mod Moves
 pub mod Outputs
 pub mod Rows
 pub mod Sides
+pub mod Sieving
+pub mod Windows
 pub mod Words

@@ -59,3 +59,24 @@ pub record IsLayout (trie : Trie) (fails heads : List ℕ) (laid : Rows) : Type 
   pub fits : laid.dense * trie.width ≤ sparse
   pub moves : AreEntries trie.width laid.dense heads laid.entries.items (length trie.steps.items + 1)
   pub rows : HasRows trie fails laid.entries.items laid.dense 0 laid.table.items
+
+-- so many letters are few
+abbrev pub few_letters : ℕ
+few_letters = 3
+
+-- the state that is shorter by a letter, of whatever words this is the trie; the root for the root
+pub record IsParent (trie : Trie) (state up : ℕ) : Type 0 where
+  pub within : (words : List (List ℕ)) (deep : ℕ) → IsTrieOf words trie deep → state < length words → up < length words
+  pub longer : (words : List (List ℕ)) (deep : ℕ) → IsTrieOf words trie deep → state < length words
+      → length (word_at words state) ≤ length (word_at words up) + 1
+  pub root : state ≡ 0 → up ≡ 0
+
+-- so many of the first states have words of few letters
+pub record AreShallow (trie : Trie) (count : ℕ) : Type 0 where
+  pub short : (words : List (List ℕ)) (deep : ℕ) → IsTrieOf words trie deep → (state : ℕ) → state < count → state < length words
+      → length (word_at words state) ≤ few_letters
+
+-- where the place of a state is below this, its word has few letters
+pub record IsShallow (trie : Trie) (dense bound : ℕ) : Type 0 where
+  pub short : (words : List (List ℕ)) (deep : ℕ) → IsTrieOf words trie deep → dense * trie.width ≤ sparse → (state : ℕ)
+      → state < length words → place_of trie.width dense state < bound → length (word_at words state) ≤ few_letters

@@ -11,8 +11,8 @@ use Rattle.net_lists.specs.declared.part.Bounds.{Bounds}
 use Rattle.net_lists.specs.declared.part.Part.{Part}
 use Rattle.packet_decode.specs.declared.packet.Body.{Body}
 use Rattle.packet_decode.specs.declared.packet.Body.TheVariants as body
-use Rattle.rule_parser.specs.declared.rule.Proto.{Proto}
-use Rattle.rule_parser.specs.declared.rule.Proto.TheVariants as proto
+use Rattle.rule_types.specs.declared.rule.Proto.{Proto}
+use Rattle.rule_types.specs.declared.rule.Proto.TheVariants as proto
 use Rattle.fast_pattern.specs.declared.header.Asked.{Asked}
 use Rattle.fast_pattern.specs.declared.header.Kind.{Kind}
 use Rattle.fast_pattern.specs.declared.index.Entry.{Entry}

@@ -1,4 +1,4 @@
-//! One walk over a payload finds all patterns that occur in it.
+//! Finds all patterns that occur in a payload: walks from where the sieve lets one begin, or one walk over it all.
 
 ghost use Rattle.std.specs.Prelude.{◌≡◌, ℕ, ◌≤◌, ◌<◌, ◌==◌, ◌&&◌, ◌||◌, not, length, nat_lt, IfOk, OnOk};
 ghost use Rattle.fast_pattern.specs.Finding.{Follows};
@@ -9,8 +9,9 @@ use crate::ends::Grown;
 use crate::letters::letters_of;
 use crate::links::{Links, Owned, nexts};
 use crate::moves::reach;
-use crate::rows::{Rows, SPARSE};
+use crate::rows::{FEW_LETTERS, Rows, SPARSE, shallow_bound};
 use crate::seen::Seen;
+use crate::sieve::Sieve;
 use crate::trie::{Trie, place, read};
 use edge_io::{NoMemory, Text};
 use std::alloc::{AllocError, Global};
@@ -35,6 +36,10 @@ pub struct Automaton {
     pub heads: Vec<u32>,
     /// The pattern behind each one in the chains: its place, plus one.
     pub nexts: Vec<u32>,
+    /// A state whose place is below this has a word of at most `FEW_LETTERS` letters.
+    pub shallow: u64,
+    /// Where a pattern may begin; none where too many places would pass.
+    pub sieve: Option<Sieve>,
 }
 
 /// Marks a place below a count, and answers whether it is one that wasn't marked before.
@@ -66,8 +71,26 @@ fn follow(nexts: &[u32], head: u32, seen: &mut Seen, hits: &mut Vec<u32>) -> Res
     Ok(())
 }
 
+/// How far the first walk goes at least, and each one behind a long skip: a walk gives back the last `FEW_LETTERS` bytes.
+const SHORT_REACH: usize = FEW_LETTERS + 1;
+
+/// How far a walk goes at least behind many short skips, which cost more than they spare.
+const LONG_REACH: usize = 256;
+
+/// A skip over fewer bytes is short: beginning a walk anew takes longer than it spares.
+const SHORT_SKIP: usize = 16;
+
+/// How far the next walk goes at least: twice as far behind a short skip.
+fn next_reach(reach: usize, skipped: usize) -> usize {
+    if skipped < SHORT_SKIP {
+        reach.saturating_mul(2).min(LONG_REACH)
+    } else {
+        SHORT_REACH
+    }
+}
+
 impl Automaton {
-    ghost use Rattle.fast_pattern.specs.Finding.{Finds, Steps, StepsBack, Walks, Marks, Notes, AreHits};
+    ghost use Rattle.fast_pattern.specs.Finding.{Finds, Steps, StepsBack, CoversOn, Marks, Notes, AreHits};
 
     /// The automaton of these patterns; an empty one is none.
     pub fn of(alloc: Global, patterns: &[Text]) -> Result<Automaton, NoMemory>
@@ -75,6 +98,7 @@ impl Automaton {
         ensures { IfOk result (λ automaton. Finds automaton patterns.now) }
     {
         let letters = letters_of(patterns);
+        let sieve = Sieve::of(alloc, patterns)?;
         let grown = Grown::of(alloc, &letters, patterns)?;
         let Grown { trie, ends } = grown;
         let owned = Owned::of(alloc, trie.steps.len() + 1, &ends)?;
@@ -87,6 +111,7 @@ impl Automaton {
             table,
             entries,
         } = rows;
+        let shallow = shallow_bound(&trie, dense);
         Ok(Automaton {
             letters: letters.of,
             trie,
@@ -96,6 +121,8 @@ impl Automaton {
             fails,
             heads,
             nexts,
+            shallow,
+            sieve,
         })
     }
 
@@ -157,19 +184,84 @@ impl Automaton {
         Ok(())
     }
 
+    /// Walks from the root over the bytes from one place on, up to their end or, past another place, to a state
+    /// of few letters, and gives back as many bytes. What begins before the answer is marked then.
+    fn walk(
+        &self,
+        bytes: &[u8],
+        from: usize,
+        reach: usize,
+        seen: &mut Seen,
+        hits: &mut Vec<u32>,
+    ) -> Result<usize, NoMemory>
+        requires { from < length bytes.now }
+        ensures covers { IfOk result (λ to. CoversOn self.now bytes.now from seen.old hits.old.items to seen.new hits.new.items) }
+        ensures on { IfOk result (λ to. from < to) }
+        ensures within { IfOk result (λ to. to ≤ length bytes.now) }
+    {
+        let reach = reach.max(from.saturating_add(SHORT_REACH));
+        let mut at = 0;
+        let mut done = from;
+        while done < bytes.len() {
+            let letter = self.letters[bytes[done] as usize];
+            let entry = self.step(at, letter);
+            at = entry / 2;
+            done += 1;
+            self.note(entry, seen, hits)?;
+            if reach <= done && u64::from(at) < self.shallow {
+                return Ok(done - FEW_LETTERS);
+            }
+        }
+        Ok(done)
+    }
+
+    /// Marks and lists the patterns that occur in the bytes, by one walk over all of them.
+    fn mark_in_one_walk(
+        &self,
+        bytes: &[u8],
+        seen: &mut Seen,
+        hits: &mut Vec<u32>,
+    ) -> Result<(), NoMemory>
+        ensures { OnOk result (CoversOn self.now bytes.now 0 seen.old hits.old.items (length bytes.now) seen.new hits.new.items) }
+    {
+        let mut at = 0;
+        for byte in bytes {
+            let letter = self.letters[*byte as usize];
+            let entry = self.step(at, letter);
+            at = entry / 2;
+            self.note(entry, seen, hits)?;
+        }
+        Ok(())
+    }
+
+    /// Marks and lists the patterns that occur in the bytes.
+    fn mark_all(&self, bytes: &[u8], seen: &mut Seen, hits: &mut Vec<u32>) -> Result<(), NoMemory>
+        ensures { OnOk result (CoversOn self.now bytes.now 0 seen.old hits.old.items (length bytes.now) seen.new hits.new.items) }
+    {
+        let Some(sieve) = &self.sieve else {
+            self.mark_in_one_walk(bytes, seen, hits)?;
+            return Ok(());
+        };
+        let mut done = 0;
+        let mut reach = SHORT_REACH;
+        while done < bytes.len() {
+            let from = sieve.next_start(bytes, done);
+            if bytes.len() <= from {
+                return Ok(());
+            }
+            reach = next_reach(reach, from - done);
+            done = self.walk(bytes, from, from.saturating_add(reach), seen, hits)?;
+        }
+        Ok(())
+    }
+
     /// The patterns that occur in the bytes, each once, in no order. Empty ones aren't told.
     pub fn hits(&self, alloc: Global, bytes: &[u8]) -> Result<Vec<u32>, NoMemory>
         ensures { IfOk result (λ hits. AreHits self.now bytes.now hits.items) }
     {
         let mut seen = Seen::new(alloc);
         let mut hits = Vec::new(alloc);
-        let mut at = 0;
-        for byte in bytes {
-            let letter = self.letters[*byte as usize];
-            let entry = self.step(at, letter);
-            at = entry / 2;
-            self.note(entry, &mut seen, &mut hits)?;
-        }
+        self.mark_all(bytes, &mut seen, &mut hits)?;
         Ok(hits)
     }
 }

@@ -1,10 +1,10 @@
 //! The fast pattern of a rule: the content that is looked for first.
 
 ghost use Rattle.std.specs.Prelude.{◌≡◌, Option, Some, option_map};
-ghost use Rattle.rule_parser.specs.Sound.{IsTriable};
+ghost use Rattle.rule_types.specs.Sound.{IsTriable};
 ghost use Rattle.fast_pattern.specs.FastPattern.{sought_at, sought_of, longer, chosen, fast_of};
 
-use rule_parser::{Content, FastMode, Opt, Rule};
+use rule_types::{Content, FastMode, Opt, Rule};
 
 /// The fast pattern of a rule: a part of one of its contents.
 #[derive(Clone, Copy, Debug, PartialEq, Eq)]

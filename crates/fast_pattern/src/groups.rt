@@ -1,7 +1,7 @@
 //! The rules in groups, and the candidates among them for an item.
 
 ghost use Rattle.std.specs.Prelude.{◌≡◌, ℕ, ◌≤◌, ◌<◌, List, true, length, map, filter, take, drop, slice_get, IfOk, OnOk, OnErr, IsTrue, ◌↔◌};
-ghost use Rattle.rule_parser.specs.declared.rule.Rule.{Rule};
+ghost use Rattle.rule_types.specs.declared.rule.Rule.{Rule};
 ghost use Rattle.fast_pattern.specs.FastPattern.{bytes_of, pattern_of};
 ghost use Rattle.net_lists.specs.declared.part.Bounds.{Bounds};
 ghost use Rattle.net_lists.specs.declared.part.Part.{Part};
@@ -14,7 +14,7 @@ use crate::header::{Asked, Kind};
 use crate::sides::{Sides, is_plain};
 use edge_io::{NoMemory, Text};
 use packet_decode::{Body, ItemHead};
-use rule_parser::{Opt, Rule};
+use rule_types::{Opt, Rule};
 use std::alloc::{AllocError, Global};
 
 /// Rules by what a packet must have to be worth a try: one automaton has the fast patterns of them all, and

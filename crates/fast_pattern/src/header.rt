@@ -6,7 +6,7 @@ ghost use Rattle.fast_pattern.specs.Candidates.{has_port, ports_fit, header_fits
 use edge_io::NoMemory;
 use net_lists::PortList;
 use packet_decode::Body;
-use rule_parser::{Proto, Rule};
+use rule_types::{Proto, Rule};
 use std::alloc::Global;
 
 /// What decides it: the protocol, the ports and the direction of a rule.

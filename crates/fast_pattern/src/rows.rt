@@ -1,14 +1,17 @@
 //! The layout of the moves: rows for the first states, and the moves to all states.
 
 ghost use Rattle.std.specs.Prelude.{◌≡◌, ◌+◌, ◌*◌, ◌^◌, ◌<◌, ◌≤◌, IfOk, OnOk};
-ghost use Rattle.fast_pattern.specs.Rows.{sparse, place_of, entry_of, AreEntries, IsNextEntry, HasRows};
+ghost use Rattle.fast_pattern.specs.Rows.{sparse, place_of, entry_of, AreEntries, IsNextEntry, HasRows, IsParent, AreShallow, IsShallow};
 
-use crate::trie::{Trie, place, read};
+use crate::trie::{Trie, place, read, step_at};
 use edge_io::NoMemory;
 use std::alloc::{AllocError, Global};
 
 /// The first place that no row has.
 pub const SPARSE: u32 = 1_073_741_824;
+
+/// So many letters are few: a state with a shorter word lies near the root.
+pub const FEW_LETTERS: usize = 3;
 
 /// How many moves rows have for each state, all in all.
 const MOVES: usize = 20;
@@ -120,6 +123,42 @@ fn table_of(
         push_row(trie, fails, entries, state, &mut table)?;
     }
     Ok(table)
+}
+
+/// The state that is shorter by a letter; the root for the root.
+fn parent(trie: &Trie, state: u32) -> u32
+    ensures { IsParent trie.now state result }
+{
+    if state == 0 {
+        return 0;
+    }
+    step_at(&trie.steps, state as usize - 1).up
+}
+
+/// So many of the first states have words of at most `FEW_LETTERS` letters: all that do, where the numbers suffice.
+fn shallow_count(trie: &Trie) -> u32
+    ensures { AreShallow trie.now result }
+{
+    let most = u32::try_from(trie.steps.len()).unwrap_or(0);
+    let mut count = 0;
+    while count < most {
+        let state = count + 1;
+        let one = parent(trie, state);
+        let two = parent(trie, one);
+        if parent(trie, two) != 0 {
+            return state;
+        }
+        count = state;
+    }
+    count.saturating_add(1)
+}
+
+/// A place below which states have words of at most `FEW_LETTERS` letters.
+pub fn shallow_bound(trie: &Trie, dense: u32) -> u64
+    ensures { IsShallow trie.now dense result }
+{
+    let state = shallow_count(trie);
+    place_of(trie.width, dense, state)
 }
 
 /// How many of the first states have a row, their rows, and the moves to all states.

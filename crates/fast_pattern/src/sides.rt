@@ -9,7 +9,7 @@ use crate::header::{Asked, Kind};
 use crate::index::{Entry, PortIndex, push_entries};
 use edge_io::{NoMemory, Text};
 use net_lists::PortPart;
-use rule_parser::Proto;
+use rule_types::Proto;
 use std::alloc::{AllocError, Global};
 
 /// The side of a packet whose port is looked at.

@@ -6,9 +6,9 @@
 //! that a batch of several is worth threads.
 
 ghost use Rattle.std.specs.Prelude.{◌≡◌, ◌+◌, ◌<◌, ◌≤◌, ◌^◌, All, IfOk, OnOk, length};
-ghost use Rattle.conf_parser.specs.Sound.{IsStreamConfig};
+ghost use Rattle.conf_types.specs.Sound.{IsStreamConfig};
 ghost use Rattle.fast_pattern.specs.Grouping.{StandFor};
-ghost use Rattle.rule_parser.specs.Sound.{IsTriable};
+ghost use Rattle.rule_types.specs.Sound.{IsTriable};
 ghost use Rattle.flow_lanes.specs.Course.{AreFrom, IsCourse, IsPlain};
 
 use crate::setup::{Setup, rules};

@@ -2,7 +2,7 @@
 //! 3.5.
 
 ghost use Rattle.std.specs.Prelude.{IfOk};
-ghost use Rattle.rule_parser.specs.Sound.{IsTriable};
+ghost use Rattle.rule_types.specs.Sound.{IsTriable};
 
 use conf_parser::Classes;
 use edge_io::crossing::{sendable, shareable};
@@ -127,6 +127,84 @@ fragment|0|0|abcd|77";
 #[test]
 fn patterns_within_patterns(rt: HostRuntime) -> Result<(), Fail> {
     check_rows(&rt, rt.alloc(), WITHIN, WITHIN_ROWS)
+}
+
+/// Contents of rules, a payload and the candidates. Where the shortest content has 7, 6, 5, 4 and 2 letters: at the
+/// very end of payloads of all lengths up to what is looked at at once, and behind; a letter short, and a letter
+/// wrong; in the other case; a byte that differs as cases do; contents that overlap, end in one another, begin behind
+/// a beginning of their own, and stand far behind. Then a content of one letter, and one of sixteen.
+const PLACES: &str = "abcdefg||77
+abcdefg|abcdef|77
+abcdefg|abcdefg|77 0
+abcdefg|abcdefh|77
+abcdefg|xabcdefg|77 0
+abcdefg|xxabcdefg|77 0
+abcdefg|xxxabcdefg|77 0
+abcdefg|xxxxabcdefg|77 0
+abcdefg|xxxxxabcdefg|77 0
+abcdefg|xxxxxxabcdefgx|77 0
+abcdefg|xxxxxxxabcdefgxx|77 0
+abcdefg|xxxxxxxxabcdefgxxxxxxxxx|77 0
+abcdefg|xxxxxxxxabcdef|77
+abcdefg|xxxxxxxxxxxxxxxxxxxxxxxxxxxxxxxxxxxxxxxxxabcdefg|77 0
+abcdefg|xxxxxxxxxxxxxxxxxxxxxxxxxxxxxxxxxxxxxxxxxxABCDEFGxxxxxxxxxxxxxxxxxxxxxxx|77 0
+aBcDeFg|xxAbCdEfG|77 0
+[bcdef]|{bcdef}|77
+[bcdef]|{bcdef}[BCDEF]|77 0
+abcdefg bcdefgh|abcdefgh|77 0 1
+abcdefgh efghijkl|xxabcdefghijkl|77 0 1
+abcdefgh bcdefgh cdefghi|xabcdefghi|77 0 1 2
+aaaaaaab aaaaaaaaaaab|aaaaaaaaaaab|77 0 1
+abcabcabd|xabcabcabcabd|77 0
+abcdefg tuvwxyz|abcdefxtuvwxyzabcdefg|77 0 1
+abcdef|abcde|77
+abcdef|abcdef|77 0
+abcdef|xabcdef|77 0
+abcdef|xxabcdefx|77 0
+abcdef|xxxxxxxxxxxxxxxABCDEF|77 0
+abcdef fghijk|abcdefghijk|77 0 1
+abcde|abcd|77
+abcde|abcde|77 0
+abcde|xabcde|77 0
+abcde|xxxxxxxxxabcdex|77 0
+abcde deabc|xabcdeabcxx|77 0 1
+abcd|abc|77
+abcd|abcd|77 0
+abcd|xxxxxxABCDxxxx|77 0
+abcd cdef|xabcdef|77 0 1
+ab cd|a|77
+ab cd|xxxxxxxxxxxxxxxab|77 0
+ab bc|xabcxxxxxxxxxxx|77 0 1
+a bcdefghi|bcdefgha|77 0
+a bcdefghi|xxxxxxxxxxbcdefghi|77 1
+a|A|77 0
+a||77
+abcdefghijklmnop|abcdefghijklmno|77
+abcdefghijklmnop|xabcdefghijklmnop|77 0";
+
+/// Rules of datagrams with these contents.
+fn content_rules(alloc: Global, contents: &str) -> Result<String, Fail> {
+    let mut lines = String::new(alloc);
+    for content in contents.split(' ') {
+        lines = format!(in alloc;
+            "{lines}alert udp any any -> any any (content:\"{content}\"; sid:1;)\n"
+        )?;
+    }
+    Ok(lines)
+}
+
+#[test]
+fn patterns_at_all_places(rt: HostRuntime) -> Result<(), Fail> {
+    let alloc = rt.alloc();
+    for row in PLACES.lines() {
+        let mut cells = row.split('|');
+        let rules = content_rules(alloc, cells.next().unwrap_or(""))?;
+        let payload = cells.next().unwrap_or("");
+        let wanted = cells.next().unwrap_or("");
+        let row = format!(in alloc; "udp|1|80|{payload}|{wanted}")?;
+        check_rows(&rt, alloc, &rules, &row)?;
+    }
+    Ok(())
 }
 
 /// Protocols, ports and directions, with a pattern and without one.

@@ -1,9 +1,9 @@
 //! Dialogues of one flow, job by job, each worked out by hand: the items and the rules that match them.
 
 ghost use Rattle.std.specs.Prelude.{◌≡◌, ◌+◌, ◌<◌, ◌≤◌, ◌^◌, All, IfOk, OnOk, length};
-ghost use Rattle.conf_parser.specs.Sound.{IsStreamConfig};
+ghost use Rattle.conf_types.specs.Sound.{IsStreamConfig};
 ghost use Rattle.fast_pattern.specs.Grouping.{StandFor};
-ghost use Rattle.rule_parser.specs.Sound.{IsTriable};
+ghost use Rattle.rule_types.specs.Sound.{IsTriable};
 ghost use Rattle.flow_tests.specs.Dialogue.{IsDialogue, IsTurnHead, IsTurnJob, tcp_head};
 
 use crate::setup::{Setup, rules};

@@ -1,7 +1,7 @@
 //! What lanes are given beside jobs: the configuration, and rules that are read from lines.
 
 ghost use Rattle.std.specs.Prelude.{All, IfOk, OnOk};
-ghost use Rattle.rule_parser.specs.Sound.{IsTriable};
+ghost use Rattle.rule_types.specs.Sound.{IsTriable};
 
 use conf_parser::{Classes, StreamConfig};
 use edge_io::{Literal, LiteralMaker};

@@ -1,9 +1,9 @@
-use Rattle.std.proofs.Common.{◌≡◌, ℕ, List, [], length, refl, sym, ap, subst, ◌∙◌}
+use Rattle.std.proofs.Common.{ℕ, List, [], length, refl, sym, subst, ◌∙◌}
 use Rattle.std.proofs.lemmas.Option.{slice_get_read}
 use Rattle.net_lists.specs.declared.part.Bounds.{Bounds}
 use Rattle.net_lists.specs.declared.part.Part.{Part}
 use Rattle.fast_pattern.specs.Blocks.{AddBlocks}
-use Rattle.fast_pattern.specs.Sides.{key_of, AreSoughtAt}
+use Rattle.fast_pattern.specs.Sides.{AreSoughtAt}
 use Rattle.fast_pattern.proofs.Siding.{stands-not, stands-so}
 use Rattle.fast_pattern.proofs.sides.blocks_at.Goals as goal
 

@@ -1,4 +1,4 @@
-use Rattle.std.proofs.Common.{◌≡◌, ℕ, ◌++◌, ap, ◌∙◌, List}
+use Rattle.std.proofs.Common.{ℕ, ◌++◌, ap, ◌∙◌, List}
 use Rattle.fast_pattern.specs.Blocks.{entries_of}
 use Rattle.fast_pattern.proofs.Siding.{filed-none, filed-more}
 use Rattle.fast_pattern.proofs.sides.entries_by.Goals as goal

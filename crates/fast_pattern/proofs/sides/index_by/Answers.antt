@@ -1,4 +1,3 @@
-use Rattle.std.proofs.Common.{length}
 use Rattle.fast_pattern.proofs.Siding.{side-made}
 use Rattle.fast_pattern.proofs.sides.index_by.Goals as goal
 

@@ -1,5 +1,5 @@
 use Rattle.std.proofs.lemmas.List.Elements.{All-nil}
-use Rattle.rule_parser.specs.Sound.{IsTriable}
+use Rattle.rule_types.specs.Sound.{IsTriable}
 use Rattle.flow_tests.proofs.setup.rules.Goals as goal
 
 pub loop-line-init : goal.loop-line-init

@@ -1,5 +1,5 @@
 use Rattle.std.proofs.Common.{All}
-use Rattle.rule_parser.specs.Sound.{IsTriable}
+use Rattle.rule_types.specs.Sound.{IsTriable}
 use Rattle.flow_tests.proofs.setup.rules.Given as goal
 
 abbrev pub invariant-loop-line : goal.invariant-loop-line

@@ -1,10 +1,10 @@
-use Rattle.std.proofs.Common.{◌≡◌, ℕ, List, ◌++◌, Bool, ◌||◌, sym, ap, subst, refl, ◌∙◌, ⊎_elim}
+use Rattle.std.proofs.Common.{◌≡◌, ℕ, List, ◌++◌, ◌||◌, sym, ap, subst, refl, ◌∙◌, ⊎_elim}
 use Rattle.packet_decode.specs.declared.packet.Body.{Body}
 use Rattle.packet_decode.specs.declared.packet.Body.TheVariants as body
 use Rattle.fast_pattern.specs.Blocks.{has}
 use Rattle.fast_pattern.specs.Grouping.{texts_of, is_due_at}
 use Rattle.fast_pattern.specs.declared.groups.Groups.{Groups}
-use Rattle.rule_parser.specs.declared.rule.Rule.{Rule}
+use Rattle.rule_types.specs.declared.rule.Rule.{Rule}
 use Rattle.fast_pattern.proofs.Selecting.{list-due, sides-due}
 use Rattle.fast_pattern.proofs.groups.Groups.push_due.Goals as goal
 

@@ -1,0 +1,9 @@
+use Rattle.std.proofs.Common.{◌-◌, ◌≤◌, length}
+use Rattle.fast_pattern.specs.Finding.{CoversOn}
+use Rattle.fast_pattern.proofs.automaton.Automaton.mark_all.Given as goal
+
+abbrev pub invariant-loop-done : goal.invariant-loop-done
+invariant-loop-done l = (l.done ≤ length l.bytes) × CoversOn l.self l.bytes 0 l.fn.seen l.fn.hits.items l.done l.seen l.hits.items
+
+abbrev pub decreases-loop-done : goal.decreases-loop-done
+decreases-loop-done l = length l.bytes - l.done

@@ -1,0 +1,9 @@
+use Rattle.std.proofs.Common.{arith}
+use Rattle.fast_pattern.specs.declared.sieve.Sieve.{Sieve}
+use Rattle.fast_pattern.proofs.Sieving.{sifts-made}
+use Rattle.fast_pattern.proofs.sieve.Sieve.of.Goals as goal
+
+pub returns : goal.returns
+returns c =
+    let sieve : Sieve = record { table = c.in_ok-table.table; stride = c.stride_for-stride.result; mask = c.folding_mask-mask.result; shortest = c.shortest_length-shortest.result } in
+    sifts-made sieve c.min-letters.result c.args.patterns.now c.shortest_length-shortest.ensures.some c.stride_for-stride.ensures.within (omega (arith, c.min-letters.ensures)) c.folding_mask-mask.ensures c.shortest_length-shortest.ensures.all c.in_ok-table.ensures

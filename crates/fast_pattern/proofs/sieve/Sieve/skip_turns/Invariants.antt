@@ -1,0 +1,9 @@
+use Rattle.std.proofs.Common.{◌-◌, ◌≤◌, length}
+use Rattle.fast_pattern.specs.Sieving.{Skips}
+use Rattle.fast_pattern.proofs.sieve.Sieve.skip_turns.Given as goal
+
+abbrev pub invariant-loop-to : goal.invariant-loop-to
+invariant-loop-to l = (l.from ≤ l.to) × (l.to ≤ length l.bytes) × Skips l.self l.bytes l.from l.to
+
+abbrev pub decreases-loop-to : goal.decreases-loop-to
+decreases-loop-to l = length l.bytes - l.to

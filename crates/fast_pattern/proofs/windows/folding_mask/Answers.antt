@@ -1,0 +1,5 @@
+use Rattle.fast_pattern.proofs.Slots.{masks}
+use Rattle.fast_pattern.proofs.windows.folding_mask.Goals as goal
+
+pub returns : goal.returns
+returns c = masks c.args.letters c.requires
