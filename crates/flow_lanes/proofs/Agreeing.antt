@@ -2,7 +2,7 @@
 -- rules match.
 use Rattle.std.proofs.Common.{◌≡◌, ℕ, ◌+◌, Bool, true, false, cond, List, [], ◌∷◌, Option, refl, sym, ap, ◌∙◌, inl, inr}
 use Rattle.std.proofs.lemmas.Bool.{false≢true}
-use Rattle.rule_parser.specs.declared.rule.Rule.{Rule}
+use Rattle.rule_types.specs.declared.rule.Rule.{Rule}
 use Rattle.option_eval.specs.Places.{Means}
 use Rattle.flow_lanes.specs.Hits.{AreMatches, Bits, Item, Tells, Test, bits_after, bits_seen, places_from}
 

@@ -9,12 +9,12 @@ use Rattle.net_lists.specs.Membership.{IsListed, Has}
 use Rattle.packet_decode.specs.declared.item.ItemHead.{ItemHead}
 use Rattle.packet_decode.specs.declared.packet.Body.{Body}
 use Rattle.packet_decode.specs.declared.packet.Body.TheVariants as body
-use Rattle.rule_parser.specs.declared.option.Content.{Content}
-use Rattle.rule_parser.specs.declared.option.Opt.{Opt}
-use Rattle.rule_parser.specs.declared.option.Opt.TheVariants as opt
-use Rattle.rule_parser.specs.declared.rule.Proto.{Proto}
-use Rattle.rule_parser.specs.declared.rule.Proto.TheVariants as proto
-use Rattle.rule_parser.specs.declared.rule.Rule.{Rule}
+use Rattle.rule_types.specs.declared.option.Content.{Content}
+use Rattle.rule_types.specs.declared.option.Opt.{Opt}
+use Rattle.rule_types.specs.declared.option.Opt.TheVariants as opt
+use Rattle.rule_types.specs.declared.rule.Proto.{Proto}
+use Rattle.rule_types.specs.declared.rule.Proto.TheVariants as proto
+use Rattle.rule_types.specs.declared.rule.Rule.{Rule}
 use Rattle.header_eval.specs.Fields.{HeaderHolds, IsWay, PortHolds, destination_port, is_of, source_port}
 use Rattle.option_eval.specs.Numbers.{Standing}
 use Rattle.option_eval.specs.Places.{IsWay as IsWayThrough, Leads, Means, sought, start}

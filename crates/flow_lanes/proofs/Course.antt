@@ -3,17 +3,16 @@ use Rattle.std.proofs.Common.{◌≡◌, ℕ, zero, suc, ◌+◌, ◌^◌, ◌<�
 use Rattle.std.specs.Prelude.{fold, option_and_then, slice_get}
 use Rattle.std.specs.List.{AllByRecursion, filter, range_with_len}
 use Rattle.std.specs.List.Sorted.{IsStrictlyIncreasing}
-use Rattle.std.proofs.lemmas.List.{get_or-map, get_or-replicate, length-map, length-replicate, length_push, map_push}
+use Rattle.std.proofs.lemmas.List.{get_or-map, get_or-replicate, length-replicate, length_push, map_push}
 use Rattle.std.proofs.lemmas.List.FromFn.{get_or-range_with_len, length-range_with_len}
 use Rattle.std.proofs.lemmas.Option.{get_or_from_slice_get, slice_get_within}
-use Rattle.edge_io.specs.Along.{AscendsBy}
 use Rattle.edge_io.specs.declared.moment.Moment.{Moment}
 use Rattle.flow_lanes.specs.declared.job.Job.{Job}
 use Rattle.flow_lanes.specs.declared.job.Work.{Work}
 use Rattle.flow_lanes.specs.declared.job.Work.TheVariants as work
-use Rattle.flow_lanes.specs.Course.{AreFrom, IsCourse, IsFew, IsPlain, IsPlainPacket, IsPlainWork, plain_packet}
+use Rattle.flow_lanes.specs.Course.{AreFrom, IsCourse, IsFew, IsPlain, IsPlainWork}
 use Rattle.flow_lanes.specs.Flows.{flow_of, same_flow}
-use Rattle.flow_lanes.specs.Sound.{FlowFacts, IsSoundFor, IsSoundWork, ends_of, facts_after, facts_behind, facts_behind_work}
+use Rattle.flow_lanes.specs.Sound.{FlowFacts, IsSoundWork, facts_after, facts_behind, facts_behind_work}
 use Rattle.flow_lanes.specs.Standing.{AreNew, AreNext, AreSoundFor, LaneState, LanesState, LearnsBatch, facts_kept, kept_of, known_in, known_of, lane_of, new_lane}
 
 -- one more job of a flow

@@ -1,11 +1,11 @@
 -- A job that is done by what is kept of flows is answered, whatever jobs the lane stood for.
-use Rattle.std.proofs.Common.{◌≡◌, ℕ, ◌==◌, Bool, true, false, cond, List, [], ◌∷◌, ◌++◌, Option, Some, None, refl, sym, ap, subst, ◌∙◌, arith}
-use Rattle.std.specs.Prelude.{fold, option_map, option_and_then}
+use Rattle.std.proofs.Common.{◌≡◌, ℕ, ◌==◌, Bool, true, false, cond, List, [], ◌∷◌, Option, Some, None, refl, sym, ap, subst, ◌∙◌, arith}
+use Rattle.std.specs.Prelude.{fold, option_and_then}
 use Rattle.std.specs.List.{filter}
 use Rattle.std.proofs.lemmas.Bool.Decides.{nat_tests}
 use Rattle.edge_io.specs.declared.moment.Moment.{Moment}
 use Rattle.edge_io.specs.declared.pattern.Span.{Span}
-use Rattle.conf_parser.specs.declared.config.StreamConfig.{StreamConfig}
+use Rattle.conf_types.specs.declared.config.StreamConfig.{StreamConfig}
 use Rattle.option_eval.specs.Places.{Means}
 use Rattle.option_eval.specs.RuleSet.{Rules}
 use Rattle.packet_decode.specs.declared.item.ItemHead.{ItemHead}
@@ -18,30 +18,21 @@ use Rattle.flow_lanes.specs.declared.job.Work.TheVariants as work
 use Rattle.flow_lanes.specs.declared.tally.Tally.{Tally}
 use Rattle.flow_lanes.specs.Detecting.{DetectsOn}
 use Rattle.flow_lanes.specs.Engines.{Making}
-use Rattle.flow_lanes.specs.Flows.{Detection, FlowState, all_items, flow_of, flow_of_work, flow_state, hits, hits_in, items, same_flow, same_number, session_at_hand, state_after, state_behind, tries, work_items}
+use Rattle.flow_lanes.specs.Flows.{Detection, FlowState, all_items, flow_of, flow_state, hits, hits_in, items, same_flow, same_number, session_at_hand, state_behind, tries, work_items}
 use Rattle.flow_lanes.specs.Items.{alone_items, finish_items, packet_items}
 use Rattle.flow_lanes.specs.ItemHits.{Trying}
-use Rattle.flow_lanes.specs.Kept.{KeepsOthers, Sets, facts_after_packet, kept_in}
+use Rattle.flow_lanes.specs.Kept.{Sets, facts_after_packet, kept_in}
 use Rattle.flow_lanes.specs.Sessions.{Packet}
 use Rattle.flow_lanes.specs.Sound.{FlowFacts, IsSoundFor, facts_behind, facts_behind_work}
-use Rattle.flow_lanes.specs.Standing.{AnswersJob, CountsTries, DetectsBy, HasDone, KeptFlow, LaneState, LearnsJob, Stands, facts_kept, is_of_flow, kept_behind, kept_of, known_of, state_kept}
+use Rattle.flow_lanes.specs.Standing.{AnswersJob, CountsTries, DetectsBy, HasDone, KeptFlow, LaneState, LearnsJob, Stands, facts_kept, kept_of, state_kept}
 use Rattle.flow_lanes.specs.Tried.{TriesBy, candidates_of}
 use Rattle.flow_lanes.specs.Whole.{IsDone, IsDoneBy, found_for, items_for, kept_by}
 use Rattle.flow_lanes.proofs.LaneJobs.{HasDone-stands, Stands-finds}
 use Rattle.flow_lanes.proofs.Short.{job_short}
 
-cond_else : {A : Type 0} (b : Bool) (x y z : A) → (b ≡ false → y ≡ z) → cond b x y ≡ cond b x z
-cond_else true x y z same = refl
-cond_else false x y z same = same refl
-
 cond_then : {A : Type 0} (b : Bool) (x y z : A) → (b ≡ true → x ≡ y) → cond b x z ≡ cond b y z
 cond_then true x y z same = same refl
 cond_then false x y z same = refl
-
--- what is kept of a flow, after what concerned it alone
-pub sets_both : (flow : ℕ) (kept : Option KeptFlow) (old mid new : List (ℕ × KeptFlow)) → KeepsOthers flow old mid → Sets flow kept mid new → Sets flow kept old new
-sets_both flow kept old mid new others put =
-    λ other. put other ∙ cond_else (other == flow) kept (kept_in mid other) (kept_in old other) (others other)
 
 -- so the flow of the job goes on, and no other
 sets_flows : (flow : ℕ) (kept : Option KeptFlow) (by : Option KeptFlow → Option KeptFlow) (old new : List (ℕ × KeptFlow)) → Sets flow kept old new → kept ≡ by (kept_in old flow)
@@ -62,12 +53,12 @@ sets_facts flow kept by old new sets is other =
 -- a packet of a flow is done
 pub packet-done : (making : Making) (trying : Trying) (moment : Moment) (flow : ℕ) (head : ItemHead) (payload : List ℕ) (to_dst to_src : Toward) (old new : List (ℕ × KeptFlow)) (kept : KeptFlow) (tally : Tally)
     → Sets flow (Some kept) old new
-    → DetectsOn trying (packet_items making (record { head = head; payload = payload; moment = moment; to_dst = to_dst; to_src = to_src }) (session_at_hand (state_kept (kept_in old flow)))) (state_kept (kept_in old flow)) (record { tally = tally; state = kept.found })
+    → DetectsOn trying (packet_items making (record { head = head; payload = payload; moment = moment; to_dst = to_dst; to_src = to_src }) (session_at_hand (state_kept (kept_in old flow)))) (state_kept (kept_in old flow)) tally.hits.items kept.found
     → kept.facts ≡ facts_after_packet (record { head = head; payload = payload; moment = moment; to_dst = to_dst; to_src = to_src }) (facts_kept (kept_in old flow))
     → IsDoneBy making trying moment (work.Packet flow head payload to_dst to_src) old new tally.hits.items
 packet-done making trying moment flow head payload to_dst to_src old new kept tally sets detects facts = record {
-  hits = detects.hits;
-  flows = sets_flows flow (Some kept) (kept_by making trying moment (work.Packet flow head payload to_dst to_src)) old new sets (λ i. Some (record { facts = facts i; found = detects.state i }));
+  hits = detects.hits_are;
+  flows = sets_flows flow (Some kept) (kept_by making trying moment (work.Packet flow head payload to_dst to_src)) old new sets (λ i. Some (record { facts = facts i; found = detects.state_is i }));
 }
 
 pub packet-facts : (moment : Moment) (flow : ℕ) (head : ItemHead) (payload : List ℕ) (to_dst to_src : Toward) (old new : List (ℕ × KeptFlow)) (kept : KeptFlow)
@@ -92,21 +83,20 @@ finish-facts moment flow old new sets = sets_facts flow None (λ f. facts_behind
 
 -- the parts of what is done are those of the definition
 module _ {P : Type 0} (finds : P → List ℕ → Option Span) (set : Rules P) (making : Making) (moment : Moment) where
-  pub do-packet : (flow : ℕ) (head : ItemHead) (payload : List ℕ) (to_dst to_src : Toward) (old mid new : List (ℕ × KeptFlow)) (found : Option KeptFlow) (kept : KeptFlow) (tally : Tally)
-      → found ≡ kept_in old flow → KeepsOthers flow old mid → Sets flow (Some kept) mid new
+  pub do-packet : (flow : ℕ) (head : ItemHead) (payload : List ℕ) (to_dst to_src : Toward) (old new : List (ℕ × KeptFlow)) (found : Option KeptFlow) (kept : KeptFlow) (tally : Tally)
+      → found ≡ kept_in old flow → Sets flow (Some kept) old new
       → ((means : Means) (trying : Trying) → TriesBy finds means set trying
-      → DetectsOn trying (packet_items making (record { head = head; payload = payload; moment = moment; to_dst = to_dst; to_src = to_src }) (session_at_hand (state_kept found))) (state_kept found) (record { tally = tally; state = kept.found }))
+      → DetectsOn trying (packet_items making (record { head = head; payload = payload; moment = moment; to_dst = to_dst; to_src = to_src }) (session_at_hand (state_kept found))) (state_kept found) tally.hits.items kept.found)
       → tally.tries ≡ candidates_of set.rules (all_items (packet_items making (record { head = head; payload = payload; moment = moment; to_dst = to_dst; to_src = to_src }) (session_at_hand (state_kept found))))
       → kept.facts ≡ facts_after_packet (record { head = head; payload = payload; moment = moment; to_dst = to_dst; to_src = to_src }) (facts_kept found)
       → IsDone finds set making moment (work.Packet flow head payload to_dst to_src) old new tally
-  do-packet flow head payload to_dst to_src old mid new found kept tally is others put detects tries facts =
+  do-packet flow head payload to_dst to_src old new found kept tally is sets detects tries facts =
       let p : Packet = record { head = head; payload = payload; moment = moment; to_dst = to_dst; to_src = to_src } in
-      let sets = sets_both flow (Some kept) old mid new others put in
       let facts_are : kept.facts ≡ facts_after_packet p (facts_kept (kept_in old flow)) = facts ∙ ap (λ (f : Option KeptFlow). facts_after_packet p (facts_kept f)) is in
       record {
         done = λ means trying by.
             packet-done making trying moment flow head payload to_dst to_src old new kept tally sets
-            (subst (λ (f : Option KeptFlow). DetectsOn trying (packet_items making p (session_at_hand (state_kept f))) (state_kept f) (record { tally = tally; state = kept.found })) is (detects means trying by)) facts_are;
+            (subst (λ (f : Option KeptFlow). DetectsOn trying (packet_items making p (session_at_hand (state_kept f))) (state_kept f) tally.hits.items kept.found) is (detects means trying by)) facts_are;
         tries = tries ∙ ap (λ (f : Option KeptFlow). candidates_of set.rules (all_items (packet_items making p (session_at_hand (state_kept f))))) is;
         facts = packet-facts moment flow head payload to_dst to_src old new kept sets facts_are;
       }

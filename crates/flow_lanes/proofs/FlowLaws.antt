@@ -1,13 +1,11 @@
 -- What is kept of a flow behind one more of its packets.
 use Rattle.std.proofs.Common.{◌≡◌, ℕ, ◌+◌, ◌-◌, ◌*◌, ◌^◌, ◌<◌, ◌≤◌, Bool, true, false, cond, Option, Some, None, refl, sym, ap, subst, ◌∙◌, arith}
-use Rattle.std.specs.Prelude.{IfSome}
 use Rattle.stream5_sessions.specs.declared.key.End.{End}
 use Rattle.stream5_sessions.specs.declared.key.Key.{Key}
 use Rattle.stream5_sessions.specs.Keys.{is_end_before, key_of}
-use Rattle.flow_lanes.specs.Kept.{IsFoundBy, IsKeptBy, IsOf, facts_after_packet}
-use Rattle.flow_lanes.specs.Reach.{IsWithin}
+use Rattle.flow_lanes.specs.Kept.{IsFound, IsKeptBy}
 use Rattle.flow_lanes.specs.Sessions.{Packet, Session, is_tcp, receiver, sender}
-use Rattle.flow_lanes.specs.Sound.{FlowEnds, FlowFacts, ends_of}
+use Rattle.flow_lanes.specs.Sound.{FlowEnds, FlowFacts, IsSoundPacket, ends_of}
 use Rattle.flow_lanes.proofs.Reaching.{IsWithin-weaker}
 
 key_of-tcp : (tcp : Bool) (a b : End) → (key_of tcp a b).tcp ≡ tcp
@@ -18,32 +16,36 @@ key_of-tcp tcp a b = either (is_end_before b a)
     either true = refl
     either false = refl
 
--- the session that a sound packet finds is of its protocol
-pub found-same : (p : Packet) (facts : Option FlowFacts) (found : Option Session) → IsFoundBy facts found → IfSome facts (λ (f : FlowFacts). f.ends ≡ ends_of p) → IsOf (is_tcp p.head.body) found
-found-same p None found is same = subst (λ (s : Option Session). IsOf (is_tcp p.head.body) s) (sym is) tt
-found-same p (Some f) found kept same =
-    subst (λ (tcp : Bool). IsOf tcp found) (ap (λ (ends : FlowEnds). ends.key.tcp) same ∙ key_of-tcp (is_tcp p.head.body) (sender p) (receiver p)) kept.same
+-- what reaches so far reaches further
+pub IsFound-weaker : (tcp : Bool) (a b : ℕ) (found : Option Session) → a ≤ b → IsFound tcp a found → IsFound tcp b found
+IsFound-weaker tcp a b found more h = record { same = h.same; within = IsWithin-weaker found a b more h.within }
 
--- and it has come less far than a session may
-pub found-within : (facts : Option FlowFacts) (found : Option Session) → IsFoundBy facts found → IfSome facts (λ (f : FlowFacts). f.packets < 2 ^ 32) → IsWithin found (2 ^ 63 - 2 ^ 31)
-found-within None found is few = subst (λ (s : Option Session). IsWithin s (2 ^ 63 - 2 ^ 31)) (sym is) tt
-found-within (Some f) found kept few = IsWithin-weaker found (f.packets * 2 ^ 31) (2 ^ 63 - 2 ^ 31) (omega arith) kept.within
+pub IsFound-more : (tcp : Bool) (places : ℕ) (found : Option Session) → IsFound tcp places found → IsFound tcp (places + 2 ^ 31) found
+IsFound-more tcp places found h = IsFound-weaker tcp places (places + 2 ^ 31) found (omega arith) h
 
--- at the end of a flow it has come no further than it may
-pub ended-within : (facts : Option FlowFacts) (found : Option Session) → IsFoundBy facts found → IsWithin found (2 ^ 63)
-ended-within None found is = subst (λ (s : Option Session). IsWithin s (2 ^ 63)) (sym is) tt
-ended-within (Some f) found kept = let few = kept.few in IsWithin-weaker found (f.packets * 2 ^ 31) (2 ^ 63) (omega arith) kept.within
+-- the key of a flow has the protocol of each of its packets
+pub ends-tcp : (p : Packet) (ends : FlowEnds) → ends ≡ ends_of p → ends.key.tcp ≡ is_tcp p.head.body
+ends-tcp p ends same = ap (λ (e : FlowEnds). e.key.tcp) same ∙ key_of-tcp (is_tcp p.head.body) (sender p) (receiver p)
+
+-- the session that a sound packet finds is of its protocol, and has come less far than a session may
+pub found-sound : (p : Packet) (facts : FlowFacts) (found : Option Session) → IsKeptBy facts found → facts.ends ≡ ends_of p → facts.packets < 2 ^ 32 → IsFound (is_tcp p.head.body) (2 ^ 63 - 2 ^ 31) found
+found-sound p facts found kept same few =
+    subst (λ (tcp : Bool). IsFound tcp (2 ^ 63 - 2 ^ 31) found) (ends-tcp p facts.ends same) (IsFound-weaker facts.ends.key.tcp (facts.packets * 2 ^ 31) (2 ^ 63 - 2 ^ 31) found (omega arith) kept.kept)
 
 -- what is kept behind the packet
-pub kept-after : (p : Packet) (facts : Option FlowFacts) (found after : Option Session) → IsFoundBy facts found → IfSome facts (λ (f : FlowFacts). f.packets < 2 ^ 32) → IsOf (is_tcp p.head.body) after
-    → ((places : ℕ) → IsWithin found places → IsWithin after (places + 2 ^ 31)) → IsKeptBy (facts_after_packet p facts) after
-kept-after p None found after is few same grows = record {
+pub kept-more : (p : Packet) (facts : FlowFacts) (found after : Option Session) → IsKeptBy facts found → facts.ends ≡ ends_of p → facts.packets < 2 ^ 32
+    → ((places : ℕ) → IsFound (is_tcp p.head.body) places found → IsFound (is_tcp p.head.body) (places + 2 ^ 31) after)
+    → IsKeptBy (record { ends = facts.ends; packets = facts.packets + 1 }) after
+kept-more p facts found after kept same few grows = record {
   few = omega arith;
-  same = subst (λ (tcp : Bool). IsOf tcp after) (sym (key_of-tcp (is_tcp p.head.body) (sender p) (receiver p))) same;
-  within = grows 0 (subst (λ (s : Option Session). IsWithin s 0) (sym is) tt);
+  kept =
+      subst (λ (tcp : Bool). IsFound tcp ((facts.packets + 1) * 2 ^ 31) after) (sym (ends-tcp p facts.ends same))
+      (IsFound-weaker (is_tcp p.head.body) (facts.packets * 2 ^ 31 + 2 ^ 31) ((facts.packets + 1) * 2 ^ 31) after (omega arith)
+      (grows (facts.packets * 2 ^ 31) (subst (λ (tcp : Bool). IsFound tcp (facts.packets * 2 ^ 31) found) (ends-tcp p facts.ends same) kept.kept)));
 }
-kept-after p (Some f) found after kept few same grows = record {
-  few = omega arith;
-  same = subst (λ (tcp : Bool). IsOf tcp after) (sym (key_of-tcp (is_tcp p.head.body) (sender p) (receiver p))) same;
-  within = IsWithin-weaker after (f.packets * 2 ^ 31 + 2 ^ 31) ((f.packets + 1) * 2 ^ 31) (omega arith) (grows (f.packets * 2 ^ 31) kept.within);
-}
+
+-- a flow before its first packet
+pub sound-first : (engines : ℕ) (p : Packet) (facts : FlowFacts) → facts ≡ record { ends = ends_of p; packets = 0 } → IsSoundPacket engines None p → IsSoundPacket engines (Some facts) p
+sound-first engines p facts is sound =
+    subst (λ (f : FlowFacts). IsSoundPacket engines (Some f) p) (sym is)
+    (record { protocol = sound.protocol; same_ends = refl; few = omega arith; size = sound.size; to_dst = sound.to_dst; to_src = sound.to_src })

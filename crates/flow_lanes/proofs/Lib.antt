@@ -29,3 +29,5 @@ pub mod DefaultPorts
 pub mod KeepLaws
 pub mod FlowLaws
 pub mod LimitLaws
+pub mod PushLaws
+pub mod Spreading

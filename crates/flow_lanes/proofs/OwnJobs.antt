@@ -8,7 +8,7 @@ use Rattle.std.proofs.lemmas.List.Sums.{fold-append}
 use Rattle.edge_io.specs.declared.pattern.Span.{Span}
 use Rattle.edge_io.specs.Along.{along_from}
 use Rattle.edge_io.proofs.Along.{along_from-append}
-use Rattle.conf_parser.specs.declared.config.StreamConfig.{StreamConfig}
+use Rattle.conf_types.specs.declared.config.StreamConfig.{StreamConfig}
 use Rattle.option_eval.specs.RuleSet.{Rules}
 use Rattle.ordered_merge.specs.declared.numbered.Numbered.{Numbered}
 use Rattle.flow_lanes.specs.declared.answer.JobOut.{JobOut}

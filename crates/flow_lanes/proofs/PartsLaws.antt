@@ -1,123 +1,35 @@
+-- The items of a packet, step by step, are those of the definition.
 -- The items of a packet, put together, are those of the definition.
-use Rattle.std.proofs.Common.{◌≡◌, ℕ, Bool, true, false, not, ◌&&◌, cond, List, [], ◌∷◌, ◌++◌, length, Option, Some, None, unwrap_or, refl, sym, ap, subst, ◌∙◌}
-use Rattle.std.specs.Prelude.{IfSome, option_map, option_and_then}
+use Rattle.std.proofs.Common.{◌≡◌, ℕ, Bool, true, false, not, cond, List, [], ◌∷◌, ◌++◌, length, Option, Some, None, unwrap_or, refl, sym, ap, subst, ◌∙◌, ◌&&◌, append_assoc}
+use Rattle.std.proofs.lemmas.List.{append-nil}
+use Rattle.std.specs.Prelude.{IfSome, option_map}
 use Rattle.std.specs.Option.{option_map_or}
-use Rattle.std.proofs.lemmas.Bool.{false≢true}
 use Rattle.edge_io.specs.declared.moment.Moment.{Moment}
+use Rattle.packet_decode.specs.declared.item.ItemHead.{ItemHead}
 use Rattle.stream5_sessions.specs.declared.state.State.{State}
 use Rattle.stream5_sessions.specs.declared.step.Step.{Step}
 use Rattle.stream5_sessions.proofs.StepLaws.{session_step_tcp}
+use Rattle.stream5_reassembly.specs.Segments.{ack_flushes, ack_place, flushed_to}
 use Rattle.packet_decode.specs.declared.packet.Body.{Body}
 use Rattle.packet_decode.specs.declared.packet.Body.TheVariants as body
 use Rattle.stream5_sessions.specs.Phases.{IsBodyOf, segment_of}
-use Rattle.flow_lanes.specs.declared.cutting.Stretch.{Stretch}
 use Rattle.flow_lanes.specs.declared.session.Stretches.{Stretches}
 use Rattle.flow_lanes.specs.Engines.{Making}
 use Rattle.flow_lanes.specs.Hits.{Item}
-use Rattle.flow_lanes.specs.Items.{acked_items, closing_items, held_items, is_queued, items_told, left_items, own_items, packet_item, session_behind}
-use Rattle.flow_lanes.specs.Kept.{IsOf}
-use Rattle.flow_lanes.specs.Sessions.{Packet, Session, ack_of, is_tcp, acked_side, after_ack, after_data, begun_session, is_from_client, seq_of, session_of, session_rules, settled, sizes_of, state_found, state_of, with_bases}
+use Rattle.flow_lanes.specs.Items.{acked_items, closing_items, held_items, is_queued, left_items, own_items, packet_item, session_behind, stream_items}
+use Rattle.flow_lanes.specs.Sessions.{Packet, Session, ack_of, is_tcp, after_ack, after_data, is_from_client, seq_of, session_of, session_rules, settled, sizes_of, state_found, state_of}
 use Rattle.flow_lanes.specs.Sound.{HasSessions}
-use Rattle.flow_lanes.specs.Working.{EndsApart, acked_stretch, items_of_parts, maybe_acked, maybe_items, opened_by, own_head, own_item, parts_from, sizes_behind, stretch_items, stretch_of, stretches_items, stretches_of}
-use Rattle.flow_lanes.specs.Sides.{Side, acked_payloads, held_payloads, left_payloads, queues, side_after_ack, side_after_data}
+use Rattle.flow_lanes.specs.Working.{after_packet, items_on, maybe_items, own_head, own_item, sizes_behind, streams_of, stretches_items, stretches_of, streams_told}
+use Rattle.flow_lanes.specs.Sides.{Side, acked_payloads, left_payloads, side_after_ack, side_after_data}
 
-left-is : (moment : Moment) (sizes : ℕ × ℕ) (ended : Bool) (found : Option Session)
-    → maybe_items moment sizes (cond ended None (option_map (stretches_of left_payloads) found)) ≡ cond ended [] (option_map_or (λ s. left_items s moment sizes) found [])
-left-is moment sizes true found = refl
-left-is moment sizes false None = refl
-left-is moment sizes false (Some session) = refl
-
-held-is : (moment : Moment) (sizes : ℕ × ℕ) (after : Option Session) → maybe_items moment sizes (option_map (stretches_of held_payloads) after) ≡ option_map_or (λ s. held_items s moment sizes) after []
-held-is moment sizes None = refl
-held-is moment sizes (Some session) = refl
-
-acked-is : (p : Packet) (step : Step) (sizes : ℕ × ℕ) (session : Option Session)
-    → maybe_acked (not (unwrap_or step.from_client true)) p.moment sizes (option_and_then (acked_stretch p step) session) ≡ option_map_or (λ s. acked_items p step s sizes) session []
-acked-is p step sizes None = refl
-acked-is p step sizes (Some session) = by_case step.counts_ack (stretch_of (acked_side step session) (acked_payloads (acked_side step session) (ack_of p)))
-  where
-    by_case : (b : Bool) (stretch : Stretch) → maybe_acked (not (unwrap_or step.from_client true)) p.moment sizes (cond b (Some stretch) None) ≡ cond b (stretch_items (not (unwrap_or step.from_client true)) p.moment sizes stretch) []
-    by_case true stretch = refl
-    by_case false stretch = refl
+left-is : (moment : Moment) (sizes : ℕ × ℕ) (found : Option Session)
+    → maybe_items moment sizes (option_map (stretches_of left_payloads) found) ≡ option_map_or (λ s. left_items s moment sizes) found []
+left-is moment sizes None = refl
+left-is moment sizes (Some session) = refl
 
 own-is : (b : Bool) (item : Item) → own_item item.payload (cond b None (Some item.head)) ≡ cond b [] (item ∷ [])
 own-is true item = refl
 own-is false item = refl
-
-if_same : (b : Bool) (xs ys : List Item) → xs ≡ ys → cond b xs [] ≡ cond b ys []
-if_same b xs ys is = ap (λ (zs : List Item). cond b zs []) is
-
--- the parts are of the items that the packet tells
-pub parts-items : (making : Making) (p : Packet) (found : Option Session) (step : Step) (state : State)
-    → items_of_parts p.payload (parts_from making p step (opened_by making p found step state)) ≡ items_told making p found step state
-parts-items making p found step state =
-    let session : Option Session = session_of making p found step state in
-    let after : Option Session = session_behind p step session in
-    let sizes : ℕ × ℕ = sizes_behind after in
-    let left = left-is p.moment sizes step.ended_before found in
-    let acked = acked-is p step sizes session in
-    let held = if_same step.ends _ _ (held-is p.moment sizes after) in
-    let own = own-is (is_queued p step session && not making.inserts) (packet_item p step after) in
-    λ i. record {
-      ended = cond step.ended_before (option_map_or (λ s. closing_items s p.moment) found []) [];
-      current = (left i ++ acked i ++ held i) ++ own i;
-      begun = step.begun;
-      tracked = step.tracked;
-      session = cond step.ends None after;
-    }
-
--- items of a session that has ended stand apart
-pub ends-apart : (making : Making) (p : Packet) (found : Option Session) (step : Step) (state : State) → (step.ended_before ≡ true → step.begun ≡ step.tracked)
-    → EndsApart (parts_from making p step (opened_by making p found step state))
-ends-apart making p found step state fresh = λ tracked begun. by_case step.ended_before (λ is. false≢true (sym begun ∙ fresh is ∙ tracked))
-  where
-    by_case : (b : Bool) → (b ≡ true → ⊥) → cond b (option_map_or (λ s. closing_items s p.moment) found []) [] ≡ []
-    by_case true never = absurd (never refl)
-    by_case false never = refl
-
--- the packet's session stands where the packet tells
-of_state : State → Option Session → Type 0
-of_state state found = IfSome found (λ (session : Session). session.state ≡ state)
-
-either_state : (b : Bool) (state : State) (x y : Option Session) → IfSome x (λ (s : Session). s.state ≡ state) → IfSome y (λ (s : Session). s.state ≡ state) → IfSome (cond b x y) (λ (s : Session). s.state ≡ state)
-either_state true state x y h g = h
-either_state false state x y h g = g
-
-session_of-state : (making : Making) (p : Packet) (found : Option Session) (step : Step) (state : State) → IfSome (session_of making p found step state) (λ (s : Session). s.state ≡ state)
-unfolding session_of begun_session
-session_of-state making p found step state =
-    either_state (not step.tracked) state None (cond step.begun (Some (with_bases step (begun_session making p step state))) (option_map (λ (session : Session). with_bases step (record (settled session) { state = state })) found)) tt
-    (either_state step.begun state (Some (with_bases step (begun_session making p step state))) (option_map (λ (session : Session). with_bases step (record (settled session) { state = state })) found) refl (going found))
-  where
-    going : (found : Option Session) → IfSome (option_map (λ (session : Session). with_bases step (record (settled session) { state = state })) found) (λ (s : Session). s.state ≡ state)
-    going None = tt
-    going (Some session) = refl
-
-either_same : (b : Bool) (x y s : Session) → x.state ≡ s.state → y.state ≡ s.state → (cond b x y).state ≡ s.state
-either_same true x y s h g = h
-either_same false x y s h g = g
-
-after_ack-state : (p : Packet) (step : Step) (s : Session) → (after_ack p step s).state ≡ s.state
-unfolding after_ack
-after_ack-state p step s =
-    either_same (not step.counts_ack) s (cond (is_from_client step) (record s { server = side_after_ack s.server (ack_of p) }) (record s { client = side_after_ack s.client (ack_of p) })) s refl
-    (either_same (is_from_client step) (record s { server = side_after_ack s.server (ack_of p) }) (record s { client = side_after_ack s.client (ack_of p) }) s refl refl)
-
-after_data-state : (p : Packet) (step : Step) (s : Session) → (after_data p step s).state ≡ s.state
-unfolding after_data
-after_data-state p step s =
-    either_same (not step.takes_data) s (cond (is_from_client step) (record s { client = side_after_data s.client (seq_of p) p.payload }) (record s { server = side_after_data s.server (seq_of p) p.payload })) s refl
-    (either_same (is_from_client step) (record s { client = side_after_data s.client (seq_of p) p.payload }) (record s { server = side_after_data s.server (seq_of p) p.payload }) s refl refl)
-
--- so its session is of the protocol of the session that it finds
-pub parts-of : (making : Making) (p : Packet) (found : Option Session) (step : Step) (state : State) (tcp : Bool) → state.tcp ≡ tcp
-    → IsOf tcp (parts_from making p step (opened_by making p found step state)).session
-parts-of making p found step state tcp is = by_end step.ends (session_of making p found step state) (session_of-state making p found step state)
-  where
-    by_end : (b : Bool) (session : Option Session) → IfSome session (λ (s : Session). s.state ≡ state) → IsOf tcp (cond b None (session_behind p step session))
-    by_end true session h = tt
-    by_end false None h = tt
-    by_end false (Some s) h = ap (λ (t : State). t.tcp) (after_data-state p step (after_ack p step s) ∙ after_ack-state p step s ∙ h) ∙ is
 
 pub state_of-tcp : (making : Making) (p : Packet) (found : Option Session) → (state_of making p found).tcp ≡ (state_found p found).tcp
 unfolding state_of
@@ -139,24 +51,114 @@ pub state_found-tcp : (p : Packet) (found : Option Session) → IfSome found (λ
 state_found-tcp p None same = refl
 state_found-tcp p (Some session) same = same
 
--- the side that sent the packet is the same behind its acknowledgement
-sends_same : (b n : Bool) (s : Session) (x y : Side)
-    → cond b (cond n s (cond b (record s { server = x }) (record s { client = y }))).client (cond n s (cond b (record s { server = x }) (record s { client = y }))).server ≡ cond b s.client s.server
-sends_same true true s x y = refl
-sends_same true false s x y = refl
-sends_same false true s x y = refl
-sends_same false false s x y = refl
+-- an acknowledgement and data touch different sides, so that the order of both is none
+either_order : (b n m : Bool) (s : Session) (f g : Side → Side)
+    → (let t : Session = cond m s (cond b (record s { client = g s.client }) (record s { server = g s.server })) in cond n t (cond b (record t { server = f t.server }) (record t { client = f t.client })))
+    ≡ (let t : Session = cond n s (cond b (record s { server = f s.server }) (record s { client = f s.client })) in cond m t (cond b (record t { client = g t.client }) (record t { server = g t.server })))
+either_order true true true s f g = refl
+either_order true true false s f g = refl
+either_order true false true s f g = refl
+either_order true false false s f g = refl
+either_order false true true s f g = refl
+either_order false true false s f g = refl
+either_order false false true s f g = refl
+either_order false false false s f g = refl
 
-pub queued-same : (p : Packet) (step : Step) (s : Session) → is_queued p step (Some (after_ack p step s)) ≡ is_queued p step (Some s)
+pub data_first : (p : Packet) (step : Step) (s : Session) → after_ack p step (after_data p step s) ≡ after_packet p step s
+unfolding after_ack after_data
+data_first p step s = either_order (is_from_client step) (not step.counts_ack) (not step.takes_data) s (λ side. side_after_ack side (ack_of p)) (λ side. side_after_data side (seq_of p) p.payload)
+
+other_side : (b m : Bool) (s : Session) (x y : Side)
+    → (let t : Session = cond m s (cond b (record s { client = x }) (record s { server = y })) in cond b t.server t.client) ≡ cond b s.server s.client
+other_side true true s x y = refl
+other_side true false s x y = refl
+other_side false true s x y = refl
+other_side false false s x y = refl
+
+acked-same : (p : Packet) (step : Step) (s : Session) (sizes : ℕ × ℕ) → acked_items p step (after_data p step s) sizes ≡ acked_items p step s sizes
+unfolding after_data
+acked-same p step s sizes =
+    ap (λ (side : Side). cond step.counts_ack (stream_items side (not (unwrap_or step.from_client true)) p.moment sizes (acked_payloads side (ack_of p))) [])
+    (other_side (is_from_client step) (not step.takes_data) s (side_after_data s.client (seq_of p) p.payload) (side_after_data s.server (seq_of p) p.payload))
+
+ack-extent : (side : Side) (ack : ℕ) → (side_after_ack side ack).extent ≡ side.extent
+unfolding side_after_ack
+ack-extent side ack = by_case (ack_flushes side.direction ack)
+  where
+    by_case : (b : Bool) → (cond b (record side { direction = flushed_to side.direction (ack_place side.direction ack) }) side).extent ≡ side.extent
+    by_case true = refl
+    by_case false = refl
+
+ack-sizes : (p : Packet) (step : Step) (s : Session) → sizes_of (after_ack p step s) ≡ sizes_of s
 unfolding after_ack
-queued-same p step s =
-    ap (λ (side : Side). step.takes_data && queues side (seq_of p) p.payload)
-    (sends_same (is_from_client step) (not step.counts_ack) s (side_after_ack s.server (ack_of p)) (side_after_ack s.client (ack_of p)))
+ack-sizes p step s = by_case (not step.counts_ack) (is_from_client step)
+  where
+    by_case : (n b : Bool) → sizes_of (cond n s (cond b (record s { server = side_after_ack s.server (ack_of p) }) (record s { client = side_after_ack s.client (ack_of p) }))) ≡ sizes_of s
+    by_case true b = refl
+    by_case false true = λ i. (s.client.extent.size, (ack-extent s.server (ack_of p) i).size)
+    by_case false false = λ i. ((ack-extent s.client (ack_of p) i).size, s.server.extent.size)
+
+-- the sizes are those behind the data, before the acknowledgement as behind it
+pub sizes-are : (p : Packet) (step : Step) (s : Session) → sizes_of (after_data p step s) ≡ sizes_of (after_packet p step s)
+sizes-are p step s = sym (ack-sizes p step (after_data p step s)) ∙ ap sizes_of (data_first p step s)
+
+-- the streams of the packet's session
+pub streams-are : (p : Packet) (step : Step) (left : Option Stretches) (s t u : Session) (sizes : ℕ × ℕ) (old one two new : List Item)
+    → t ≡ after_data p step s → sizes ≡ sizes_of t → one ≡ old ++ maybe_items p.moment sizes left
+    → two ≡ one ++ acked_items p step t sizes → u ≡ after_ack p step t → new ≡ two ++ cond step.ends (held_items u p.moment sizes) []
+    → new ≡ old ++ streams_told p step left s
+streams-are p step left s t u sizes old one two new taken sizes_is first second ack third =
+    let after : u ≡ after_packet p step s = ack ∙ ap (after_ack p step) taken ∙ data_first p step s in
+    let told : sizes ≡ sizes_of (after_packet p step s) = sizes_is ∙ ap sizes_of taken ∙ sizes-are p step s in
+    let L : ℕ × ℕ → List Item = λ z. maybe_items p.moment z left in
+    let A : ℕ × ℕ → List Item = λ z. acked_items p step s z in
+    let H : ℕ × ℕ → List Item = λ z. cond step.ends (held_items (after_packet p step s) p.moment z) [] in
+    let acked : acked_items p step t sizes ≡ A sizes = ap (λ (x : Session). acked_items p step x sizes) taken ∙ acked-same p step s sizes in
+    third
+    ∙ (λ i. (second ∙ (λ j. first j ++ acked j)) i ++ cond step.ends (held_items (after i) p.moment sizes) [])
+    ∙ (λ i. ((old ++ L (told i)) ++ A (told i)) ++ H (told i))
+    ∙ three old (L (sizes_of (after_packet p step s))) (A (sizes_of (after_packet p step s))) (H (sizes_of (after_packet p step s)))
+  where
+    three : (a b c d : List Item) → ((a ++ b) ++ c) ++ d ≡ a ++ ((b ++ c) ++ d)
+    three a b c d = simp append_assoc
 
 -- the items of a session that has ended
-pub closing-is : (session : Session) (moment : Moment) (sizes : ℕ × ℕ) (left held : Stretches) (next : Session) (first second : List Item) → sizes ≡ sizes_of session → left ≡ stretches_of left_payloads session
-    → next ≡ settled session → held ≡ stretches_of held_payloads next → first ≡ stretches_items moment sizes left → second ≡ first ++ stretches_items moment sizes held → second ≡ closing_items session moment
+pub closing-is : (session next : Session) (moment : Moment) (sizes : ℕ × ℕ) (left : Stretches) (old one new : List Item) → sizes ≡ sizes_of session → left ≡ stretches_of left_payloads session
+    → next ≡ settled session → one ≡ old ++ stretches_items moment sizes left → new ≡ one ++ held_items next moment sizes → new ≡ old ++ closing_items session moment
 unfolding closing_items
-closing-is session moment sizes left held next first second sizes_are left_is next_is held_is first_is second_is =
-    second_is
-    ∙ (λ i. (first_is ∙ (λ j. stretches_items moment (sizes_are j) (left_is j))) i ++ stretches_items moment (sizes_are i) ((held_is ∙ ap (stretches_of held_payloads) next_is) i))
+closing-is session next moment sizes left old one new sizes_are left_is next_is first second =
+    second
+    ∙ (λ i. (first ∙ (λ j. old ++ stretches_items moment (sizes_are j) (left_is j))) i ++ held_items (next_is i) moment (sizes_are i))
+    ∙ append_assoc old (left_items session moment (sizes_of session)) (held_items (settled session) moment (sizes_of session))
+
+-- the streams of the packet's session, and then the packet
+streams_on : Packet → Step → Option Session → Option Session → List Item
+streams_on p step found session =
+    let after : Option Session = session_behind p step session in
+    let sizes : ℕ × ℕ = sizes_behind after in
+    option_map_or (λ s. left_items s p.moment sizes) found []
+    ++ option_map_or (λ s. acked_items p step s sizes) session []
+    ++ (cond step.ends (option_map_or (λ s. held_items s p.moment sizes) after []) [])
+
+streams-on : (p : Packet) (step : Step) (found session : Option Session) → streams_of p step (option_map (stretches_of left_payloads) found) session ≡ streams_on p step found session
+unfolding streams_on
+streams-on p step found None = left-is p.moment (0, 0) found ∙ sym (append-nil _) ∙ sym (append-nil _) ∙ none step.ends
+  where
+    none : (b : Bool) → (option_map_or (λ s. left_items s p.moment (0, 0)) found [] ++ []) ++ [] ≡ (option_map_or (λ s. left_items s p.moment (0, 0)) found [] ++ []) ++ cond b [] []
+    none true = refl
+    none false = refl
+streams-on p step found (Some s) =
+    let sizes : ℕ × ℕ = sizes_of (after_packet p step s) in
+    ap (λ (xs : List Item). (xs ++ acked_items p step s sizes) ++ cond step.ends (held_items (after_packet p step s) p.moment sizes) []) (left-is p.moment sizes found)
+
+pub items-on : (making : Making) (p : Packet) (step : Step) (state : State) (found session : Option Session) (left : Option Stretches) (queued : Bool) (own : Option ItemHead) (old new : List Item)
+    → left ≡ option_map (stretches_of left_payloads) found → session ≡ session_of making p found step state → new ≡ old ++ streams_of p step left session → queued ≡ is_queued p step session
+    → own ≡ own_head making.inserts p step queued (session_behind p step session) → new ++ own_item p.payload own ≡ old ++ items_on making p step state found
+unfolding streams_on
+items-on making p step state found session left queued own old new left_is session_is pushed queued_is own_is =
+    let after : Option Session = session_behind p step session in
+    let own_are : own_item p.payload own ≡ own_items making p step session after =
+    ap (own_item p.payload) own_is ∙ ap (λ (q : Bool). own_item p.payload (own_head making.inserts p step q after)) queued_is ∙ own-is (is_queued p step session && not making.inserts) (packet_item p step after) in
+    (λ i. (pushed ∙ ap (λ (l : Option Stretches). old ++ streams_of p step l session) left_is ∙ ap (λ (xs : List Item). old ++ xs) (streams-on p step found session)) i ++ own_are i)
+    ∙ append_assoc old (streams_on p step found session) (own_items making p step session after)
+    ∙ ap (λ (s : Option Session). old ++ (streams_on p step found s ++ own_items making p step s (session_behind p step s))) session_is

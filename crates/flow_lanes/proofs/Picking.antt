@@ -7,7 +7,7 @@ use Rattle.std.proofs.lemmas.Bool.{false≢true}
 use Rattle.std.proofs.lemmas.List.Elements.{All-nil, All-cons, All-weaker}
 use Rattle.std.proofs.lemmas.List.Sums.{fold-append}
 use Rattle.packet_decode.specs.declared.packet.Body.{Body}
-use Rattle.rule_parser.specs.declared.rule.Rule.{Rule}
+use Rattle.rule_types.specs.declared.rule.Rule.{Rule}
 use Rattle.option_eval.specs.Places.{Means}
 use Rattle.fast_pattern.specs.Candidates.{candidates, is_candidate, places_from as candidates_from}
 use Rattle.flow_lanes.specs.Hits.{AreHits, Bits, Item, RuleMatches, Tells, Test, bits_after, bits_seen, places_from}

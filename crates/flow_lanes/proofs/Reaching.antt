@@ -1,7 +1,6 @@
 -- How far sides reach.
-use Rattle.std.proofs.Common.{◌≡◌, ℕ, ◌+◌, ◌-◌, ◌*◌, ◌^◌, ◌≤◌, ◌<◌, Bool, true, false, not, cond, Option, Some, None, refl, arith}
-use Rattle.std.specs.Prelude.{IfSome}
-use Rattle.flow_lanes.specs.Reach.{AreWithin, GrowsOne, IsWithin, KeepsWithin, Reaches}
+use Rattle.std.proofs.Common.{ℕ, ◌+◌, ◌^◌, ◌≤◌, Bool, true, false, not, Option, Some, None, arith}
+use Rattle.flow_lanes.specs.Reach.{AreWithin, GrowsOne, IsWithin, Reaches}
 use Rattle.flow_lanes.specs.Sessions.{Session}
 use Rattle.flow_lanes.specs.Sides.{Side}
 
@@ -16,10 +15,6 @@ IsWithin-weaker None a b more h = tt
 IsWithin-weaker (Some session) a b more h = AreWithin-weaker session a a b b more more h
 
 -- one side comes further, and then the other
-pub grow-both : (b : Bool) (old mid new : Session) → GrowsOne (not b) old mid → GrowsOne b mid new → (places : ℕ) → AreWithin old places places → AreWithin new (places + 2 ^ 31) (places + 2 ^ 31)
-grow-both true old mid new first second places h = second places (places + 2 ^ 31) (first places places h)
-grow-both false old mid new first second places h = second (places + 2 ^ 31) places (first places places h)
-
-pub IsWithin-if : (b : Bool) (found : Option Session) (places : ℕ) → IsWithin found places → IsWithin (cond b None found) places
-IsWithin-if true found places h = tt
-IsWithin-if false found places h = h
+pub grow-both : (b : Bool) (old mid new : Session) → GrowsOne b old mid → GrowsOne (not b) mid new → (places : ℕ) → AreWithin old places places → AreWithin new (places + 2 ^ 31) (places + 2 ^ 31)
+grow-both true old mid new first second places h = second (places + 2 ^ 31) places (first places places h)
+grow-both false old mid new first second places h = second places (places + 2 ^ 31) (first places places h)

@@ -1,12 +1,9 @@
 -- Steps of one side of a session.
-use Rattle.std.proofs.Common.{◌≡◌, ℕ, suc, zero, ◌+◌, ◌-◌, ◌^◌, ◌<◌, ◌≤◌, Bool, true, false, ◌&&◌, cond, List, [], ◌∷◌, ◌++◌, length, map, Option, Some, None, Result, Ok, Err, refl, sym, ap, subst, ◌∙◌, arith}
+use Rattle.std.proofs.Common.{◌≡◌, ℕ, ◌<◌, Bool, true, false, ◌&&◌, cond, List, [], ◌∷◌, length, map, refl, sym, ap, subst, ◌∙◌, arith}
 use Rattle.std.specs.List.{flat_map}
-use Rattle.std.proofs.lemmas.Bool.{false≢true}
-use Rattle.edge_io.specs.declared.fault.NoMemory.{NoMemory}
 use Rattle.overlap_core.specs.declared.segment.Run.{Run}
-use Rattle.overlap_core.specs.Runs.{AreRuns}
 use Rattle.stream5_reassembly.specs.Extents.{extent_after}
-use Rattle.stream5_reassembly.specs.Segments.{AppendsFlushed, DirectionState, Flushes, Stays, ack_flushes, ack_place, flushed_bytes, flushed_to, segment_fate, top}
+use Rattle.stream5_reassembly.specs.Segments.{AppendsFlushed, DirectionState, Flushes, Stays, ack_flushes, ack_place, flushed_to, segment_fate}
 use Rattle.flow_lanes.specs.Sides.{Side, direction_after_data, is_held, queues, side_after_data, started_by}
 use Rattle.flow_lanes.specs.Streams.{flushed_payloads, item_size, parts_of}
 use Rattle.flow_lanes.proofs.Runs.{flushed_payloads-runs}

@@ -9,9 +9,9 @@ use Rattle.net_lists.specs.declared.part.Bounds.{Bounds}
 use Rattle.net_lists.specs.declared.part.Part.{Part}
 use Rattle.net_lists.specs.Membership.{IsListed, IsNegated, IsPositive, Has, HasAddress}
 use Rattle.packet_decode.specs.declared.item.ItemHead.{ItemHead}
-use Rattle.rule_parser.specs.declared.rule.Proto.{Proto}
-use Rattle.rule_parser.specs.declared.rule.Proto.TheVariants as proto
-use Rattle.rule_parser.specs.declared.rule.Rule.{Rule}
+use Rattle.rule_types.specs.declared.rule.Proto.{Proto}
+use Rattle.rule_types.specs.declared.rule.Proto.TheVariants as proto
+use Rattle.rule_types.specs.declared.rule.Rule.{Rule}
 use Rattle.header_eval.specs.Fields.{HasPort, HeaderHolds, IsEnd, IsWay, PortHolds, destination_port, field_holds, is_of, source_port}
 use Rattle.option_eval.specs.Places.{Means}
 use Rattle.flow_lanes.specs.Hits.{Bits, Item, RuleMatches, Tells, Test, bit_holds}

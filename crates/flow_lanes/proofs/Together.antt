@@ -14,7 +14,7 @@ use Rattle.edge_io.specs.declared.pattern.Span.{Span}
 use Rattle.edge_io.specs.Along.{AscendsBy, IsLocal, along_from}
 use Rattle.edge_io.proofs.Along.{map-along_from}
 use Rattle.edge_io.proofs.AlongClasses.{joined_classes}
-use Rattle.conf_parser.specs.declared.config.StreamConfig.{StreamConfig}
+use Rattle.conf_types.specs.declared.config.StreamConfig.{StreamConfig}
 use Rattle.option_eval.specs.Places.{Means}
 use Rattle.option_eval.specs.RuleSet.{Rules}
 use Rattle.ordered_merge.specs.declared.numbered.Numbered.{Numbered}

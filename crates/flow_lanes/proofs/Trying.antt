@@ -2,8 +2,8 @@
 use Rattle.std.proofs.Common.{◌≡◌, Bool, List, length, Result, Ok, Err, IfOk, IsTrue, ◌↔◌, subst}
 use Rattle.std.specs.Prelude.{All}
 use Rattle.edge_io.specs.declared.fault.NoMemory.{NoMemory}
-use Rattle.rule_parser.specs.declared.option.Opt.{Opt}
-use Rattle.rule_parser.specs.declared.rule.Rule.{Rule}
+use Rattle.rule_types.specs.declared.option.Opt.{Opt}
+use Rattle.rule_types.specs.declared.rule.Rule.{Rule}
 use Rattle.header_eval.specs.Fields.{HeaderHolds, field_holds}
 use Rattle.option_eval.specs.Places.{Means, PayloadMatches}
 use Rattle.flow_lanes.specs.Hits.{Bits, Item, RuleMatches, bit_holds}

@@ -1,9 +1,8 @@
 -- Items of one session that are tried one after another.
-use Rattle.std.proofs.Common.{◌≡◌, ℕ, ◌+◌, ◌<◌, List, [], ◌∷◌, ◌++◌, get_or, length, take, Option, refl, sym, ap, subst, ◌∙◌, append_assoc, arith, zero-add, add-zero}
-use Rattle.std.specs.Prelude.{fold, sum_by}
+use Rattle.std.proofs.Common.{◌≡◌, ℕ, ◌+◌, ◌<◌, List, [], ◌∷◌, ◌++◌, get_or, length, take, Option, refl, sym, ap, subst, ◌∙◌, append_assoc, arith}
 use Rattle.std.proofs.lemmas.List.{append-nil, take_more}
 use Rattle.std.proofs.lemmas.List.Sums.{fold-append, sum_by-append, sum_by_more}
-use Rattle.rule_parser.specs.declared.rule.Rule.{Rule}
+use Rattle.rule_types.specs.declared.rule.Rule.{Rule}
 use Rattle.fast_pattern.specs.Candidates.{candidates}
 use Rattle.option_eval.specs.Places.{Means}
 use Rattle.flow_lanes.specs.declared.answer.Hits.{Hits}

@@ -3,11 +3,11 @@ use Rattle.std.proofs.Common.{◌≡◌, ℕ, suc, ◌+◌, ◌*◌, ◌<◌, �
 use Rattle.memchr.specs.Find.{OccursAt}
 use Rattle.edge_io.specs.declared.pattern.Span.{Span}
 use Rattle.edge_io.specs.Matching.{folded}
-use Rattle.rule_parser.specs.declared.option.Cmp.{Cmp}
-use Rattle.rule_parser.specs.declared.option.Cmp.TheVariants as cmp
-use Rattle.rule_parser.specs.declared.option.Opt.{Opt}
-use Rattle.rule_parser.specs.declared.option.Opt.TheVariants as opt
-use Rattle.rule_parser.specs.declared.rule.Rule.{Rule}
+use Rattle.rule_types.specs.declared.option.Cmp.{Cmp}
+use Rattle.rule_types.specs.declared.option.Cmp.TheVariants as cmp
+use Rattle.rule_types.specs.declared.option.Opt.{Opt}
+use Rattle.rule_types.specs.declared.option.Opt.TheVariants as opt
+use Rattle.rule_types.specs.declared.rule.Rule.{Rule}
 use Rattle.option_eval.specs.Numbers.{Standing, Fetched, fetched, number_of, origin, rounded_up}
 use Rattle.option_eval.specs.Places.{Means, Sought, StandsAt, Leads, Compares, SharesBit, Unless, IsWay, PayloadMatches, at_place, is_only, jump, sought, start}
 use Rattle.option_eval.specs.Walks.{MatchesFrom}

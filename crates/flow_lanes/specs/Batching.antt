@@ -7,7 +7,7 @@
 use Rattle.std.specs.Prelude.{◌≡◌, ℕ, ◌<◌, true, List, [], ◌∷◌, ◌++◌, Option, Some, IfOk, filter, length, map, slice_get, slice_index_or}
 use Rattle.edge_io.specs.declared.pattern.Span.{Span}
 use Rattle.edge_io.specs.Along.{along_from}
-use Rattle.conf_parser.specs.declared.config.StreamConfig.{StreamConfig}
+use Rattle.conf_types.specs.declared.config.StreamConfig.{StreamConfig}
 use Rattle.option_eval.specs.Places.{Means}
 use Rattle.option_eval.specs.RuleSet.{Rules}
 use Rattle.ordered_merge.specs.declared.numbered.Numbered.{Numbered}

@@ -4,7 +4,7 @@
 -- job of it is sound whatever stands before it, as long as there are not too many.
 -- To try it on: two packets of flow 7 from 10.0.0.1 port 1000 to 10.0.0.2 port 2000, numbered 3 and 4, follow
 -- a course of 3 jobs.
-use Rattle.std.specs.Prelude.{◌≡◌, ℕ, ◌+◌, ◌<◌, ◌≤◌, ⊤, false, List, [], ◌∷◌, Option, None, IfSome, length, map}
+use Rattle.std.specs.Prelude.{◌≡◌, ℕ, ◌<◌, ◌≤◌, ⊤, false, List, [], None, IfSome, length, map}
 use Rattle.std.specs.List.{AllByRecursion, range_with_len}
 use Rattle.edge_io.specs.declared.address.Addr.TheVariants as addr
 use Rattle.edge_io.specs.declared.moment.Moment.{Moment}
@@ -16,7 +16,7 @@ use Rattle.flow_lanes.specs.declared.job.Toward.{Toward}
 use Rattle.flow_lanes.specs.declared.job.Work.{Work}
 use Rattle.flow_lanes.specs.declared.job.Work.TheVariants as work
 use Rattle.flow_lanes.specs.Sessions.{Packet}
-use Rattle.flow_lanes.specs.Sound.{FlowEnds, FlowFacts, HasSessions, ends_of}
+use Rattle.flow_lanes.specs.Sound.{FlowFacts, HasSessions, ends_of}
 use Rattle.flow_lanes.specs.Standing.{LanesState, known_in}
 
 -- what is sent to either end goes by the first engine

@@ -5,12 +5,12 @@
 -- place among those of the configuration; their number names the defaults.
 -- To try it on: where no line gives an engine, the data that a client sends to port 80 are put together,
 -- and those of its server are not.
-use Rattle.std.specs.Prelude.{ℕ, Bool, false, List, Option, Some, None, slice_get, unwrap_or, if◌then◌else◌}
+use Rattle.std.specs.Prelude.{ℕ, Bool, false, List, Option, Some, None, if◌then◌else◌}
 use Rattle.net_lists.specs.declared.part.Bounds.{Bounds}
 use Rattle.net_lists.specs.declared.part.Part.{Part}
-use Rattle.conf_parser.specs.declared.config.StreamConfig.{StreamConfig}
-use Rattle.conf_parser.specs.declared.config.StreamEngine.{StreamEngine}
-use Rattle.conf_parser.specs.Stream5.{engine_of, first_tcp}
+use Rattle.conf_types.specs.declared.config.StreamConfig.{StreamConfig}
+use Rattle.conf_types.specs.declared.config.StreamEngine.{StreamEngine}
+use Rattle.conf_types.specs.Defaults.{stream_engine_at}
 use Rattle.fast_pattern.specs.Candidates.{has_port}
 use Rattle.stream5_reassembly.specs.declared.limits.Limits.{Limits}
 
@@ -21,13 +21,9 @@ pub record Making : Type 0 where
   pub inserts : Bool
   pub stream : StreamConfig
 
--- the engine at a place; behind the last one stand the defaults
-abbrev pub engine_at : List StreamEngine → ℕ → StreamEngine
-engine_at engines place = unwrap_or (slice_get engines place) (engine_of first_tcp)
-
 -- the engine of this place
 abbrev pub engine_for : Making → ℕ → StreamEngine
-engine_for making place = engine_at making.stream.engines place
+engine_for making place = stream_engine_at making.stream.engines place
 
 -- the limits of data sent to an end of this engine
 abbrev pub limits_to : Making → ℕ → Limits

@@ -10,10 +10,9 @@
 use Rattle.std.specs.Prelude.{◌≡◌, ℕ, ◌+◌, ◌↔◌, ◌⊎◌, Bool, true, not, List, [], ◌∷◌, Option, All, IsTrue, fold, length, option_map, unwrap_or, if◌then◌else◌}
 use Rattle.std.specs.Ordering.{nat_cmp}
 use Rattle.std.specs.FinSet.{FinSet, contains, empty}
-use Rattle.packet_decode.specs.declared.item.ItemHead.{ItemHead}
-use Rattle.rule_parser.specs.declared.option.Opt.{Opt}
-use Rattle.rule_parser.specs.declared.option.Opt.TheVariants as opt
-use Rattle.rule_parser.specs.declared.rule.Rule.{Rule}
+use Rattle.rule_types.specs.declared.option.Opt.{Opt}
+use Rattle.rule_types.specs.declared.option.Opt.TheVariants as opt
+use Rattle.rule_types.specs.declared.rule.Rule.{Rule}
 use Rattle.header_eval.specs.Fields.{HeaderHolds, field_holds}
 use Rattle.option_eval.specs.Places.{Means, PayloadMatches}
 use Rattle.flowbit_state.specs.Changes.{changed}

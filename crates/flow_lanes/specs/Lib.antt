@@ -18,3 +18,4 @@ pub mod Batching
 pub mod Course
 pub mod Kept
 pub mod Whole
+pub mod Spread

@@ -4,7 +4,7 @@
 -- 2^63.
 -- To try it on: behind the first packet of a flow, no side's size is above 2147483648.
 use Rattle.std.specs.Prelude.{ℕ, ◌+◌, ◌^◌, ◌≤◌, Bool, Option, IfSome, if◌then◌else◌}
-use Rattle.conf_parser.specs.Sound.{IsStreamConfig}
+use Rattle.conf_types.specs.Sound.{IsStreamConfig}
 use Rattle.stream5_reassembly.specs.Segments.{passed}
 use Rattle.flow_lanes.specs.Engines.{Making}
 use Rattle.flow_lanes.specs.Sessions.{Session}
@@ -18,6 +18,10 @@ pub record Reaches (side : Side) (places : ℕ) : Type 0 where
 -- one packet has done its part with a side
 abbrev pub Grows : Side → Side → Type 0
 Grows old new = (places : ℕ) → Reaches old places → Reaches new (places + 2 ^ 31)
+
+-- a side has come no further
+abbrev pub Keeps : Side → Side → Type 0
+Keeps old new = (places : ℕ) → Reaches old places → Reaches new places
 
 -- the client's side reaches so far, and the server's side so far
 pub record AreWithin (session : Session) (most_client most_server : ℕ) : Type 0 where

@@ -14,7 +14,7 @@ use Rattle.stream5_sessions.specs.declared.key.End.{End}
 use Rattle.stream5_reassembly.specs.declared.limits.Added.{Added}
 use Rattle.stream5_reassembly.specs.declared.limits.Added.TheVariants.{Queued}
 use Rattle.stream5_reassembly.specs.declared.limits.Limits.{Limits}
-use Rattle.stream5_reassembly.specs.Extents.{ExtentState, extent_after, extent_from, unknown}
+use Rattle.stream5_reassembly.specs.Extents.{extent_after, extent_from, unknown}
 use Rattle.stream5_reassembly.specs.Segments.{DirectionState, ack_flushes, ack_place, after_fate, flushed_to, idle, segment_fate, started_at, top}
 use Rattle.flow_lanes.specs.Streams.{flushed_payloads}
 pub use Rattle.flow_lanes.specs.declared.side.Side.{Side}

@@ -7,7 +7,6 @@
 use Rattle.std.specs.Prelude.{◌≡◌, ℕ, ◌+◌, ◌^◌, ◌<◌, ◌≤◌, ⊤, List, Option, Some, None, IfSome, length, fold}
 use Rattle.std.specs.Option.{option_map_or}
 use Rattle.edge_io.specs.declared.moment.Moment.{Moment}
-use Rattle.edge_io.specs.declared.policy.Preference.{Preference}
 use Rattle.packet_decode.specs.declared.packet.Body.{Body}
 use Rattle.packet_decode.specs.declared.packet.Body.TheVariants as body
 use Rattle.stream5_sessions.specs.declared.key.Key.{Key}

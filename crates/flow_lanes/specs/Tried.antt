@@ -3,7 +3,7 @@
 -- To try it on: where a rule sets a bit on the first of two items that are tried, the second sees it.
 use Rattle.std.specs.Prelude.{◌≡◌, ℕ, List, [], ◌∷◌, ◌++◌, Option, length, sum_by}
 use Rattle.edge_io.specs.declared.pattern.Span.{Span}
-use Rattle.rule_parser.specs.declared.rule.Rule.{Rule}
+use Rattle.rule_types.specs.declared.rule.Rule.{Rule}
 use Rattle.fast_pattern.specs.Candidates.{candidates}
 use Rattle.option_eval.specs.Places.{Means}
 use Rattle.option_eval.specs.RuleSet.{FindWhatIsMeant, Rules}

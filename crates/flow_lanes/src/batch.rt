@@ -2,31 +2,48 @@
 
 ghost use Rattle.std.specs.Prelude.{◌≡◌, ℕ, ◌<◌, ◌≤◌, ◌^◌, ◌↔◌, List, Option, Some, Ok, false, All, IfOk, OnErr, OnOk, fold, length, map, replicate, sum_by};
 ghost use Rattle.edge_io.specs.Along.{AscendsBy};
-ghost use Rattle.conf_parser.specs.Sound.{IsStreamConfig};
+ghost use Rattle.conf_types.specs.Sound.{IsStreamConfig};
 ghost use Rattle.fast_pattern.specs.Grouping.{StandFor};
-ghost use Rattle.rule_parser.specs.Sound.{IsTriable};
+ghost use Rattle.rule_types.specs.Sound.{IsTriable};
 ghost use Rattle.flow_lanes.specs.declared.job.Job.{Job};
 ghost use Rattle.flow_lanes.specs.Standing.{AnswersBatch, AreNew, AreNext, AreSoundFor, HasFailed, LearnsBatch, new_lane};
 ghost use Rattle.flow_lanes.specs.Batching.{AllGoOn, AreSoundAmong, AreSoundIn, GoesOn, HaveAnswered, lanes_of, own_jobs};
 
 use crate::answer::{BatchFault, BatchOut, JobOut};
 use crate::job::{Job, Work};
-use crate::worker::{Detector, Share, Worker};
-use conf_parser::StreamConfig;
+use crate::spread::for_each_spread;
+use crate::worker::{Detector, Share, Worker, flow_of, lane_of};
+use conf_types::StreamConfig;
 use edge_io::{Gate, Items, NoMemory, Pattern};
 use fast_pattern::Groups;
 use option_eval::RuleSet;
 use ordered_merge::{Numbered, merge};
 use std::alloc::Global;
 use std::marker::Model;
-use std::thread;
-use std::thread::Threads;
+use std::thread::{Threads, available_parallelism};
+
+/// How many lanes there are at most.
+const MOST_LANES: usize = 64;
 
 /// About so much work as a job is whatever its data, in bytes that are looked at.
 const JOB_WORK: usize = 256;
 
-/// For less work than this a thread is not worth its start.
+/// For less work than this a thread more is not worth its start, which costs some 44 µs with its join.
 const THREAD_WORK: usize = 32768;
+
+/// The lanes, of so many, that have jobs among these.
+fn busy_lanes(count: usize, jobs: &[Job]) -> [bool; MOST_LANES]
+    requires { 0 < count }
+{
+    let mut busy = [false; MOST_LANES];
+    for job in jobs {
+        let place = lane_of(count, flow_of(job));
+        if place < MOST_LANES {
+            busy[place] = true;
+        }
+    }
+    busy
+}
 
 /// The work of a job.
 fn job_work(job: &Job) -> usize {
@@ -37,15 +54,32 @@ fn job_work(job: &Job) -> usize {
     }
 }
 
-/// How many threads a batch is worth among so many lanes: one alone is the caller's own.
-fn thread_count(count: usize, jobs: &[Job]) -> usize
-    ensures { 1 ≤ result }
-{
+/// The work of jobs.
+fn batch_work(jobs: &[Job]) -> usize {
     let mut work = 0usize;
     for job in jobs {
         work = work.saturating_add(job_work(job));
     }
-    (work / THREAD_WORK).min(count).max(1)
+    work
+}
+
+/// How many processors there are.
+fn processor_count<R: Threads>(rt: &R) -> usize {
+    match available_parallelism(rt) {
+        Ok(count) => count.get(),
+        Err(_) => 1,
+    }
+}
+
+/// Over how many threads the lanes that have jobs are spread, of so many lanes: as many as the work is worth
+/// and there are processors, but two at least, so that no two such lanes wait for one another in vain. The
+/// processors are asked for only where more than two threads are worth it.
+fn thread_count<R: Threads>(rt: &R, lanes: usize, jobs: &[Job]) -> usize {
+    let worth = (batch_work(jobs) / THREAD_WORK).min(lanes);
+    if worth <= 2 {
+        return 2;
+    }
+    worth.min(processor_count(rt)).max(2)
 }
 
 /// The greatest number behind these jobs.
@@ -77,7 +111,7 @@ fn new_workers(
     Ok(workers)
 }
 
-/// All lanes do their own jobs of a batch, in threads of their own where that is worth it.
+/// All lanes do their own jobs of a batch: those that have any are spread evenly over threads.
 fn run_all<P: Pattern, G: Gate, R: Threads + Sync>(
     rt: &R,
     alloc: Global,
@@ -86,6 +120,7 @@ fn run_all<P: Pattern, G: Gate, R: Threads + Sync>(
     detector: &Detector<'_, P>,
     gate: &G,
 )
+    requires some { 0 < length workers.old }
     requires few { length workers.old ≤ 64 }
     requires sound { AreSoundAmong (length detector.now.stream.now.engines) workers.old jobs.now }
     requires config { IsStreamConfig detector.now.stream.now }
@@ -94,11 +129,13 @@ fn run_all<P: Pattern, G: Gate, R: Threads + Sync>(
     ensures { AllGoOn P.finds detector.now.stream.now detector.now.set.now workers.old jobs.now workers.new }
 {
     let count = workers.len();
-    let threads = thread_count(count, jobs);
-    thread::for_each_mut(
+    let busy = busy_lanes(count, jobs);
+    let threads = thread_count(rt, count, jobs);
+    for_each_spread(
         rt,
         workers,
         threads,
+        &busy[..count],
         &|place: usize, worker: &mut Worker|
             requires { (0 < count) × (place < 2 ^ 32)
                 × AreSoundIn (length detector.now.stream.now.engines) count place worker.old.lane jobs.now
@@ -110,11 +147,8 @@ fn run_all<P: Pattern, G: Gate, R: Threads + Sync>(
     );
 }
 
-/// The answers of each lane, taken out of the workers.
-fn taken_parts(
-    alloc: Global,
-    workers: &mut [Worker],
-) -> Result<Vec<Vec<Numbered<JobOut>>>, NoMemory>
+/// Takes the answers of each lane out of the workers.
+fn take_parts(alloc: Global, workers: &mut [Worker]) -> Result<Vec<Vec<Numbered<JobOut>>>, NoMemory>
     ensures lanes { lanes_of workers.new ≡ lanes_of workers.old }
     ensures parts { IfOk result (λ parts. map (λ worker. worker.outs) workers.old ≡ map (λ part. Ok part) parts.items) }
 {
@@ -162,7 +196,7 @@ fn answer_batch<P: Pattern, G: Gate, R: Threads + Sync>(
         (lanes_of workers.old) jobs.now out (lanes_of workers.new)) }
 {
     run_all(rt, alloc, workers, jobs, detector, gate);
-    let parts = taken_parts(alloc, workers)?;
+    let parts = take_parts(alloc, workers)?;
     let merged = merge(alloc, parts)?;
     batch_out(alloc, merged)
 }
@@ -221,8 +255,9 @@ impl Lanes {
     /// set's rules.
     ///
     /// The answers are those of one list of jobs, taken one by one, for any number of lanes and any cut of
-    /// the list into batches. The lanes run in threads of their own, unless there is one lane or little to
-    /// do; each passes the gate at the start of its work.
+    /// the list into batches. The lanes that have jobs are spread evenly over threads, over two at least;
+    /// where there is one such lane it runs on the caller's thread. Each passes the gate at the start of its
+    /// work.
     ///
     /// # Errors
     ///

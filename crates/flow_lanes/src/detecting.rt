@@ -1,51 +1,80 @@
-//! All rules that match the items of a job, and what the flow's next job finds.
+//! All rules that match the items of a job, and what the flow's next job finds, in its place.
 
-ghost use Rattle.std.specs.Prelude.{◌≡◌, ℕ, Bool, ◌+◌, ◌++◌, All, IfOk, OnOk, option_map, unwrap_or};
+ghost use Rattle.std.specs.Prelude.{◌≡◌, ◌+◌, ◌≤◌, ◌++◌, All, drop, length, None, OnOk, option_map, Some, unwrap_or, if◌then◌else◌};
 ghost use Rattle.std.specs.FinSet.{empty};
-ghost use Rattle.rule_parser.specs.Sound.{IsTriable};
+ghost use Rattle.rule_types.specs.Sound.{IsTriable};
 ghost use Rattle.fast_pattern.specs.Grouping.{StandFor};
 ghost use Rattle.option_eval.specs.Places.{Means};
-ghost use Rattle.flow_lanes.specs.Detecting.{Detects, bits_begun};
-ghost use Rattle.flow_lanes.specs.Flows.{all_items, session_at_hand, steered};
-ghost use Rattle.flow_lanes.specs.ItemHits.{Trying};
-ghost use Rattle.flow_lanes.specs.Kept.{IsOf};
-ghost use Rattle.flow_lanes.specs.Reach.{AreWithin, IsWithin};
+ghost use Rattle.flow_lanes.specs.Detecting.{SettlesBy};
+ghost use Rattle.flow_lanes.specs.Flows.{bits_at_hand, session_at_hand, steered};
+ghost use Rattle.flow_lanes.specs.ItemHits.{Trying, hits_of};
+ghost use Rattle.flow_lanes.specs.Kept.{KeepsFound};
 ghost use Rattle.flow_lanes.specs.Tried.{TriesAll, TriesBy, candidates_of};
-ghost use Rattle.flow_lanes.specs.Working.{EndsApart, items_of_parts, own_item};
+ghost use Rattle.flow_lanes.specs.Working.{own_item};
 
 use crate::answer::Hits;
-use crate::boxed::BoxedSession;
 use crate::item::Item;
 use crate::keeping::FlowState;
-use crate::parts::Parts;
+use crate::matcher::Matcher;
 use crate::steering::steer;
 use crate::tally::{Tally, try_items, try_own};
 use edge_io::{NoMemory, Pattern};
-use fast_pattern::Groups;
 use flowbit_state::Bits;
-use option_eval::RuleSet;
 use packet_decode::ItemHead;
-use rule_parser::Rule;
-use std::alloc::Global;
+use rule_types::Rule;
+use stream5_sessions::Step;
 
-/// What a job gives, and what the flow's next job finds.
-#[derive(Drop)]
-pub(crate) struct Detected {
-    pub tally: Tally,
-    pub state: Option<FlowState>,
+/// Takes the bits of the session at hand, which has none then.
+fn take_bits(kept: &mut FlowState) -> Bits
+    ensures bits { result ≡ kept.old.bits }
+    ensures session { kept.new.session ≡ kept.old.session }
+{
+    std::mem::replace(&mut kept.bits, Bits::new())
 }
 
-/// The bits that the packet's items find: those of its session, and none set where it begins one.
-fn bits_begun(begun: bool, tracked: bool, bits: Option<Bits>) -> Option<Bits>
-    ensures { result ≡ bits_begun begun tracked bits }
+/// Takes them where a session is at hand.
+fn take_bits_at_hand(found: &mut Option<FlowState>) -> Option<Bits>
+    ensures bits { result ≡ bits_at_hand found.old }
+    ensures session { session_at_hand found.new ≡ session_at_hand found.old }
+{
+    match found {
+        None => None,
+        Some(kept) => Some(take_bits(kept)),
+    }
+}
+
+/// The bits of the session at hand, or none set; None where the items have no session.
+fn bits_found(tracked: bool, found: &mut Option<FlowState>) -> Option<Bits>
+    ensures bits { result ≡ (if tracked then Some (unwrap_or (bits_at_hand found.old) empty) else None) }
+    ensures session { session_at_hand found.new ≡ session_at_hand found.old }
 {
     if !tracked {
-        None
-    } else if begun {
-        Some(Bits::new())
-    } else {
-        Some(bits_or_none(bits))
+        return None;
     }
+    Some(bits_or_none(take_bits_at_hand(found)))
+}
+
+/// Tries the rules on the streams of the packet's session and then on the packet.
+fn try_current<P: Pattern>(
+    matcher: &Matcher<'_, P>,
+    streams: &[Item],
+    own: &Option<ItemHead>,
+    payload: &[u8],
+    bits: &mut Option<Bits>,
+    tally: &mut Tally,
+) -> Result<(), NoMemory>
+    requires groups { StandFor matcher.now.groups.now matcher.now.set.now.rules }
+    requires triable { All IsTriable matcher.now.set.now.rules }
+    ensures hits { (means : Means) (trying : Trying) → TriesBy P.finds means matcher.now.set.now trying
+        → OnOk result (TriesAll trying (streams.now ++ own_item payload.now own.now) bits.old bits.new
+        tally.old.hits.items tally.new.hits.items) }
+    ensures tries { OnOk result (tally.new.tries
+        ≡ tally.old.tries + candidates_of matcher.now.set.now.rules (streams.now ++ own_item payload.now own.now)) }
+    ensures more { OnOk result (length tally.old.hits.items ≤ length tally.new.hits.items) }
+{
+    try_items(matcher, streams, bits, tally)?;
+    try_own(matcher, own, payload, bits, tally)?;
+    Ok(())
 }
 
 /// The bits, or none set.
@@ -58,135 +87,84 @@ fn bits_or_none(bits: Option<Bits>) -> Bits
     }
 }
 
-/// Tries the rules on the streams of the packet's session and then on the packet.
-fn try_current<P: Pattern>(
-    alloc: Global,
-    set: &RuleSet<P>,
-    groups: &Groups,
-    streams: &[Item],
-    own: &Option<ItemHead>,
-    payload: &[u8],
-    bits: &mut Option<Bits>,
+/// The session behind its items, if it stands: as its rules ask, and with its bits. The hits of its items
+/// begin at a place.
+fn settle(
+    rules: &[Rule],
+    hits: &[Hits],
+    first: usize,
+    bits: Option<Bits>,
+    found: &mut Option<FlowState>,
+)
+    requires { first ≤ length hits.now }
+    ensures state { found.new ≡ option_map
+        (λ session. record { session = steered rules.now (drop first hits.now) session; bits = unwrap_or bits empty })
+        (session_at_hand found.old) }
+    ensures keeps { KeepsFound found.old found.new }
+{
+    if let Some(kept) = found {
+        let (_, own) = hits.split_at(first);
+        steer(rules, own, &mut kept.session);
+        kept.bits = bits_or_none(bits);
+    }
+}
+
+/// Leaves no session where it ends.
+fn end_if(ends: bool, found: &mut Option<FlowState>)
+    ensures session { session_at_hand found.new ≡ (if ends then None else session_at_hand found.old) }
+    ensures keeps { KeepsFound found.old found.new }
+{
+    if ends {
+        *found = None;
+    }
+}
+
+/// Tries the rules on the items of a session that has ended, with its bits: no session stands then.
+pub(crate) fn try_at_end<P: Pattern>(
+    matcher: &Matcher<'_, P>,
+    items: &[Item],
+    found: &mut Option<FlowState>,
     tally: &mut Tally,
 ) -> Result<(), NoMemory>
-    requires groups { StandFor groups.now set.now.rules }
-    requires triable { All IsTriable set.now.rules }
-    ensures hits { (means : Means) (trying : Trying) → TriesBy P.finds means set.now trying
-        → OnOk result (TriesAll trying (streams.now ++ own_item payload.now own.now) bits.old bits.new tally.old.hits.items tally.new.hits.items) }
-    ensures tries { OnOk result (tally.new.tries ≡ tally.old.tries + candidates_of set.now.rules (streams.now ++ own_item payload.now own.now)) }
+    requires groups { StandFor matcher.now.groups.now matcher.now.set.now.rules }
+    requires triable { All IsTriable matcher.now.set.now.rules }
+    ensures hits { (means : Means) (trying : Trying) → TriesBy P.finds means matcher.now.set.now trying
+        → OnOk result (tally.new.hits.items
+        ≡ tally.old.hits.items ++ hits_of trying (bits_at_hand found.old) items.now) }
+    ensures tries { OnOk result (tally.new.tries
+        ≡ tally.old.tries + candidates_of matcher.now.set.now.rules items.now) }
+    ensures found { found.new ≡ None }
 {
-    try_items(alloc, set, groups, streams, bits, tally)?;
-    try_own(alloc, set, groups, own, payload, bits, tally)?;
+    let mut bits = take_bits_at_hand(found);
+    *found = None;
+    try_items(matcher, items, &mut bits, tally)?;
     Ok(())
 }
 
-/// A session behind its items, with its bits.
-fn state_with(
-    rules: &[Rule],
-    hits: &[Hits],
-    mut session: BoxedSession,
-    bits: Option<Bits>,
-) -> FlowState
-    ensures state { result ≡ record { session = steered rules.now hits.now session; bits = unwrap_or bits empty } }
-    ensures within { (places : ℕ) → AreWithin session places places → AreWithin result.session places places }
-    ensures same { result.session.state ≡ session.state }
-{
-    steer(rules, hits, &mut session.inner);
-    FlowState {
-        session,
-        bits: bits_or_none(bits),
-    }
-}
-
-/// The session behind the job, if it stands, with its bits.
-fn state_behind(
-    rules: &[Rule],
-    hits: &[Hits],
-    session: Option<BoxedSession>,
-    bits: Option<Bits>,
-) -> Option<FlowState>
-    ensures state { result ≡ option_map (λ session. record { session = steered rules.now hits.now session; bits = unwrap_or bits empty }) session }
-    ensures within { (places : ℕ) → IsWithin session places → IsWithin (session_at_hand result) places }
-    ensures same { (tcp : Bool) → IsOf tcp session → IsOf tcp (session_at_hand result) }
-{
-    match session {
-        None => None,
-        Some(session) => Some(state_with(rules, hits, session, bits)),
-    }
-}
-
-/// These behind the first.
-fn joined(mut first: Vec<Hits>, later: Vec<Hits>) -> Result<Vec<Hits>, NoMemory>
-    ensures { IfOk result (λ all. all.items ≡ first.items ++ later.items) }
-{
-    for hit in later {
-        first.push(hit)?;
-    }
-    Ok(first)
-}
-
-/// The tally with these items before its own.
-fn tally_behind(first: Vec<Hits>, tally: Tally) -> Result<Tally, NoMemory>
-    ensures hits { IfOk result (λ all. all.hits.items ≡ first.items ++ tally.hits.items) }
-    ensures tries { IfOk result (λ all. all.tries ≡ tally.tries) }
-{
-    if first.is_empty() {
-        return Ok(tally);
-    }
-    let Tally { hits, tries } = tally;
-    let hits = joined(first, hits)?;
-    Ok(Tally { hits, tries })
-}
-
-/// All rules that match the items of a job, in order, where these bits are at hand, and what the flow's
-/// next job finds.
-pub(crate) fn detect<P: Pattern>(
-    alloc: Global,
-    set: &RuleSet<P>,
-    groups: &Groups,
-    parts: Parts,
+/// Tries the rules on the items of the packet's session, streams and then the packet: the session is then
+/// as its rules ask, unless it ends.
+pub(crate) fn try_and_settle<P: Pattern>(
+    matcher: &Matcher<'_, P>,
+    streams: &[Item],
+    own: &Option<ItemHead>,
     payload: &[u8],
-    mut bits: Option<Bits>,
-) -> Result<Detected, NoMemory>
-    requires groups { StandFor groups.now set.now.rules }
-    requires triable { All IsTriable set.now.rules }
-    requires apart { EndsApart parts }
-    ensures detects { (means : Means) (trying : Trying) → TriesBy P.finds means set.now trying
-        → IfOk result (Detects trying (items_of_parts payload.now parts) bits) }
-    ensures tries { IfOk result (λ detected. detected.tally.tries ≡ candidates_of set.now.rules (all_items (items_of_parts payload.now parts))) }
-    ensures within { (places : ℕ) → IsWithin parts.session places → IfOk result (λ detected. IsWithin (session_at_hand detected.state) places) }
-    ensures same { (tcp : Bool) → IsOf tcp parts.session → IfOk result (λ detected. IsOf tcp (session_at_hand detected.state)) }
+    step: &Step,
+    found: &mut Option<FlowState>,
+    tally: &mut Tally,
+) -> Result<(), NoMemory>
+    requires groups { StandFor matcher.now.groups.now matcher.now.set.now.rules }
+    requires triable { All IsTriable matcher.now.set.now.rules }
+    ensures hits { (means : Means) (trying : Trying) → TriesBy P.finds means matcher.now.set.now trying
+        → OnOk result (SettlesBy trying (streams.now ++ own_item payload.now own.now) step.now.tracked step.now.ends
+        found.old found.new tally.old.hits.items tally.new.hits.items) }
+    ensures tries { OnOk result (tally.new.tries
+        ≡ tally.old.tries + candidates_of matcher.now.set.now.rules (streams.now ++ own_item payload.now own.now)) }
+    ensures keeps { KeepsFound found.old found.new }
 {
-    let Parts {
-        ended,
-        streams,
-        own,
-        begun,
-        tracked,
-        session,
-    } = parts;
-    let mut tally = Tally {
-        hits: Vec::new(alloc),
-        tries: 0,
-    };
-    try_items(alloc, set, groups, ended.as_slice(), &mut bits, &mut tally)?;
-    let Tally { hits, tries } = tally;
-    let mut bits = bits_begun(begun, tracked, bits);
-    let mut tally = Tally {
-        hits: Vec::new(alloc),
-        tries,
-    };
-    try_current(
-        alloc,
-        set,
-        groups,
-        streams.as_slice(),
-        &own,
-        payload,
-        &mut bits,
-        &mut tally,
-    )?;
-    let state = state_behind(set.rules(), &tally.hits, session, bits);
-    let tally = tally_behind(hits, tally)?;
-    Ok(Detected { tally, state })
+    let first = tally.hits.len();
+    let mut bits = bits_found(step.tracked, found);
+    try_current(matcher, streams, own, payload, &mut bits, tally)?;
+    end_if(step.ends, found);
+    settle(matcher.set.rules(), &tally.hits, first, bits, found);
+    Ok(())
 }

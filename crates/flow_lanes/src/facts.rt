@@ -24,7 +24,8 @@ pub struct FlowEnds {
     pub high: EndWay,
 }
 
-/// What is known of a flow: its ends, and how many packets it had.
+/// What is known of a flow: its ends, and how many packets it had. Read by contracts alone: by it each next
+/// job is known to be sound.
 #[derive(Clone, Copy)]
 pub struct FlowFacts {
     pub ends: FlowEnds,

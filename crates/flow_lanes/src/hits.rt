@@ -2,7 +2,7 @@
 
 ghost use Rattle.std.specs.Prelude.{◌≡◌, ℕ, ◌<◌, List, Option, fold, length, All, IfOk, OnOk};
 ghost use Rattle.std.specs.FinSet.{empty};
-ghost use Rattle.rule_parser.specs.Sound.{IsTriable};
+ghost use Rattle.rule_types.specs.Sound.{IsTriable};
 ghost use Rattle.fast_pattern.specs.Candidates.{candidates};
 ghost use Rattle.fast_pattern.specs.Grouping.{StandFor};
 ghost use Rattle.option_eval.specs.Places.{Means};
@@ -16,7 +16,7 @@ use fast_pattern::Groups;
 use flowbit_state::Bits;
 use option_eval::RuleSet;
 use packet_decode::ItemHead;
-use rule_parser::{Opt, Rule};
+use rule_types::{Opt, Rule};
 use std::alloc::Global;
 
 /// What was found of one item.
@@ -62,7 +62,7 @@ fn change_session(alloc: Global, bits: &mut Option<Bits>, rule: &Rule) -> Result
 }
 
 /// The bits that an item has; without a session none are set.
-fn seen<'a>(bits: &'a Option<Bits>, none: &'a Bits) -> &'a Bits
+fn bits_seen<'a>(bits: &'a Option<Bits>, none: &'a Bits) -> &'a Bits
     requires { none.now ≡ empty }
     ensures { result.now ≡ bits_seen bits.now }
 {
@@ -89,7 +89,7 @@ fn pick<P: Pattern>(
         bits.old bits.new found.old.items found.new.items) }
 {
     let none = Bits::new();
-    let matches = rule_matches(alloc, set, place, head, payload, seen(bits, &none))?;
+    let matches = rule_matches(alloc, set, place, head, payload, bits_seen(bits, &none))?;
     if matches {
         change_session(alloc, bits, &set.rules()[place as usize])?;
         found.push(place)?;

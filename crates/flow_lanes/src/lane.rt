@@ -1,19 +1,20 @@
 //! A lane: some flows, job by job.
 
 ghost use Rattle.std.specs.Prelude.{◌≡◌, ◌≤◌, All, IfOk, OnOk, length};
-ghost use Rattle.conf_parser.specs.Sound.{IsStreamConfig};
+ghost use Rattle.conf_types.specs.Sound.{IsStreamConfig};
 ghost use Rattle.fast_pattern.specs.Grouping.{StandFor};
-ghost use Rattle.rule_parser.specs.Sound.{IsTriable};
+ghost use Rattle.rule_types.specs.Sound.{IsTriable};
 ghost use Rattle.flow_lanes.specs.Sound.{IsSoundFor};
 ghost use Rattle.flow_lanes.specs.Standing.{AnswersJob, CountsTries, LearnsJob, known_of, new_lane};
 
 use crate::answer::{JobHits, JobOut};
 use crate::job::Job;
 use crate::keeping::Flows;
+use crate::matcher::Matcher;
 use crate::settings::Settings;
 use crate::tally::Tally;
 use crate::working::do_work;
-use conf_parser::StreamConfig;
+use conf_types::StreamConfig;
 use edge_io::{Items, NoMemory, Pattern};
 use fast_pattern::Groups;
 use option_eval::RuleSet;
@@ -46,7 +47,7 @@ impl Model for Lane {
 }
 
 /// The answer to a job.
-fn answered(job: &Job, tally: Tally) -> JobOut
+fn job_out(job: &Job, tally: Tally) -> JobOut
     ensures number { result.hits.number ≡ job.now.number }
     ensures items { result.hits.items ≡ tally.hits.items }
     ensures tries { result.tries ≡ tally.tries }
@@ -104,8 +105,9 @@ impl Lane {
             inserts: self.inserts,
             stream,
         };
+        let matcher = Matcher { alloc, set, groups };
         let flows = &mut self.flows;
-        let tally = do_work(alloc, &settings, set, groups, job.moment, &job.work, flows)?;
-        Ok(answered(job, tally))
+        let tally = do_work(&matcher, &settings, job.moment, &job.work, flows)?;
+        Ok(job_out(job, tally))
     }
 }

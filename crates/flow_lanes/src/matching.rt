@@ -1,7 +1,7 @@
 //! One rule on one item.
 
 ghost use Rattle.std.specs.Prelude.{◌≡◌, ℕ, ◌<◌, ◌↔◌, List, Option, true, length, All, IsTrue, IfOk};
-ghost use Rattle.rule_parser.specs.declared.rule.Rule.{Rule};
+ghost use Rattle.rule_types.specs.declared.rule.Rule.{Rule};
 ghost use Rattle.fast_pattern.specs.Candidates.{is_candidate};
 ghost use Rattle.header_eval.specs.Fields.{field_holds};
 ghost use Rattle.option_eval.specs.Places.{Means, PayloadMatches};
@@ -13,7 +13,7 @@ use flowbit_state::Bits;
 use header_eval::{field_matches, header_matches};
 use option_eval::{RuleSet, Steps, payload_matches};
 use packet_decode::ItemHead;
-use rule_parser::Opt;
+use rule_types::Opt;
 use std::alloc::Global;
 use std::marker::Brand;
 use std::sync::ledger::{Blank, Ledger};

@@ -1,18 +1,20 @@
 //! A session between two packets, and what a packet does to it (specs/Sessions).
 
-ghost use Rattle.std.specs.Prelude.{◌≡◌, ◌^◌, ◌≤◌, length, not, Some, IfOk, OnOk};
+ghost use Rattle.std.specs.Prelude.{◌≡◌, ℕ, ◌+◌, ◌-◌, ◌^◌, ◌≤◌, ◌++◌, [], false, length, not, Some, IfOk, OnOk, if◌then◌else◌};
 ghost use Rattle.flow_lanes.specs.Given.{making_of, packet_of};
-ghost use Rattle.flow_lanes.specs.Items.{is_queued};
+ghost use Rattle.flow_lanes.specs.Items.{acked_items, closing_items, held_items, is_queued, stream_items};
 ghost use Rattle.flow_lanes.specs.Reach.{AreWithin, GrowsOne, HasLimits, KeepsWithin};
 ghost use Rattle.flow_lanes.specs.Sessions.{after_ack, after_data, begun_session, client_at_begin, client_end, is_from_client, server_at_begin, server_end, settled, sizes_of, with_bases};
-ghost use Rattle.flow_lanes.specs.Sides.{acked_payloads, held_payloads, left_payloads, queues, side_after_ack, side_after_data};
-ghost use Rattle.flow_lanes.specs.Working.{acked_stretch, side_of, stretch_of, stretches_of, with_side};
+ghost use Rattle.flow_lanes.specs.Sides.{acked_payloads, left_payloads, queues, side_after_ack, side_after_data};
+ghost use Rattle.flow_lanes.specs.Working.{after_packet, side_of, streams_told, stretches_of, with_side};
 
 use crate::arrival::Arrival;
 use crate::cutting::Stretch;
+use crate::item::Item;
 use crate::settings::Settings;
 use crate::side::Side;
-use edge_io::NoMemory;
+use crate::streams::{push_maybe, push_stretches};
+use edge_io::{Moment, NoMemory};
 use std::alloc::Global;
 use stream5_sessions::{End, Session as Phases, Step};
 
@@ -116,6 +118,15 @@ impl Session {
         self.server.set_base(step.server_base);
     }
 
+    /// Goes on behind a packet that leaves the session here, with the bases that the packet sets.
+    pub fn go_on(&mut self, step: &Step, state: Phases)
+        ensures state { self.new ≡ with_bases step.now (record self.old { state = state }) }
+        ensures within { KeepsWithin self.old self.new }
+    {
+        self.state = state;
+        self.set_bases(step);
+    }
+
     /// How far the data of the client and of the server reach.
     pub fn sizes(&self) -> (u64, u64)
         ensures { result ≡ sizes_of self.now }
@@ -124,61 +135,107 @@ impl Session {
     }
 
     /// Takes what is left of stretches that have ended.
-    pub fn take_left(&mut self, alloc: Global) -> Result<Stretches, NoMemory>
+    pub fn take_left_stretches(&mut self, alloc: Global) -> Result<Stretches, NoMemory>
         requires { AreWithin self.old (2 ^ 63) (2 ^ 63) }
         ensures stretches { IfOk result (λ both. both ≡ stretches_of left_payloads self.old) }
         ensures state { OnOk result (self.new ≡ settled self.old) }
-        ensures within { OnOk result (KeepsWithin self.old self.new) }
+        ensures within { KeepsWithin self.old self.new }
+        ensures same { self.new.state ≡ self.old.state }
     {
-        let client = self.client.take_left(alloc)?;
-        let server = self.server.take_left(alloc)?;
+        let client = self.client.take_left_stretch(alloc)?;
+        let server = self.server.take_left_stretch(alloc)?;
         Ok(Stretches { client, server })
     }
 
-    /// Takes all that is held; what stands of the session then is not said.
-    pub fn take_held(&mut self, alloc: Global) -> Result<Stretches, NoMemory>
+    /// Appends the items of all that is held; what stands of the session then is not said, but its sizes
+    /// stay.
+    pub fn push_held_items(
+        &mut self,
+        alloc: Global,
+        moment: Moment,
+        sizes: (u64, u64),
+        out: &mut Vec<Item>,
+    ) -> Result<(), NoMemory>
         requires { AreWithin self.old (2 ^ 63) (2 ^ 63) }
-        ensures { IfOk result (λ both. both ≡ stretches_of held_payloads self.old) }
+        ensures items { OnOk result (out.new.items ≡ out.old.items ++ held_items self.old moment sizes) }
+        ensures sizes { OnOk result (sizes_of self.new ≡ sizes_of self.old) }
+        ensures within { KeepsWithin self.old self.new }
+        ensures same { self.new.state ≡ self.old.state }
     {
-        let client = self.client.take_held(alloc)?;
-        let server = self.server.take_held(alloc)?;
-        Ok(Stretches { client, server })
+        self.client
+            .push_held_items(alloc, true, moment, sizes, out)?;
+        self.server
+            .push_held_items(alloc, false, moment, sizes, out)?;
+        Ok(())
+    }
+
+    /// Appends the items of a session that has ended: they tell its last sizes.
+    #[tactic(auto, unfolding(crate::specs::Items::closing_items))]
+    pub fn close(
+        &mut self,
+        alloc: Global,
+        moment: Moment,
+        out: &mut Vec<Item>,
+    ) -> Result<(), NoMemory>
+        requires { AreWithin self.old (2 ^ 63) (2 ^ 63) }
+        ensures items { OnOk result (out.new.items ≡ out.old.items ++ closing_items self.old moment) }
+        ensures within { KeepsWithin self.old self.new }
+        ensures same { self.new.state ≡ self.old.state }
+    {
+        let sizes = self.sizes();
+        let left = self.take_left_stretches(alloc)?;
+        push_stretches(out, moment, sizes, left)?;
+        self.push_held_items(alloc, moment, sizes, out)
     }
 
     /// One side takes an acknowledgement of its data: the client's, or the server's.
-    fn ack_side(&mut self, alloc: Global, of_client: bool, ack: u32) -> Result<Stretch, NoMemory>
+    fn ack_side(
+        &mut self,
+        alloc: Global,
+        of_client: bool,
+        ack: u32,
+        moment: Moment,
+        sizes: (u64, u64),
+        out: &mut Vec<Item>,
+    ) -> Result<(), NoMemory>
         requires { AreWithin self.old (2 ^ 63) (2 ^ 63) }
-        ensures stretch { IfOk result (λ acked. acked ≡ stretch_of (side_of of_client self.old) (acked_payloads (side_of of_client self.old) ack)) }
-        ensures state { OnOk result (self.new ≡ with_side of_client (side_after_ack (side_of of_client self.old) ack) self.old) }
-        ensures grows { OnOk result (GrowsOne of_client self.old self.new) }
+        ensures items { OnOk result (out.new.items ≡ out.old.items ++ stream_items
+            (side_of of_client self.old) of_client moment sizes (acked_payloads (side_of of_client self.old) ack)) }
+        ensures state { OnOk result (self.new
+            ≡ with_side of_client (side_after_ack (side_of of_client self.old) ack) self.old) }
+        ensures grows { GrowsOne of_client self.old self.new }
+        ensures same { self.new.state ≡ self.old.state }
     {
         if of_client {
-            self.client.take_ack(alloc, ack)
+            self.client.take_ack(alloc, ack, true, moment, sizes, out)
         } else {
-            self.server.take_ack(alloc, ack)
+            self.server.take_ack(alloc, ack, false, moment, sizes, out)
         }
     }
 
-    /// Takes the packet's acknowledgement, where that counts: the stretch of the other side that this
-    /// flushes.
+    /// Takes the packet's acknowledgement, where that counts, and appends the items of the other side that
+    /// this flushes.
     #[tactic(auto, unfolding(crate::specs::Sessions::after_ack))]
     pub fn take_ack(
         &mut self,
         alloc: Global,
         p: &Arrival,
         step: &Step,
-    ) -> Result<Option<Stretch>, NoMemory>
+        sizes: (u64, u64),
+        out: &mut Vec<Item>,
+    ) -> Result<(), NoMemory>
         requires { AreWithin self.old (2 ^ 63) (2 ^ 63) }
-        ensures stretch { IfOk result (λ acked. acked ≡ acked_stretch (packet_of p.now) step.now self.old) }
+        ensures items { OnOk result (out.new.items
+            ≡ out.old.items ++ acked_items (packet_of p.now) step.now self.old sizes) }
         ensures state { OnOk result (self.new ≡ after_ack (packet_of p.now) step.now self.old) }
-        ensures grows { OnOk result (GrowsOne (not (is_from_client step.now)) self.old self.new) }
+        ensures grows { GrowsOne (not (is_from_client step.now)) self.old self.new }
+        ensures same { self.new.state ≡ self.old.state }
     {
         if !step.counts_ack {
-            return Ok(None);
+            return Ok(());
         }
         let of_client = !is_from_client(step);
-        let acked = self.ack_side(alloc, of_client, p.ack())?;
-        Ok(Some(acked))
+        self.ack_side(alloc, of_client, p.ack(), p.moment, sizes, out)
     }
 
     /// One side takes data: the client's, or the server's. True exactly where they are held.
@@ -186,8 +243,10 @@ impl Session {
         requires within { AreWithin self.old (2 ^ 63) (2 ^ 63) }
         requires size { length bytes.now ≤ 65535 }
         ensures held { IfOk result (λ queued. queued ≡ queues (side_of of_client self.old) seq bytes.now) }
-        ensures state { OnOk result (self.new ≡ with_side of_client (side_after_data (side_of of_client self.old) seq bytes.now) self.old) }
-        ensures grows { OnOk result (GrowsOne of_client self.old self.new) }
+        ensures state { OnOk result (self.new
+            ≡ with_side of_client (side_after_data (side_of of_client self.old) seq bytes.now) self.old) }
+        ensures grows { GrowsOne of_client self.old self.new }
+        ensures same { self.new.state ≡ self.old.state }
     {
         if of_client {
             self.client.take_data(seq, bytes)
@@ -203,12 +262,66 @@ impl Session {
         requires size { length p.now.payload.now ≤ 65535 }
         ensures held { IfOk result (λ queued. queued ≡ is_queued (packet_of p.now) step.now (Some self.old)) }
         ensures state { OnOk result (self.new ≡ after_data (packet_of p.now) step.now self.old) }
-        ensures grows { OnOk result (GrowsOne (is_from_client step.now) self.old self.new) }
+        ensures grows { GrowsOne (is_from_client step.now) self.old self.new }
+        ensures same { self.new.state ≡ self.old.state }
     {
         if !step.takes_data {
             return Ok(false);
         }
         let queued = self.data_side(is_from_client(step), p.seq(), p.payload)?;
         Ok(queued)
+    }
+
+    /// Takes what the packet brings: appends what was left before it, what its acknowledgement flushes and,
+    /// where it ends the session, all that is held. True exactly where its data are held.
+    pub fn take_packet(
+        &mut self,
+        alloc: Global,
+        p: &Arrival,
+        step: &Step,
+        left: Option<Stretches>,
+        out: &mut Vec<Item>,
+    ) -> Result<bool, NoMemory>
+        requires within { AreWithin self.old (2 ^ 63 - 2 ^ 31) (2 ^ 63 - 2 ^ 31) }
+        requires size { length p.now.payload.now ≤ 65535 }
+        ensures items { OnOk result (out.new.items
+            ≡ out.old.items ++ streams_told (packet_of p.now) step.now left self.old) }
+        ensures queued { IfOk result (λ queued. queued ≡ is_queued (packet_of p.now) step.now (Some self.old)) }
+        ensures state { step.now.ends ≡ false
+            → OnOk result (self.new ≡ after_packet (packet_of p.now) step.now self.old) }
+        ensures sizes { OnOk result (sizes_of self.new ≡ sizes_of (after_packet (packet_of p.now) step.now self.old)) }
+        ensures grows { (places : ℕ) → AreWithin self.old places places
+            → AreWithin self.new (places + 2 ^ 31) (places + 2 ^ 31) }
+        ensures same { self.new.state ≡ self.old.state }
+    {
+        let queued = self.take_data(p, step)?;
+        let sizes = self.sizes();
+        push_maybe(out, p.moment, sizes, left)?;
+        self.take_ack(alloc, p, step, sizes, out)?;
+        self.end_if(alloc, step.ends, p.moment, sizes, out)?;
+        Ok(queued)
+    }
+
+    /// Appends the items of all that is held, where the session ends.
+    fn end_if(
+        &mut self,
+        alloc: Global,
+        ends: bool,
+        moment: Moment,
+        sizes: (u64, u64),
+        out: &mut Vec<Item>,
+    ) -> Result<(), NoMemory>
+        requires { AreWithin self.old (2 ^ 63) (2 ^ 63) }
+        ensures items { OnOk result (out.new.items
+            ≡ out.old.items ++ (if ends then held_items self.old moment sizes else [])) }
+        ensures state { ends ≡ false → OnOk result (self.new ≡ self.old) }
+        ensures sizes { OnOk result (sizes_of self.new ≡ sizes_of self.old) }
+        ensures within { KeepsWithin self.old self.new }
+        ensures same { self.new.state ≡ self.old.state }
+    {
+        if !ends {
+            return Ok(());
+        }
+        self.push_held_items(alloc, moment, sizes, out)
     }
 }

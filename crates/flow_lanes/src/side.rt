@@ -3,14 +3,17 @@
 //! specs/Sides says what becomes of it; a `Direction` puts its data together, an `Extent` counts how far
 //! they reach.
 
-ghost use Rattle.std.specs.Prelude.{◌≡◌, ℕ, ◌+◌, ◌^◌, ◌<◌, ◌≤◌, length, IfOk, OnOk, Some};
+ghost use Rattle.std.specs.Prelude.{◌≡◌, ℕ, ◌+◌, ◌^◌, ◌<◌, ◌≤◌, ◌++◌, length, IfOk, OnOk, Some};
 ghost use Rattle.stream5_reassembly.specs.Segments.{AreLimits, idle};
 ghost use Rattle.flow_lanes.specs.Sides.{acked_payloads, direction_after_data, held_payloads, left_payloads, queues, side_after_ack, side_after_data, side_at_begin, started_by, turned, with_base, without_left};
-ghost use Rattle.flow_lanes.specs.Reach.{Grows, Reaches};
+ghost use Rattle.flow_lanes.specs.Items.{stream_items};
+ghost use Rattle.flow_lanes.specs.Reach.{Grows, Keeps, Reaches};
 ghost use Rattle.flow_lanes.specs.Working.{stretch_of};
 
 use crate::cutting::{Stretch, cut_runs};
-use edge_io::{Items, NoMemory, Preference};
+use crate::item::Item;
+use crate::streams::{head_between, push_payloads};
+use edge_io::{Items, Moment, NoMemory, Preference, Text};
 use std::alloc::Global;
 use stream5_reassembly::{Added, Direction, Extent, Limits};
 use stream5_sessions::End;
@@ -30,8 +33,8 @@ pub(crate) struct Side {
     pub extent: Extent,
 }
 
-/// The direction that a segment meets: started at the segment, where no base is known.
-fn started_direction(direction: &mut Direction, seq: u32)
+/// Starts a direction at the segment that it meets, where no base is known.
+fn ensure_started(direction: &mut Direction, seq: u32)
     ensures { direction.new ≡ started_by direction.old seq }
 {
     if !direction.started() {
@@ -96,7 +99,7 @@ impl Side {
         requires size { length bytes.now ≤ 65535 }
         ensures held { IfOk result (λ queued. queued ≡ queues self.old seq bytes.now) }
         ensures state { OnOk result (self.new ≡ side_after_data self.old seq bytes.now) }
-        ensures grows { OnOk result (Grows self.old self.new) }
+        ensures grows { Grows self.old self.new }
     {
         let len = bytes.len() as u32;
         if len == 0 {
@@ -113,67 +116,94 @@ impl Side {
         requires reaches { Reaches self.old (2 ^ 63) }
         requires some { 0 < length bytes.now }
         ensures held { IfOk result (λ queued. queued ≡ queues self.old seq bytes.now) }
-        ensures state { OnOk result (self.new ≡ record self.old { direction = direction_after_data self.old seq bytes.now }) }
-        ensures reaches { (places : ℕ) → Reaches self.old places → OnOk result (Reaches self.new places) }
+        ensures state { OnOk result (self.new
+            ≡ record self.old { direction = direction_after_data self.old seq bytes.now }) }
+        ensures reaches { Keeps self.old self.new }
     {
         if !self.on {
             return Ok(false);
         }
-        started_direction(&mut self.direction, seq);
+        ensure_started(&mut self.direction, seq);
         let added = self.direction.add(seq, bytes)?;
         Ok(added == Added::Queued)
     }
 
-    /// Takes an acknowledgement of its data: the stretch that this flushes.
+    /// Takes an acknowledgement of its data, and appends the items that this flushes.
     #[tactic(auto, unfolding(crate::specs::Sides::side_after_ack, crate::specs::Sides::acked_payloads))]
-    pub fn take_ack(&mut self, alloc: Global, ack: u32) -> Result<Stretch, NoMemory>
+    pub fn take_ack(
+        &mut self,
+        alloc: Global,
+        ack: u32,
+        of_client: bool,
+        moment: Moment,
+        sizes: (u64, u64),
+        out: &mut Vec<Item>,
+    ) -> Result<(), NoMemory>
         requires reaches { Reaches self.old (2 ^ 63) }
-        ensures stretch { IfOk result (λ stretch. stretch ≡ stretch_of self.old (acked_payloads self.old ack)) }
+        ensures items { OnOk result (out.new.items
+            ≡ out.old.items ++ stream_items self.old of_client moment sizes (acked_payloads self.old ack)) }
         ensures state { OnOk result (self.new ≡ side_after_ack self.old ack) }
-        ensures grows { OnOk result (Grows self.old self.new) }
+        ensures grows { Grows self.old self.new }
     {
+        let head = head_between(self.from, self.to, of_client, moment, sizes);
         let mut runs = Vec::new(alloc);
         let _flushed = self.direction.ack(alloc, ack, &mut runs)?;
         let payloads = cut_runs(alloc, &runs)?;
-        Ok(Stretch {
-            from: self.from,
-            to: self.to,
-            payloads,
-        })
+        push_payloads(head, payloads, out)
     }
 
     /// Takes all that is held: the direction is then idle.
     #[tactic(auto, unfolding(crate::specs::Sides::held_payloads))]
-    pub fn take_held(&mut self, alloc: Global) -> Result<Stretch, NoMemory>
+    fn drain(&mut self, alloc: Global) -> Result<Items<Text>, NoMemory>
         requires reaches { Reaches self.old (2 ^ 63) }
-        ensures stretch { IfOk result (λ stretch. stretch ≡ stretch_of self.old (held_payloads self.old)) }
-        ensures state { OnOk result (self.new ≡ record self.old { direction = idle self.old.direction.limits self.old.direction.preference }) }
-        ensures grows { OnOk result (Grows self.old self.new) }
+        ensures payloads { IfOk result (λ payloads. payloads ≡ held_payloads self.old) }
+        ensures state { OnOk result (self.new
+            ≡ record self.old { direction = idle self.old.direction.limits self.old.direction.preference }) }
+        ensures keeps { Keeps self.old self.new }
     {
         let mut runs = Vec::new(alloc);
         self.direction.stop(alloc, &mut runs)?;
         let payloads = cut_runs(alloc, &runs)?;
+        Ok(payloads)
+    }
+
+    /// Appends the items of all that is held; the direction is then idle.
+    pub fn push_held_items(
+        &mut self,
+        alloc: Global,
+        of_client: bool,
+        moment: Moment,
+        sizes: (u64, u64),
+        out: &mut Vec<Item>,
+    ) -> Result<(), NoMemory>
+        requires reaches { Reaches self.old (2 ^ 63) }
+        ensures items { OnOk result (out.new.items
+            ≡ out.old.items ++ stream_items self.old of_client moment sizes (held_payloads self.old)) }
+        ensures state { OnOk result (self.new
+            ≡ record self.old { direction = idle self.old.direction.limits self.old.direction.preference }) }
+        ensures keeps { Keeps self.old self.new }
+    {
+        let head = head_between(self.from, self.to, of_client, moment, sizes);
+        let payloads = self.drain(alloc)?;
+        push_payloads(head, payloads, out)
+    }
+
+    /// Takes what is left of a stretch that was ended by turning the side off.
+    pub fn take_left_stretch(&mut self, alloc: Global) -> Result<Stretch, NoMemory>
+        requires reaches { Reaches self.old (2 ^ 63) }
+        ensures stretch { IfOk result (λ stretch. stretch ≡ stretch_of self.old (left_payloads self.old)) }
+        ensures state { OnOk result (self.new ≡ without_left self.old) }
+        ensures keeps { Keeps self.old self.new }
+    {
+        let payloads = if self.on {
+            Items::new(alloc)
+        } else {
+            self.drain(alloc)?
+        };
         Ok(Stretch {
             from: self.from,
             to: self.to,
             payloads,
-        })
-    }
-
-    /// Takes what is left of a stretch that was ended by turning the side off.
-    pub fn take_left(&mut self, alloc: Global) -> Result<Stretch, NoMemory>
-        requires reaches { Reaches self.old (2 ^ 63) }
-        ensures stretch { IfOk result (λ stretch. stretch ≡ stretch_of self.old (left_payloads self.old)) }
-        ensures state { OnOk result (self.new ≡ without_left self.old) }
-        ensures grows { OnOk result (Grows self.old self.new) }
-    {
-        if !self.on {
-            return self.take_held(alloc);
-        }
-        Ok(Stretch {
-            from: self.from,
-            to: self.to,
-            payloads: Items::new(alloc),
         })
     }
 }

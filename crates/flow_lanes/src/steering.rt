@@ -6,7 +6,7 @@ ghost use Rattle.flow_lanes.specs.Reach.{KeepsWithin};
 
 use crate::answer::Hits;
 use crate::session::Session;
-use rule_parser::{Opt, Rule, Side};
+use rule_types::{Opt, Rule, Side};
 
 /// Whether each side's data are put together.
 #[derive(Clone, Copy)]

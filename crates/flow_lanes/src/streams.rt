@@ -1,21 +1,24 @@
-//! Stream items, and the items of a session that has ended.
+//! Stream items.
 
-ghost use Rattle.std.specs.Prelude.{◌≡◌, ◌^◌, ◌++◌, IfOk, OnOk};
-ghost use Rattle.flow_lanes.specs.Items.{closing_items, head_between};
-ghost use Rattle.flow_lanes.specs.Reach.{AreWithin};
-ghost use Rattle.flow_lanes.specs.Working.{maybe_acked, maybe_items, stretch_items, stretches_items};
+ghost use Rattle.std.specs.Prelude.{◌≡◌, ◌++◌, map, OnOk};
+ghost use Rattle.flow_lanes.specs.Items.{head_between};
+ghost use Rattle.flow_lanes.specs.Working.{maybe_items, stretch_items, stretches_items};
 
-use crate::boxed::BoxedSession;
 use crate::cutting::Stretch;
 use crate::item::Item;
-use crate::session::{Session, Stretches};
-use edge_io::{Items, Moment, NoMemory};
+use crate::session::Stretches;
+use edge_io::{Items, Moment, NoMemory, Text};
 use packet_decode::{Body, IpHead, ItemHead, ItemKind, SessionFacts};
-use std::alloc::Global;
 use stream5_sessions::End;
 
 /// What rules see of a stretch of the data that one end sends to another.
-fn head_between(from: End, to: End, of_client: bool, moment: Moment, sizes: (u64, u64)) -> ItemHead
+pub(crate) fn head_between(
+    from: End,
+    to: End,
+    of_client: bool,
+    moment: Moment,
+    sizes: (u64, u64),
+) -> ItemHead
     ensures { result ≡ head_between from to of_client moment sizes }
 {
     ItemHead {
@@ -58,6 +61,18 @@ fn push_stretch(
 {
     let Stretch { from, to, payloads } = stretch;
     let head = head_between(from, to, of_client, moment, sizes);
+    push_payloads(head, payloads, out)
+}
+
+/// Appends items of one head.
+pub(crate) fn push_payloads(
+    head: ItemHead,
+    payloads: Items<Text>,
+    out: &mut Vec<Item>,
+) -> Result<(), NoMemory>
+    ensures { OnOk result (out.new.items
+        ≡ out.old.items ++ map (λ payload. record { head = head; payload = payload }) payloads) }
+{
     for payload in payloads.into_vec() {
         out.push(Item { head, payload })?;
     }
@@ -65,7 +80,7 @@ fn push_stretch(
 }
 
 /// Appends those of both sides, the client's first.
-fn push_stretches(
+pub(crate) fn push_stretches(
     out: &mut Vec<Item>,
     moment: Moment,
     sizes: (u64, u64),
@@ -91,38 +106,4 @@ pub(crate) fn push_maybe(
         None => Ok(()),
         Some(both) => push_stretches(out, moment, sizes, both),
     }
-}
-
-/// Appends those of a stretch that there may be.
-pub(crate) fn push_acked(
-    out: &mut Vec<Item>,
-    of_client: bool,
-    moment: Moment,
-    sizes: (u64, u64),
-    acked: Option<Stretch>,
-) -> Result<(), NoMemory>
-    ensures { OnOk result (out.new.items ≡ out.old.items ++ maybe_acked of_client moment sizes acked) }
-{
-    match acked {
-        None => Ok(()),
-        Some(stretch) => push_stretch(out, of_client, moment, sizes, stretch),
-    }
-}
-
-/// The items of a session that has ended: they tell its last sizes.
-#[tactic(auto, unfolding(crate::specs::Items::closing_items))]
-pub(crate) fn closing_items(
-    alloc: Global,
-    mut session: BoxedSession,
-    moment: Moment,
-) -> Result<Items<Item>, NoMemory>
-    requires { AreWithin session (2 ^ 63) (2 ^ 63) }
-    ensures { IfOk result (λ items. items ≡ closing_items session moment) }
-{
-    let inner: &mut Session = &mut session.inner;
-    let sizes = inner.sizes();
-    let mut out = Vec::new(alloc);
-    push_stretches(&mut out, moment, sizes, inner.take_left(alloc)?)?;
-    push_stretches(&mut out, moment, sizes, inner.take_held(alloc)?)?;
-    Ok(Items::from_vec(out))
 }

@@ -1,7 +1,7 @@
 //! The items of a job with all rules that match them (specs/ItemHits, specs/Flows).
 
-ghost use Rattle.std.specs.Prelude.{◌≡◌, ◌+◌, length, All, OnOk};
-ghost use Rattle.rule_parser.specs.Sound.{IsTriable};
+ghost use Rattle.std.specs.Prelude.{◌≡◌, ◌+◌, ◌≤◌, [], length, All, OnOk};
+ghost use Rattle.rule_types.specs.Sound.{IsTriable};
 ghost use Rattle.fast_pattern.specs.Candidates.{candidates};
 ghost use Rattle.fast_pattern.specs.Grouping.{StandFor};
 ghost use Rattle.option_eval.specs.Places.{Means};
@@ -13,10 +13,9 @@ ghost use Rattle.flow_lanes.specs.Tried.{TriesAll, TriesBy, TriesOne, candidates
 use crate::answer::Hits;
 use crate::hits::{Found, matching_rules};
 use crate::item::Item;
+use crate::matcher::Matcher;
 use edge_io::{NoMemory, Pattern};
-use fast_pattern::Groups;
 use flowbit_state::Bits;
-use option_eval::RuleSet;
 use packet_decode::ItemHead;
 use std::alloc::Global;
 
@@ -29,24 +28,45 @@ pub(crate) struct Tally {
     pub tries: u64,
 }
 
+impl Tally {
+    /// Nothing was found. Takes no memory.
+    pub fn new(alloc: Global) -> Tally
+        ensures hits { result.hits.items ≡ [] }
+        ensures tries { result.tries ≡ 0 }
+    {
+        Tally {
+            hits: Vec::new(alloc),
+            tries: 0,
+        }
+    }
+}
+
 /// Tries the rules on an item. A job of which the candidates cannot be counted has more items than memory
 /// holds.
-fn try_item<P: Pattern>(
-    alloc: Global,
-    set: &RuleSet<P>,
-    groups: &Groups,
+pub(crate) fn try_item<P: Pattern>(
+    matcher: &Matcher<'_, P>,
     head: &ItemHead,
     payload: &[u8],
     bits: &mut Option<Bits>,
     tally: &mut Tally,
 ) -> Result<(), NoMemory>
-    requires groups { StandFor groups.now set.now.rules }
-    requires triable { All IsTriable set.now.rules }
-    ensures hits { (means : Means) (trying : Trying) → TriesBy P.finds means set.now trying
-        → OnOk result (TriesOne trying (record { head = head.now; payload = payload.now }) bits.old bits.new tally.old.hits.items tally.new.hits.items) }
-    ensures tries { OnOk result (tally.new.tries ≡ tally.old.tries + length (candidates set.now.rules head.now.body payload.now)) }
+    requires groups { StandFor matcher.now.groups.now matcher.now.set.now.rules }
+    requires triable { All IsTriable matcher.now.set.now.rules }
+    ensures hits { (means : Means) (trying : Trying) → TriesBy P.finds means matcher.now.set.now trying
+        → OnOk result (TriesOne trying (record { head = head.now; payload = payload.now }) bits.old bits.new
+        tally.old.hits.items tally.new.hits.items) }
+    ensures tries { OnOk result (tally.new.tries
+        ≡ tally.old.tries + length (candidates matcher.now.set.now.rules head.now.body payload.now)) }
+    ensures more { OnOk result (length tally.old.hits.items ≤ length tally.new.hits.items) }
 {
-    let Found { rules, tries } = matching_rules(alloc, set, groups, head, payload, bits)?;
+    let Found { rules, tries } = matching_rules(
+        matcher.alloc,
+        matcher.set,
+        matcher.groups,
+        head,
+        payload,
+        bits,
+    )?;
     tally.tries = tally.tries.checked_add(tries as u64).ok_or(NoMemory)?;
     tally.hits.push(Hits { head: *head, rules })?;
     Ok(())
@@ -54,51 +74,44 @@ fn try_item<P: Pattern>(
 
 /// Tries the rules on the packet's own item, if it is one.
 pub(crate) fn try_own<P: Pattern>(
-    alloc: Global,
-    set: &RuleSet<P>,
-    groups: &Groups,
+    matcher: &Matcher<'_, P>,
     own: &Option<ItemHead>,
     payload: &[u8],
     bits: &mut Option<Bits>,
     tally: &mut Tally,
 ) -> Result<(), NoMemory>
-    requires groups { StandFor groups.now set.now.rules }
-    requires triable { All IsTriable set.now.rules }
-    ensures hits { (means : Means) (trying : Trying) → TriesBy P.finds means set.now trying
-        → OnOk result (TriesAll trying (own_item payload.now own.now) bits.old bits.new tally.old.hits.items tally.new.hits.items) }
-    ensures tries { OnOk result (tally.new.tries ≡ tally.old.tries + candidates_of set.now.rules (own_item payload.now own.now)) }
+    requires groups { StandFor matcher.now.groups.now matcher.now.set.now.rules }
+    requires triable { All IsTriable matcher.now.set.now.rules }
+    ensures hits { (means : Means) (trying : Trying) → TriesBy P.finds means matcher.now.set.now trying
+        → OnOk result (TriesAll trying (own_item payload.now own.now) bits.old bits.new tally.old.hits.items
+        tally.new.hits.items) }
+    ensures tries { OnOk result (tally.new.tries
+        ≡ tally.old.tries + candidates_of matcher.now.set.now.rules (own_item payload.now own.now)) }
+    ensures more { OnOk result (length tally.old.hits.items ≤ length tally.new.hits.items) }
 {
     match own {
         None => Ok(()),
-        Some(head) => try_item(alloc, set, groups, head, payload, bits, tally),
+        Some(head) => try_item(matcher, head, payload, bits, tally),
     }
 }
 
 /// Tries the rules on items of one session, in order.
 pub(crate) fn try_items<P: Pattern>(
-    alloc: Global,
-    set: &RuleSet<P>,
-    groups: &Groups,
+    matcher: &Matcher<'_, P>,
     items: &[Item],
     bits: &mut Option<Bits>,
     tally: &mut Tally,
 ) -> Result<(), NoMemory>
-    requires groups { StandFor groups.now set.now.rules }
-    requires triable { All IsTriable set.now.rules }
-    ensures hits { (means : Means) (trying : Trying) → TriesBy P.finds means set.now trying
+    requires groups { StandFor matcher.now.groups.now matcher.now.set.now.rules }
+    requires triable { All IsTriable matcher.now.set.now.rules }
+    ensures hits { (means : Means) (trying : Trying) → TriesBy P.finds means matcher.now.set.now trying
         → OnOk result (TriesAll trying items.now bits.old bits.new tally.old.hits.items tally.new.hits.items) }
-    ensures tries { OnOk result (tally.new.tries ≡ tally.old.tries + candidates_of set.now.rules items.now) }
+    ensures tries { OnOk result (tally.new.tries
+        ≡ tally.old.tries + candidates_of matcher.now.set.now.rules items.now) }
+    ensures more { OnOk result (length tally.old.hits.items ≤ length tally.new.hits.items) }
 {
     for item in items {
-        try_item(
-            alloc,
-            set,
-            groups,
-            &item.head,
-            item.payload.bytes(),
-            bits,
-            tally,
-        )?;
+        try_item(matcher, &item.head, item.payload.bytes(), bits, tally)?;
     }
     Ok(())
 }

@@ -1,9 +1,9 @@
 //! A lane at work on a batch: the jobs of its own flows, in their order.
 
 ghost use Rattle.std.specs.Prelude.{◌≡◌, ℕ, ◌<◌, ◌≤◌, ◌^◌, ◌++◌, List, true, All, IfOk, OnOk, Ok, length};
-ghost use Rattle.conf_parser.specs.Sound.{IsStreamConfig};
+ghost use Rattle.conf_types.specs.Sound.{IsStreamConfig};
 ghost use Rattle.fast_pattern.specs.Grouping.{StandFor};
-ghost use Rattle.rule_parser.specs.Sound.{IsTriable};
+ghost use Rattle.rule_types.specs.Sound.{IsTriable};
 ghost use Rattle.flow_lanes.specs.declared.job.Job.{Job};
 ghost use Rattle.flow_lanes.specs.Flows.{flow_of};
 ghost use Rattle.flow_lanes.specs.Sound.{IsSoundFor};
@@ -13,7 +13,7 @@ ghost use Rattle.flow_lanes.specs.Batching.{AddsOut, AddsOwn, AreSoundIn, GoesOn
 use crate::answer::JobOut;
 use crate::job::{Job, Work};
 use crate::lane::Lane;
-use conf_parser::StreamConfig;
+use conf_types::StreamConfig;
 use edge_io::{Gate, NoMemory, Pattern};
 use fast_pattern::Groups;
 use option_eval::RuleSet;
@@ -37,7 +37,7 @@ pub(crate) struct Share {
 }
 
 /// The flow of a job, if it is of one.
-fn flow_of(job: &Job) -> Option<u64>
+pub(crate) fn flow_of(job: &Job) -> Option<u64>
     ensures { result ≡ flow_of job.now }
 {
     match &job.work {
@@ -48,7 +48,7 @@ fn flow_of(job: &Job) -> Option<u64>
 }
 
 /// The lane of a job among so many: a job of no flow is in the first.
-fn lane_of(count: usize, flow: Option<u64>) -> usize
+pub(crate) fn lane_of(count: usize, flow: Option<u64>) -> usize
     requires { 0 < count }
     ensures { result ≡ lane_of count flow }
 {
@@ -128,6 +128,18 @@ fn own_outs<P: Pattern>(
     Ok(outs)
 }
 
+/// Whether a lane has jobs among these.
+fn has_work(share: Share, jobs: &[Job]) -> bool
+    requires { 0 < share.count }
+{
+    for job in jobs {
+        if lane_of(share.count, flow_of(job)) == share.place {
+            return true;
+        }
+    }
+    false
+}
+
 /// A lane, and its answers of the batch at hand, where there was memory for them.
 #[derive(Drop)]
 pub(crate) struct Worker {
@@ -167,7 +179,9 @@ impl Worker {
         ensures { IfOk self.new.outs (λ outs. GoesOn P.finds detector.now.stream.now detector.now.set.now
             self.old.lane (own_jobs share.count share.place jobs.now) outs.items self.new.lane) }
     {
-        gate.pass(share.place as u32);
+        if has_work(share, jobs) {
+            gate.pass(share.place as u32);
+        }
         self.outs = own_outs(alloc, &mut self.lane, share, jobs, detector);
     }
 

@@ -3,8 +3,8 @@ use Rattle.flow_lanes.specs.declared.worker.Worker.{Worker}
 use Rattle.flow_lanes.specs.Batching.{AreSoundIn}
 use Rattle.flow_lanes.proofs.batch.run_all.Goals as goal
 
-pub for_each_mut-requires-clause-accepts : goal.for_each_mut-requires-clause-accepts
-for_each_mut-requires-clause-accepts g c κs within = λ place worker below is. (
+pub for_each_spread-requires-clause-accepts : goal.for_each_spread-requires-clause-accepts
+for_each_spread-requires-clause-accepts g c κs within = λ place worker below is. (
   (
     omega arith,
     omega arith,

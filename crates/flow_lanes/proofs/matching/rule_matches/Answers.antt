@@ -1,6 +1,6 @@
 use Rattle.std.proofs.Common.{◌≡◌, List, get_or, sym, ap, subst, ◌∙◌, IsTrue, ◌↔◌, IfOk}
 use Rattle.std.proofs.lemmas.List.{get_or_default}
-use Rattle.rule_parser.specs.declared.rule.Rule.{Rule}
+use Rattle.rule_types.specs.declared.rule.Rule.{Rule}
 use Rattle.flow_lanes.specs.Hits.{RuleMatches}
 use Rattle.flow_lanes.proofs.Trying.{matches-then}
 use Rattle.flow_lanes.proofs.matching.rule_matches.Goals as goal

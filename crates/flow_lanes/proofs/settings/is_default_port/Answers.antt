@@ -1,5 +1,5 @@
 use Rattle.std.proofs.Common.{arith, sym, ◌∙◌}
-use Rattle.conf_parser.specs.Stream5.{default_ports}
+use Rattle.conf_types.specs.Defaults.{default_ports}
 use Rattle.flow_lanes.proofs.DefaultPorts.{has_port-any}
 use Rattle.flow_lanes.proofs.settings.is_default_port.Goals as goal
 

@@ -1,4 +1,4 @@
-use Rattle.std.proofs.Common.{◌<◌, length, arith, sym, add-zero, subst, take, List}
+use Rattle.std.proofs.Common.{◌<◌, length, arith, sym, add-zero, subst, List}
 use Rattle.std.proofs.lemmas.List.{take_all}
 use Rattle.flow_lanes.specs.Hits.{Item}
 use Rattle.flow_lanes.specs.Tried.{TriesAll}
@@ -8,6 +8,7 @@ use Rattle.flow_lanes.proofs.tally.try_items.Goals as goal
 pub loop-item-init : goal.loop-item-init
 loop-item-init g c = record {
   hits = λ means trying by. tries-none trying c.args.bits.now c.args.tally.now.hits.items;
+  more = omega arith;
   tries = sym (add-zero c.args.tally.now.tries);
 }
 
@@ -19,8 +20,9 @@ loop-item-preserved g c =
           tries-more trying c.args.items.now c.loop-item.item-index c.item-item.result c.bytes.result.now c.args.bits.now c.loop-item.bits c.try_item.new.bits
           c.args.tally.now.hits.items c.loop-item.tally.hits.items c.try_item.new.tally.hits.items below c.item-item.is c.bytes.ensures
           (c.loop-item.invariant.hits means trying by) (c.in_ok-try_item.ensures.hits means trying by);
+      more = let so_far = c.loop-item.invariant.more in let now = c.in_ok-try_item.ensures.more in omega arith;
       tries =
-          candidates-more c.args.set.now.rules c.args.items.now c.loop-item.item-index c.item-item.result c.bytes.result.now c.args.tally.now.tries c.loop-item.tally.tries c.try_item.new.tally.tries
+          candidates-more c.args.matcher.now.set.now.rules c.args.items.now c.loop-item.item-index c.item-item.result c.bytes.result.now c.args.tally.now.tries c.loop-item.tally.tries c.try_item.new.tally.tries
           below c.item-item.is c.bytes.ensures c.loop-item.invariant.tries c.in_ok-try_item.ensures.tries;
     }
 

@@ -1,4 +1,4 @@
-use Rattle.std.proofs.Common.{◌≡◌, ◌+◌, take}
+use Rattle.std.proofs.Common.{◌≡◌, ◌+◌, ◌≤◌, length, take}
 use Rattle.option_eval.specs.Places.{Means}
 use Rattle.flow_lanes.specs.ItemHits.{Trying}
 use Rattle.flow_lanes.specs.Tried.{TriesAll, TriesBy, candidates_of}
@@ -7,6 +7,7 @@ use Rattle.flow_lanes.proofs.tally.try_items.Given as goal
 -- the items so far were tried
 abbrev pub invariant-loop-item : goal.invariant-loop-item
 invariant-loop-item g l = record {
-  hits : (means : Means) (trying : Trying) → TriesBy g.P.Pattern.finds means l.set trying → TriesAll trying (take l.item-index l.items) l.fn.bits l.bits l.fn.tally.hits.items l.tally.hits.items;
-  tries : l.tally.tries ≡ l.fn.tally.tries + candidates_of l.set.rules (take l.item-index l.items);
+  hits : (means : Means) (trying : Trying) → TriesBy g.P.Pattern.finds means l.matcher.set.now trying → TriesAll trying (take l.item-index l.items) l.fn.bits l.bits l.fn.tally.hits.items l.tally.hits.items;
+  more : length l.fn.tally.hits.items ≤ length l.tally.hits.items;
+  tries : l.tally.tries ≡ l.fn.tally.tries + candidates_of l.matcher.set.now.rules (take l.item-index l.items);
 }

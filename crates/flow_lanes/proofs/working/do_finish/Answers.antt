@@ -1,7 +1,19 @@
+use Rattle.std.proofs.Common.{None, Some, ◌∙◌}
+use Rattle.flow_lanes.proofs.DetectLaws.{nothing-hits, nothing-tries}
 use Rattle.flow_lanes.proofs.Doing.{do-finish}
+use Rattle.flow_lanes.proofs.KeepLaws.{looked_up, sets-from}
 use Rattle.flow_lanes.proofs.working.do_finish.Goals as goal
 
-pub returns : goal.returns
-returns g c = λ making.
-    do-finish g.P.Pattern.finds c.args.set.now making c.args.moment c.args.flow c.args.flows.now.entries c.take_flow-found.new.flows.entries c.take_flow-found.result c.in_ok-tally.tally
-    c.take_flow-found.ensures.kept c.take_flow-found.ensures.taken c.in_ok-tally.ensures.hits c.in_ok-tally.ensures.tries
+pub returns-in_ok-tally-in-Some : goal.returns-in_ok-tally-in-Some
+returns-in_ok-tally-in-Some g c = λ making.
+    let old = c.args.flows.now.entries in
+    do-finish g.P.Pattern.finds c.args.matcher.now.set.now making c.args.moment c.args.flow old c.remove.new.self.entries (Some c.in-Some.kept) c.in_ok-tally-in-Some.tally
+    (c.in-Some.ensures.value ∙ looked_up c.args.flow old) (sets-from c.args.flow None old c.remove.new.self.entries (λ other. c.in-Some.ensures.updates.0 other))
+    c.in_ok-tally-in-Some.ensures.hits c.in_ok-tally-in-Some.ensures.tries
+
+pub returns-in-None : goal.returns-in-None
+returns-in-None g c = λ making.
+    let old = c.args.flows.now.entries in
+    do-finish g.P.Pattern.finds c.args.matcher.now.set.now making c.args.moment c.args.flow old c.remove.new.self.entries None c.new.result
+    (c.in-None.ensures.value ∙ looked_up c.args.flow old) (sets-from c.args.flow None old c.remove.new.self.entries (λ other. c.in-None.ensures.updates.0 other))
+    (λ means trying by. c.new.ensures.hits ∙ nothing-hits trying c.args.moment) (c.new.ensures.tries ∙ nothing-tries c.args.matcher.now.set.now.rules c.args.moment)

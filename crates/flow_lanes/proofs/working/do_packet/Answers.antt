@@ -1,18 +1,31 @@
-use Rattle.std.proofs.Common.{Option, length, subst, sym}
+use Rattle.std.proofs.Common.{◌+◌, Option, Some, length, ap, subst, sym, ◌∙◌, rules}
 use Rattle.flow_lanes.specs.Given.{making_of, packet_of}
-use Rattle.flow_lanes.specs.Sound.{IsSoundPacket}
+use Rattle.flow_lanes.specs.Kept.{kept_in}
+use Rattle.flow_lanes.specs.Sound.{FlowEnds, IsSoundPacket}
 use Rattle.flow_lanes.specs.Standing.{KeptFlow, facts_kept}
 use Rattle.flow_lanes.proofs.Doing.{do-packet}
+use Rattle.flow_lanes.proofs.KeepLaws.{looked_up, sets-from}
 use Rattle.flow_lanes.proofs.working.do_packet.Goals as goal
 
-pub packet_done-requires-clause-sound : goal.packet_done-requires-clause-sound
-packet_done-requires-clause-sound g c κs sound =
-    subst (λ (kept : Option KeptFlow). IsSoundPacket (length c.args.settings.now.stream.now.engines) (facts_kept kept) (packet_of c.args.p.now)) (sym c.take_kept-found.ensures.kept) c.requires.sound
+pub packet-requires-clause-sound : goal.packet-requires-clause-sound
+packet-requires-clause-sound g c κs sound =
+    subst (λ (f : Option KeptFlow). IsSoundPacket (length c.args.settings.now.stream.now.engines) (facts_kept f) (packet_of c.args.p.now))
+    (sym (looked_up c.args.flow c.args.flows.now.entries) ∙ sym c.in-Some.ensures.value) c.requires.sound
 
-pub returns : goal.returns
-returns g c =
+pub first_packet-requires-clause-first : goal.first_packet-requires-clause-first
+first_packet-requires-clause-first g c κs first =
+    (λ i. kept_in (c.get_mut.follows.holds-at-none i).entries c.args.flow) ∙ sym (looked_up c.args.flow c.args.flows.now.entries) ∙ sym c.in-None.ensures.value
+
+pub returns-in_ok-tally-in-Some : goal.returns-in_ok-tally-in-Some
+returns-in_ok-tally-in-Some g c =
     let p = c.args.p.now in
-    do-packet g.P.Pattern.finds c.args.set.now (making_of c.args.settings.now) p.moment c.args.flow p.head.now p.payload.now p.to_dst p.to_src
-    c.args.flows.now.entries c.take_kept-found.new.flows.entries c.keep_flow.new.flows.entries c.take_kept-found.result c.in_ok-tally.field-0.kept c.in_ok-tally.field-0.tally
-    c.take_kept-found.ensures.kept c.take_kept-found.ensures.others c.in_ok-keep_flow.ensures
-    c.in_ok-tally.ensures.detects c.in_ok-tally.ensures.tries c.in_ok-tally.ensures.facts
+    let old = c.args.flows.now.entries in
+    let new = (c.get_mut.follows.lender c.packet.new.self).entries in
+    let kept = c.in-Some.kept.now in
+    let updates = (c.get_mut.follows.holds c.packet.new.self).3 (search rules) in
+    let is = c.in-Some.ensures.value ∙ looked_up c.args.flow old in
+    let sound = subst (λ (f : Option KeptFlow). IsSoundPacket (length c.args.settings.now.stream.now.engines) (facts_kept f) (packet_of p)) (sym is) c.requires.sound in
+    do-packet g.P.Pattern.finds c.args.matcher.now.set.now (making_of c.args.settings.now) p.moment c.args.flow p.head.now p.payload.now p.to_dst p.to_src old new (Some kept) c.packet.new.self c.in_ok-tally-in-Some.tally
+    is (sets-from c.args.flow (Some c.packet.new.self) old new (λ other. updates.0 other))
+    c.in_ok-tally-in-Some.ensures.detects c.in_ok-tally-in-Some.ensures.tries
+    (c.packet.ensures.facts ∙ ap (λ (e : FlowEnds). record { ends = e; packets = kept.facts.packets + 1 }) sound.same_ends)

@@ -12,9 +12,9 @@ returns-clause-answers g c =
     let old : LaneState = record { flush = c.self.inside.flush; inserts = c.self.inside.inserts; flows = c.self.inside.flows.entries } in
     let new : LaneState = record { flush = c.self.inside.flush; inserts = c.self.inside.inserts; flows = c.do_work.new.flows.entries } in
     let sound = subst (λ (lane : LaneState). IsSoundFor (length stream.engines) (known_of lane job) job) (sym c.self.view_is) c.requires.sound in
-    subst (λ (lane : LaneState). AnswersJob g.P.Pattern.finds stream set lane job c.answered.result.hits new) c.self.view_is
-    (answers-job g.P.Pattern.finds stream set old new job c.in_ok-tally.tally c.in_ok-tally.ensures (length stream.engines) (known_of old job) c.answered.result.hits sound refl refl
-    c.answered.ensures.number c.answered.ensures.items)
+    subst (λ (lane : LaneState). AnswersJob g.P.Pattern.finds stream set lane job c.job_out.result.hits new) c.self.view_is
+    (answers-job g.P.Pattern.finds stream set old new job c.in_ok-tally.tally c.in_ok-tally.ensures (length stream.engines) (known_of old job) c.job_out.result.hits sound refl refl
+    c.job_out.ensures.number c.job_out.ensures.items)
 
 pub returns-clause-learns : goal.returns-clause-learns
 returns-clause-learns g c =
@@ -30,6 +30,6 @@ returns-clause-tries g c =
     let job = c.args.job.now in
     let old : LaneState = record { flush = c.self.inside.flush; inserts = c.self.inside.inserts; flows = c.self.inside.flows.entries } in
     let new : LaneState = record { flush = c.self.inside.flush; inserts = c.self.inside.inserts; flows = c.do_work.new.flows.entries } in
-    subst (λ (lane : LaneState). CountsTries g.P.Pattern.finds stream set lane job c.answered.result.tries) c.self.view_is
-    (subst (λ (n : ℕ). CountsTries g.P.Pattern.finds stream set old job n) (sym c.answered.ensures.tries)
+    subst (λ (lane : LaneState). CountsTries g.P.Pattern.finds stream set lane job c.job_out.result.tries) c.self.view_is
+    (subst (λ (n : ℕ). CountsTries g.P.Pattern.finds stream set old job n) (sym c.job_out.ensures.tries)
     (counts-tries g.P.Pattern.finds stream set old new job c.in_ok-tally.tally c.in_ok-tally.ensures))

@@ -1,0 +1,17 @@
+use Rattle.std.proofs.Common.{◌≡◌, subst}
+use Rattle.flow_lanes.specs.Flows.{all_items, hits_in, session_at_hand}
+use Rattle.flow_lanes.specs.Items.{finish_items}
+use Rattle.flow_lanes.specs.Standing.{KeptFlow}
+use Rattle.flow_lanes.specs.Tried.{candidates_of}
+use Rattle.flow_lanes.proofs.DetectLaws.{finished-hits, finished-tries}
+use Rattle.flow_lanes.proofs.keeping.Flow.finish.Goals as goal
+
+pub returns-clause-hits : goal.returns-clause-hits
+returns-clause-hits g c = λ means trying by.
+    subst (λ (k : KeptFlow). c.end_session.new.tally.hits.items ≡ hits_in trying (finish_items c.args.moment (session_at_hand k.found)) k.found) c.self.view_is
+    (finished-hits trying c.args.moment c.self.inside.found c.new-tally.result.hits.items c.end_session.new.tally.hits.items c.new-tally.ensures.hits (c.in_ok-end_session.ensures.hits means trying by))
+
+pub returns-clause-tries : goal.returns-clause-tries
+returns-clause-tries g c =
+    subst (λ (k : KeptFlow). c.end_session.new.tally.tries ≡ candidates_of c.args.matcher.now.set.now.rules (all_items (finish_items c.args.moment (session_at_hand k.found)))) c.self.view_is
+    (finished-tries c.args.matcher.now.set.now.rules c.args.moment c.self.inside.found c.new-tally.result.tries c.end_session.new.tally.tries c.new-tally.ensures.tries c.in_ok-end_session.ensures.tries)

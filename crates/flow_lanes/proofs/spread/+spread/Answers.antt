@@ -1,0 +1,13 @@
+use Rattle.std.specs.Fork.{AcceptsAt, ChangesAt}
+use Rattle.flow_lanes.proofs.Spreading.{accepts_back, changes_both}
+use Rattle.flow_lanes.proofs.spread.+spread.Goals as goal
+
+pub spread-both-requires-clause-back : goal.spread-both-requires-clause-back
+spread-both-requires-clause-back g t c κs within =
+    accepts_back (AcceptsAt g.F.Fn c.args.f.now) c.args.part.base c.cut_at-mid.result c.args.s.now c.split_at_mut-front.result.0.now c.split_at_mut-front.result.1.now
+    c.split_at_mut-front.ensures.value c.split_at_mut-front.ensures.front_len c.requires.accepts
+
+pub spread-returns : goal.spread-returns
+spread-returns g t c =
+    changes_both (ChangesAt g.F.Fn c.args.f.now) c.args.part.base c.cut_at-mid.result c.args.s.now c.split_at_mut-front.result.0.now c.split_at_mut-front.result.1.now c.both.new.front c.both.new.back
+    c.split_at_mut-front.ensures.value c.split_at_mut-front.ensures.front_len c.both.ensures.front c.both.ensures.back

@@ -1,0 +1,11 @@
+-- What calls at the places of a part of a slice do, which begins at some place of the whole.
+use Rattle.std.specs.Prelude.{◌≡◌, ℕ, ◌+◌, ◌<◌, List, length, slice_index_or}
+
+-- P holds of each place and of what stands there
+abbrev pub AcceptsFrom : {X : Type 0} → (ℕ → X → Type 0) → ℕ → List X → Type 0
+AcceptsFrom {X} P base xs = (k : ℕ) (d : X) → k < length xs → P (base + k) (slice_index_or xs k d)
+
+-- R holds at each place of what stands there before and after
+pub record ChangesFrom {X : Type 0} (R : ℕ → X → X → Type 0) (base : ℕ) (xs ys : List X) : Type 0 where
+  pub len : length ys ≡ length xs
+  pub each : (k : ℕ) (d : X) → k < length xs → R (base + k) (slice_index_or xs k d) (slice_index_or ys k d)

@@ -1,0 +1,194 @@
+//! The session of a packet, in its place: what was left before the packet, the packet's own session, and
+//! what it brings.
+
+ghost use Rattle.std.specs.Prelude.{◌≡◌, ◌+◌, ◌-◌, ◌^◌, ◌≤◌, ◌++◌, ℕ, Bool, false, length, None, Option, option_map, Some, IfOk, OnOk, if◌then◌else◌};
+ghost use Rattle.std.specs.FinSet.{empty};
+ghost use Rattle.flow_lanes.specs.Flows.{bits_at_hand, session_at_hand};
+ghost use Rattle.flow_lanes.specs.Given.{making_of, packet_of};
+ghost use Rattle.flow_lanes.specs.Items.{facts_of, is_queued, session_behind};
+ghost use Rattle.flow_lanes.specs.Kept.{GrowsFound, IsFound, IsOf, KeepsFound};
+ghost use Rattle.flow_lanes.specs.Reach.{AreWithin, HasLimits, IsWithin};
+ghost use Rattle.flow_lanes.specs.Sessions.{Session as Standing, begun_session, session_of, settled, sizes_of, with_bases};
+ghost use Rattle.flow_lanes.specs.Sides.{left_payloads};
+ghost use Rattle.flow_lanes.specs.Working.{items_on, own_head, own_item, sizes_behind, streams_of, stretches_of};
+
+use crate::arrival::Arrival;
+use crate::item::Item;
+use crate::keeping::FlowState;
+use crate::session::{Session, Stretches};
+use crate::settings::Settings;
+use crate::streams::push_maybe;
+use edge_io::NoMemory;
+use flowbit_state::Bits;
+use packet_decode::{ItemHead, SessionFacts};
+use std::alloc::Global;
+use stream5_sessions::{Session as Phases, Step};
+
+/// Takes what is left of stretches that rules have ended.
+fn take_left_stretches(
+    alloc: Global,
+    found: &mut Option<FlowState>,
+) -> Result<Option<Stretches>, NoMemory>
+    requires { IsWithin (session_at_hand found.old) (2 ^ 63) }
+    ensures stretches { IfOk result
+        (λ left. left ≡ option_map (stretches_of left_payloads) (session_at_hand found.old)) }
+    ensures session { OnOk result (session_at_hand found.new ≡ option_map settled (session_at_hand found.old)) }
+    ensures bits { bits_at_hand found.new ≡ bits_at_hand found.old }
+    ensures keeps { KeepsFound found.old found.new }
+{
+    match found {
+        None => Ok(None),
+        Some(kept) => {
+            let left = kept.session.take_left_stretches(alloc)?;
+            Ok(Some(left))
+        }
+    }
+}
+
+/// A session that the packet begins, with the bases that it sets. No bit of it is set.
+fn state_at_begin(
+    alloc: Global,
+    settings: &Settings,
+    p: &Arrival,
+    step: &Step,
+    state: Phases,
+) -> FlowState
+    requires { HasLimits (making_of settings.now) }
+    ensures state { result ≡ record {
+      session = with_bases step.now (begun_session (making_of settings.now) (packet_of p.now) step.now state);
+      bits = empty;
+    } }
+    ensures within { AreWithin result.session 0 0 }
+{
+    let mut session = Session::begin(alloc, settings, p, step, state);
+    session.set_bases(step);
+    FlowState {
+        session,
+        bits: Bits::new(),
+    }
+}
+
+/// The packet's session takes its place: it begins, goes on, or there is none.
+#[tactic(auto, unfolding(crate::specs::Sessions::session_of, crate::specs::Sessions::begun_session))]
+fn enter(
+    alloc: Global,
+    settings: &Settings,
+    p: &Arrival,
+    step: &Step,
+    state: Phases,
+    found: &mut Option<FlowState>,
+)
+    requires { HasLimits (making_of settings.now) }
+    ensures session { (before : Option Standing) → session_at_hand found.old ≡ option_map settled before
+        → session_at_hand found.new ≡ session_of (making_of settings.now) (packet_of p.now) before step.now state }
+    ensures bits { bits_at_hand found.new
+        ≡ (if step.now.tracked then (if step.now.begun then Some empty else bits_at_hand found.old) else None) }
+    ensures within { (places : ℕ) → IsWithin (session_at_hand found.old) places
+        → IsWithin (session_at_hand found.new) places }
+    ensures same { IsOf state.tcp (session_at_hand found.new) }
+{
+    if !step.tracked {
+        *found = None;
+    } else if step.begun {
+        *found = Some(state_at_begin(alloc, settings, p, step, state));
+    } else if let Some(kept) = found {
+        kept.session.go_on(step, state);
+    }
+}
+
+/// The packet's session, if it has one, takes what the packet brings. True exactly where its data are held.
+fn take_packet(
+    alloc: Global,
+    p: &Arrival,
+    step: &Step,
+    left: Option<Stretches>,
+    found: &mut Option<FlowState>,
+    out: &mut Vec<Item>,
+) -> Result<bool, NoMemory>
+    requires within { IsWithin (session_at_hand found.old) (2 ^ 63 - 2 ^ 31) }
+    requires size { length p.now.payload.now ≤ 65535 }
+    ensures items { OnOk result (out.new.items
+        ≡ out.old.items ++ streams_of (packet_of p.now) step.now left (session_at_hand found.old)) }
+    ensures queued { IfOk result (λ queued. queued ≡ is_queued (packet_of p.now) step.now (session_at_hand found.old)) }
+    ensures state { step.now.ends ≡ false → OnOk result (session_at_hand found.new
+        ≡ session_behind (packet_of p.now) step.now (session_at_hand found.old)) }
+    ensures sizes { OnOk result (option_map sizes_of (session_at_hand found.new)
+        ≡ option_map sizes_of (session_behind (packet_of p.now) step.now (session_at_hand found.old))) }
+    ensures bits { bits_at_hand found.new ≡ bits_at_hand found.old }
+    ensures grows { GrowsFound found.old found.new }
+{
+    match found {
+        None => {
+            push_maybe(out, p.moment, (0, 0), left)?;
+            Ok(false)
+        }
+        Some(kept) => kept.session.take_packet(alloc, p, step, left, out),
+    }
+}
+
+/// The session facts of a packet: sizes are told of a TCP session that is established.
+fn facts_of(p: &Arrival, step: &Step, after: &Option<FlowState>) -> SessionFacts
+    ensures { (told : Option Standing) → option_map sizes_of (session_at_hand after.now) ≡ option_map sizes_of told
+        → result ≡ facts_of (packet_of p.now) step.now told }
+{
+    let sizes = match after {
+        Some(kept) if p.is_tcp() && step.established => Some(kept.session.sizes()),
+        _ => None,
+    };
+    SessionFacts {
+        tracked: step.tracked,
+        established: step.established,
+        from_client: step.from_client,
+        sizes,
+    }
+}
+
+/// The head of the packet's own item, unless its data were queued and such packets are no items.
+fn own_head(
+    inserts: bool,
+    p: &Arrival,
+    step: &Step,
+    queued: bool,
+    after: &Option<FlowState>,
+) -> Option<ItemHead>
+    ensures { (told : Option Standing) → option_map sizes_of (session_at_hand after.now) ≡ option_map sizes_of told
+        → result ≡ own_head inserts (packet_of p.now) step.now queued told }
+{
+    if queued && !inserts {
+        return None;
+    }
+    Some(ItemHead {
+        session: facts_of(p, step, after),
+        ..*p.head
+    })
+}
+
+/// Appends the streams of the packet's session, which is then as the packet leaves it before an end: the
+/// head of the packet's own item, if it is one.
+pub(crate) fn push_current(
+    alloc: Global,
+    settings: &Settings,
+    p: &Arrival,
+    step: &Step,
+    state: Phases,
+    found: &mut Option<FlowState>,
+    out: &mut Vec<Item>,
+) -> Result<Option<ItemHead>, NoMemory>
+    requires limits { HasLimits (making_of settings.now) }
+    requires within { IsWithin (session_at_hand found.old) (2 ^ 63 - 2 ^ 31) }
+    requires size { length p.now.payload.now ≤ 65535 }
+    ensures items { IfOk result (λ own. out.new.items ++ own_item p.now.payload.now own ≡ out.old.items
+        ++ items_on (making_of settings.now) (packet_of p.now) step.now state (session_at_hand found.old)) }
+    ensures state { step.now.ends ≡ false
+        → OnOk result (session_at_hand found.new ≡ session_behind (packet_of p.now) step.now
+        (session_of (making_of settings.now) (packet_of p.now) (session_at_hand found.old) step.now state)) }
+    ensures bits { OnOk result (bits_at_hand found.new
+        ≡ (if step.now.tracked then (if step.now.begun then Some empty else bits_at_hand found.old) else None)) }
+    ensures grows { (tcp : Bool) (places : ℕ) → state.tcp ≡ tcp → IsFound tcp places (session_at_hand found.old)
+        → IsFound tcp (places + 2 ^ 31) (session_at_hand found.new) }
+{
+    let left = take_left_stretches(alloc, found)?;
+    enter(alloc, settings, p, step, state, found);
+    let queued = take_packet(alloc, p, step, left, found, out)?;
+    Ok(own_head(settings.inserts, p, step, queued, found))
+}

@@ -1,0 +1,14 @@
+//! What items are tried against.
+
+use fast_pattern::Groups;
+use option_eval::RuleSet;
+use std::alloc::Global;
+
+/// The rules that items are tried against, and the groups that give their candidates. What a try keeps is
+/// taken from `alloc`.
+#[derive(Drop)]
+pub(crate) struct Matcher<'a, P> {
+    pub alloc: Global,
+    pub set: &'a RuleSet<P>,
+    pub groups: &'a Groups,
+}

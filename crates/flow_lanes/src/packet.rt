@@ -1,0 +1,203 @@
+//! One job of a flow, in the flow's place: its items, the rules that match them, and what is then kept.
+
+ghost use Rattle.std.specs.Prelude.{◌≡◌, ◌+◌, ◌-◌, ◌^◌, ◌≤◌, ◌++◌, [], ℕ, Bool, true, All, IfOk, OnOk, None, Some, length};
+ghost use Rattle.rule_types.specs.Sound.{IsTriable};
+ghost use Rattle.fast_pattern.specs.Grouping.{StandFor};
+ghost use Rattle.option_eval.specs.Places.{Means};
+ghost use Rattle.flow_lanes.specs.Detecting.{DetectsOn, GoesOn};
+ghost use Rattle.flow_lanes.specs.Flows.{all_items, bits_at_hand, hits_in, session_at_hand};
+ghost use Rattle.flow_lanes.specs.Given.{making_of, packet_of};
+ghost use Rattle.flow_lanes.specs.ItemHits.{Trying, hits_of};
+ghost use Rattle.flow_lanes.specs.Items.{finish_items, packet_items};
+ghost use Rattle.flow_lanes.specs.Kept.{IsFound, KeepsFound};
+ghost use Rattle.flow_lanes.specs.Reach.{HasLimits, IsWithin};
+ghost use Rattle.flow_lanes.specs.Sessions.{is_tcp};
+ghost use Rattle.flow_lanes.specs.Sound.{HasSessions, IsSoundPacket};
+ghost use Rattle.flow_lanes.specs.Tried.{TriesBy, candidates_of};
+ghost use Rattle.flow_lanes.specs.Working.{ended_items, items_on, unless_ended};
+
+use crate::arrival::Arrival;
+use crate::detecting::{try_and_settle, try_at_end};
+use crate::entering::push_current;
+use crate::item::Item;
+use crate::keeping::{Flow, FlowState};
+use crate::matcher::Matcher;
+use crate::settings::Settings;
+use crate::steps::step_and_state;
+use crate::tally::Tally;
+use edge_io::{Moment, NoMemory, Pattern};
+use std::alloc::Global;
+use stream5_sessions::{Session as Phases, Step};
+
+/// Appends the items of the session at hand, which has ended.
+fn push_closing_items(
+    alloc: Global,
+    moment: Moment,
+    found: &mut Option<FlowState>,
+    out: &mut Vec<Item>,
+) -> Result<(), NoMemory>
+    requires { IsWithin (session_at_hand found.old) (2 ^ 63) }
+    ensures items { OnOk result (out.new.items ≡ out.old.items ++ ended_items moment true (session_at_hand found.old)) }
+    ensures bits { bits_at_hand found.new ≡ bits_at_hand found.old }
+    ensures keeps { KeepsFound found.old found.new }
+{
+    match found {
+        None => Ok(()),
+        Some(kept) => kept.session.close(alloc, moment, out),
+    }
+}
+
+/// Ends the session at hand: the rules are tried on its items, and none stands then.
+pub(crate) fn end_session<P: Pattern>(
+    matcher: &Matcher<'_, P>,
+    moment: Moment,
+    found: &mut Option<FlowState>,
+    tally: &mut Tally,
+) -> Result<(), NoMemory>
+    requires within { IsWithin (session_at_hand found.old) (2 ^ 63) }
+    requires groups { StandFor matcher.now.groups.now matcher.now.set.now.rules }
+    requires triable { All IsTriable matcher.now.set.now.rules }
+    ensures hits { (means : Means) (trying : Trying) → TriesBy P.finds means matcher.now.set.now trying
+        → OnOk result (tally.new.hits.items ≡ tally.old.hits.items
+        ++ hits_of trying (bits_at_hand found.old) (ended_items moment true (session_at_hand found.old))) }
+    ensures tries { OnOk result (tally.new.tries ≡ tally.old.tries
+        + candidates_of matcher.now.set.now.rules (ended_items moment true (session_at_hand found.old))) }
+    ensures found { OnOk result (found.new ≡ None) }
+    ensures keeps { KeepsFound found.old found.new }
+{
+    let mut items = Vec::new(matcher.alloc);
+    push_closing_items(matcher.alloc, moment, found, &mut items)?;
+    try_at_end(matcher, &items, found, tally)?;
+    Ok(())
+}
+
+/// Ends it, where it ended before the packet.
+fn end_before<P: Pattern>(
+    matcher: &Matcher<'_, P>,
+    moment: Moment,
+    ended: bool,
+    found: &mut Option<FlowState>,
+    tally: &mut Tally,
+) -> Result<(), NoMemory>
+    requires within { IsWithin (session_at_hand found.old) (2 ^ 63) }
+    requires groups { StandFor matcher.now.groups.now matcher.now.set.now.rules }
+    requires triable { All IsTriable matcher.now.set.now.rules }
+    ensures hits { (means : Means) (trying : Trying) → TriesBy P.finds means matcher.now.set.now trying
+        → OnOk result (tally.new.hits.items ≡ tally.old.hits.items
+        ++ hits_of trying (bits_at_hand found.old) (ended_items moment ended (session_at_hand found.old))) }
+    ensures tries { OnOk result (tally.new.tries ≡ tally.old.tries
+        + candidates_of matcher.now.set.now.rules (ended_items moment ended (session_at_hand found.old))) }
+    ensures found { OnOk result (found.new ≡ unless_ended ended found.old) }
+    ensures keeps { KeepsFound found.old found.new }
+{
+    if !ended {
+        return Ok(());
+    }
+    end_session(matcher, moment, found, tally)
+}
+
+/// The packet's session begins or goes on: the rules are tried on its items.
+fn go_on<P: Pattern>(
+    matcher: &Matcher<'_, P>,
+    settings: &Settings,
+    p: &Arrival,
+    step: &Step,
+    state: Phases,
+    found: &mut Option<FlowState>,
+    tally: &mut Tally,
+) -> Result<(), NoMemory>
+    requires limits { HasLimits (making_of settings.now) }
+    requires within { IsWithin (session_at_hand found.old) (2 ^ 63 - 2 ^ 31) }
+    requires size { length p.now.payload.now ≤ 65535 }
+    requires groups { StandFor matcher.now.groups.now matcher.now.set.now.rules }
+    requires triable { All IsTriable matcher.now.set.now.rules }
+    ensures hits { (means : Means) (trying : Trying) → TriesBy P.finds means matcher.now.set.now trying
+        → OnOk result (GoesOn trying (making_of settings.now) (packet_of p.now) step.now state
+        found.old found.new tally.old.hits.items tally.new.hits.items) }
+    ensures tries { OnOk result (tally.new.tries ≡ tally.old.tries + candidates_of matcher.now.set.now.rules
+        (items_on (making_of settings.now) (packet_of p.now) step.now state (session_at_hand found.old))) }
+    ensures grows { (tcp : Bool) (places : ℕ) → state.tcp ≡ tcp → IsFound tcp places (session_at_hand found.old)
+        → IsFound tcp (places + 2 ^ 31) (session_at_hand found.new) }
+{
+    let alloc = matcher.alloc;
+    let mut items = Vec::new(alloc);
+    let own = push_current(alloc, settings, p, step, state, found, &mut items)?;
+    try_and_settle(matcher, &items, &own, p.payload, step, found, tally)?;
+    Ok(())
+}
+
+/// A packet of the flow of which this is found, with the rules that match its items.
+fn packet_on<P: Pattern>(
+    matcher: &Matcher<'_, P>,
+    settings: &Settings,
+    p: &Arrival,
+    found: &mut Option<FlowState>,
+    tally: &mut Tally,
+) -> Result<(), NoMemory>
+    requires limits { HasLimits (making_of settings.now) }
+    requires protocol { HasSessions p.now.head.now.body }
+    requires found { IsFound (is_tcp p.now.head.now.body) (2 ^ 63 - 2 ^ 31) (session_at_hand found.old) }
+    requires size { length p.now.payload.now ≤ 65535 }
+    requires groups { StandFor matcher.now.groups.now matcher.now.set.now.rules }
+    requires triable { All IsTriable matcher.now.set.now.rules }
+    ensures detects { (means : Means) (trying : Trying) → TriesBy P.finds means matcher.now.set.now trying
+        → tally.old.hits.items ≡ []
+        → OnOk result (DetectsOn trying (packet_items (making_of settings.now) (packet_of p.now)
+        (session_at_hand found.old)) found.old tally.new.hits.items found.new) }
+    ensures tries { OnOk result (tally.new.tries ≡ tally.old.tries + candidates_of matcher.now.set.now.rules
+        (all_items (packet_items (making_of settings.now) (packet_of p.now) (session_at_hand found.old)))) }
+    ensures grows { (places : ℕ) → IsFound (is_tcp p.now.head.now.body) places (session_at_hand found.old)
+        → IsFound (is_tcp p.now.head.now.body) (places + 2 ^ 31) (session_at_hand found.new) }
+{
+    let (step, state) = step_and_state(settings, p, found);
+    end_before(matcher, p.moment, step.ended_before, found, tally)?;
+    go_on(matcher, settings, p, &step, state, found, tally)?;
+    Ok(())
+}
+
+impl Flow {
+    /// One more packet of the flow: its items with all rules that match them. The flow is then as the packet
+    /// leaves it. Where memory is lacking it is as far as the packet came.
+    pub fn packet<P: Pattern>(
+        &mut self,
+        matcher: &Matcher<'_, P>,
+        settings: &Settings,
+        p: &Arrival,
+    ) -> Result<Tally, NoMemory>
+        requires limits { HasLimits (making_of settings.now) }
+        requires groups { StandFor matcher.now.groups.now matcher.now.set.now.rules }
+        requires triable { All IsTriable matcher.now.set.now.rules }
+        requires sound { IsSoundPacket (length settings.now.stream.now.engines) (Some self.old.facts)
+            (packet_of p.now) }
+        ensures detects { (means : Means) (trying : Trying) → TriesBy P.finds means matcher.now.set.now trying
+            → IfOk result (λ tally. DetectsOn trying (packet_items (making_of settings.now) (packet_of p.now)
+            (session_at_hand self.old.found)) self.old.found tally.hits.items self.new.found) }
+        ensures tries { IfOk result (λ tally. tally.tries ≡ candidates_of matcher.now.set.now.rules
+            (all_items (packet_items (making_of settings.now) (packet_of p.now) (session_at_hand self.old.found)))) }
+        ensures facts { self.new.facts ≡ record { ends = self.old.facts.ends; packets = self.old.facts.packets + 1 } }
+    {
+        self.facts.packets += 1;
+        let mut tally = Tally::new(matcher.alloc);
+        packet_on(matcher, settings, p, &mut self.found, &mut tally)?;
+        Ok(tally)
+    }
+
+    /// The end of the flow: the items of the session at hand with all rules that match them.
+    pub fn finish<P: Pattern>(
+        mut self,
+        matcher: &Matcher<'_, P>,
+        moment: Moment,
+    ) -> Result<Tally, NoMemory>
+        requires groups { StandFor matcher.now.groups.now matcher.now.set.now.rules }
+        requires triable { All IsTriable matcher.now.set.now.rules }
+        ensures hits { (means : Means) (trying : Trying) → TriesBy P.finds means matcher.now.set.now trying
+            → IfOk result (λ tally. tally.hits.items
+            ≡ hits_in trying (finish_items moment (session_at_hand self.found)) self.found) }
+        ensures tries { IfOk result (λ tally. tally.tries ≡ candidates_of matcher.now.set.now.rules
+            (all_items (finish_items moment (session_at_hand self.found)))) }
+    {
+        let mut tally = Tally::new(matcher.alloc);
+        end_session(matcher, moment, &mut self.found, &mut tally)?;
+        Ok(tally)
+    }
+}

@@ -1,0 +1,61 @@
+//! What a packet tells of its session.
+
+ghost use Rattle.std.specs.Prelude.{◌≡◌};
+ghost use Rattle.stream5_sessions.specs.Phases.{IsBodyOf};
+ghost use Rattle.flow_lanes.specs.Flows.{session_at_hand};
+ghost use Rattle.flow_lanes.specs.Given.{making_of, packet_of};
+ghost use Rattle.flow_lanes.specs.Sessions.{opening_end, session_rules, state_found, state_of, step_of};
+
+use crate::arrival::Arrival;
+use crate::keeping::FlowState;
+use crate::settings::Settings;
+use stream5_sessions::{End, Session as Phases, SessionRules, Step};
+
+/// Where the session stands that the packet finds.
+fn state_found(p: &Arrival, found: &Option<FlowState>) -> Phases
+    ensures { result ≡ state_found (packet_of p.now) (session_at_hand found.now) }
+{
+    match found {
+        None => Phases::new(p.is_tcp()),
+        Some(kept) => kept.session.state,
+    }
+}
+
+/// The end to which the session's first packet went; it is the packet's own where none stands.
+fn opening_end(p: &Arrival, found: &Option<FlowState>) -> End
+    ensures { result ≡ opening_end (packet_of p.now) (session_at_hand found.now) }
+{
+    match found {
+        None => p.receiver(),
+        Some(kept) => kept.session.opened_to,
+    }
+}
+
+/// The settings by which the packet is read.
+fn session_rules(settings: &Settings, p: &Arrival, found: &Option<FlowState>) -> SessionRules
+    ensures { result ≡ session_rules (making_of settings.now) (packet_of p.now) (session_at_hand found.now) }
+{
+    let to = p.toward(opening_end(p, found));
+    SessionRules {
+        timeout: settings.timeout_to(p.is_tcp(), to.engine),
+        needed: to.needed,
+        needed_new: p.to_dst.needed,
+    }
+}
+
+/// What the packet tells of its session, and where that stands behind it.
+#[tactic(auto, unfolding(crate::specs::Sessions::step_of, crate::specs::Sessions::state_of))]
+pub(crate) fn step_and_state(
+    settings: &Settings,
+    p: &Arrival,
+    found: &Option<FlowState>,
+) -> (Step, Phases)
+    requires { IsBodyOf (state_found (packet_of p.now) (session_at_hand found.now)).tcp p.now.head.now.body }
+    ensures step { result.0 ≡ step_of (making_of settings.now) (packet_of p.now) (session_at_hand found.now) }
+    ensures state { result.1 ≡ state_of (making_of settings.now) (packet_of p.now) (session_at_hand found.now) }
+{
+    let mut state = state_found(p, found);
+    let rules = session_rules(settings, p, found);
+    let step = state.step(&p.head.ip, &p.head.body, p.payload.len(), p.moment, rules);
+    (step, state)
+}
