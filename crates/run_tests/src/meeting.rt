@@ -22,9 +22,6 @@ const TURNS: u32 = 2_000;
 /// How long it sleeps after each look.
 const TURN_MILLIS: u64 = 2;
 
-/// So many bytes each make two packets worth a thread each.
-const PAYLOAD: usize = 40_000;
-
 /// One of two that meet.
 #[derive(Clone, Copy)]
 enum Who {
@@ -98,52 +95,59 @@ impl<R: Clock + Sync> Gate for Meeting<'_, R> {
     }
 }
 
-/// The packets begin with an `A` and a `B`.
+/// The packets are an `A` and an `a`.
 impl<R: Clock + Sync> Watcher for Meeting<'_, R> {
     fn begin(&self, bytes: &[u8]) {
         match bytes.first() {
             Some(b'A') => self.search.meet(self.clock, Who::First),
-            Some(b'B') => self.search.meet(self.clock, Who::Second),
+            Some(b'a') => self.search.meet(self.clock, Who::Second),
             _ => {}
         }
     }
 }
 
-/// A payload that begins with this letter.
-fn payload_of(alloc: Global, letter: u8) -> Result<Vec<u8>, AllocError> {
-    let mut bytes = vec![in alloc; letter]?;
-    bytes.resize(PAYLOAD, b'x')?;
-    Ok(bytes)
-}
-
-/// A packet of each of two flows.
+/// A packet of each of two flows, of one letter: two lanes run beside each other however little they do.
 fn capture_of(alloc: Global) -> Result<Vec<u8>, AllocError> {
     let mut capture = no_packets(alloc)?;
-    push_packet(&mut capture, 1000, &payload_of(alloc, b'A')?)?;
-    push_packet(&mut capture, 1001, &payload_of(alloc, b'B')?)?;
+    push_packet(&mut capture, 1000, b"A")?;
+    push_packet(&mut capture, 1001, b"a")?;
     Ok(capture)
 }
 
 const CONFIG: &str = r#"preprocessor stream5_udp
-alert udp any any -> any any (msg:"meets"; pcre:"/xx/"; sid:1;)
+alert udp any any -> any any (msg:"meets"; pcre:"/a/i"; sid:1;)
 "#;
+
+/// Runs with two lanes, with one that has no flow, and with all lanes that there can be.
+const COMMANDS: [&str; 3] = [
+    "snort -c r -r p -k none --lanes 2",
+    "snort -c r -r p -k none --lanes 3",
+    "snort -c r -r p -k none --lanes 64",
+];
 
 #[test]
 fn lanes_meet(rt: HostRuntime) -> Result<(), Fail> {
     let alloc = rt.alloc();
-    let meeting = Meeting {
-        clock: &rt,
-        entry: Place::new(),
-        search: Place::new(),
-    };
     let capture = capture_of(alloc)?;
-    let command = "snort -c r -r p -k none --lanes 2";
-    let ran = outcome_of(&rt, alloc, command, CONFIG, &capture, &meeting, &meeting)?;
-    assert!(rt; meeting.entry.have_met(), "the lanes at their entry");
-    assert!(rt; meeting.search.have_met(), "the searches of both flows");
-    assert!(rt;
-        ran.status == Status::Done && ran.alerts == 2,
-        "the answers"
-    );
+    for command in COMMANDS {
+        let meeting = Meeting {
+            clock: &rt,
+            entry: Place::new(),
+            search: Place::new(),
+        };
+        let ran = outcome_of(&rt, alloc, command, CONFIG, &capture, &meeting, &meeting)?;
+        assert!(rt;
+            meeting.entry.have_met(),
+            "the lanes at their entry: {command}"
+        );
+        assert!(rt;
+            meeting.search.have_met(),
+            "the searches of both flows: {command}"
+        );
+        assert!(rt;
+            ran.status == Status::Done && ran.alerts == 2,
+            "the answers: {command}"
+        );
+    }
     Ok(())
 }

@@ -1,29 +1,25 @@
 -- The steps from records to lines.
-use Rattle.std.proofs.Common.{◌≡◌, ℕ, ◌+◌, ◌*◌, ◌^◌, ◌<◌, ◌≤◌, List, [], ◌∷◌, ◌++◌, Option, Some, None, Result, Ok, Err, length, map, take, get_or, refl, sym, ap, subst, ◌∙◌, append_assoc, arith, length-append, inl, inr, ◌⊎◌}
-use Rattle.std.specs.Prelude.{All, IfOk, OnOk, OnErr, sum, ⊤}
-use Rattle.std.specs.List.{flat_map}
+use Rattle.std.proofs.Common.{◌≡◌, ℕ, ◌+◌, ◌^◌, ◌<◌, ◌≤◌, List, [], ◌∷◌, ◌++◌, Option, Result, Ok, Err, length, map, take, get_or, refl, sym, ap, subst, ◌∙◌, append_assoc, arith, length-append}
+use Rattle.std.specs.Prelude.{OnOk, OnErr, sum}
 use Rattle.std.proofs.lemmas.List.{append-nil, map-append, take_more}
 use Rattle.std.proofs.lemmas.List.Sums.{sum_by-append}
 use Rattle.edge_io.specs.declared.link.Link.{Link}
 use Rattle.edge_io.specs.declared.pattern.Span.{Span}
 use Rattle.edge_io.specs.Told.{behind}
 use Rattle.edge_io.specs.Along.{along, along_from, trail, trail_from}
-use Rattle.edge_io.proofs.Told.{behind-nil, behind-behind}
-use Rattle.edge_io.proofs.Along.{along-append, flat_map-along_from, pipe_more, trail-append, trail-more, trail_from-append}
+use Rattle.edge_io.proofs.Along.{along-append, flat_map-along_from, pipe_more, trail-append, trail_from-append}
 use Rattle.pcap_input.specs.declared.capture.Record.{Record}
-use Rattle.conf_parser.specs.declared.config.StreamConfig.{StreamConfig}
-use Rattle.rule_parser.specs.declared.rule.Rule.{Rule}
+use Rattle.rule_types.specs.declared.rule.Rule.{Rule}
 use Rattle.fast_pattern.specs.Grouping.{StandFor}
 use Rattle.fast_pattern.specs.declared.groups.Groups.{Groups}
 use Rattle.event_filters.specs.Standing.{FiltersState, IsGiven}
-use Rattle.option_eval.specs.RuleSet.{Rules}
 use Rattle.flow_lanes.specs.declared.answer.BatchOut.{BatchOut}
 use Rattle.flow_lanes.specs.declared.answer.Hits.{Hits}
 use Rattle.flow_lanes.specs.declared.answer.JobHits.{JobHits}
 use Rattle.flow_lanes.specs.declared.job.Job.{Job}
 use Rattle.flow_lanes.specs.Flows.{Detection, answer, answer_tries}
 use Rattle.flow_lanes.specs.Hits.{Test}
-use Rattle.flow_lanes.specs.Standing.{AnswersBatch, DetectsBy, IsBatchAnswered, LanesStand, LanesState, LearnsBatch}
+use Rattle.flow_lanes.specs.Standing.{DetectsBy, IsBatchAnswered, LanesStand, LanesState, LearnsBatch}
 use Rattle.record_jobs.specs.declared.counts.RecordCounts.{RecordCounts}
 use Rattle.record_jobs.specs.Way.{LinkedRecord, Way, linked}
 use Rattle.record_jobs.specs.Jobs.{finishes, jobs}
@@ -40,15 +36,15 @@ use Rattle.snort_engine.specs.declared.events.Tally.{Tally}
 use Rattle.snort_engine.specs.declared.plan.Plan as code
 use Rattle.snort_engine.specs.declared.stop.Stop.{Stop}
 use Rattle.snort_engine.specs.Course.{Plan}
-use Rattle.snort_engine.specs.Trace.{Alert, Closed, Open, closing_alerts, closing_items, detection_of, filtered_item, item_alerts, items_of, job_items, jobs_of, record_alerts, trace, way_by, way_of}
+use Rattle.snort_engine.specs.Trace.{Alert, Closed, Open, closing_alerts, closing_items, detection_of, filtered_item, item_alerts, items_of, job_items, jobs_of, trace, way_by, way_of}
 use Rattle.snort_engine.specs.Lines.{lines}
 use Rattle.snort_engine.specs.Counts.{counts_of, hit_count, try_count}
 use Rattle.snort_engine.specs.Outside.{WritesPart}
-use Rattle.snort_engine.specs.Gathering.{Gathering, Gathers}
+use Rattle.snort_engine.specs.Gathering.{Gathers}
 use Rattle.snort_engine.specs.Showing.{EventsStand, Showing, Shows, ShowsPart, hits_in, items_lines, tally_of}
-use Rattle.snort_engine.specs.Detecting.{AreShown, Closes, ClosesPart, Detecting, DetectorStands, InspectionStands, IsClosed, IsKnown, IsNewInspection, IsRun, IsSoundPlan, MakesJobs, Running, Runs, RunsPart, ShowsRecords, ShowsRecordsPart, closing_lines, counted, jobs_lines, waiting}
+use Rattle.snort_engine.specs.Detecting.{Closes, ClosesPart, Detecting, InspectionStands, IsKnown, IsNewInspection, IsSoundPlan, MakesJobs, Running, Runs, RunsPart, ShowsRecords, ShowsRecordsPart, counted, jobs_lines, waiting}
 use Rattle.snort_engine.specs.Watching.{IsTest, plan_of}
-use Rattle.snort_engine.proofs.Prefixes.{WritesPart-none, WritesPart-behind, gathers_written, gathers_stopped, gathers_some}
+use Rattle.snort_engine.proofs.Prefixes.{WritesPart-none, gathers_written, gathers_stopped}
 use Rattle.snort_engine.proofs.LinesLaws.{alerts-items, jobs_lines-closing, jobs_lines-records}
 use Rattle.snort_engine.proofs.Learning.{stand-new}
 

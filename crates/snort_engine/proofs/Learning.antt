@@ -1,5 +1,5 @@
 -- Lanes that were given nothing.
-use Rattle.std.proofs.Common.{◌≡◌, ℕ, zero, suc, ◌<◌, ◌≤◌, List, [], Option, Some, replicate, sym, subst, arith, slice_get}
+use Rattle.std.proofs.Common.{◌≡◌, ℕ, zero, suc, ◌≤◌, [], Some, replicate, sym, subst, arith, slice_get}
 use Rattle.std.proofs.lemmas.List.{length-replicate}
 use Rattle.flow_lanes.specs.Flows.{Detection}
 use Rattle.flow_lanes.specs.Standing.{AreNew, LaneState, LanesStand, LanesState, Stands, new_lane}

@@ -7,6 +7,7 @@ pub mod Learning
 pub mod Detecting
 pub mod Batches
 pub mod Watched
+pub mod GoingAhead
 pub mod Finishing
 pub mod Captures
 pub mod MadeCaptures

@@ -1,9 +1,8 @@
 -- The laws of the lines: joined records, beginnings, the end of a capture, and a batch of jobs.
-use Rattle.std.proofs.Common.{◌≡◌, ℕ, ◌≤◌, List, [], ◌∷◌, ◌++◌, map, take, drop, refl, sym, ap, append_assoc, ◌∙◌}
+use Rattle.std.proofs.Common.{◌≡◌, ℕ, ◌≤◌, List, [], ◌++◌, map, take, drop, refl, sym, ap, append_assoc, ◌∙◌}
 use Rattle.std.specs.List.{flat_map}
 use Rattle.std.proofs.lemmas.List.{append-nil, take-append-drop, take-take, map-append}
 use Rattle.std.proofs.lemmas.List.Concat.{flat_map-append}
-use mathlib.Core.List.{IsPrefix}
 use Rattle.edge_io.specs.Along.{trail, trail_from, chained}
 use Rattle.edge_io.specs.declared.link.Link.{Link}
 use Rattle.edge_io.proofs.Along.{trail_from-append, trail_from-chained, trail-chained}

@@ -1,6 +1,6 @@
 -- What the words of a command say is in its form: a variable that they define has a name, and numbers lie in
 -- their ranges.
-use Rattle.std.proofs.Common.{◌≡◌, ℕ, ◌≤◌, Bool, true, false, cond, not, ◌&&◌, List, [], ◌∷◌, Option, Some, None, length, ◌==◌, refl, sym, ap, subst, ◌∙◌, arith}
+use Rattle.std.proofs.Common.{◌≡◌, ℕ, ◌≤◌, Bool, true, false, cond, not, ◌&&◌, List, [], ◌∷◌, Option, Some, None, length, ◌==◌, refl, ap, subst, arith}
 use Rattle.std.specs.Prelude.{IsTrue, All, drop, nat_le, codes}
 use Rattle.std.proofs.lemmas.Bool.Decides.{nat_tests}
 use Rattle.std.specs.Option.{option_map, option_and_then}
@@ -14,7 +14,7 @@ use Rattle.net_lists.specs.Variables.{begins_name, continues_name, IsName}
 use Rattle.command_words.specs.CommandLine.{Asked, help, version, run, Run, Defined, Values, maybe, is_variable, named, definition, has_its_capture, is_console, mode_named, number_or, run_by, asked_by, values_behind, values_by, command_line}
 use Rattle.command_words.specs.Table.{table}
 use Rattle.command_words.specs.Uses.{uses_of, value_in}
-use Rattle.snort_setup.specs.Words.{HasName, Definition}
+use Rattle.snort_setup.specs.Words.{HasName}
 use Rattle.snort_engine.specs.Course.{definition_of, setup_words}
 use Rattle.snort_engine.specs.Detecting.{IsRanged}
 

@@ -1,10 +1,11 @@
 -- Laws of beginnings, and of parts of a text that were written.
-use Rattle.std.proofs.Common.{◌≡◌, ℕ, ◌+◌, ◌-◌, ◌^◌, ◌≤◌, ◌==◌, true, false, List, [], ◌++◌, Option, Result, Ok, Err, take, drop, refl, sym, ap, subst, append_assoc, ◌∙◌, arith}
-use Rattle.std.specs.Prelude.{OnOk, OnErr}
+use Rattle.std.proofs.Common.{◌≡◌, ℕ, ◌+◌, ◌≤◌, List, [], ◌++◌, Option, Result, Ok, Err, take, drop, refl, sym, ap, subst, append_assoc, ◌∙◌, arith}
+use Rattle.std.specs.Prelude.{OnOk, OnErr, IfErr}
+use Rattle.std.proofs.lemmas.Result.{IfErr-at_err}
 use Rattle.std.proofs.lemmas.Bool.Decides.{nat_tests}
 use Rattle.std.proofs.lemmas.List.{append-nil, take-append-drop}
 use mathlib.Core.List.{IsPrefix}
-use Rattle.edge_io.specs.Told.{behind, Rose, one_more, count_end}
+use Rattle.edge_io.specs.Told.{behind, Rose}
 use Rattle.edge_io.proofs.Told.{behind-nil, behind-behind}
 use Rattle.snort_engine.specs.declared.stop.Stop.{Stop}
 use Rattle.snort_engine.specs.Outside.{WritesPart}
@@ -131,6 +132,11 @@ stopped_then (Err why) text old middle new empty came stopped = gathers_stopped 
 pub all_then : (answer : Result (Unit {0}) Stop) (old new : Gathering) → OnOk answer (new.written ≡ behind old.written old.block) → OnOk answer (new.block ≡ []) → OnOk answer (Gathers [] old new)
 all_then (Ok done) old new wrote empty = gathers_all old new wrote empty
 all_then (Err why) old new wrote empty = tt
+
+-- an answer has one stop
+pub same_stop : {T : Type 0} (answer : Result T Stop) (this that : Stop) → answer ≡ Err this → answer ≡ Err that → this ≡ that
+same_stop {T} answer this that is is_too =
+    IfErr-at_err (λ (stop : Stop). stop ≡ that) is (subst (λ (r : Result T Stop). IfErr r (λ stop. stop ≡ that)) (sym is_too) refl)
 
 -- ---- counts
 

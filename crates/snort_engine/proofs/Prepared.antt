@@ -4,8 +4,8 @@ use Rattle.std.specs.Prelude.{All, IfOk, IfErr, IsSome, if◌then◌else◌}
 use Rattle.edge_io.specs.declared.pattern.Span.{Span}
 use Rattle.option_eval.specs.Places.{Means}
 use Rattle.option_eval.specs.RuleSet.{FindWhatIsMeant}
-use Rattle.conf_parser.specs.Sound as conf
-use Rattle.rule_parser.specs.Sound.{IsSound}
+use Rattle.conf_types.specs.Sound as conf
+use Rattle.rule_types.specs.Sound.{IsSound}
 use Rattle.std.specs.Option.{option_map, option_map_or}
 use Rattle.packet_decode.specs.declared.checks.Checks.{Checks}
 use Rattle.edge_io.specs.Files.{Files}

@@ -12,10 +12,10 @@ use Rattle.std.proofs.lemmas.Option.{MatchOption-at_some, slice_get_past, slice_
 use Rattle.edge_io.specs.Along.{trail, trail_from}
 use Rattle.edge_io.proofs.Along.{trail_from-append, trail-more}
 use Rattle.packet_decode.specs.declared.item.ItemHead.{ItemHead}
-use Rattle.conf_parser.specs.declared.classes.Class.{Class}
-use Rattle.conf_parser.specs.declared.config.Config.{Config}
-use Rattle.rule_parser.specs.declared.rule.Rule.{Rule}
-use Rattle.rule_parser.specs.Sound.{IsSound}
+use Rattle.conf_types.specs.declared.classes.Class.{Class}
+use Rattle.conf_types.specs.declared.config.Config.{Config}
+use Rattle.rule_types.specs.declared.rule.Rule.{Rule}
+use Rattle.rule_types.specs.Sound.{IsSound}
 use Rattle.flow_lanes.specs.declared.answer.Hits.{Hits}
 use Rattle.flow_lanes.specs.declared.answer.JobHits.{JobHits}
 use Rattle.event_filters.specs.Events.{Item, kept}
@@ -26,7 +26,7 @@ use Rattle.snort_engine.specs.Trace.{Alert, alert_of, alert_at, filtered_item, i
 use Rattle.snort_engine.specs.Lines.{text_of}
 use Rattle.snort_engine.specs.Counts.{hit_count}
 use Rattle.snort_engine.specs.Gathering.{Gathering, Gathers}
-use Rattle.snort_engine.specs.Showing.{places_lines, places_count, ShowsPlaces, items_lines, tally_of, EventsStand, Showing, gathering_of, IsShown, Shows, ShowsPart, hits_in}
+use Rattle.snort_engine.specs.Showing.{places_lines, places_count, ShowsPlaces, items_lines, tally_of, EventsStand, Showing, gathering_of, Shows, ShowsPart, hits_in}
 use Rattle.snort_engine.proofs.Prefixes.{WritesPart-none, WritesPart-longer, gathers_none, gathers_both, gathers_part, gathers_some}
 
 -- ---- the rules at some places

@@ -1,9 +1,9 @@
 -- The steps of watching a capture.
-use Rattle.std.proofs.Common.{◌≡◌, ℕ, ◌+◌, ◌<◌, ◌≤◌, Bool, true, false, List, [], ◌∷◌, ◌++◌, length, map, Option, Some, None, Result, Ok, Err, refl, sym, ap, subst, ◌∙◌, append_assoc, arith, inl, inr, ◌⊎◌, ⊎_elim}
+use Rattle.std.proofs.Common.{◌≡◌, ℕ, ◌+◌, ◌<◌, ◌≤◌, Bool, true, false, List, [], ◌++◌, length, map, Option, Some, None, Result, Ok, Err, refl, sym, ap, subst, ◌∙◌, append_assoc, arith, ◌⊎◌, ⊎_elim}
 use Rattle.std.proofs.lemmas.List.{append-nil, map-append}
 use Rattle.edge_io.specs.declared.link.Link.{Link}
-use Rattle.edge_io.specs.Told.{before, behind}
-use Rattle.edge_io.proofs.Told.{before-nil, behind-nil, behind-behind}
+use Rattle.edge_io.specs.Told.{behind}
+use Rattle.edge_io.proofs.Told.{behind-nil, behind-behind}
 use Rattle.pcap_input.specs.declared.capture.Record.{Record}
 use Rattle.pcap_input.specs.declared.capture.CaptureFault.{CaptureFault}
 use Rattle.pcap_input.specs.Savefile.{Cut, Ending, Clean, Refused, first_records}
@@ -27,9 +27,9 @@ use Rattle.snort_engine.specs.Batch.{Place, HasStopped, Reaches, ReadsOn, more_o
 use Rattle.snort_engine.specs.declared.batch.Reached.{Reached}
 use Rattle.snort_engine.specs.declared.batch.Reached.TheVariants.{More, End, Fault}
 use Rattle.snort_engine.specs.ReadAhead.{batch}
-use Rattle.snort_engine.specs.Detecting.{AreShown, Closes, ClosesPart, Detecting, DetectorStands, ShowsRecords, ShowsRecordsPart, closing_lines}
-use Rattle.snort_engine.specs.Watching.{Streams, Standing, lines_of, lines_left, cut_by, counts_left, IsRoom, most_at, room_behind, IsUnderWay, IsAtEnd, IsWatched, IsCutOff, IsCloseBehind, WritesSome, WatchesTo, Watches, Comes, ComesOver, GoesOn, IsShowStop, IsLeft, IsClosedWhole, IsClosedInPart, ClosesWatched}
-use Rattle.snort_engine.proofs.Prefixes.{WritesPart-all, WritesPart-behind, WritesPart-longer, WritesPart-none}
+use Rattle.snort_engine.specs.Detecting.{AreShown, Closes, ClosesPart, DetectorStands, ShowsRecords, ShowsRecordsPart, closing_lines}
+use Rattle.snort_engine.specs.Watching.{Streams, Standing, lines_of, lines_left, IsRoom, most_at, room_behind, IsUnderWay, IsAtEnd, IsCutOff, IsCloseBehind, WritesSome, WatchesTo, Watches, Comes, ComesOver, GoesOn, IsShowStop, IsLeft, IsClosedWhole, IsClosedInPart, ClosesWatched}
+use Rattle.snort_engine.proofs.Prefixes.{WritesPart-all, WritesPart-behind, WritesPart-longer}
 use Rattle.snort_engine.proofs.Limits.{first_records-front, below_limit, at_limit, within_limit, room_first, room_further, room_left}
 use Rattle.snort_engine.proofs.LinesLaws.{lines_of-nil, lines_of-closed, lines_of-append}
 

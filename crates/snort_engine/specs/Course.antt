@@ -16,8 +16,8 @@ use Rattle.std.specs.Option.{option_map, option_map_or}
 use Rattle.edge_io.specs.Files.{Files}
 use Rattle.packet_decode.specs.declared.checks.Checks.{Checks}
 use Rattle.host_table.specs.declared.host_line.HostLine.{HostLine}
-use Rattle.conf_parser.specs.declared.config.Config.{Config}
-use Rattle.rule_parser.specs.declared.rule.Rule.{Rule}
+use Rattle.conf_types.specs.declared.config.Config.{Config}
+use Rattle.rule_types.specs.declared.rule.Rule.{Rule}
 use Rattle.command_words.specs.declared.asked.ChecksumMode.{ChecksumMode}
 use Rattle.command_words.specs.declared.asked.ChecksumMode.TheVariants as mode
 use Rattle.command_words.specs.CommandLine.{Asked, help, version, run, Run, Defined}

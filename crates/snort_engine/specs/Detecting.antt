@@ -8,9 +8,9 @@ use Rattle.std.specs.Prelude.{◌≡◌, ℕ, ◌≤◌, List, [], ◌++◌, Opt
 use Rattle.std.specs.List.{flat_map}
 use Rattle.edge_io.specs.Along.{trail, trail_from}
 use Rattle.edge_io.specs.Told.{behind}
-use Rattle.conf_parser.specs.Sound as conf
-use Rattle.rule_parser.specs.Sound.{IsSound}
-use Rattle.rule_parser.specs.declared.rule.Rule.{Rule}
+use Rattle.conf_types.specs.Sound as conf
+use Rattle.rule_types.specs.Sound.{IsSound}
+use Rattle.rule_types.specs.declared.rule.Rule.{Rule}
 use Rattle.fast_pattern.specs.Grouping.{StandFor}
 use Rattle.flow_lanes.specs.declared.job.Job.{Job}
 use Rattle.flow_lanes.specs.Standing.{AreNew, LanesStand}

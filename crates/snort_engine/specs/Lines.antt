@@ -8,7 +8,7 @@ use mathlib.Core.List.{IsPrefix}
 use Rattle.record_jobs.specs.Way.{LinkedRecord}
 use Rattle.snort_engine.specs.Course.{Plan}
 use Rattle.alert_fast.specs.Line.{line_text}
-use Rattle.conf_parser.specs.declared.classes.Class.{Class}
+use Rattle.conf_types.specs.declared.classes.Class.{Class}
 use Rattle.snort_engine.specs.Trace.{Alert, CaptureState, Open, trace}
 
 -- the line of an alert, where these are the classes

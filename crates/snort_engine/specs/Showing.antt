@@ -7,9 +7,9 @@ use Rattle.std.specs.Prelude.{◌≡◌, ℕ, List, ◌++◌, Option, length, ma
 use Rattle.std.specs.List.{flat_map}
 use Rattle.edge_io.specs.Along.{trail, trail_from}
 use Rattle.packet_decode.specs.declared.item.ItemHead.{ItemHead}
-use Rattle.conf_parser.specs.declared.classes.Class.{Class}
-use Rattle.conf_parser.specs.declared.config.Config.{Config}
-use Rattle.rule_parser.specs.declared.rule.Rule.{Rule}
+use Rattle.conf_types.specs.declared.classes.Class.{Class}
+use Rattle.conf_types.specs.declared.config.Config.{Config}
+use Rattle.rule_types.specs.declared.rule.Rule.{Rule}
 use Rattle.flow_lanes.specs.declared.answer.Hits.{Hits}
 use Rattle.flow_lanes.specs.declared.answer.JobHits.{JobHits}
 use Rattle.event_filters.specs.Standing.{IsGiven}

@@ -2,7 +2,7 @@
 --
 -- To try it on: a capture that is no savefile ends a run as BadCapture, with
 -- `ERROR: capture is not a pcap file`.
-use Rattle.std.specs.Prelude.{◌≡◌, ℕ, Bool, true, false, List, [], Result, Ok, Err}
+use Rattle.std.specs.Prelude.{ℕ, Bool, true, false, List, [], Result, Ok, Err}
 use Rattle.pcap_input.specs.declared.capture.CaptureFault.{CaptureFault}
 use Rattle.pcap_input.specs.declared.capture.CaptureFault.TheVariants as fault
 use Rattle.snort_setup.specs.declared.stop.SetupStop.{SetupStop}

@@ -9,14 +9,14 @@
 -- (Snort Users Manual 2.9, sections 2.2.1 and 2.2.2 for what is put together, 2.4 and 3 for events.)
 -- To try it on: a packet with payload `abc` and the rules for `bc`, `x` and `a` shows the alerts of
 -- the first and of the third.
-use Rattle.std.specs.Prelude.{ℕ, List, [], ◌++◌, map, slice_get, option_map}
+use Rattle.std.specs.Prelude.{ℕ, List, ◌++◌, map, slice_get, option_map}
 use Rattle.std.specs.Option.{option_to_list}
 use Rattle.std.specs.List.{flat_map}
 use Rattle.edge_io.specs.Along.{trail, trail_from, chained}
 use Rattle.packet_decode.specs.declared.item.ItemHead.{ItemHead}
 use Rattle.packet_decode.specs.declared.checks.Checks.{Checks}
-use Rattle.conf_parser.specs.declared.config.Config.{Config}
-use Rattle.rule_parser.specs.declared.rule.Rule.{Rule}
+use Rattle.conf_types.specs.declared.config.Config.{Config}
+use Rattle.rule_types.specs.declared.rule.Rule.{Rule}
 use Rattle.host_table.specs.declared.host_line.HostLine.{HostLine}
 use Rattle.record_jobs.specs.Way.{LinkedRecord, Way}
 use Rattle.record_jobs.specs.Jobs.{jobs, finishes}

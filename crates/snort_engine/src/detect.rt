@@ -1,7 +1,7 @@
 //! Records with what stands before them: their jobs, what these find, and the lines of it.
 ghost use Rattle.std.specs.Prelude.{◌≡◌, ◌+◌, ◌≤◌, ◌^◌, ◌<◌, [], ◌++◌, length, map, All, OnOk, OnErr, IfOk, IfErr, IsErrOf};
 ghost use Rattle.edge_io.specs.Told.{Rose};
-ghost use Rattle.conf_parser.specs.Sound as conf;
+ghost use Rattle.conf_types.specs.Sound as conf;
 ghost use Rattle.fast_pattern.specs.Grouping.{StandFor};
 ghost use Rattle.flow_lanes.specs.Hits.{Test};
 ghost use Rattle.flow_lanes.specs.Standing.{LearnsBatch};
@@ -101,7 +101,7 @@ impl Detector {
 }
 
 /// The jobs of records, one behind another.
-fn make_jobs(
+pub(crate) fn make_jobs(
     alloc: Global,
     by: &FrontConfig<'_>,
     link: Link,

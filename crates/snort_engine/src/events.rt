@@ -1,8 +1,8 @@
 //! Items with the rules that match them: their events, and the lines of those that are kept.
 ghost use Rattle.std.specs.Prelude.{◌≡◌, ◌+◌, ◌≤◌, [], ◌∷◌, All, OnOk, OnErr, IfOk, IfErr, IsErrOf};
 ghost use Rattle.edge_io.specs.Told.{Rose};
-ghost use Rattle.conf_parser.specs.Sound as conf;
-ghost use Rattle.rule_parser.specs.Sound.{IsSound};
+ghost use Rattle.conf_types.specs.Sound as conf;
+ghost use Rattle.rule_types.specs.Sound.{IsSound};
 ghost use Rattle.snort_engine.specs.Watching.{IsShowStop};
 ghost use Rattle.snort_engine.specs.Showing.{EventsStand, Shows, ShowsPart, hits_in};
 

@@ -2,7 +2,7 @@
 ghost use Rattle.std.specs.Prelude.{◌≡◌, ◌<◌, ◌≤◌, [], ◌∷◌, ◌++◌, length, All, OnOk, OnErr, IfOk, IfErr, IsErrOf};
 ghost use Rattle.std.specs.Option.{ForSome};
 ghost use Rattle.edge_io.specs.Told.{behind, Rose};
-ghost use Rattle.rule_parser.specs.Sound.{IsSound};
+ghost use Rattle.rule_types.specs.Sound.{IsSound};
 ghost use Rattle.snort_engine.specs.Outside.{WritesPart};
 ghost use Rattle.snort_engine.specs.Trace.{alert_of};
 ghost use Rattle.snort_engine.specs.Lines.{text_of};

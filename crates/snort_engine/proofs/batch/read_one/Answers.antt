@@ -1,6 +1,5 @@
 -- What was reached, by the answer of `next`.
-use Rattle.std.proofs.Common.{◌≡◌, [], ◌∷◌, ◌++◌, refl, sym, ap, ◌∙◌}
-use Rattle.pcap_input.specs.declared.capture.Record.{Record}
+use Rattle.std.proofs.Common.{[], ◌∷◌, ◌++◌, refl, ap, ◌∙◌}
 use Rattle.pcap_input.specs.Reader.{Reading}
 use Rattle.snort_engine.specs.Batch.{Place}
 use Rattle.snort_engine.proofs.Batches.{reads_record, reads_end, reads_fault, reads_lacking, number_below}

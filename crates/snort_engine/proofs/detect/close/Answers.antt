@@ -1,8 +1,11 @@
-use Rattle.std.proofs.Common.{refl}
+use Rattle.std.proofs.Common.{Err, refl, sym, ap, ◌∙◌}
 use Rattle.std.proofs.lemmas.Result.{err_from_is_err_and}
 use Rattle.snort_engine.specs.declared.detect.Inspection.{Inspection}
+use Rattle.snort_engine.specs.declared.stop.Stop.{Stop}
+use Rattle.snort_engine.specs.declared.stop.Stop.TheVariants.{CannotWrite}
 use Rattle.snort_engine.specs.Trace.{way_by}
 use Rattle.snort_engine.specs.Watching.{plan_of}
+use Rattle.snort_engine.proofs.Prefixes.{rose_since, same_stop}
 use Rattle.snort_engine.proofs.Detecting.{closed_nothing, closed_offered_part, closed_part, closed_whole, ready_closing, stands_on}
 use Rattle.snort_engine.proofs.detect.close.Goals as goal
 
@@ -36,3 +39,9 @@ returns-clause-shown g c = λ matches test.
     rw c.counts.ensures
     (closed_whole (plan_of matches c.args.plan.now) _ c.in_ok-jobs.jobs.items _ last _ c.counts-seen.result c.in_ok-jobs.ensures c.counts-seen.ensures.counts runs c.requires.known.none c.in_ok-offer.ensures.offered
     (λ before stands. stands_on (plan_of matches c.args.plan.now) before run last refl refl refl refl stands))
+
+pub returns-in_err-offer-clause-fault : goal.returns-in_err-offer-clause-fault
+returns-in_err-offer-clause-fault g c = λ is.
+    let p = err_from_is_err_and c.from_residual-in_err-offer.result c.from_residual-in_err-offer.ensures.1 in
+    let stop = sym p.2 ∙ same_stop c.from_residual-in_err-offer.result p.0 CannotWrite p.1 is in
+    rose_since _ _ _ c.in_ok-run_jobs.ensures.later (c.in_err-offer.ensures.fault (ap (λ (why : Stop). Err why) stop))

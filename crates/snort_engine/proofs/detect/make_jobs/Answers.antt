@@ -1,6 +1,6 @@
-use Rattle.std.proofs.Common.{◌≡◌, take, map, arith, subst}
+use Rattle.std.proofs.Common.{◌≡◌, take, arith}
 use Rattle.std.proofs.lemmas.List.{take_all}
-use Rattle.record_jobs.specs.Way.{linked, way_of}
+use Rattle.record_jobs.specs.Way.{way_of}
 use Rattle.snort_engine.proofs.Detecting.{makes_none, makes_step}
 use Rattle.snort_engine.proofs.detect.make_jobs.Goals as goal
 

@@ -1,7 +1,6 @@
 use Rattle.std.proofs.Common.{◌≡◌, take, arith}
 use Rattle.std.proofs.lemmas.List.{take_all}
 use Rattle.std.proofs.lemmas.Result.{err_from_is_err_and}
-use Rattle.snort_engine.specs.Showing.{hits_in}
 use Rattle.snort_engine.proofs.Showing.{shows_none, jobs_step, jobs_part}
 use Rattle.snort_engine.proofs.events.show_hits.Goals as goal
 

@@ -1,4 +1,3 @@
-use Rattle.std.proofs.Common.{sym, ap, ◌∙◌}
 use Rattle.snort_engine.proofs.Prefixes.{WritesPart-take}
 use Rattle.snort_engine.proofs.lines.offer.Goals as goal
 

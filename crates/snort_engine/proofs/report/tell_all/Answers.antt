@@ -1,5 +1,4 @@
 use Rattle.std.proofs.Common.{arith}
-use Rattle.snort_engine.proofs.Prefixes.{rose_since}
 use Rattle.snort_engine.proofs.Reported.{tells_none, tells_step}
 use Rattle.snort_engine.proofs.report.tell_all.Goals as goal
 

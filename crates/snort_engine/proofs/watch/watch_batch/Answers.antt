@@ -1,8 +1,7 @@
-use Rattle.std.proofs.Common.{◌≡◌, ◌≤◌, ℕ, length, sym, ap, ◌∙◌, subst, arith}
+use Rattle.std.proofs.Common.{◌≡◌, ◌≤◌, ℕ, length, ap, ◌∙◌, arith}
 use Rattle.std.proofs.lemmas.Result.{err_from_is_err_and}
 use Rattle.pcap_input.specs.declared.capture.CaptureHead.{CaptureHead}
 use Rattle.snort_engine.specs.Watching.{plan_of, most_at, room_behind, Standing}
-use Rattle.snort_engine.proofs.Batches.{failed_reached, showing_reads_nothing}
 use Rattle.snort_engine.proofs.Watched.{nothing_left, batch_shown, batch_stops}
 use Rattle.snort_engine.proofs.watch.watch_batch.Goals as goal
 

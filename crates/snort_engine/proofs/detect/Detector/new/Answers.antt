@@ -1,4 +1,3 @@
-use Rattle.snort_engine.specs.Watching.{plan_of}
 use Rattle.snort_engine.proofs.Detecting.{inspection_stands-new, known-new}
 use Rattle.snort_engine.proofs.detect.Detector.new.Goals as goal
 
