@@ -8,3 +8,5 @@ mod captures;
 mod digits;
 #[cfg(test)]
 mod packets;
+#[cfg(test)]
+mod pcapng;

@@ -1,0 +1,15 @@
+pub mod Ticks
+pub mod Sizes
+pub mod OptionLists
+pub mod Taking
+pub mod Stages
+pub mod Closing
+pub mod Begins
+pub mod Openings
+pub mod Moving
+pub mod Nexts
+pub mod Walking
+pub mod Heads
+pub mod Reading
+pub mod Records
+pub mod Beginnings

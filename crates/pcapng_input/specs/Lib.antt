@@ -1,0 +1,5 @@
+pub mod Moments
+pub mod Options
+pub mod Blocks
+pub mod Steps
+pub mod Reader

@@ -1,0 +1,110 @@
+ghost use Rattle.std.specs.Prelude.{◌≡◌, IsTrue};
+ghost use Rattle.pcapng_input.specs.Blocks.{kind_of, least_total, fixed_front, front_length, is_short, is_sized, inner_length};
+
+/// The kinds of blocks that are told apart.
+#[derive(Clone, Copy, Debug, PartialEq, Eq)]
+pub enum Kind {
+    /// A section header (0a0d0d0a).
+    Section,
+    /// An interface description (1).
+    Interface,
+    /// A simple packet (3).
+    Simple,
+    /// An enhanced packet (6).
+    Enhanced,
+    /// Any other block.
+    Other,
+}
+
+/// What the first eight bytes of a block tell.
+#[derive(Clone, Copy, Debug, PartialEq, Eq)]
+pub struct Block {
+    pub kind: Kind,
+    /// How long the whole block is.
+    pub total: u32,
+}
+
+/// The most bytes of a section header and of an interface description.
+const MOST_BYTES: u32 = 1_048_576;
+
+impl Kind {
+    /// The kind of a block of this type that is no section header.
+    pub fn of(number: u32) -> Kind
+        ensures { result ≡ kind_of number }
+    {
+        match number {
+            1 => Kind::Interface,
+            3 => Kind::Simple,
+            6 => Kind::Enhanced,
+            _ => Kind::Other,
+        }
+    }
+
+    /// How long a block of this kind is at least.
+    fn least(self) -> u32
+        ensures { result ≡ least_total self }
+    {
+        match self {
+            Kind::Section => 28,
+            Kind::Interface => 20,
+            Kind::Simple => 16,
+            Kind::Enhanced => 32,
+            Kind::Other => 12,
+        }
+    }
+
+    /// The bytes that stand before what differs in length.
+    fn fixed_front(self) -> u32
+        ensures { result ≡ fixed_front self }
+    {
+        match self {
+            Kind::Section => 24,
+            Kind::Interface => 16,
+            Kind::Simple => 12,
+            Kind::Enhanced => 28,
+            Kind::Other => 8,
+        }
+    }
+
+    /// How many of them stand behind what a block is known by: its type and total length, and of a section
+    /// header the byte-order magic.
+    pub fn front_length(self) -> usize
+        ensures { result ≡ front_length self }
+    {
+        match self {
+            Kind::Section => 12,
+            Kind::Interface => 8,
+            Kind::Simple => 4,
+            Kind::Enhanced => 20,
+            Kind::Other => 0,
+        }
+    }
+
+    /// A block of this kind is never longer than `MOST_BYTES`.
+    fn is_short(self) -> bool
+        ensures { result ≡ is_short self }
+    {
+        matches!(self, Kind::Section | Kind::Interface)
+    }
+}
+
+impl Block {
+    /// The total length is one that a block of its kind may have.
+    #[tactic(auto, unfolding(crate::specs::Blocks::is_sized))]
+    pub fn is_sized(self) -> bool
+        ensures { result ≡ is_sized self }
+    {
+        self.total % 4 == 0
+            && self.kind.least() <= self.total
+            && (self.total <= MOST_BYTES || !self.kind.is_short())
+    }
+
+    /// How many bytes stand between the fixed front and the last four.
+    #[tactic(auto, using(crate::proofs::Sizes::sizes))]
+    pub fn inner(self) -> u32
+        requires { IsTrue (is_sized self) }
+        ensures { result ≡ inner_length self }
+    {
+        self.total - self.kind.fixed_front() - 4
+    }
+}

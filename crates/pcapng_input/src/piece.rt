@@ -1,0 +1,73 @@
+ghost use Rattle.std.specs.Prelude.{◌≡◌, ◌≤◌, length, IfOk, IfErr, OnOk, IsErrOf};
+ghost use Rattle.edge_io.specs.Told.{before, Rose};
+ghost use Rattle.pcapng_input.specs.Steps.{TakesLess, TakesBytes};
+
+use crate::NgFault;
+use crate::fill::fill;
+use crate::spares::resized;
+use edge_io::Host;
+
+/// The most bytes that are passed over at once.
+const PIECE: usize = 512;
+
+/// Reads a piece of the block that begins at `at`, as long as `piece` is.
+pub fn read_piece<H: Host>(host: &mut H, at: u64, piece: &mut [u8]) -> Result<(), NgFault>
+    ensures whole { OnOk result (H.left host.old ≡ before piece.new (H.left host.new)) }
+    ensures partial { IfErr result (λ why. TakesLess at (length piece.old) why (H.left host.old) (H.left host.new)) }
+    ensures failed { IsErrOf result NgFault.Failed → Rose (H.faults host.old) (H.faults host.new) }
+    ensures same_contents { H.contents host.new ≡ H.contents host.old }
+    ensures same_opens { H.opens host.new ≡ H.opens host.old }
+    ensures later { H.faults host.old ≤ H.faults host.new }
+{
+    let Ok(count) = fill(host, piece) else {
+        return Err(NgFault::Failed);
+    };
+    if count < piece.len() {
+        return Err(NgFault::Truncated { at });
+    }
+    Ok(())
+}
+
+/// Reads so many bytes of the block that begins at `at`, into a block of memory of any length.
+pub fn read_bytes<H: Host>(
+    host: &mut H,
+    at: u64,
+    len: u32,
+    memory: Vec<u8>,
+) -> Result<Vec<u8>, NgFault>
+    ensures whole { IfOk result (λ bytes. (length bytes.items ≡ len)
+        × (H.left host.old ≡ before bytes.items (H.left host.new))) }
+    ensures partial { IfErr result (λ why. TakesLess at len why (H.left host.old) (H.left host.new)) }
+    ensures failed { IsErrOf result NgFault.Failed → Rose (H.faults host.old) (H.faults host.new) }
+    ensures same_contents { H.contents host.new ≡ H.contents host.old }
+    ensures same_opens { H.opens host.new ≡ H.opens host.old }
+    ensures later { H.faults host.old ≤ H.faults host.new }
+{
+    let mut bytes = resized(memory, len as usize)?;
+    let Ok(count) = fill(host, &mut bytes) else {
+        return Err(NgFault::Failed);
+    };
+    if count < len as usize {
+        return Err(NgFault::Truncated { at });
+    }
+    Ok(bytes)
+}
+
+/// Passes over so many bytes of the block that begins at `at`, piece by piece, and keeps none.
+pub fn skip<H: Host>(host: &mut H, at: u64, count: u32) -> Result<(), NgFault>
+    ensures whole { OnOk result (TakesBytes count (H.left host.old) (H.left host.new)) }
+    ensures partial { IfErr result (λ why. TakesLess at count why (H.left host.old) (H.left host.new)) }
+    ensures failed { IsErrOf result NgFault.Failed → Rose (H.faults host.old) (H.faults host.new) }
+    ensures same_contents { H.contents host.new ≡ H.contents host.old }
+    ensures same_opens { H.opens host.new ≡ H.opens host.old }
+    ensures later { H.faults host.old ≤ H.faults host.new }
+{
+    let mut piece = [0; PIECE];
+    let mut left = count as usize;
+    while left > 0 {
+        let size = left.min(PIECE);
+        read_piece(host, at, &mut piece[..size])?;
+        left -= size;
+    }
+    Ok(())
+}
