@@ -1,0 +1,6 @@
+pub mod Numbers
+pub mod Bodies
+pub mod Frames
+pub mod Laws
+pub mod Walks
+pub mod Writing

@@ -1,0 +1,234 @@
+//! Records with the bytes that the format's tables give, worked out by hand, and borders of what is
+//! read. The rows are text, so that another one costs nothing to prove.
+
+ghost use Rattle.std.specs.Prelude.{◌<◌};
+ghost use Rattle.unified2_out.specs.Records.{AreOfOneVersion};
+
+use crate::{U2, U2Event, U2Packet, read_records, write_record};
+use edge_io::{Addr, Text};
+use std::alloc::{AllocError, Global};
+use std::test::Fail;
+
+/// A datagram in an Ethernet frame: from 10.0.0.1 port 1000 to 10.0.0.2 port 2000, `abc`.
+const FRAME: &[u8; 45] =
+    b"\x02\0\0\0\0\x02\x02\0\0\0\0\x01\x08\0\x45\0\0\x1f\0\x01\0\0\x40\x11\x66\xcb\
+    \x0a\0\0\x01\x0a\0\0\x02\x03\xe8\x07\xd0\0\x0b\0\0abc";
+
+/// The event of the rule 1:1:0 on that datagram, and the datagram's packet without its bytes.
+const EVENT: &str = "00000007 00000034
+    00000000 00000001 00000000 00000000 00000001 00000001 00000000 00000000 00000000
+    0a000001 0a000002 03e8 07d0 11 00 00 00";
+
+const PACKET: &str = "00000002 00000049
+    00000000 00000001 00000000 00000000 00000000 00000001 0000002d";
+
+/// An event of version 6 in which each field has a value of its own.
+const EVENT_IP6: &str = "00000048 0000004c
+    00000001 00000002 00000003 00000004 00000005 00000006 00000007 00000008 00000009
+    20010db8 00*11 01 20010db8 00*11 02 0a0b 0c0d 0e 0f 10 11";
+
+/// The event that the first text is.
+fn event() -> U2Event
+    ensures { AreOfOneVersion result.src result.dst }
+{
+    U2Event {
+        sensor: 0,
+        id: 1,
+        second: 0,
+        micro: 0,
+        sid: 1,
+        gid: 1,
+        rev: 0,
+        class: 0,
+        priority: 0,
+        src: Addr::V4(0x0a00_0001),
+        dst: Addr::V4(0x0a00_0002),
+        sport: 1000,
+        dport: 2000,
+        protocol: 17,
+        impact_flag: 0,
+        impact: 0,
+        blocked: 0,
+    }
+}
+
+/// The event that the text of version 6 is.
+fn event_ip6() -> U2Event
+    ensures { AreOfOneVersion result.src result.dst }
+{
+    U2Event {
+        sensor: 1,
+        id: 2,
+        second: 3,
+        micro: 4,
+        sid: 5,
+        gid: 6,
+        rev: 7,
+        class: 8,
+        priority: 9,
+        src: Addr::V6(0x2001_0db8_0000_0000_0000_0000_0000_0001),
+        dst: Addr::V6(0x2001_0db8_0000_0000_0000_0000_0000_0002),
+        sport: 0x0a0b,
+        dport: 0x0c0d,
+        protocol: 0x0e,
+        impact_flag: 0x0f,
+        impact: 0x10,
+        blocked: 0x11,
+    }
+}
+
+/// Bytes, and how many records they are or where they are bad: a name, the bytes, the answer.
+const ROWS: &str = "nothing | | 0 records
+an event and its packet | event packet 00*45 | 2 records
+without the last byte | event packet 00*44 | unified2 file is bad at byte 60
+a byte more | event packet 00*45 00 | unified2 file is bad at byte 141
+7 bytes | 00000063 000000 | unified2 file is bad at byte 0
+a kind that is none of these, no body | 00000063 00000000 | 1 records
+a body of 2 bytes | 00000063 00000002 6162 | 1 records
+a body of 2 bytes, one there | 00000063 00000002 61 | unified2 file is bad at byte 0
+an event of 51 bytes | 00000007 00000033 00*51 | unified2 file is bad at byte 0
+an event of 52 bytes | 00000007 00000034 00*52 | 1 records
+an event of 53 bytes | 00000007 00000035 00*53 | unified2 file is bad at byte 0
+an event of 76 bytes | 00000007 0000004c 00*76 | unified2 file is bad at byte 0
+an event of version 6 of 52 bytes | 00000048 00000034 00*52 | unified2 file is bad at byte 0
+an event of version 6 of 75 bytes | 00000048 0000004b 00*75 | unified2 file is bad at byte 0
+an event of version 6 of 76 bytes | 00000048 0000004c 00*76 | 1 records
+an event of version 6 of 77 bytes | 00000048 0000004d 00*77 | unified2 file is bad at byte 0
+a packet of 27 bytes | 00000002 0000001b 00*27 | unified2 file is bad at byte 0
+a packet without bytes | 00000002 0000001c 00*28 | 1 records
+a packet that counts 1 of 2 bytes | 00000002 0000001e 00*24 00000001 6162 | unified2 file is bad at byte 0
+a packet that counts 3 of 2 bytes | 00000002 0000001e 00*24 00000003 6162 63 | unified2 file is bad at byte 0
+the longest body | 00000063 00100000 00*1048576 | 1 records
+a byte longer | 00000063 00100001 00*1048577 | unified2 file is bad at byte 0
+the longest packet | 00000002 00100000 00*24 000fffe4 00*1048548 | 1 records
+a byte longer | 00000002 00100001 00*24 000fffe5 00*1048549 | unified2 file is bad at byte 0";
+
+/// The value of a hexadecimal digit.
+fn digit(byte: u8) -> u8
+    ensures { result < 16 }
+{
+    match byte {
+        b'0'..=b'9' => byte - b'0',
+        b'a'..=b'f' => byte - b'a' + 10,
+        _ => 0,
+    }
+}
+
+/// The bytes of words in hexadecimal digits; behind a word, `*6` writes it six times.
+fn bytes_of(alloc: Global, text: &str) -> Result<Vec<u8>, AllocError> {
+    let mut bytes = Vec::new(alloc);
+    for part in text.split_whitespace() {
+        let (word, times) = part.split_once('*').unwrap_or((part, "1"));
+        for _ in 0..times.parse::<u32>().unwrap_or(0) {
+            for pair in word.as_bytes().chunks(2) {
+                if let [high, low] = pair {
+                    bytes.push(digit(*high) * 16 + digit(*low))?;
+                }
+            }
+        }
+    }
+    Ok(bytes)
+}
+
+/// The bytes of a row, in which two words stand for the texts of the event and of the packet.
+fn row_bytes(alloc: Global, row: &str) -> Result<Vec<u8>, AllocError> {
+    let mut bytes = Vec::new(alloc);
+    for word in row.split_whitespace() {
+        let text = match word {
+            "event" => EVENT,
+            "packet" => PACKET,
+            other => other,
+        };
+        bytes.extend_from_slice(&bytes_of(alloc, text)?)?;
+    }
+    Ok(bytes)
+}
+
+#[test]
+fn records_are_written_as_these_bytes(rt: HostRuntime) -> Result<(), Fail> {
+    let alloc = rt.alloc();
+    let mut out = Vec::new(alloc);
+    write_record(&U2::Event(event()), &mut out)?;
+    let packet = U2Packet {
+        sensor: 0,
+        id: 1,
+        event_second: 0,
+        second: 0,
+        micro: 0,
+        link: 1,
+        bytes: Text::from_vec(FRAME.to_vec(alloc)?),
+    };
+    write_record(&U2::Packet(packet), &mut out)?;
+    let mut want = bytes_of(alloc, EVENT)?;
+    want.extend_from_slice(&bytes_of(alloc, PACKET)?)?;
+    want.extend_from_slice(FRAME)?;
+    assert_eq!(rt; out, want);
+
+    let mut out = Vec::new(alloc);
+    write_record(&U2::Event(event_ip6()), &mut out)?;
+    assert_eq!(rt; out, bytes_of(alloc, EVENT_IP6)?);
+
+    let mut out = Vec::new(alloc);
+    let other = U2::Other {
+        kind: 99,
+        bytes: Text::from_vec(b"ab".to_vec(alloc)?),
+    };
+    write_record(&other, &mut out)?;
+    assert_eq!(rt; out, bytes_of(alloc, "00000063 00000002 6162")?);
+    Ok(())
+}
+
+#[test]
+fn bytes_are_read_as_these_records(rt: HostRuntime) -> Result<(), Fail> {
+    let alloc = rt.alloc();
+    let mut bytes = bytes_of(alloc, EVENT)?;
+    bytes.extend_from_slice(&bytes_of(alloc, PACKET)?)?;
+    bytes.extend_from_slice(FRAME)?;
+    bytes.extend_from_slice(&bytes_of(alloc, EVENT_IP6)?)?;
+    bytes.extend_from_slice(&bytes_of(alloc, "00000063 00000002 6162")?)?;
+    let mut entries = Vec::new(alloc);
+    read_records(alloc, &bytes, &mut entries)?;
+    assert_eq!(rt; entries.len(), 4);
+    match entries.as_slice() {
+        [
+            U2::Event(first),
+            U2::Packet(packet),
+            U2::Event(second),
+            U2::Other { kind, bytes },
+        ] => {
+            assert_eq!(rt; *first, event());
+            let numbers = [
+                packet.sensor,
+                packet.id,
+                packet.event_second,
+                packet.second,
+                packet.micro,
+                packet.link,
+            ];
+            assert_eq!(rt; numbers, [0, 1, 0, 0, 0, 1]);
+            assert_eq!(rt; packet.bytes.bytes(), FRAME.as_slice());
+            assert_eq!(rt; *second, event_ip6());
+            assert_eq!(rt; *kind, 99);
+            assert_eq!(rt; bytes.bytes(), b"ab".as_slice());
+        }
+        _ => assert!(rt; false, "records of other kinds"),
+    }
+    Ok(())
+}
+
+#[test]
+fn bytes_are_records_up_to_there(rt: HostRuntime) -> Result<(), Fail> {
+    let alloc = rt.alloc();
+    for row in ROWS.lines() {
+        let (name, rest) = row.split_once('|').unwrap_or((row, ""));
+        let (digits, answer) = rest.split_once('|').unwrap_or((rest, ""));
+        let bytes = row_bytes(alloc, digits)?;
+        let mut entries = Vec::new(alloc);
+        let told = match read_records(alloc, &bytes, &mut entries) {
+            Ok(()) => format!(in alloc; "{} records", entries.len())?,
+            Err(fault) => format!(in alloc; "{fault}")?,
+        };
+        assert_eq!(rt; told.as_str(), answer.trim(), "{name}");
+    }
+    Ok(())
+}

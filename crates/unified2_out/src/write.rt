@@ -1,0 +1,159 @@
+//! Records written as bytes.
+ghost use Rattle.std.specs.Prelude.{◌≡◌, ◌+◌, ◌≤◌, ◌∷◌, ◌++◌, OnOk, OnErr, take, length};
+ghost use Rattle.unified2_out.specs.Records.{numbers, address_bytes, event_kind, event_size, event_words, event_ports, event_octets, frame_text, unified2_text, IsWritable, AreOfOneVersion, most_body_bytes};
+
+use crate::kinds::{
+    EVENT, EVENT_HEAD, EVENT_IP6, EVENT_IP6_LEN, EVENT_LEN, HEADER, PACKET, PACKET_HEAD,
+    PACKET_NUMBERS,
+};
+use crate::record::{U2, U2Event, U2Packet};
+use byteorder::{BigEndian, ByteOrder};
+use edge_io::{Addr, NoMemory};
+use std::alloc::AllocError;
+
+/// Appends the bytes of a record: its kind, the length of its body, and the body, all numbers with the
+/// most significant byte first (Snort Users Manual 2.9, "Unified2 File Format").
+///
+/// An event's addresses have to be of one version, a packet may have 1,048,548 bytes, and any other
+/// record 1,048,576 and a kind that is none of 2, 7 and 72. Where memory is lacking, nothing is
+/// appended.
+pub fn write_record(entry: &U2, out: &mut Vec<u8>) -> Result<(), NoMemory>
+    requires { IsWritable entry.now }
+    ensures appended { OnOk result (out.new.items ≡ out.old.items ++ unified2_text entry.now) }
+    ensures unchanged { OnErr result (out.new.items ≡ out.old.items) }
+{
+    let length = out.len();
+    match push_record(entry, out) {
+        Ok(()) => Ok(()),
+        Err(AllocError) => {
+            out.truncate(length);
+            Err(NoMemory)
+        }
+    }
+}
+
+// Where memory is lacking, a part of the record may stand behind what stood there.
+fn push_record(entry: &U2, out: &mut Vec<u8>) -> Result<(), AllocError>
+    requires { IsWritable entry.now }
+    ensures appended { OnOk result (out.new.items ≡ out.old.items ++ unified2_text entry.now) }
+    ensures kept { OnErr result (take (length out.old.items) out.new.items ≡ out.old.items) }
+{
+    match entry {
+        U2::Event(event) => push_event(event, out),
+        U2::Packet(packet) => push_packet(packet, out),
+        U2::Other { kind, bytes } => push_other(*kind, bytes.bytes(), out),
+    }
+}
+
+// Where memory is lacking, a part of the event may stand behind what stood there.
+fn push_event(event: &U2Event, out: &mut Vec<u8>) -> Result<(), AllocError>
+    requires { AreOfOneVersion event.now.src event.now.dst }
+    ensures appended { OnOk result
+        (out.new.items ≡ out.old.items ++ unified2_text (U2.Event event.now)) }
+    ensures kept { OnErr result (take (length out.old.items) out.new.items ≡ out.old.items) }
+{
+    out.extend_from_slice(&event_head(event))?;
+    push_address(event.src, out)?;
+    push_address(event.dst, out)?;
+    out.extend_from_slice(&event_tail(event))?;
+    Ok(())
+}
+
+/// What stands before the addresses of an event: its kind, its length, and its numbers of four bytes.
+fn event_head(event: &U2Event) -> [u8; EVENT_HEAD]
+    ensures { result ≡ numbers 4
+        (event_kind event.now.src ∷ event_size event.now.src ∷ event_words event.now) }
+{
+    let (kind, len) = match event.src {
+        Addr::V4(_) => (EVENT, EVENT_LEN as u32),
+        Addr::V6(_) => (EVENT_IP6, EVENT_IP6_LEN as u32),
+    };
+    let mut head = [0; EVENT_HEAD];
+    BigEndian::write_u32_into(
+        &[
+            kind,
+            len,
+            event.sensor,
+            event.id,
+            event.second,
+            event.micro,
+            event.sid,
+            event.gid,
+            event.rev,
+            event.class,
+            event.priority,
+        ],
+        &mut head,
+    );
+    head
+}
+
+/// What stands behind the addresses of an event: its ports, and its numbers of one byte.
+fn event_tail(event: &U2Event) -> [u8; 8]
+    ensures { result ≡ numbers 2 (event_ports event.now) ++ event_octets event.now }
+{
+    let [sport_high, sport_low] = event.sport.to_be_bytes();
+    let [dport_high, dport_low] = event.dport.to_be_bytes();
+    [
+        sport_high,
+        sport_low,
+        dport_high,
+        dport_low,
+        event.protocol,
+        event.impact_flag,
+        event.impact,
+        event.blocked,
+    ]
+}
+
+fn push_address(address: Addr, out: &mut Vec<u8>) -> Result<(), AllocError>
+    ensures appended { OnOk result (out.new.items ≡ out.old.items ++ address_bytes address) }
+    ensures unchanged { OnErr result (out.new.items ≡ out.old.items) }
+{
+    match address {
+        Addr::V4(address) => out.extend_from_slice(&address.to_be_bytes()),
+        Addr::V6(address) => out.extend_from_slice(&address.to_be_bytes()),
+    }
+}
+
+// Where memory is lacking, a part of the packet may stand behind what stood there.
+fn push_packet(packet: &U2Packet, out: &mut Vec<u8>) -> Result<(), AllocError>
+    requires { 28 + length packet.now.bytes ≤ most_body_bytes }
+    ensures appended { OnOk result
+        (out.new.items ≡ out.old.items ++ unified2_text (U2.Packet packet.now)) }
+    ensures kept { OnErr result (take (length out.old.items) out.new.items ≡ out.old.items) }
+{
+    let bytes = packet.bytes.bytes();
+    let count = bytes.len() as u32;
+    let mut head = [0; PACKET_HEAD];
+    BigEndian::write_u32_into(
+        &[
+            PACKET,
+            PACKET_NUMBERS as u32 + count,
+            packet.sensor,
+            packet.id,
+            packet.event_second,
+            packet.second,
+            packet.micro,
+            packet.link,
+            count,
+        ],
+        &mut head,
+    );
+    out.extend_from_slice(&head)?;
+    out.extend_from_slice(bytes)?;
+    Ok(())
+}
+
+// Where memory is lacking, a part of the record may stand behind what stood there.
+fn push_other(kind: u32, body: &[u8], out: &mut Vec<u8>) -> Result<(), AllocError>
+    requires { length body.now ≤ most_body_bytes }
+    ensures appended { OnOk result (out.new.items ≡ out.old.items ++ frame_text kind body.now) }
+    ensures kept { OnErr result (take (length out.old.items) out.new.items ≡ out.old.items) }
+{
+    let mut head = [0; HEADER];
+    BigEndian::write_u32_into(&[kind, body.len() as u32], &mut head);
+    out.extend_from_slice(&head)?;
+    out.extend_from_slice(body)?;
+    Ok(())
+}
