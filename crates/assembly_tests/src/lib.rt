@@ -4,3 +4,5 @@
 
 #[cfg(test)]
 mod overlaps;
+#[cfg(test)]
+mod refusals;

@@ -2,7 +2,7 @@
 //! rows are text, so that another one costs nothing to prove.
 
 ghost use Rattle.std.specs.Prelude.{◌≡◌, ◌<◌, IfOk, length};
-ghost use Rattle.rule_parser.specs.Sound.{IsTriable};
+ghost use Rattle.rule_types.specs.Sound.{IsTriable};
 
 use crate::rows::{Call, check_lines};
 use conf_parser::Classes;

@@ -113,9 +113,12 @@ preprocessor stream5_tcp: timeout, bind_to 10.0@address
 preprocessor stream5_tcp: ports client, bind_to $X@variable
 preprocessor stream5_tcp: ports client@value
 preprocessor stream5_tcp: max_queued_bytes 0, max_queued_segs 1@value
+preprocessor stream5_tcp: ignore_any_rules x@fine
 preprocessor stream5_tcp && preprocessor stream5_tcp: timeout 1@twice
 preprocessor stream5_udp: timeout 180, ignore_any_rules && preprocessor stream5_udp@twice
 preprocessor stream5_udp && preprocessor stream5_udp: timeout 1@twice
+preprocessor stream5_udp: ignore_any_rules, timeout 1@fine
+preprocessor stream5_udp: ignore_any_rules x@value
 preprocessor stream5_udp: timeout 86401@value
 preprocessor stream5_udp: policy bsd@value
 preprocessor stream5_udp timeout 1@value
@@ -145,7 +148,7 @@ fn including_files(alloc: Global) -> Result<MemHost, Fail> {
 
 /// The kind of the first line that is refused, or `fine`; the lines stand in a file 16 includes deep.
 #[derive(Drop)]
-struct Lines;
+pub struct Lines;
 
 impl Call for Lines {
     fn answer(&self, alloc: Global, given: &str) -> Result<String, Fail> {

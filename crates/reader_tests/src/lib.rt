@@ -14,9 +14,13 @@ mod crossing;
 #[cfg(test)]
 mod hosts;
 #[cfg(test)]
+mod limits;
+#[cfg(test)]
 mod lists;
 #[cfg(test)]
 mod options;
+#[cfg(test)]
+mod repeated;
 #[cfg(test)]
 mod rows;
 #[cfg(test)]

@@ -10,7 +10,7 @@ use std::alloc::Global;
 use std::test::Fail;
 
 /// Options under a configuration with two classes.
-fn with_classes(alloc: Global) -> Result<Options, Fail> {
+pub fn with_classes(alloc: Global) -> Result<Options, Fail> {
     let mut host = MemHost::new(alloc);
     host.put(
         "r",
@@ -23,7 +23,7 @@ fn with_classes(alloc: Global) -> Result<Options, Fail> {
 
 /// The kind of the fault of a rule with these options and a `sid` behind them, or `read`.
 #[derive(Drop)]
-struct Options {
+pub struct Options {
     loaded: Loaded,
 }
 
@@ -153,6 +153,9 @@ priority:1; gid:2; rev:3; msg:"t";@read
 flow:established; dsize:1; sameip;@read
 content:"|7c|\|\:";@read
 pcre:"/a/b/";@read
+pcre:"/a\/";@read@a lone backslash in front of the last slash
+pcre:"/a\/i";@read@the same, with a flag
+pcre:"/\/";@read@a lone backslash and nothing else
 msg:"";@read
 rev:4294967295;@read
 reference:;@read
@@ -379,7 +382,6 @@ pcre:"/a/r";@OptionValue
 pcre:"/a/zU";@OptionValue
 pcre:"/é/";@OptionValue@an expression that is not ASCII
 pcre:"/é/U";@OptionValue@the same, before its flags
-pcre:"/a\/U";@OptionValue@an expression that ends in a backslash, before its flags
 pcre:"/a/"x;@OptionValue@a byte behind the closing quote
 byte_test:11,=,1,0,string;@OptionValue
 byte_test:0,^,1,0;@OptionValue
@@ -444,6 +446,7 @@ byte_test:1,=,1,0,dce;@OutsideProfile
 byte_jump:1,0,dce;@OutsideProfile
 pcre:"/a/U";@OutsideProfile
 pcre:"/a/iP"x;@OutsideProfile
+pcre:"/a\/U";@OutsideProfile@a flag behind an expression that ends in a lone backslash
 stream_reassemble:disable,both,fastpath;@OutsideProfile
 stream_reassemble:enable,fastpath;@OutsideProfile
 stream_reassemble:disable,both,noalert,fastpath;@OutsideProfile
@@ -485,6 +488,8 @@ pcre:"/a/Uz";@OutsideProfile"#;
 const UNKNOWN: &str = r#";@OptionSyntax
 :x;@OptionSyntax
 ttl:5; :;@OptionSyntax
+msg:"a\";@OptionSyntax@a backslash takes the closing quote along
+content:"a\";@OptionSyntax@the same in a content
 Ttl:5;@UnknownOption
 flow_bits:set,a;@UnknownOption
 http;@UnknownOption
@@ -556,42 +561,4 @@ fn options_are_read_or_refused(rt: HostRuntime) -> Result<(), Fail> {
         check_lines(&rt, rt.alloc(), &options, rows)?;
     }
     Ok(())
-}
-
-/// How often a text stands, what stands in front, the text, and what stands behind: as often as it may, and once more.
-const LIMITS: &str = r#"64~~ttl:1;~@read
-65~~ttl:1;~@Limit
-63~content:"a";~sameip;~@read
-64~content:"a";~sameip;~@Limit
-64~msg:"t"; reference; flowbits:noalert;~id:1;~@read
-65~msg:"t"; reference; flowbits:noalert;~id:1;~@Limit
-2048~content:"~|61|~";@read
-2049~content:"~|61|~";@Limit
-1024~msg:"~\a~";@read
-1025~msg:"~\a~";@Limit
-4096~pcre:"/~a~/";@read
-4097~pcre:"/~a~/";@Limit
-"#;
-
-/// The same of options of which one text is repeated.
-#[derive(Drop)]
-struct Repeated {
-    options: Options,
-}
-
-impl Call for Repeated {
-    fn answer(&self, alloc: Global, given: &str) -> Result<String, Fail> {
-        let (count, texts) = given.split_once('~').ok_or("a count")?;
-        let (front, texts) = texts.split_once('~').ok_or("a text")?;
-        let (text, behind) = texts.split_once('~').ok_or("a text")?;
-        let repeated = text.repeat(alloc, count.parse::<usize>()?)?;
-        let options = format!(in alloc; "{front}{repeated}{behind}")?;
-        self.options.answer(alloc, options.as_str())
-    }
-}
-
-#[test]
-fn limits_are_kept(rt: HostRuntime) -> Result<(), Fail> {
-    let options = with_classes(rt.alloc())?;
-    check_lines(&rt, rt.alloc(), &Repeated { options }, LIMITS)
 }

@@ -17,21 +17,67 @@ pub(crate) fn apply(alloc: Global, row: &mut Row, line: &str) -> Result<bool, Al
     if line.is_empty() || line.starts_with('#') {
         return Ok(true);
     }
-    let Some((times, repeated)) = repetition(line) else {
-        return apply_once(alloc, row, line);
-    };
-    for _ in 0..times {
-        if !apply_once(alloc, row, repeated)? {
-            return Ok(false);
-        }
+    if let Some((times, repeated)) = repetition(line) {
+        return apply_repeated(alloc, row, times, repeated);
     }
-    Ok(true)
+    match numbered_line(line) {
+        Some(numbered) => apply_numbered(alloc, row, numbered),
+        None => apply_once(alloc, row, line),
+    }
 }
 
 /// The number and the line of `repeat N LINE`.
 fn repetition(line: &str) -> Option<(u32, &str)> {
     let (times, repeated) = line.strip_prefix("repeat ")?.split_once(' ')?;
     Some((times.parse::<u32>().ok()?, repeated))
+}
+
+fn apply_repeated(
+    alloc: Global,
+    row: &mut Row,
+    times: u32,
+    line: &str,
+) -> Result<bool, AllocError> {
+    for _ in 0..times {
+        if !apply_once(alloc, row, line)? {
+            return Ok(false);
+        }
+    }
+    Ok(true)
+}
+
+/// A line that stands several times, each time with its own number in place of `#`.
+#[derive(Clone, Copy)]
+struct NumberedLine<'a> {
+    times: u32,
+    first: u32,
+    line: &'a str,
+}
+
+/// What `numbered N FIRST LINE` says.
+fn numbered_line(line: &str) -> Option<NumberedLine<'_>> {
+    let (times, rest) = line.strip_prefix("numbered ")?.split_once(' ')?;
+    let (first, line) = rest.split_once(' ')?;
+    Some(NumberedLine {
+        times: times.parse::<u32>().ok()?,
+        first: first.parse::<u32>().ok()?,
+        line,
+    })
+}
+
+fn apply_numbered(
+    alloc: Global,
+    row: &mut Row,
+    numbered: NumberedLine<'_>,
+) -> Result<bool, AllocError> {
+    for turn in 0..numbered.times {
+        let number = format!(in alloc; "{}", numbered.first.saturating_add(turn))?;
+        let line = numbered.line.replace(alloc, "#", number.as_str())?;
+        if !apply_once(alloc, row, line.as_str())? {
+            return Ok(false);
+        }
+    }
+    Ok(true)
 }
 
 fn apply_once(alloc: Global, row: &mut Row, line: &str) -> Result<bool, AllocError> {

@@ -1,0 +1,263 @@
+//! What a value is behind a refused allocation: as its contract says, and the call then succeeds when it is made
+//! again. With ample memory nothing is refused, and then the calls are compared alone. `rt try --test --fail-alloc N`
+//! refuses the Nth allocation, and tools/faults.py each of the built test in turn.
+ghost use Rattle.std.specs.Prelude.{◌≤◌, ◌+◌, ◌^◌, OnOk};
+ghost use Rattle.stream5_reassembly.specs.Segments.{passed};
+
+use edge_io::{Addr, Moment, NoMemory, Preference};
+use frag3_core::{Datagram, Frag3, FragRules, Taken};
+use overlap_core::{Bounds, Queue, Run};
+use packet_decode::IpHead;
+use piece_list::PieceList;
+use std::alloc::Global;
+use std::process::Abort;
+use std::test::Fail;
+use stream5_reassembly::{Added, Direction, Limits};
+
+/// Four fragments of one datagram, or segments of one stream: the place of the first byte, and the bytes. The last
+/// three begin at one place, so under bsd none of them takes the stead of an earlier one, and under linux each does.
+const PARTS: [(u16, &str); 4] = [
+    (0, "WWWWWWWW"),
+    (8, "XXXXXXXX"),
+    (8, "YYYYYYYYYYYYYYYYYYYYYYYY"),
+    (8, "ZZZZZZZZZZZZZZZZZZZZZZZZ"),
+];
+
+/// The preferences with the bytes that they leave.
+const LEFT: [(Preference, &[u8; 32]); 2] = [
+    (Preference::Bsd, b"WWWWWWWWXXXXXXXXYYYYYYYYYYYYYYYY"),
+    (Preference::Linux, b"WWWWWWWWZZZZZZZZZZZZZZZZZZZZZZZZ"),
+];
+
+/// The call's value. Where it lacks memory, what it must leave is asserted, and it is made once more.
+macro_rules! again {
+    ($rt:expr, $call:expr, $left:expr) => {
+        match $call {
+            Ok(value) => value,
+            Err(_) => {
+                assert!($rt; $left);
+                $call?
+            }
+        }
+    };
+}
+
+/// Compares runs with what is left, cut at place 12, and with the places of their first bytes.
+fn compare_runs(rt: &impl Abort, runs: &Vec<Run>, left: &[u8; 32], second: u64) {
+    assert_eq!(rt; runs.len(), 2);
+    for (run, (start, bytes)) in runs.iter().zip([(0, &left[..12]), (second, &left[12..])]) {
+        assert!(rt; run.start == start && run.bytes.bytes() == bytes);
+    }
+}
+
+/// What can be seen of a queue without memory: its floor, its greatest end, its bytes below place 40, and of its
+/// pieces the place, the number of bytes and the whole bounds.
+#[derive(Clone, Copy, PartialEq, Eq)]
+struct View {
+    floor: u64,
+    end: u64,
+    bytes: [Option<u8>; 40],
+    pieces: [Option<(u64, usize, Bounds)>; 8],
+}
+
+fn view_of(queue: &Queue) -> View {
+    let mut bytes = [None; 40];
+    for (place, byte) in bytes.iter_mut().enumerate() {
+        *byte = queue.byte(place as u64);
+    }
+    let mut pieces = [None; 8];
+    for (shown, piece) in pieces.iter_mut().zip(queue.pieces().iter()) {
+        *shown = Some((piece.start(), piece.bytes().len(), piece.whole()));
+    }
+    View {
+        floor: queue.floor(),
+        end: queue.covered_end(),
+        bytes,
+        pieces,
+    }
+}
+
+fn insert(rt: &impl Abort, queue: &mut Queue, start: u16, bytes: &str) -> Result<(), NoMemory> {
+    let (start, bytes) = (u64::from(start), bytes.as_bytes());
+    assert!(rt; !bytes.is_empty() && bytes.len() < 100);
+    let before = view_of(queue);
+    again!(rt, queue.insert(start, bytes), view_of(queue) == before);
+    Ok(())
+}
+
+fn take_runs(
+    rt: &impl Abort,
+    alloc: Global,
+    queue: &mut Queue,
+    below: u64,
+    runs: &mut Vec<Run>,
+) -> Result<(), NoMemory> {
+    let (before, count) = (view_of(queue), runs.len());
+    assert!(rt; queue.floor() <= below);
+    again!(
+        rt,
+        queue.take_runs(alloc, below, runs),
+        view_of(queue) == before && runs.len() == count
+    );
+    Ok(())
+}
+
+/// A queue's segments are put in one after another, and its runs taken in two steps.
+fn compare_queue(
+    rt: &impl Abort,
+    alloc: Global,
+    preference: Preference,
+    left: &[u8; 32],
+) -> Result<(), NoMemory> {
+    let mut queue = Queue::new(alloc, preference, 0);
+    for (start, bytes) in PARTS.iter() {
+        insert(rt, &mut queue, *start, bytes)?;
+    }
+    let mut runs = Vec::new(alloc);
+    take_runs(rt, alloc, &mut queue, 12, &mut runs)?;
+    take_runs(rt, alloc, &mut queue, 32, &mut runs)?;
+    compare_runs(rt, &runs, left, 12);
+    Ok(())
+}
+
+/// Makes nodes spare. What the list holds, and its place, stay.
+fn reserve(rt: &impl Abort, list: &mut PieceList<u8>, nodes: usize) -> Result<(), NoMemory>
+    ensures { OnOk result (nodes ≤ list.new.spare) }
+{
+    let (count, here) = (list.iter().count(), list.peek().copied());
+    again!(
+        rt,
+        list.reserve(nodes),
+        list.iter().count() == count && list.peek().copied() == here
+    );
+    Ok(())
+}
+
+fn compare_list(rt: &impl Abort, alloc: Global) -> Result<(), NoMemory> {
+    let mut list = PieceList::new(alloc);
+    reserve(rt, &mut list, 2)?;
+    list.push_back(1);
+    list.push_back(3);
+    reserve(rt, &mut list, 1)?;
+    list.insert_here(2);
+    assert!(rt; list.iter().copied().eq([1, 2, 3]));
+    Ok(())
+}
+
+/// A segment is added: the answer is that of the call that had memory.
+fn add(rt: &impl Abort, direction: &mut Direction, start: u16, bytes: &str) -> Result<(), NoMemory>
+    requires { passed direction.old ≤ 2 ^ 62 }
+    ensures { passed direction.new ≤ passed direction.old }
+{
+    let (seq, bytes) = (u32::from(start), bytes.as_bytes());
+    assert!(rt; direction.started() && !bytes.is_empty());
+    let added = again!(rt, direction.add(seq, bytes), direction.started());
+    assert_eq!(rt; added, Added::Queued);
+    Ok(())
+}
+
+/// What is acknowledged is given: the answer is that of the call that had memory.
+fn ack(
+    rt: &impl Abort,
+    alloc: Global,
+    direction: &mut Direction,
+    acked: u32,
+    runs: &mut Vec<Run>,
+) -> Result<(), NoMemory>
+    requires { passed direction.old ≤ 2 ^ 62 }
+    ensures { passed direction.new ≤ passed direction.old + 2 ^ 31 }
+{
+    let count = runs.len();
+    let flushed = again!(
+        rt,
+        direction.ack(alloc, acked, runs),
+        direction.started() && runs.len() == count
+    );
+    assert!(rt; flushed);
+    Ok(())
+}
+
+/// A direction's segments are added, and given in two steps. The second step's place counts from the first.
+fn compare_direction(
+    rt: &impl Abort,
+    alloc: Global,
+    preference: Preference,
+    left: &[u8; 32],
+) -> Result<(), NoMemory> {
+    let limits = Limits {
+        bytes: 1024,
+        segs: 4,
+        flush: 4,
+    };
+    let mut direction = Direction::new(alloc, limits, preference);
+    direction.start(0);
+    let [(at, w), (x_at, x), (y_at, y), (z_at, z)] = PARTS;
+    add(rt, &mut direction, at, w)?;
+    add(rt, &mut direction, x_at, x)?;
+    add(rt, &mut direction, y_at, y)?;
+    add(rt, &mut direction, z_at, z)?;
+    let mut runs = Vec::new(alloc);
+    ack(rt, alloc, &mut direction, 12, &mut runs)?;
+    again!(
+        rt,
+        direction.flush_all(alloc, &mut runs),
+        direction.started() && runs.len() == 1
+    );
+    compare_runs(rt, &runs, left, 0);
+    Ok(())
+}
+
+/// The header of a fragment from 10.0.0.1 to 10.0.0.2 with this place in bytes.
+fn head(place: u16, more: bool) -> IpHead {
+    IpHead {
+        src: Addr::V4(0x0a00_0001),
+        dst: Addr::V4(0x0a00_0002),
+        protocol: 253,
+        ttl: 64,
+        tos: 0,
+        id: 7,
+        reserved: false,
+        dont: false,
+        more,
+        offset: place / 8,
+    }
+}
+
+/// A datagram's fragments are taken: three are held, and the last makes it whole.
+fn compare_datagram(
+    rt: &impl Abort,
+    alloc: Global,
+    preference: Preference,
+    left: &[u8; 32],
+) -> Result<(), NoMemory> {
+    let rules = FragRules {
+        preference,
+        timeout: 60,
+        min_ttl: 1,
+    };
+    let moment = Moment { nanos: 0 };
+    let mut frag3 = Frag3::new(alloc, 9);
+    for (number, (place, part)) in PARTS.iter().enumerate() {
+        let (ip, part) = (head(*place, number < 3), part.as_bytes());
+        let taken = again!(rt, frag3.accept(alloc, &ip, part, moment, rules), true);
+        match &taken {
+            Taken::Held => assert!(rt; number < 3),
+            Taken::Whole(Datagram { ip: _, bytes }) => assert!(rt;
+                bytes.bytes() == left.as_slice()
+            ),
+            Taken::Ignored(_) => assert!(rt; false),
+        }
+    }
+    Ok(())
+}
+
+#[test]
+fn values_stay_where_memory_is_refused(rt: HostRuntime) -> Result<(), Fail> {
+    compare_list(&rt, rt.alloc())?;
+    for (preference, left) in LEFT.iter() {
+        compare_queue(&rt, rt.alloc(), *preference, left)?;
+        compare_direction(&rt, rt.alloc(), *preference, left)?;
+        compare_datagram(&rt, rt.alloc(), *preference, left)?;
+    }
+    Ok(())
+}
