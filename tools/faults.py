@@ -1,0 +1,415 @@
+#!/usr/bin/env python3
+"""Runs the detector with one fault at a time, and tells the runs that end otherwise than the manual says.
+
+    tools/faults.py [--program PATH] [--cases WORD,..] [--faults WORD,..] [--lanes N,..] [--stacks] > table.md
+    tools/faults.py --test PATH NAME
+
+A case is a command with its files, and with the records at which it writes lines, worked out by hand. It is run without
+a fault, and then with the fault at the call 1, 2, 3 and so on, one number a run, until a run makes fewer such calls:
+
+    memory     the Nth call for memory is refused (malloc, calloc, realloc and their kin)
+               memory-on: so is each later one
+    files      open, state: the Nth file can't be opened, or not be asked whether it is a folder
+    reads      read: the Nth call for input fails. read-interrupted: it is interrupted by a signal
+               read-byte, read-byte-on: it moves one byte, it and each later one
+    writes     the same of output
+    threads    thread, thread-on: the Nth thread can't be started, it and each later one
+    system     a full device, a full file, closed streams, a reader of the lines that went away, a limit of memory
+The calls are those that the program makes of the C library: tools/refuse.c stands before it, compiled by `cc`.
+
+Each run ends within 20 seconds and by no signal. Where a fault lets it go on, all is as without it; else it ends so:
+
+    memory, threads     status 5, a beginning of the lines, the first warnings, `ERROR: no memory`
+    files, read         of a file of the command: status 3, the lines of the whole records read before, the first
+                        warnings, `ERROR: cannot read NAME`
+    write               of lines: status 4, what was written before, the warnings, `ERROR: cannot write`
+                        of messages: the status and the lines of a run without a fault, a beginning of the messages
+The table is in Markdown: a cell says how many numbers ended with which status. Wrong ends follow, one a line, and with
+--stacks the calls that the faulty one stood in (by gdb). The exit status is 1 where there are some. --test runs a test
+function of the file that `rt test` leaves in a crate's `out`, each call for memory refused in turn: each run passes.
+"""
+import argparse, collections, os, resource, signal, struct, subprocess, sys, tempfile
+
+TOP = os.path.dirname(os.path.dirname(os.path.abspath(__file__)))
+SECONDS = 20
+FAULTS = {
+    "memory": ["memory", "memory-on"],
+    "files": ["open", "state"],
+    "reads": ["read", "read-interrupted", "read-byte", "read-byte-on"],
+    "writes": ["write", "write-interrupted", "write-byte", "write-byte-on"],
+    "threads": ["thread", "thread-on"],
+    "system": ["system"],
+}
+SEEN = struct.Struct("<5Q24s256s")  # struct seen of refuse.c
+Seen = collections.namedtuple("Seen", "calls met size descriptor moved function file")
+End = collections.namedtuple("End", "status alerts errors")
+
+# Packets: C is 10.0.0.1, S is 10.0.0.2; moments are whole seconds.
+C, S = bytes([10, 0, 0, 1]), bytes([10, 0, 0, 2])
+C6, S6 = bytes.fromhex("20010db8000000000000000000000001"), bytes.fromhex("20010db8000000000000000000000002")
+FLAGS = {"F": 1, "S": 2, "R": 4, "A": 16}
+
+def summed(data):  # RFC 1071: a sum in ones' complement is a remainder by 65535
+    return (-int.from_bytes(data + b"\0" * (len(data) % 2), "big") % 65535).to_bytes(2, "big")
+
+def ethernet(kind, packet):
+    return bytes.fromhex("020000000002020000000001") + struct.pack(">H", kind) + packet
+
+def ipv4(source, target, protocol, body, ident=1, fragment=0):
+    head = struct.pack(">BBHHHBBH", 69, 0, 20 + len(body), ident, fragment, 64, protocol, 0) + source + target
+    return ethernet(0x0800, head[:10] + summed(head) + head[12:] + body)
+
+def ipv6(source, target, following, body):
+    return ethernet(0x86DD, struct.pack(">IHBB", 6 << 28, len(body), following, 64) + source + target + body)
+
+def datagram(source, target, ports, data):  # RFC 768, and RFC 8200 section 8.1: either sum has these numbers
+    body = struct.pack(">HHHH", *ports, 8 + len(data), 0) + data
+    return body[:6] + summed(source + target + struct.pack(">HH", 17, len(body)) + body) + body[8:]
+
+def U(data, source=C, ports=(1000, 2000)):
+    return ipv4(source, S, 17, datagram(source, S, ports, data))
+
+def T(way, flags, seq, ack, data=b"", client=1000):
+    source, target, ports = (C, S, (client, 80)) if way == ">" else (S, C, (80, client))
+    head = struct.pack(">HHIIBBHHH", *ports, seq, ack, 80, sum(FLAGS[it] for it in flags), 65535, 0, 0) + data
+    sum_of = summed(source + target + struct.pack(">HH", 6, len(head)) + head)
+    return ipv4(source, target, 6, head[:16] + sum_of + head[18:])
+
+def F(offset, more, data):
+    return ipv4(C, S, 253, data, 7, more << 13 | offset // 8)
+
+def pcap(packets, moments=None):
+    records = [struct.pack("<IIII", moment, 0, len(packet), len(packet)) + packet
+               for moment, packet in zip(moments or range(len(packets)), packets)]
+    return struct.pack("<IHHIIII", 0xA1B2C3D4, 2, 4, 0, 0, 65535, 1) + b"".join(records)
+
+HANDSHAKE = [T(">", "S", 0, 0), T("<", "SA", 100, 1), T(">", "A", 1, 101)]
+STREAM = b"preprocessor stream5_global: track_tcp yes\npreprocessor stream5_tcp: policy first, ports both all\n"
+
+def rules(*options, head="alert udp any any -> any any"):
+    return b"".join(f'{head} (msg:"t"; {it})\n'.encode() for it in options)
+
+FRAGMENTED = {
+    "p": pcap([F(0, 1, b"C" * 8), F(8, 1, b"A" * 16), F(8, 0, b"B" * 24)]),
+    "r": b"preprocessor frag3_engine: policy first\n" + rules(
+        'content:"AAAAAAAAAAAAAAAABBBBBBBB"; flow:only_frag; sid:1;',
+        'content:"BBBBBBBBBBBBBBBBBBBBBBBB"; flow:only_frag; sid:2;', head="alert ip any any -> any any")}
+INCLUDE = {"r": STREAM + b"include a\n", "p": pcap([*HANDSHAKE, T(">", "A", 1, 101, b"evil")]),
+           "a": rules('content:"evil"; flow:only_stream; pcre:"/vil/"; sid:1;', head="alert tcp any any -> any any")}
+LONG6 = datagram(C6, S6, (1000, 2000), b"x" * 8 + b"abc")
+SITE = {"snort.conf": rb"""ipvar HOME_NET 10.0.0.0/8
+ipvar EXTERNAL_NET any
+portvar HTTP_PORTS [80,8080]
+var RULE_PATH rules
+config disable_decode_alerts
+config checksum_mode: all
+config detection: search-method ac-split search-optimize max-pattern-len 20
+config event_queue: max_queue 8 log 5 order_events content_length
+preprocessor normalize_ip4
+preprocessor frag3_global: max_frags 65536
+preprocessor frag3_engine: policy windows detect_anomalies overlap_limit 10 min_fragment_length 100 timeout 180
+preprocessor stream5_global: track_tcp yes, \
+   track_udp yes, track_icmp no, max_tcp 262144, max_udp 131072, \
+   max_active_responses 2, min_response_seconds 5
+preprocessor stream5_tcp: policy windows, detect_anomalies, require_3whs 180, \
+   overlap_limit 10, small_segments 3 bytes 150, timeout 180, \
+   ports client 21 25, ports both 80 8080
+preprocessor stream5_udp: timeout 180
+output unified2: filename merged.log, limit 128
+include classification.config
+include $RULE_PATH/local.rules
+""", "classification.config": b"config classification: web-application-attack,Web Application Attack,1\n",
+    "rules/local.rules": b'alert tcp $EXTERNAL_NET any -> $HOME_NET $HTTP_PORTS (msg:"LOCAL attack word"; flow:'
+    b'to_server,established; content:"attack"; fast_pattern; nocase; classtype:web-application-attack; sid:1000001; '
+    b'rev:2;)\n'}
+
+# A case: its name, its words, its files, the record from 0 on at which each line comes (None: not worked out), how many
+# lines come at the capture's end, the status, and whether it is run with several lanes.
+Case = collections.namedtuple("Case", "name words files lines closing status spread", defaults=([], 0, 0, True))
+CASES = [
+    Case("fragments", "-c r -r p", FRAGMENTED, [2]),
+    Case("hosts", "-c r -r p --host-table h", {**FRAGMENTED, "h": b"10.0.0.2 last linux\n"}, [2]),
+    Case("stream", "-c r -r p --flush-point 4", {
+        "r": STREAM + rules('content:"attk"; sid:1;', head="alert tcp any any -> any 80"),
+        "p": pcap([T(">", "S", 4294967293, 0), T("<", "SA", 100, 4294967294), T(">", "A", 4294967294, 101),
+                   T(">", "A", 4294967294, 101, b"at"), T(">", "A", 0, 101, b"tk"), T("<", "A", 101, 2)])}, [5]),
+    Case("overlaps", "-c r -r p --flush-point 4", {
+        "r": STREAM.replace(b"first", b"last") + rules('content:"ZWgh"; flow:only_stream; sid:1;',
+             'content:"efgh"; flow:only_stream; sid:2;', head="alert tcp any any -> any any"),
+        "p": pcap([*HANDSHAKE, T(">", "A", 1, 101, b"abcd"), T("<", "A", 101, 5), T(">", "A", 3, 101, b"XYZW"),
+                   T(">", "A", 5, 101, b"efgh"), T("<", "A", 101, 9)])}, [7]),
+    Case("full-table", "-c r -r p", {
+        "r": STREAM.replace(b"yes", b"yes, max_tcp 1") + rules(
+            'content:"evil"; flow:only_stream; sid:1;', "flags:S; sid:2;", head="alert tcp any any -> any any"),
+        "p": pcap([*HANDSHAKE, T(">", "A", 1, 101, b"evil"), T(">", "S", 0, 0, client=1001)])}, [0, 4, 4]),
+    Case("site", "-c snort.conf --generate 20", SITE, None),
+    Case("site-test", "-T -c snort.conf", SITE, spread=False),
+    Case("include", "-c r -r p", INCLUDE, closing=1),
+    Case("truncated", "-c r -r p", {**INCLUDE, "p": INCLUDE["p"] + pcap(HANDSHAKE)[24:44]}, closing=1, status=2),
+    Case("ipv6", "-c r -r p", {
+        "r": b"preprocessor frag3_engine: policy linux\n" + rules('content:"abc"; sid:1;'),
+        "p": pcap([ipv6(C6, S6, 0, bytes([17, 0, 1, 4, 0, 0, 0, 0]) + datagram(C6, S6, (1000, 2000), b"abc")),
+                   ipv6(C6, S6, 44, struct.pack(">BBHI", 17, 0, 0 | 1, 7) + LONG6[:16]),
+                   ipv6(C6, S6, 44, struct.pack(">BBHI", 17, 0, 16, 7) + LONG6[16:])])}, [0, 2]),
+    Case("pcre", "-c r -r p", {
+        "r": rules('pcre:"/AB/i"; content:"c"; distance:0; sid:1;', 'pcre:"/^x[a-z]{2,4}c$/"; sid:2;'),
+        "p": pcap([U(b"xabc"), U(b"xyz")])}, [0, 0]),
+    Case("bits", "-c r -r p", {"r": b"preprocessor stream5_udp: timeout 30\n" + rules(
+        'content:"a"; flowbits:set,x; flowbits:noalert; sid:1;', 'content:"b"; flowbits:isset,x; sid:2;'),
+        "p": pcap([U(b"ab")])}, [0]),
+    Case("filters", "-c r -r p", {
+        "r": b"event_filter gen_id 1, sig_id 1, type limit, track by_src, count 1, seconds 60\n"
+        b"suppress gen_id 1, sig_id 3, track by_src, ip 10.0.0.1\n" + rules('content:"a"; sid:1;',
+        'content:"a"; detection_filter:track by_src, count 2, seconds 60; sid:2;', 'content:"a"; sid:3;'),
+        "p": pcap([U(b"a")] * 4, [0, 1, 59, 60])}, [0, 2, 3]),
+    Case("counts", "-c r -r p --stats", {"r": rules('content:"xABC"; nocase; sid:1;', 'content:"bc"; nocase; sid:2;'),
+         "p": pcap([U(b"zabc"), U(b"XaBc")])}, [0, 1, 1]),
+    Case("skipped", "-c r -r p --skip-refused", {
+        "r": rules('content:"x"; http_uri; sid:1;', 'pcre:"/a(?=b)/"; sid:2;', 'content:"abc"; sid:3;'),
+        "p": pcap([U(b"abc")])}, [0]),
+    Case("refused", "-c r -r p", {"r": rules('pcre:"/a(?=b)/"; sid:2;')}, status=1, spread=False),
+    Case("batches", "-c r -r p", {
+        "r": b"preprocessor stream5_udp: timeout 30\n" + rules('content:"abc"; sid:1;'),
+        "p": pcap([U(b"abc" + b"x" * 247, ports=(1000 + it % 16, 2000)) for it in range(300)])}, range(300)),
+    Case("words", "-c r", {}, status=1, spread=False),
+    Case("version", "-V", {}, spread=False),
+]
+
+class Program:
+    def __init__(self, path, work):
+        self.path, self.work = os.path.abspath(path), work
+        self.library, self.seen = f"{work}/refuse.so", f"{work}/seen"
+        subprocess.run(["cc", "-O1", "-shared", "-fPIC", "-o", self.library, f"{TOP}/tools/refuse.c"], check=True)
+
+    def under(self, fault, number):
+        with open(self.seen, "wb") as file:
+            file.write(bytes(SEEN.size))
+        given = {"KIND": fault, "AT": str(number), "SEEN": self.seen}
+        return {"LD_PRELOAD": self.library, **{f"REFUSE_{name}": value for name, value in given.items()}}
+
+    def end(self, folder, words, more=(), **how):
+        streams = {"stdin": subprocess.DEVNULL, "stdout": subprocess.PIPE, "stderr": subprocess.PIPE, **how}
+        env = {**os.environ, "MALLOC_PERTURB_": "165", **dict(more)}  # glibc overwrites what is given and what is freed
+        try:
+            ran = subprocess.run([self.path, *words], cwd=folder, env=env, timeout=SECONDS, **streams)
+        except subprocess.TimeoutExpired as hung:
+            return End("late", hung.stdout or b"", hung.stderr or b"")
+        return End(ran.returncode, ran.stdout or b"", ran.stderr or b"")
+
+    def faulty(self, folder, words, fault, number):
+        end = self.end(folder, words, self.under(fault, number))
+        with open(self.seen, "rb") as file:
+            *counts, function, name = SEEN.unpack(file.read())
+        function, name = (it.split(b"\0")[0].decode(errors="replace") for it in (function, name))
+        return end, Seen(*counts, function, os.path.relpath(os.path.join(folder, name), folder) if name else "")
+
+    def stack(self, folder, words, fault, number):
+        env = {**self.under(fault, number), "REFUSE_STOP": "1"}.items()
+        given = [it for name, value in env for it in ("-ex", f"set environment {name} {value}")]
+        given += ["-ex", "set startup-with-shell off", "-ex", "run", "-ex", "bt 40", "--args", self.path, *words]
+        ran = subprocess.run(["gdb", "-q", "-batch", *given], cwd=folder, stdin=subprocess.DEVNULL, capture_output=True)
+        calls = [it for it in ran.stdout.decode(errors="replace").splitlines() if it.startswith("#")]
+        return calls[1 + max((at for at, it in enumerate(calls) if "refuse.so" in it), default=-1):]
+
+def warnings(clean):
+    return [it for it in clean.errors.splitlines(True) if it.startswith(b"WARNING: ")]
+
+def is_told(errors, clean, message, least=0):
+    """Whether messages are so many of the first warnings of a run without a fault or more, and then this one."""
+    first = warnings(clean)
+    return any(errors == b"".join(first[:count]) + message for count in range(least, len(first) + 1))
+
+def lines_before(case, clean, moved):
+    """The lines of the whole records among so many bytes of the capture."""
+    capture, at, records = case.files["p"], 24, 0
+    while at + 16 <= moved and (end := at + 16 + int.from_bytes(capture[at + 8:at + 12], "little")) <= moved:
+        at, records = end, records + 1
+    return b"".join(clean.alerts.splitlines(True)[:sum(it < records for it in case.lines)])
+
+def wrong_end(case, fault, clean, end, seen):
+    """What is wrong with how a run ended, or None."""
+    if end.status == "late" or end.status < 0:
+        return "no end in time" if end.status == "late" else f"signal {signal.Signals(-end.status).name}"
+    if fault in ("memory", "memory-on", "thread", "thread-on"):
+        if end == clean:
+            return None
+        if end.status != 5:
+            return "neither status 5 nor as without a fault"
+        if not clean.alerts.startswith(end.alerts):
+            return "lines that are no beginning"
+        return None if is_told(end.errors, clean, b"ERROR: no memory\n") else "other messages"
+    if fault == "write" and seen.descriptor == 2:
+        is_right = end[:2] == clean[:2] and clean.errors.startswith(end.errors)
+        return None if is_right else "more than the messages differs"
+    if fault == "write" and seen.descriptor == 1:
+        status, alerts, message = 4, clean.alerts[:seen.moved], "cannot write"
+    elif fault in ("open", "state", "read") and seen.file in case.files:
+        status, message = 3, f"cannot read {seen.file}"
+        alerts = lines_before(case, clean, seen.moved) if fault == "read" and seen.file == "p" else b""
+    else:
+        return None if end == clean else "not as without a fault"
+    if end.status != status:
+        return f"not status {status}"
+    if end.alerts != alerts:
+        return f"{len(end.alerts)} bytes of lines, not {len(alerts)}"
+    all_warnings = len(warnings(clean)) if seen.file == "p" or status == 4 else 0  # the capture comes last
+    return None if is_told(end.errors, clean, f"ERROR: {message}\n".encode(), all_warnings) else "other messages"
+
+class Result:
+    """How runs ended: of each its number and status, and what is wrong with some."""
+    def __init__(self):
+        self.ends, self.wrong = [], []
+
+    def add(self, number, end, what, stack=()):
+        self.ends.append(end.status)
+        if what:
+            told = f"{number}: {what}; status {end.status}, errors {end.errors[-300:]!r}"
+            self.wrong.append("\n      ".join([told, *stack]))
+
+def counted(ends):
+    counts = sorted(collections.Counter(map(str, ends)).items())
+    return ", ".join(f"{count} × {end}" for end, count in counts) or "none"
+
+def each_number(program, case, words, fault, clean, stacks):
+    result, folder, number = Result(), f"{program.work}/{case.name}", 1
+    while True:
+        end, seen = program.faulty(folder, words, fault, number)
+        if not seen.met:
+            if end != clean:
+                result.add(number, end, "another end without a fault")
+            return result
+        if what := wrong_end(case, fault, clean, end, seen):
+            what += f" ({seen.function}, {seen.size} bytes{', ' * bool(seen.file)}{seen.file})"
+        result.add(number, end, what, program.stack(folder, words, fault, number) if what and stacks else ())
+        number += 1
+
+def closed(*descriptors):
+    return {"preexec_fn": lambda: [os.close(it) for it in descriptors],
+            **{("stdin", "stdout", "stderr")[it]: None for it in descriptors}}
+
+def small_files():  # without its signal, which would end the process where a file is full
+    signal.signal(signal.SIGXFSZ, signal.SIG_IGN)
+    resource.setrlimit(resource.RLIMIT_FSIZE, (50, 50))
+
+def limited(space):
+    """So many times 16 KiB of heap and maps at most. The stack doesn't count: where it can't grow, a signal comes."""
+    return {"preexec_fn": lambda: resource.setrlimit(resource.RLIMIT_DATA, (space << 14, space << 14))}
+
+def least_space(program, folder):
+    """The least limit at which the program starts at all."""
+    low, high = 0, 1 << 16
+    while low + 1 < high:
+        middle = (low + high) // 2
+        try:
+            starts = program.end(folder, ["-V"], **limited(middle)).status in (0, 5)
+        except (OSError, subprocess.SubprocessError):
+            starts = False
+        low, high = (low, middle) if starts else (middle, high)
+    return high
+
+def system_faults(program, case, words, clean):
+    result, folder = Result(), f"{program.work}/{case.name}"
+    def row(name, how, wanted, lines=None):
+        end = program.end(folder, words, **how)
+        if lines:
+            lines.seek(0)
+            end = end._replace(alerts=lines.read())
+        result.add(name, end, None if end == wanted else f"lines {end.alerts[-300:]!r}, not {wanted!r}")
+    unwritten = End(4, b"", b"".join(warnings(clean)) + b"ERROR: cannot write\n") if clean.alerts else clean
+    unsaid = clean._replace(errors=b"")
+    with open("/dev/full", "wb") as full:
+        row("lines to a full device", {"stdout": full}, unwritten)
+        row("messages to a full device", {"stderr": full}, unsaid)
+        row("both to a full device", {"stdout": full, "stderr": full}, unwritten._replace(errors=b""))
+    with open(f"{program.work}/lines", "w+b") as file:
+        row("a file with room for 50 bytes of lines", {"stdout": file, "preexec_fn": small_files},
+            unwritten._replace(alerts=clean.alerts[:50]), file)
+    row("standard output closed", closed(1), unwritten)
+    row("standard error closed", closed(2), unsaid)
+    row("standard input closed", closed(0), clean)
+    row("all three closed", closed(0, 1, 2), unwritten._replace(errors=b""))
+    reader, writer = os.pipe()
+    os.close(reader)
+    row("a reader that went away", {"stdout": writer}, unwritten)
+    os.close(writer)
+    space, least, as_without = 0, least_space(program, folder), 0
+    while as_without < 32:  # sixteen steps of 16 KiB without an effect, and then of 1 MiB
+        end = program.end(folder, words, **limited(least + space))
+        what = wrong_end(case, "memory", clean, end, None)
+        result.add(f"{(least + space) << 4} KiB of memory", end, what)
+        as_without = as_without + 1 if end == clean else 0
+        space += 1 if as_without < 16 else 64
+    return result
+
+def wrong_clean(case, clean):
+    """What is wrong with a run without a fault, or None."""
+    lines = None if case.lines is None else len(case.lines) + case.closing
+    if clean.status != case.status or lines not in (None, clean.alerts.count(b"\n")):
+        return f"not status {case.status} and {lines} lines: lines {clean.alerts[-300:]!r}"
+
+def run_cases(program, given):
+    print("".join(f"| {it} " for it in ["Case", "Lanes", *given.faults, "Wrong"]) + "|")
+    print("|---" * (3 + len(given.faults)) + "|")
+    wrong = []
+    for case in CASES:
+        if given.cases and case.name not in given.cases:
+            continue
+        folder = f"{program.work}/{case.name}"
+        for name, content in {"": b"", **case.files}.items():
+            os.makedirs(os.path.dirname(f"{folder}/{name}"), exist_ok=True)
+            if name:
+                with open(f"{folder}/{name}", "wb") as file:
+                    file.write(content)
+        for lanes in given.lanes if case.spread else given.lanes[:1]:
+            words = case.words.split() + ["--lanes", lanes] * case.spread
+            clean, cells, before = program.end(folder, words), [], len(wrong)
+            if what := wrong_clean(case, clean):
+                wrong.append(f"{case.name}, lanes {lanes}, no fault: {what}; {clean.errors!r}")
+            for group in given.faults if not what else []:
+                ends = []
+                for fault in FAULTS[group]:
+                    result = (system_faults(program, case, words, clean) if fault == "system"
+                              else each_number(program, case, words, fault, clean, given.stacks))
+                    ends += result.ends
+                    wrong += [f"{case.name}, lanes {lanes}, {fault} {it}" for it in result.wrong]
+                cells.append(counted(ends))
+            row = [case.name, lanes if case.spread else "", *cells, str(len(wrong) - before or "none")]
+            print("".join(f"| {it} " for it in row) + "|", flush=True)
+    return wrong
+
+def run_test(program, name):
+    result, number = Result(), 1
+    while True:
+        end, seen = program.faulty(program.work, [name], "memory", number)
+        if seen.met or end.status != 0:
+            what = "no pass" if end.status != 0 or b"test result: ok" not in end.alerts else None
+            result.add(number, end, what)
+        if not seen.met:
+            print(counted(result.ends))
+            return result.wrong
+        number += 1
+
+def main():
+    words = argparse.ArgumentParser(description=__doc__, formatter_class=argparse.RawDescriptionHelpFormatter)
+    listed = lambda it: it.split(",")
+    words.add_argument("--program", default=f"{TOP}/crates/snort_main/out/snort_main", metavar="PATH")
+    words.add_argument("--cases", type=listed, metavar="WORD,..", help=" ".join(it.name for it in CASES))
+    words.add_argument("--faults", type=listed, default=[*FAULTS], metavar="WORD,..", help=" ".join(FAULTS))
+    words.add_argument("--lanes", type=listed, default=["1", "4"], metavar="N,..")
+    words.add_argument("--stacks", action="store_true")
+    words.add_argument("--test", nargs=2, metavar=("PATH", "NAME"))
+    given = words.parse_args()
+    unknown = {*(given.cases or [])} - {it.name for it in CASES} | {*given.faults} - {*FAULTS}
+    if unknown:
+        words.error("no such case or fault: " + " ".join(sorted(unknown)))
+    with tempfile.TemporaryDirectory(prefix="faults-") as work:
+        work = os.path.realpath(work)
+        if given.test:
+            wrong = run_test(Program(given.test[0], work), given.test[1])
+        else:
+            wrong = run_cases(Program(given.program, work), given)
+    print("".join(f"\n- {it}" for it in wrong))
+    sys.exit(1 if wrong else 0)
+
+if __name__ == "__main__":
+    main()
