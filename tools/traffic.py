@@ -136,6 +136,8 @@ def capture(talks, count):
         yield struct.pack("<IIII", 1700000000 + sent // 10000, 100 * (sent % 10000), len(frame), len(frame)) + frame
         sent += 1
 
+if len(sys.argv) != 3 or sys.argv[1] not in ("rules", *TALKS) or not sys.argv[2].isdecimal():
+    sys.exit(__doc__.strip())
 kind, count = sys.argv[1], int(sys.argv[2])
 rules = [CONFIGURATION, *map(rule_line, range(count))] if kind == "rules" else []
 sys.stdout.buffer.writelines(rules or capture(TALKS[kind], count))
