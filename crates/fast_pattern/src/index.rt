@@ -128,6 +128,10 @@ impl PortIndex {
     pub fn push_places(&self, port: u16, places: &mut Vec<u32>) -> Result<(), AllocError>
         ensures { OnOk result (AddFiled self.now (lies_in 16 0 port) places.old.items places.new.items) }
     {
+        // Most protocols have no rule without a pattern: then no block is looked at.
+        if self.entries.is_empty() {
+            return Ok(());
+        }
         self.push_within(16, 0, port, places)?;
         Ok(())
     }

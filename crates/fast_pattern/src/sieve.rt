@@ -1,5 +1,5 @@
 //! Where in a payload a pattern may begin, told without a walk: a payload is asked for the windows that patterns
-//! have at their first places, at each place of it, or at every second or fourth one where no pattern is short.
+//! have at their first places, at each place of it, or at every second, fourth or eighth one where no pattern is short.
 
 ghost use Rattle.std.specs.Prelude.{◌≡◌, ℕ, ◌+◌, ◌<◌, ◌≤◌, length, IfOk, IfSome};
 ghost use Rattle.fast_pattern.specs.Words.{word_at};
@@ -15,7 +15,7 @@ use std::alloc::Global;
 const TURN: usize = 4;
 
 /// The longest stride: each pattern has a window in the table for each place of it.
-const LONGEST_STRIDE: usize = 4;
+const LONGEST_STRIDE: usize = 8;
 
 /// A pattern of so many letters is long: a longer one would be sought no otherwise.
 const LONG: usize = 16;
@@ -60,14 +60,18 @@ fn shortest_length(patterns: &[Text]) -> usize
     shortest
 }
 
-/// The stride for a shortest length: as long as windows of four letters still fit behind it.
+/// The stride for a shortest length: the longest one where whole windows still fit behind it, and else as long as
+/// windows of four letters do.
 fn stride_for(shortest: usize) -> usize
     requires { 0 < shortest }
     ensures some { 0 < result }
     ensures within { result ≤ shortest }
 {
-    if 7 <= shortest {
+    if LONGEST_STRIDE + WINDOW - 1 <= shortest {
         return LONGEST_STRIDE;
+    }
+    if 7 <= shortest {
+        return 4;
     }
     if 5 <= shortest { 2 } else { 1 }
 }
@@ -120,7 +124,7 @@ impl Sieve {
     fn skip_turns(&self, bytes: &[u8], from: usize) -> usize
         requires table { length self.now.table.items ≡ table_words }
         requires some { 0 < self.now.stride }
-        requires few { self.now.stride ≤ 4 }
+        requires few { self.now.stride ≤ 8 }
         requires within { from ≤ length bytes.now }
         ensures skips { Skips self.now bytes.now from result }
         ensures within { result ≤ length bytes.now }
@@ -145,7 +149,7 @@ impl Sieve {
     fn skip_windows(&self, bytes: &[u8], from: usize) -> usize
         requires table { length self.now.table.items ≡ table_words }
         requires some { 0 < self.now.stride }
-        requires few { self.now.stride ≤ 4 }
+        requires few { self.now.stride ≤ 8 }
         requires within { from ≤ length bytes.now }
         ensures skips { Skips self.now bytes.now from result }
         ensures within { result ≤ length bytes.now }
