@@ -1,13 +1,20 @@
 -- One prefix length after another, from the longest down.
-use Rattle.std.proofs.Common.{◌≡◌, ℕ, ◌+◌, ◌-◌, ◌<◌, Bool, List, length, get_or, Some, None, refl, sym, ap, ◌∙◌, arith}
+use Rattle.std.proofs.Common.{◌≡◌, ℕ, ◌+◌, ◌-◌, ◌<◌, Bool, List, [], ◌∷◌, length, get_or, Some, None, refl, sym, ap, ◌∙◌, arith}
 use Rattle.std.specs.Option.{option_or}
 use Rattle.edge_io.specs.declared.address.Addr.{Addr}
 use Rattle.net_lists.specs.Addresses.{network_at}
 use Rattle.host_table.specs.declared.host_line.HostLine.{HostLine}
 use Rattle.host_table.specs.HostLine.{same_network}
+use Rattle.host_table.specs.Hosts.{entry_at}
 use Rattle.host_table.specs.Index.{place_of}
 use Rattle.host_table.proofs.Longest.{below, below-next}
 use Rattle.host_table.proofs.Places.{place-finds, place-none, place-within}
+
+-- without entries none has the address
+pub entry_at-nil : (entries : List HostLine) (addr : Addr) → length entries ≡ 0 → None ≡ entry_at entries addr
+unfolding entry_at
+entry_at-nil [] addr is = refl
+entry_at-nil (entry ∷ entries) addr is = absurd (omega arith)
 
 pub below-zero : (entries : List HostLine) (addr : Addr) → below entries addr 0 ≡ None
 unfolding below

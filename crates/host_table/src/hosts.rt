@@ -112,6 +112,10 @@ impl Hosts {
     fn entry(&self, addr: Addr) -> Option<&HostLine>
         ensures { option_copied result ≡ entry_at self.now addr }
     {
+        // Most runs have no table: then no prefix length is asked for.
+        if self.entries.is_empty() {
+            return None;
+        }
         let mut length = bits_of(addr) + 1;
         while length > 0 {
             length -= 1;

@@ -1,9 +1,15 @@
 use Rattle.std.proofs.Common.{◌≡◌, ◌+◌, ◌-◌, length, get_or, Some, sym, ap, ◌∙◌, arith}
+use Rattle.std.proofs.lemmas.Bool.{eqb-true}
 use Rattle.std.proofs.lemmas.List.Elements.{All-same}
 use Rattle.net_lists.specs.Addresses.{IsNetwork}
 use Rattle.host_table.proofs.Longest.{below, entry_at-below}
-use Rattle.host_table.proofs.Descent.{below-zero, below-found, below-lacking}
+use Rattle.host_table.proofs.Descent.{entry_at-nil, below-zero, below-found, below-lacking}
 use Rattle.host_table.proofs.hosts.Hosts.entry.Goals as goal
+
+pub returns-then-is_empty : goal.returns-then-is_empty
+returns-then-is_empty c =
+    let none = eqb-true _ 0 (sym c.is_empty.ensures ∙ c.if-is_empty.true) in
+    entry_at-nil c.args.self.now c.args.addr (omega (arith, none, c.self.inside.entries.ok.0, ap length c.self.view_is))
 
 pub loop-length-init : goal.loop-length-init
 loop-length-init c =
