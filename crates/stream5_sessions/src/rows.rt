@@ -196,6 +196,7 @@ fn acks_fin(state: &State, segment: &Segment) -> bool
 
 /// The rows where no session stands.
 #[tactic(auto, unfolding(crate::specs::Phases::in_none))]
+#[inline(never)]
 pub(crate) fn in_none(segment: &Segment, needed: bool) -> Change
     ensures { result ≡ in_none segment.now needed }
 {
@@ -222,6 +223,7 @@ pub(crate) fn in_none(segment: &Segment, needed: bool) -> Change
 
 /// The rows of Syn.
 #[tactic(auto, unfolding(crate::specs::Phases::in_syn))]
+#[inline(never)]
 fn in_syn(state: &State, segment: &Segment, needed: bool) -> Change
     ensures { result ≡ in_syn state.now segment.now needed }
 {
@@ -248,6 +250,7 @@ fn in_syn(state: &State, segment: &Segment, needed: bool) -> Change
 
 /// The rows of SynAck.
 #[tactic(auto, unfolding(crate::specs::Phases::in_syn_ack))]
+#[inline(never)]
 fn in_syn_ack(state: &State, segment: &Segment) -> Change
     ensures { result ≡ in_syn_ack state.now segment.now }
 {
@@ -285,6 +288,7 @@ fn in_est(state: &State, segment: &Segment) -> Change
 
 /// The rows of Closing.
 #[tactic(auto, unfolding(crate::specs::Phases::in_closing))]
+#[inline(never)]
 fn in_closing(state: &State, segment: &Segment) -> Reading
     ensures { result ≡ in_closing state.now segment.now }
 {
@@ -305,6 +309,7 @@ fn in_closing(state: &State, segment: &Segment) -> Reading
 
 /// The rows of Off.
 #[tactic(auto, unfolding(crate::specs::Phases::in_off))]
+#[inline(never)]
 fn in_off(state: &State, segment: &Segment) -> Reading
     ensures { result ≡ in_off state.now segment.now }
 {
