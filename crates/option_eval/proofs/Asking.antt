@@ -147,7 +147,7 @@ pub first_below : (rest : List ℕ) (low high : ℕ) → 1 ≤ length rest → I
 first_below [] low high some h = absurd (omega arith)
 first_below (place ∷ later) low high some h = omega (arith, rising_length later (place + 1) high h.1)
 
-none_left : (rest : List ℕ) (p : ℕ) → length rest < 1 → Contains rest p → ⊥
+pub none_left : (rest : List ℕ) (p : ℕ) → length rest < 1 → Contains rest p → ⊥
 none_left rest p empty has = omega (arith, has.1)
 
 -- all places were asked

@@ -9,7 +9,8 @@ use Rattle.option_eval.specs.Numbers.{Standing, number_if}
 use Rattle.option_eval.specs.Places.{Means, Sought, StandsAt, Leads, is_only, sought, at_place}
 use Rattle.option_eval.specs.Sets.{Gathers, IsWithin, Occurs, IsHitFrom, IsLedTo, LeadsFrom, standing, reach_from, reach_room, folds_case, content_origin}
 use Rattle.option_eval.specs.declared.reach.Reach.{Reach}
-use Rattle.option_eval.proofs.Rising.{contains_cases, contains_first}
+use Rattle.option_eval.proofs.Rising.{contains_cases, contains_first, got_of_contains}
+use Rattle.option_eval.specs.Absent.{IsReached}
 use Rattle.option_eval.proofs.Sweeping.{occurs_fits}
 
 -- how a content is sought, from its parts
@@ -149,3 +150,57 @@ module _ (every : Bool) (means : Means) (payload values : List ℕ) (content : C
             let at = origin_is (is_only content.fast) content.relative led.0 plain.1 in
             f.complete q (cond content.relative led.0 0, here.0, asked_has content.relative places asked led.0 asks led.1, subst (λ (x : ℕ). IsWithin reach (length content.bytes) x here.0) at reached.0, reached.1, here.2);
       }
+
+-- a negated content that counts from a place holds there just where its bytes aren't within reach
+true_match : (b : Bool) (P Q : Type 0) → b ≡ true → P → MatchBool b P Q
+true_match true P Q is h = h
+true_match false P Q is h = absurd (false≢true is)
+
+match_true : (b : Bool) (P Q : Type 0) → b ≡ true → MatchBool b P Q → P
+match_true true P Q is h = h
+match_true false P Q is h = absurd (false≢true is)
+
+cond_true : {A : Type 0} (b : Bool) (x y : A) → b ≡ true → cond b x y ≡ x
+cond_true true x y is = refl
+cond_true false x y is = absurd (false≢true is)
+
+module _ (means : Means) (payload values : List ℕ) (content : Content) (negated : content.negated ≡ true) (relative : (not (is_only content.fast) && content.relative) ≡ true)
+    (reach : Reach) (from_is : reach.from ≡ reach_from content values) (room_is : reach.room ≡ reach_room content values) (p : ℕ) where
+  origin_here : content_origin content p ≡ p
+  origin_here = cond_true (not (is_only content.fast) && content.relative) p 0 relative
+
+  pub absent_leads : ¬ IsReached (folds_case content) payload content.bytes reach p → LeadsFrom means payload values (opt.Content content) p p
+  unfolding Leads
+  absent_leads none = true_match content.negated _ _ negated
+      ((λ i here. let at = stands_within content values p payload reach from_is room_is i here in none (i, subst (λ (x : ℕ). IsWithin reach (length content.bytes) x i) origin_here at.0, at.1)), refl)
+
+  pub leads_absent : LeadsFrom means payload values (opt.Content content) p p → ¬ IsReached (folds_case content) payload content.bytes reach p
+  unfolding Leads
+  leads_absent led = λ reached.
+      (match_true content.negated _ _ negated led).0 reached.0 (within_stands content values p payload reach from_is room_is reached.0 (subst (λ (x : ℕ). IsWithin reach (length content.bytes) x reached.0) (sym origin_here) reached.1) reached.2)
+
+-- where they are
+module _ (every : Bool) (means : Means) (payload values : List ℕ) (content : Content) (negated : content.negated ≡ true) (relative : (not (is_only content.fast) && content.relative) ≡ true)
+    (reach : Reach) (from_is : reach.from ≡ reach_from content values) (room_is : reach.room ≡ reach_room content values) (places next : List ℕ) where
+  pub absent_gathers : ((p q : ℕ) → LeadsFrom means payload values (opt.Content content) p q → q ≡ p) → (nocase : Bool) (bytes : List ℕ) → nocase ≡ folds_case content → bytes ≡ content.bytes
+      → ((q : ℕ) → (Contains next q → Contains places q × ¬ IsReached nocase payload bytes reach q) × (Contains places q × ¬ IsReached nocase payload bytes reach q → Contains next q))
+      → Gathers every (IsLedTo (LeadsFrom means payload values (opt.Content content)) places) next
+  absent_gathers stays nocase bytes nocase_is bytes_is found =
+      let Found : Bool → List ℕ → Type 0 = λ nocase bytes. (q : ℕ) → (Contains next q → Contains places q × ¬ IsReached nocase payload bytes reach q) × (Contains places q × ¬ IsReached nocase payload bytes reach q → Contains next q) in
+      let f = subst (λ (b : Bool). Found b content.bytes) nocase_is (subst (λ (bs : List ℕ). Found nocase bs) bytes_is found) in
+      record {
+        sound = λ q has.
+            let both = (f q).0 has in
+            (q, both.0, absent_leads means payload values content negated relative reach from_is room_is q both.1);
+        complete = λ q led.
+            let same = stays led.0 q led.2 in
+            let here = subst (λ (p : ℕ). LeadsFrom means payload values (opt.Content content) p q) (sym same) led.2 in
+            let in_places = subst (λ (p : ℕ). Contains places p) (sym same) led.1 in
+            got_of_contains every next q ((f q).1 (in_places, leads_absent means payload values content negated relative reach from_is room_is q here));
+      }
+
+-- a relative content that is a test is negated
+pub negated_of : (negated only relative : Bool) → (negated || only) ≡ true → (not only && relative) ≡ true → negated ≡ true
+negated_of true only relative test counts = refl
+negated_of false true relative test counts = absurd (false≢true counts)
+negated_of false false relative test counts = absurd (false≢true test)

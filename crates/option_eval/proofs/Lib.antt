@@ -2,10 +2,15 @@ pub mod Asking
 pub mod Chosen
 pub mod Contents
 pub mod Digits
+pub mod Stating
 pub mod Staying
+pub mod Extracting
+pub mod Forgetting
 pub mod Leading
+pub mod Looking
 pub mod Occurrences
 pub mod Rising
 pub mod Spans
+pub mod Stepping
 pub mod Sweeping
 pub mod Walking

@@ -48,7 +48,7 @@ module _ (means : Means) (payload : List ℕ) where
   pattern_values false A B s t from h = ap (λ (x : Standing). x.values) h.2
 
   -- an option other than an extraction leaves the values
-  values_kept : (o : Opt) (s t : Standing) → is_extract o ≡ false → Leads means payload o s t → t.values ≡ s.values
+  pub values_kept : (o : Opt) (s t : Standing) → is_extract o ≡ false → Leads means payload o s t → t.values ≡ s.values
   unfolding Leads
   values_kept (opt.Content content) s t plain h = content_values content.negated (is_only content.fast) ((i : ℕ) → ¬ StandsAt content.bytes payload (sought content s) i) (λ i. StandsAt content.bytes payload (sought content s) i) s t (length content.bytes) h
   values_kept (opt.Pcre text flags relative negated) s t plain h =
@@ -77,7 +77,7 @@ module _ (means : Means) (payload : List ℕ) where
   pattern_move finds false false A A' values p p' t plain free h = (h.0, h.1, h.2)
 
   -- what isn't a test and isn't relative leads from each place to the same
-  move_free : (o : Opt) (values : List ℕ) (p p' : ℕ) (t : Standing) → is_test o ≡ false → is_relative o ≡ false → Leads means payload o (standing values p) t → Leads means payload o (standing values p') t
+  pub move_free : (o : Opt) (values : List ℕ) (p p' : ℕ) (t : Standing) → is_test o ≡ false → is_relative o ≡ false → Leads means payload o (standing values p) t → Leads means payload o (standing values p') t
   unfolding Leads
   move_free (opt.Content content) values p p' t moves free h =
       content_move content.negated (is_only content.fast) _ _ (λ i. StandsAt content.bytes payload (sought content (standing values p)) i) (λ i. StandsAt content.bytes payload (sought content (standing values p')) i) values p p' (length content.bytes) t

@@ -7,3 +7,6 @@ pub mod Sets
 pub mod Kinds
 pub mod Next
 pub mod Walks
+pub mod Kept
+pub mod States
+pub mod Absent

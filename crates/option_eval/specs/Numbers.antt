@@ -1,7 +1,7 @@
 -- The numbers that payload options read: told or extracted before, and fetched from the payload.
 --
--- Source: Snort Users Manual 2.9, sections 3.5.32 (byte_test), 3.5.33 (byte_jump), 3.5.34
--- (byte_extract). Text is read as its digits alone: no sign, blank or `0x`.
+-- Source: Snort Users Manual 2.9, section 3.5 (byte_test, byte_jump, byte_extract).
+-- Text is read as its digits alone: no sign, blank or `0x`.
 -- To try it on: in the payload 2, 97, 98 a fetch of one byte at offset 0 gives the number 2 and ends at
 -- place 1; a fetch of four bytes there gives nothing. The text `12x4` in base ten is 12.
 use Rattle.std.specs.Prelude.{ℕ, ◌+◌, ◌-◌, ◌*◌, ◌/◌, ℤ, pos, negsuc, ◌+ℤ◌, Bool, ◌&&◌, ◌==◌, List, length, fold, Option, Some, None, option_map, nat_le, nat_lt, slice_index, if◌then◌else◌}

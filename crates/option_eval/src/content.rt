@@ -1,6 +1,6 @@
 //! Where a content stands, and where it leads from a set of places.
 
-ghost use Rattle.std.specs.Prelude.{◌≡◌, ℕ, ◌+◌, ◌<◌, ◌≤◌, ◌↔◌, false, [], ◌∷◌, length, IsTrue, IfOk, MatchBool, not};
+ghost use Rattle.std.specs.Prelude.{◌≡◌, ℕ, ◌+◌, ◌<◌, ◌≤◌, ◌↔◌, Bool, true, false, ◌&&◌, [], ◌∷◌, length, IsTrue, IfOk, MatchBool, not};
 ghost use Rattle.rule_types.specs.declared.option.Opt.TheVariants.{Content as content_option};
 ghost use Rattle.std.specs.Option.{ForSome};
 ghost use Rattle.option_eval.specs.Numbers.{number_if};
@@ -9,6 +9,7 @@ ghost use Rattle.option_eval.specs.Ranges.{IsSmall};
 ghost use Rattle.option_eval.specs.Sets.{IsRising, Gathers, IsHitFrom, IsLedTo, LeadsFrom, IsWithin, Occurs, StandsFrom, reach_from, reach_room, folds_case, content_origin};
 
 use crate::Steps;
+use crate::absent::places_without;
 use crate::fetch::{Values, number};
 use crate::needle::Needle;
 use crate::reach::Reach;
@@ -158,6 +159,37 @@ pub(crate) fn content_places<L: Ledger>(
         payload,
         asked,
         every,
+        visits,
+    )
+}
+
+/// The places of the set from which a negated content holds that counts from them.
+pub(crate) fn content_absent<L: Ledger>(
+    alloc: Global,
+    content: &Content,
+    finder: &Finder<'static>,
+    payload: &[u8],
+    places: &[usize],
+    values: &Values,
+    visits: &mut Steps<L>,
+) -> Result<Places, NoMemory>
+    requires same { finder.now ≡ content.now.bytes }
+    requires some { 1 ≤ length content.now.bytes }
+    requires fits { length content.now.bytes ≤ length payload.now }
+    requires negated { content.now.negated ≡ true }
+    requires relative { (not (is_only content.now.fast) && content.now.relative) ≡ true }
+    requires rising { IsRising 0 places.now (length payload.now + 1) }
+    ensures found { (means : Means) → (every : Bool) → IfOk result (λ next.
+        Gathers every (IsLedTo (LeadsFrom means payload.now values.now (content_option content.now)) places.now) next.items) }
+    ensures rising { IfOk result (λ next. IsRising 0 next.items (length payload.now + 1)) }
+    ensures bounded { visits.new ≤ visits.old + length places.now }
+{
+    places_without(
+        alloc,
+        &needle(content, finder),
+        &reach(content, values),
+        payload,
+        places,
         visits,
     )
 }

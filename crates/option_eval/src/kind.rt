@@ -2,7 +2,7 @@
 
 ghost use Rattle.std.specs.Prelude.{◌≡◌};
 ghost use Rattle.option_eval.specs.Kinds.{is_relative, is_test, needs_place};
-ghost use Rattle.option_eval.specs.Places.{is_payload_option};
+ghost use Rattle.option_eval.specs.Places.{is_payload_option, is_extract};
 
 use crate::content::is_only;
 use rule_types::Opt;
@@ -20,6 +20,13 @@ pub(crate) fn is_payload_option(option: &Opt) -> bool
             | Opt::ByteExtract { .. }
             | Opt::IsDataAt { .. }
     )
+}
+
+/// Whether an option extracts a value.
+pub(crate) fn is_extract(option: &Opt) -> bool
+    ensures { result ≡ is_extract option.now }
+{
+    matches!(option, Opt::ByteExtract { .. })
 }
 
 /// Whether an option counts from the place before it.

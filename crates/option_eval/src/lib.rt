@@ -6,8 +6,11 @@
 //! a rule. The lanes of flows stand on this crate.
 #![tactic(auto)]
 
+mod absent;
 mod content;
+mod extract;
 mod fetch;
+mod kept;
 mod kind;
 mod led;
 mod made;
@@ -16,6 +19,7 @@ mod needle;
 mod next;
 mod reach;
 mod rule_set;
+mod states;
 mod steps;
 mod sweep;
 mod walk;

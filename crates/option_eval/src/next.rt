@@ -10,7 +10,7 @@ ghost use Rattle.option_eval.specs.RuleSet.{IsMade};
 ghost use Rattle.option_eval.specs.Sets.{IsRising, Gathers, IsLedTo, LeadsFrom, with_if};
 
 use crate::Steps;
-use crate::content::content_places;
+use crate::content::{content_absent, content_places};
 use crate::fetch::Values;
 use crate::kind::{is_payload_option, is_relative, is_test};
 use crate::led::{led_place, test_holds};
@@ -92,13 +92,41 @@ fn tested<P: Pattern, L: Ledger>(
     ensures bounded { visits.new ≤ visits.old + (length payload.now + 1) }
 {
     if is_relative(option) {
-        return Ok(Next::To(kept_places(alloc, option, made, payload, places, values, visits)?));
+        return Ok(Next::To(places_kept(alloc, option, made, payload, places, values, visits)?));
     }
     visits.tick_by(cost(option, payload));
     if test_holds(option, made, payload, places[0], values)? {
         Ok(Next::Same)
     } else {
         Ok(Next::To(SmallVec::new(alloc)))
+    }
+}
+
+/// The places at which a relative test holds. A content is asked from all of them together.
+fn places_kept<P: Pattern, L: Ledger>(
+    alloc: Global,
+    option: &Opt,
+    made: &Made<P>,
+    payload: &[u8],
+    places: &[usize],
+    values: &Values,
+    visits: &mut Steps<L>,
+) -> Result<Places, NoMemory>
+    requires ready { IsReady option.now made.now }
+    requires test { is_test option.now ≡ true }
+    requires relative { is_relative option.now ≡ true }
+    requires rising { IsRising 0 places.now (length payload.now + 1) }
+    ensures found { (means : Means) → (every : Bool) → IsMade P.finds means option.now (pattern_of made.now) → IfOk result (λ next.
+        Gathers every (IsLedTo (LeadsFrom means payload.now values.now option.now) places.now) next.items) }
+    ensures rising { IfOk result (λ next. IsRising 0 next.items (length payload.now + 1)) }
+    ensures bounded { visits.new ≤ visits.old + length places.now }
+{
+    match (option, made) {
+        (Opt::Content(content), Made::Needle(finder))
+            if content.bytes.bytes().len() <= payload.len() => {
+            content_absent(alloc, content, finder, payload, places, values, visits)
+        }
+        _ => kept_places(alloc, option, made, payload, places, values, visits),
     }
 }
 
@@ -134,7 +162,7 @@ fn kept_places<P: Pattern, L: Ledger>(
 }
 
 /// The places, and one more if it is wanted.
-fn with_place(mut places: Places, wanted: bool, place: usize) -> Result<Places, NoMemory>
+pub(crate) fn with_place(mut places: Places, wanted: bool, place: usize) -> Result<Places, NoMemory>
     ensures { IfOk result (λ next. next.items ≡ (if wanted then places.items ++ place ∷ [] else places.items)) }
 {
     if wanted {
@@ -174,7 +202,7 @@ fn moved<P: Pattern, L: Ledger>(
 }
 
 /// The places that are asked: the first alone, unless the option is relative.
-fn asked_of(relative: bool, places: &[usize]) -> &[usize]
+pub(crate) fn asked_of(relative: bool, places: &[usize]) -> &[usize]
     ensures { result.now ≡ (if relative then places.now else take 1 places.now) }
 {
     if relative {
@@ -216,7 +244,7 @@ fn jumped<P: Pattern, L: Ledger>(
 }
 
 /// The places in order.
-fn sorted(mut places: Places) -> Places
+pub(crate) fn sorted(mut places: Places) -> Places
     ensures same { IsPermutation places.items result.items }
     ensures order { IsNonDecreasing result.items }
 {
@@ -264,7 +292,7 @@ fn with_led(mut places: Places, led: Option<usize>) -> Result<Places, NoMemory>
 }
 
 /// Sorted places, each once.
-fn rising(alloc: Global, sorted: &[usize]) -> Result<Places, NoMemory>
+pub(crate) fn rising(alloc: Global, sorted: &[usize]) -> Result<Places, NoMemory>
     requires order { IsNonDecreasing sorted.now }
     requires small { (q : ℕ) → Contains sorted.now q → q < 2 ^ 63 }
     ensures same { IfOk result (λ next. (q : ℕ) → Contains next.items q ↔ Contains sorted.now q) }

@@ -1,10 +1,10 @@
 //! Rules in their order, with what was made of them.
 
-ghost use Rattle.std.specs.Prelude.{◌≡◌, ℕ, ◌+◌, ◌<◌, ◌≤◌, ◌↔◌, length, IsTrue, IfOk};
+ghost use Rattle.std.specs.Prelude.{◌≡◌, ℕ, ◌+◌, ◌*◌, ◌<◌, ◌≤◌, ◌↔◌, List, length, IsTrue, IfOk};
 ghost use Rattle.rule_types.specs.declared.rule.Rule.{Rule};
 ghost use Rattle.option_eval.specs.Places.{Means, PayloadMatches};
 ghost use Rattle.option_eval.specs.RuleSet.{FindWhatIsMeant, IsRuleAt};
-ghost use Rattle.option_eval.specs.Walks.{ExtractsNothing, visits_of};
+ghost use Rattle.option_eval.specs.Walks.{ExtractsNothing, HasEachValueList, visits_of};
 
 use crate::Steps;
 use crate::made::Made;
@@ -110,7 +110,8 @@ impl<P: Pattern> RuleSet<P> {
 ///
 /// `rule` is the place of a rule of the set. The rule's header and its other options are not asked.
 /// A visit is a place of the payload at which a content that isn't negated is compared, or a place
-/// from which another payload option is asked; only a rule that extracts values goes back.
+/// from which another payload option is asked. Of a rule that extracts values each option is asked once from
+/// each place and list of values that are still read, however many ways lead there.
 pub fn payload_matches<P: Pattern, L: Ledger>(
     alloc: Global,
     set: &RuleSet<P>,
@@ -123,16 +124,11 @@ pub fn payload_matches<P: Pattern, L: Ledger>(
         → IfOk result (λ matches. IsTrue matches ↔ PayloadMatches means chosen payload.now) }
     ensures bounded { (chosen : Rule) → IsRuleAt set.now rule chosen → ExtractsNothing chosen.opts
         → visits.new ≤ visits.old + visits_of chosen.opts (length payload.now) }
+    ensures bounded_by_values { (means : Means) → (chosen : Rule) → (lists : List (List ℕ)) → FindWhatIsMeant P.finds means set.now
+        → IsRuleAt set.now rule chosen → HasEachValueList means payload.now chosen.opts lists
+        → visits.new ≤ visits.old + length lists * visits_of chosen.opts (length payload.now) }
 {
     let made = &set.made[rule as usize];
     let rule = &set.rules[rule as usize];
-    is_passed(
-        alloc,
-        rule.opts.as_slice(),
-        made,
-        payload,
-        &[0],
-        &[0, 0],
-        visits,
-    )
+    is_passed(alloc, rule.opts.as_slice(), made, payload, visits)
 }

@@ -6,13 +6,13 @@ use Rattle.option_eval.proofs.Rising.{rising_length}
 use Rattle.option_eval.proofs.Staying.{test_stays, test_free}
 use Rattle.option_eval.proofs.next.tested.Goals as goal
 
-pub returns-in_err-kept_places-clause-bounded : goal.returns-in_err-kept_places-clause-bounded
-returns-in_err-kept_places-clause-bounded g c =
-    omega (arith, c.kept_places.ensures.bounded, rising_length c.args.places.now 0 (length c.args.payload.now + 1) c.requires.rising)
+pub returns-in_err-places_kept-clause-bounded : goal.returns-in_err-places_kept-clause-bounded
+returns-in_err-places_kept-clause-bounded g c =
+    omega (arith, c.places_kept.ensures.bounded, rising_length c.args.places.now 0 (length c.args.payload.now + 1) c.requires.rising)
 
 pub returns-then-is_relative-clause-bounded : goal.returns-then-is_relative-clause-bounded
 returns-then-is_relative-clause-bounded g c =
-    omega (arith, c.kept_places.ensures.bounded, rising_length c.args.places.now 0 (length c.args.payload.now + 1) c.requires.rising)
+    omega (arith, c.places_kept.ensures.bounded, rising_length c.args.places.now 0 (length c.args.payload.now + 1) c.requires.rising)
 
 pub test_holds-requires-clause-within : goal.test_holds-requires-clause-within
 test_holds-requires-clause-within g c κs within =

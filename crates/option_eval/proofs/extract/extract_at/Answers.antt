@@ -1,0 +1,25 @@
+use Rattle.std.proofs.Common.{◌∙◌, ap, slice_set, arith, length}
+use Rattle.std.specs.Prelude.{⊤, ◌≤◌}
+use Rattle.std.proofs.lemmas.Result.{IfOk-weaker}
+use Rattle.option_eval.specs.Kept.{kept_values}
+use Rattle.option_eval.proofs.Extracting.{leaves_none, leaves_some}
+use Rattle.option_eval.proofs.Stating.{each_added}
+use Rattle.option_eval.proofs.extract.extract_at.Goals as goal
+
+pub returns-in-None-clause-right : goal.returns-in-None-clause-right
+returns-in-None-clause-right c = λ means. leaves_none means c.args.payload.now c.args.fetch.now c.args.name c.args.times c.args.align c.args.later.now c.args.values.now c.args.place c.in-None.ensures.value c.args.states.now
+
+pub returns-in-Some-clause-right : goal.returns-in-Some-clause-right
+returns-in-Some-clause-right c = λ means.
+    let number = rw (c.from.ensures, c.from-in-Some.ensures) at c.rounded_up-number.ensures.value in
+    let full = c.with_value.ensures ∙ ap (slice_set c.args.values.now c.args.name) number in
+    IfOk-weaker c.add.result _ _
+    (λ done added. leaves_some means c.args.payload.now c.args.fetch.now c.args.name c.args.times c.args.align c.args.later.now c.args.values.now c.args.place _ c.kept_values-behind.result c.in-Some.ensures.value (omega (arith, c.fits-values))
+    (c.kept_values-behind.ensures ∙ ap (kept_values c.args.later.now) full) c.args.states.now c.add.new.self added)
+    c.add.ensures
+
+pub returns-in-Some-clause-within : goal.returns-in-Some-clause-within
+returns-in-Some-clause-within c = λ before.
+    IfOk-weaker c.add.result _ _
+    (λ done added. each_added c.args.states.now c.add.new.self c.kept_values-behind.result c.in-Some.read.stop added (λ v. ⊤) (λ v p. p ≤ length c.args.payload.now) before tt c.in-Some.ensures.within)
+    c.add.ensures

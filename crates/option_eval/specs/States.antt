@@ -1,0 +1,51 @@
+-- Sets of states: value lists, each with the places that go with it.
+use Rattle.std.specs.Prelude.{◌≡◌, ℕ, ◌≤◌, ◌⊎◌, ⊤, List, Contains, Option, Some, option_map}
+use Rattle.std.specs.Ordering.{nat_cmp}
+use Rattle.std.specs.Cmp.Lexicographic.{slice_cmp}
+use Rattle.std.specs.BTreeMap.{get}
+use Rattle.rule_types.specs.declared.option.Opt.{Opt}
+use Rattle.option_eval.specs.declared.states.States.{States}
+use Rattle.option_eval.specs.Places.{Means}
+use Rattle.option_eval.specs.Sets.{standing}
+use Rattle.option_eval.specs.Walks.{MatchesFrom, MatchesFromOne, HasValues, behind_extraction}
+
+-- the places that go with a value list, if there is a state with it
+unfoldable pub places_at : States → List ℕ → Option (List ℕ)
+places_at states values = option_map (λ places. places.items) (get (slice_cmp nat_cmp) states.places values)
+
+-- some state has a standing of this kind
+abbrev pub SomeState : (List ℕ → ℕ → Type 0) → States → Type 0
+SomeState P states = (values : List ℕ) × (places : List ℕ) × (places_at states values ≡ Some places) × (p : ℕ) × Contains places p × P values p
+
+-- each state's values are of one kind, and each of its places of another
+abbrev pub EachState : (List ℕ → Type 0) → (List ℕ → ℕ → Type 0) → States → Type 0
+EachState K R states = (values places : List ℕ) → places_at states values ≡ Some places → K values × ((p : ℕ) → Contains places p → R values p)
+
+-- some way leads through the options from some state
+abbrev pub MatchesFromSome : Means → List ℕ → List Opt → States → Type 0
+MatchesFromSome means payload options states = SomeState (λ values p. MatchesFrom means payload options (standing values p)) states
+
+-- the list has the values of each state, and those that are kept behind each of the options
+abbrev pub HaveValues : Means → List ℕ → List (List ℕ) → List Opt → States → Type 0
+HaveValues means payload lists options states = EachState (Contains lists) (λ values p. HasValues means payload lists options (standing values p)) states
+
+-- each place is one of a payload of so many bytes, or its end
+abbrev pub AreWithin : ℕ → States → Type 0
+AreWithin size states = EachState (λ values. ⊤) (λ values p. p ≤ size) states
+
+-- the states behind an extraction where ways lead on: those that were there, and those that the options give
+-- from these places; and their values, where a list has those before
+pub record Leaves (means : Means) (payload : List ℕ) (options : List Opt) (values places : List ℕ) (old new : States) : Type 0 where
+  pub sound : MatchesFromSome means payload (behind_extraction options) new → MatchesFromSome means payload (behind_extraction options) old ⊎ MatchesFromOne means payload options values places
+  pub kept : MatchesFromSome means payload (behind_extraction options) old → MatchesFromSome means payload (behind_extraction options) new
+  pub complete : MatchesFromOne means payload options values places → MatchesFromSome means payload (behind_extraction options) new
+  pub have : (lists : List (List ℕ)) → ((p : ℕ) → Contains places p → HasValues means payload lists options (standing values p))
+      → HaveValues means payload lists (behind_extraction options) old → HaveValues means payload lists (behind_extraction options) new
+
+-- the same from each of some states
+pub record LeavesOf (means : Means) (payload : List ℕ) (options : List Opt) (from old new : States) : Type 0 where
+  pub sound : MatchesFromSome means payload (behind_extraction options) new → MatchesFromSome means payload (behind_extraction options) old ⊎ MatchesFromSome means payload options from
+  pub kept : MatchesFromSome means payload (behind_extraction options) old → MatchesFromSome means payload (behind_extraction options) new
+  pub complete : MatchesFromSome means payload options from → MatchesFromSome means payload (behind_extraction options) new
+  pub have : (lists : List (List ℕ)) → HaveValues means payload lists options from
+      → HaveValues means payload lists (behind_extraction options) old → HaveValues means payload lists (behind_extraction options) new
