@@ -15,3 +15,5 @@ mod headers;
 mod payloads;
 #[cfg(test)]
 mod rows;
+#[cfg(test)]
+mod searches;

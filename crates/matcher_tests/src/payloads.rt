@@ -16,7 +16,7 @@ use std::sync::ledger::{Blank, Ledger};
 use std::test::Fail;
 
 /// The rule with these options.
-fn rule_with(alloc: Global, options: &str) -> Result<Rule, Fail>
+pub(crate) fn rule_with(alloc: Global, options: &str) -> Result<Rule, Fail>
     ensures { IfOk result IsTriable }
 {
     let line = format!(in alloc; "alert udp any any -> any any ({options} sid:1;)")?;
@@ -29,7 +29,7 @@ fn rule_with(alloc: Global, options: &str) -> Result<Rule, Fail>
 }
 
 /// The bytes that are written as a content is, with pairs of hex digits between bars.
-fn bytes_of(alloc: Global, written: &str) -> Result<Text, Fail> {
+pub(crate) fn bytes_of(alloc: Global, written: &str) -> Result<Text, Fail> {
     let option = format!(in alloc; "content:\"{written}\";")?;
     let rule = rule_with(alloc, option.as_str())?;
     match rule.opts.as_slice() {
@@ -224,6 +224,13 @@ byte_extract:1,0,n,string;~x@false
 byte_extract:1,0,n,string; content:"b"; offset:n; depth:1;~2ab@true
 content:"a"; byte_extract:1,0,n,relative; content:"b"; offset:n; depth:1;~a|01|a|04|b@true
 content:"a"; byte_extract:1,0,n,relative; content:"b"; offset:n; depth:1;~a|01|a|03|b@false
+content:"a"; byte_extract:1,0,n,relative; byte_test:1,=,n,0,relative;~a|01 02|a|03 03|@true@the value of a later place
+content:"a"; byte_extract:1,0,n,relative; byte_test:1,=,n,0,relative;~a|01 02|a|02 01|@false@the value of another place
+content:"a"; byte_extract:1,0,n,relative; byte_extract:1,0,m,relative; byte_test:1,=,m,0,relative; byte_test:1,=,n,1,relative;~a|01 02 03 01|a|01 03 02 01|@false@one first value, two second ones
+content:"a"; byte_extract:1,0,n,relative; byte_extract:1,0,m,relative; byte_test:1,=,m,0,relative; byte_test:1,=,n,1,relative;~a|01 02 03 01|a|01 02 02 01|@true
+byte_extract:1,0,n; byte_extract:1,n,n; byte_test:1,=,n,1;~|01 05|@true@a name that is extracted by its own value
+content:"a"; byte_extract:1,0,n; content:"b"; offset:n; depth:1;~|03|aab@true
+content:!"ab"; content:"a"; byte_extract:1,0,n,relative; content:!"c"; distance:0; within:1;~xa|01|ca|01|d@true
 pcre:"/bc/";~abc@true
 pcre:"/bc/";~abd@false
 pcre:"/BC/";~abc@false
