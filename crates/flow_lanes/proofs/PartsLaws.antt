@@ -19,13 +19,17 @@ use Rattle.flow_lanes.specs.Hits.{Item}
 use Rattle.flow_lanes.specs.Items.{acked_items, closing_items, held_items, is_queued, left_items, own_items, packet_item, session_behind, stream_items}
 use Rattle.flow_lanes.specs.Sessions.{Packet, Session, ack_of, is_tcp, after_ack, after_data, is_from_client, seq_of, session_of, session_rules, settled, sizes_of, state_found, state_of}
 use Rattle.flow_lanes.specs.Sound.{HasSessions}
-use Rattle.flow_lanes.specs.Working.{after_packet, items_on, maybe_items, own_head, own_item, sizes_behind, streams_of, stretches_items, stretches_of, streams_told}
+use Rattle.flow_lanes.specs.Working.{HasNoneLeft, TellsLeft, TellsLeftAt, after_packet, items_on, maybe_items, own_head, own_item, sizes_behind, streams_of, stretches_items, stretches_of, streams_told}
 use Rattle.flow_lanes.specs.Sides.{Side, acked_payloads, left_payloads, side_after_ack, side_after_data}
 
-left-is : (moment : Moment) (sizes : ℕ × ℕ) (found : Option Session)
-    → maybe_items moment sizes (option_map (stretches_of left_payloads) found) ≡ option_map_or (λ s. left_items s moment sizes) found []
-left-is moment sizes None = refl
-left-is moment sizes (Some session) = refl
+-- where nothing is left, no stretches tell it
+pub none-told : (session : Session) → HasNoneLeft session.client → HasNoneLeft session.server → TellsLeft session None
+none-told session client server = λ moment sizes i.
+    stream_items session.client true moment sizes (sym client.0 i) ++ stream_items session.server false moment sizes (sym server.0 i)
+
+-- and all stretches tell it always
+pub all-told : (session : Session) (left : Stretches) → left ≡ stretches_of left_payloads session → TellsLeft session (Some left)
+all-told session left is = λ moment sizes. ap (stretches_items moment sizes) is
 
 own-is : (b : Bool) (item : Item) → own_item item.payload (cond b None (Some item.head)) ≡ cond b [] (item ∷ [])
 own-is true item = refl
@@ -123,12 +127,12 @@ streams-are p step left s t u sizes old one two new taken sizes_is first second 
     three a b c d = simp append_assoc
 
 -- the items of a session that has ended
-pub closing-is : (session next : Session) (moment : Moment) (sizes : ℕ × ℕ) (left : Stretches) (old one new : List Item) → sizes ≡ sizes_of session → left ≡ stretches_of left_payloads session
-    → next ≡ settled session → one ≡ old ++ stretches_items moment sizes left → new ≡ one ++ held_items next moment sizes → new ≡ old ++ closing_items session moment
+pub closing-is : (session next : Session) (moment : Moment) (sizes : ℕ × ℕ) (left : Option Stretches) (old one new : List Item) → sizes ≡ sizes_of session → TellsLeft session left
+    → next ≡ settled session → one ≡ old ++ maybe_items moment sizes left → new ≡ one ++ held_items next moment sizes → new ≡ old ++ closing_items session moment
 unfolding closing_items
 closing-is session next moment sizes left old one new sizes_are left_is next_is first second =
     second
-    ∙ (λ i. (first ∙ (λ j. old ++ stretches_items moment (sizes_are j) (left_is j))) i ++ held_items (next_is i) moment (sizes_are i))
+    ∙ (λ i. (first ∙ (λ j. old ++ (left_is moment sizes ∙ ap (λ (z : ℕ × ℕ). left_items session moment z) sizes_are) j)) i ++ held_items (next_is i) moment (sizes_are i))
     ∙ append_assoc old (left_items session moment (sizes_of session)) (held_items (settled session) moment (sizes_of session))
 
 -- the streams of the packet's session, and then the packet
@@ -140,25 +144,25 @@ streams_on p step found session =
     ++ option_map_or (λ s. acked_items p step s sizes) session []
     ++ (cond step.ends (option_map_or (λ s. held_items s p.moment sizes) after []) [])
 
-streams-on : (p : Packet) (step : Step) (found session : Option Session) → streams_of p step (option_map (stretches_of left_payloads) found) session ≡ streams_on p step found session
+streams-on : (p : Packet) (step : Step) (found session : Option Session) (left : Option Stretches) → TellsLeftAt found left → streams_of p step left session ≡ streams_on p step found session
 unfolding streams_on
-streams-on p step found None = left-is p.moment (0, 0) found ∙ sym (append-nil _) ∙ sym (append-nil _) ∙ none step.ends
+streams-on p step found None left told = told p.moment (0, 0) ∙ sym (append-nil _) ∙ sym (append-nil _) ∙ none step.ends
   where
     none : (b : Bool) → (option_map_or (λ s. left_items s p.moment (0, 0)) found [] ++ []) ++ [] ≡ (option_map_or (λ s. left_items s p.moment (0, 0)) found [] ++ []) ++ cond b [] []
     none true = refl
     none false = refl
-streams-on p step found (Some s) =
+streams-on p step found (Some s) left told =
     let sizes : ℕ × ℕ = sizes_of (after_packet p step s) in
-    ap (λ (xs : List Item). (xs ++ acked_items p step s sizes) ++ cond step.ends (held_items (after_packet p step s) p.moment sizes) []) (left-is p.moment sizes found)
+    ap (λ (xs : List Item). (xs ++ acked_items p step s sizes) ++ cond step.ends (held_items (after_packet p step s) p.moment sizes) []) (told p.moment sizes)
 
 pub items-on : (making : Making) (p : Packet) (step : Step) (state : State) (found session : Option Session) (left : Option Stretches) (queued : Bool) (own : Option ItemHead) (old new : List Item)
-    → left ≡ option_map (stretches_of left_payloads) found → session ≡ session_of making p found step state → new ≡ old ++ streams_of p step left session → queued ≡ is_queued p step session
+    → TellsLeftAt found left → session ≡ session_of making p found step state → new ≡ old ++ streams_of p step left session → queued ≡ is_queued p step session
     → own ≡ own_head making.inserts p step queued (session_behind p step session) → new ++ own_item p.payload own ≡ old ++ items_on making p step state found
 unfolding streams_on
 items-on making p step state found session left queued own old new left_is session_is pushed queued_is own_is =
     let after : Option Session = session_behind p step session in
     let own_are : own_item p.payload own ≡ own_items making p step session after =
     ap (own_item p.payload) own_is ∙ ap (λ (q : Bool). own_item p.payload (own_head making.inserts p step q after)) queued_is ∙ own-is (is_queued p step session && not making.inserts) (packet_item p step after) in
-    (λ i. (pushed ∙ ap (λ (l : Option Stretches). old ++ streams_of p step l session) left_is ∙ ap (λ (xs : List Item). old ++ xs) (streams-on p step found session)) i ++ own_are i)
+    (λ i. (pushed ∙ ap (λ (xs : List Item). old ++ xs) (streams-on p step found session left left_is)) i ++ own_are i)
     ∙ append_assoc old (streams_on p step found session) (own_items making p step session after)
     ∙ ap (λ (s : Option Session). old ++ (streams_on p step found s ++ own_items making p step s (session_behind p step s))) session_is

@@ -2,10 +2,12 @@
 use Rattle.std.proofs.Common.{◌≡◌, ℕ, ◌<◌, Bool, true, false, ◌&&◌, cond, List, [], ◌∷◌, length, map, refl, sym, ap, subst, ◌∙◌, arith}
 use Rattle.std.specs.List.{flat_map}
 use Rattle.overlap_core.specs.declared.segment.Run.{Run}
+use Rattle.overlap_core.specs.Overlap.{covered_end}
 use Rattle.stream5_reassembly.specs.Extents.{extent_after}
-use Rattle.stream5_reassembly.specs.Segments.{AppendsFlushed, DirectionState, Flushes, Stays, ack_flushes, ack_place, flushed_to, segment_fate}
-use Rattle.flow_lanes.specs.Sides.{Side, direction_after_data, is_held, queues, side_after_data, started_by}
-use Rattle.flow_lanes.specs.Streams.{flushed_payloads, item_size, parts_of}
+use Rattle.stream5_reassembly.specs.Segments.{AppendsFlushed, DirectionState, Flushes, Stays, ack_flushes, ack_place, flushed_to, idle, segment_fate, top}
+use Rattle.flow_lanes.specs.Sides.{Side, acked_payloads, direction_after_data, held_payloads, is_held, queues, side_after_data, started_by}
+use Rattle.flow_lanes.specs.Streams.{flushed_payloads, item_size, parts_of, runs_of}
+use Rattle.flow_lanes.specs.Working.{HasNoneLeft}
 use Rattle.flow_lanes.proofs.Runs.{flushed_payloads-runs}
 
 -- no bytes are no data
@@ -50,3 +52,25 @@ acked-cut old new ack runs flushed is flushes stays = subst (λ (b : Bool). (cut
         → (cut_of runs ≡ cond b (flushed_payloads old (ack_place old ack)) []) × (new ≡ cond b (flushed_to old (ack_place old ack)) old)
     by_case true flushes stays = (cut-flushed old (ack_place old ack) runs (flushes refl).runs, (flushes refl).state)
     by_case false flushes stays = (ap cut_of (stays refl).runs, (stays refl).state)
+
+-- where an acknowledgement doesn't flush there is nothing to cut
+pub acked-none : (side : Side) (ack : ℕ) (flushed : Bool) → flushed ≡ ack_flushes side.direction ack → flushed ≡ false → acked_payloads side ack ≡ []
+unfolding acked_payloads
+acked-none side ack flushed is none = ap (λ (b : Bool). cond b (flushed_payloads side.direction (ack_place side.direction ack)) []) (sym is ∙ none)
+
+-- a direction that isn't started holds nothing
+pub held-idle : (side : Side) → side.direction ≡ idle side.direction.limits side.direction.preference → held_payloads side ≡ []
+unfolding held_payloads flushed_payloads runs_of covered_end
+held-idle side is = ap (λ (d : DirectionState). flushed_payloads d (top d)) is
+
+pub idle-same : (side : Side) → side.direction ≡ idle side.direction.limits side.direction.preference
+    → side ≡ record side { direction = idle side.direction.limits side.direction.preference }
+idle-same side is = ap (λ (d : DirectionState). record side { direction = d }) is
+
+-- a side whose direction isn't started has nothing left
+pub none-left : (side : Side) → side.direction ≡ idle side.direction.limits side.direction.preference → HasNoneLeft side
+none-left side is = by_case side.on
+  where
+    by_case : (on : Bool) → (cond on [] (held_payloads side) ≡ []) × (cond on side (record side { direction = idle side.direction.limits side.direction.preference }) ≡ side)
+    by_case true = (refl, refl)
+    by_case false = (held-idle side is, sym (idle-same side is))

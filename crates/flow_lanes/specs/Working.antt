@@ -1,7 +1,7 @@
 -- What is done on the way from a packet to its items, step by step on the session as it stands.
 --
 -- To try it on: a stretch "ab" from 10.0.0.1 port 1000 to 10.0.0.2 port 80 gives the item "ab" of that head.
-use Rattle.std.specs.Prelude.{ℕ, Bool, true, false, not, ◌&&◌, List, [], ◌∷◌, ◌++◌, Option, Some, None, map, if◌then◌else◌}
+use Rattle.std.specs.Prelude.{◌≡◌, ℕ, Bool, true, false, not, ◌&&◌, List, [], ◌∷◌, ◌++◌, Option, Some, None, map, if◌then◌else◌}
 use Rattle.std.specs.Option.{option_map_or}
 use Rattle.edge_io.specs.declared.moment.Moment.{Moment}
 use Rattle.packet_decode.specs.declared.item.ItemHead.{ItemHead}
@@ -13,7 +13,7 @@ use Rattle.flow_lanes.specs.Engines.{Making}
 use Rattle.flow_lanes.specs.Hits.{Item}
 use Rattle.flow_lanes.specs.Items.{acked_items, closing_items, head_between, held_items, left_items, own_items, packet_item, session_behind}
 use Rattle.flow_lanes.specs.Sessions.{Packet, Session, after_ack, after_data, session_of, sizes_of}
-use Rattle.flow_lanes.specs.Sides.{Side}
+use Rattle.flow_lanes.specs.Sides.{Side, left_payloads, without_left}
 
 -- one side of a session: the client's, or the server's
 abbrev pub side_of : Bool → Session → Side
@@ -42,6 +42,18 @@ stretches_items moment sizes both = stretch_items true moment sizes both.client 
 -- those that there may be
 abbrev pub maybe_items : Moment → ℕ × ℕ → Option Stretches → List Item
 maybe_items moment sizes both = option_map_or (stretches_items moment sizes) both []
+
+-- nothing is left of a stretch of this side that has ended, and none is taken
+abbrev pub HasNoneLeft : Side → Type 0
+HasNoneLeft side = (left_payloads side ≡ []) × (without_left side ≡ side)
+
+-- these stretches give the items of what is left of a session's stretches that have ended
+abbrev pub TellsLeft : Session → Option Stretches → Type 0
+TellsLeft session left = (moment : Moment) (sizes : ℕ × ℕ) → maybe_items moment sizes left ≡ left_items session moment sizes
+
+-- the same of the session at hand, if there is one
+abbrev pub TellsLeftAt : Option Session → Option Stretches → Type 0
+TellsLeftAt found left = (moment : Moment) (sizes : ℕ × ℕ) → maybe_items moment sizes left ≡ option_map_or (λ s. left_items s moment sizes) found []
 
 -- how far the data of a session reach, if there is one
 abbrev pub sizes_behind : Option Session → ℕ × ℕ

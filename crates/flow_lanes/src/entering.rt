@@ -9,13 +9,12 @@ ghost use Rattle.flow_lanes.specs.Items.{facts_of, is_queued, session_behind};
 ghost use Rattle.flow_lanes.specs.Kept.{GrowsFound, IsFound, IsOf, KeepsFound};
 ghost use Rattle.flow_lanes.specs.Reach.{AreWithin, HasLimits, IsWithin};
 ghost use Rattle.flow_lanes.specs.Sessions.{Session as Standing, begun_session, session_of, settled, sizes_of, with_bases};
-ghost use Rattle.flow_lanes.specs.Sides.{left_payloads};
-ghost use Rattle.flow_lanes.specs.Working.{items_on, own_head, own_item, sizes_behind, streams_of, stretches_of};
+ghost use Rattle.flow_lanes.specs.Working.{TellsLeftAt, items_on, own_head, own_item, sizes_behind, streams_of};
 
 use crate::arrival::Arrival;
 use crate::item::Item;
 use crate::keeping::FlowState;
-use crate::session::{Session, Stretches};
+use crate::session::{Left, Session};
 use crate::settings::Settings;
 use crate::streams::push_maybe;
 use edge_io::NoMemory;
@@ -25,23 +24,16 @@ use std::alloc::Global;
 use stream5_sessions::{Session as Phases, Step};
 
 /// Takes what is left of stretches that rules have ended.
-fn take_left_stretches(
-    alloc: Global,
-    found: &mut Option<FlowState>,
-) -> Result<Option<Stretches>, NoMemory>
+fn take_left_stretches(alloc: Global, found: &mut Option<FlowState>) -> Result<Left, NoMemory>
     requires { IsWithin (session_at_hand found.old) (2 ^ 63) }
-    ensures stretches { IfOk result
-        (λ left. left ≡ option_map (stretches_of left_payloads) (session_at_hand found.old)) }
+    ensures left { IfOk result (TellsLeftAt (session_at_hand found.old)) }
     ensures session { OnOk result (session_at_hand found.new ≡ option_map settled (session_at_hand found.old)) }
     ensures bits { bits_at_hand found.new ≡ bits_at_hand found.old }
     ensures keeps { KeepsFound found.old found.new }
 {
     match found {
-        None => Ok(None),
-        Some(kept) => {
-            let left = kept.session.take_left_stretches(alloc)?;
-            Ok(Some(left))
-        }
+        None => Ok(Left::none()),
+        Some(kept) => kept.session.take_left(alloc),
     }
 }
 
@@ -68,6 +60,27 @@ fn state_at_begin(
     }
 }
 
+/// A session that the packet begins takes its place.
+// Kept out of the line of the other packets, which otherwise pay for its moves.
+#[inline(never)]
+fn begin(
+    alloc: Global,
+    settings: &Settings,
+    p: &Arrival,
+    step: &Step,
+    state: Phases,
+    found: &mut Option<FlowState>,
+)
+    requires { HasLimits (making_of settings.now) }
+    ensures state { found.new ≡ Some (record {
+      session = with_bases step.now (begun_session (making_of settings.now) (packet_of p.now) step.now state);
+      bits = empty;
+    }) }
+    ensures within { IsWithin (session_at_hand found.new) 0 }
+{
+    *found = Some(state_at_begin(alloc, settings, p, step, state));
+}
+
 /// The packet's session takes its place: it begins, goes on, or there is none.
 #[tactic(auto, unfolding(crate::specs::Sessions::session_of, crate::specs::Sessions::begun_session))]
 fn enter(
@@ -90,7 +103,7 @@ fn enter(
     if !step.tracked {
         *found = None;
     } else if step.begun {
-        *found = Some(state_at_begin(alloc, settings, p, step, state));
+        begin(alloc, settings, p, step, state, found);
     } else if let Some(kept) = found {
         kept.session.go_on(step, state);
     }
@@ -101,7 +114,7 @@ fn take_packet(
     alloc: Global,
     p: &Arrival,
     step: &Step,
-    left: Option<Stretches>,
+    left: Left,
     found: &mut Option<FlowState>,
     out: &mut Vec<Item>,
 ) -> Result<bool, NoMemory>

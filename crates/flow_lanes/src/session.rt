@@ -1,21 +1,22 @@
 //! A session between two packets, and what a packet does to it (specs/Sessions).
 
-ghost use Rattle.std.specs.Prelude.{◌≡◌, ℕ, ◌+◌, ◌-◌, ◌^◌, ◌≤◌, ◌++◌, [], false, length, not, Some, IfOk, OnOk, if◌then◌else◌};
+ghost use Rattle.std.specs.Prelude.{◌≡◌, ℕ, ◌+◌, ◌-◌, ◌^◌, ◌≤◌, ◌++◌, [], false, length, not, None, Some, IfOk, OnOk, if◌then◌else◌};
 ghost use Rattle.flow_lanes.specs.Given.{making_of, packet_of};
 ghost use Rattle.flow_lanes.specs.Items.{acked_items, closing_items, held_items, is_queued, stream_items};
 ghost use Rattle.flow_lanes.specs.Reach.{AreWithin, GrowsOne, HasLimits, KeepsWithin};
 ghost use Rattle.flow_lanes.specs.Sessions.{after_ack, after_data, begun_session, client_at_begin, client_end, is_from_client, server_at_begin, server_end, settled, sizes_of, with_bases};
 ghost use Rattle.flow_lanes.specs.Sides.{acked_payloads, left_payloads, queues, side_after_ack, side_after_data};
-ghost use Rattle.flow_lanes.specs.Working.{after_packet, side_of, streams_told, stretches_of, with_side};
+ghost use Rattle.flow_lanes.specs.Working.{HasNoneLeft, TellsLeft, after_packet, side_of, streams_told, stretches_of, with_side};
 
 use crate::arrival::Arrival;
 use crate::cutting::Stretch;
 use crate::item::Item;
 use crate::settings::Settings;
 use crate::side::Side;
-use crate::streams::{push_maybe, push_stretches};
+use crate::streams::push_maybe;
 use edge_io::{Moment, NoMemory};
 use std::alloc::Global;
+use std::marker::Model;
 use stream5_sessions::{End, Session as Phases, Step};
 
 /// A session that stands: its phase, the end to which its first packet went, and its sides.
@@ -32,6 +33,40 @@ pub(crate) struct Session {
 pub(crate) struct Stretches {
     pub client: Stretch,
     pub server: Stretch,
+}
+
+/// What is left of a session's stretches that have ended, if something may be. It is kept in a box, so that a packet
+/// before which nothing is left moves no more than a word. Contracts see the payloads of both sides, if there are any.
+#[derive(Drop)]
+pub(crate) struct Left {
+    pub both: Option<Box<Stretches>>,
+}
+
+impl Model for Left {
+    ghost use Rattle.std.specs.Prelude.{Option, option_map};
+    ghost use Rattle.flow_lanes.specs.declared.session.Stretches.{Stretches};
+
+    ghost Value = { Option Stretches };
+
+    ghost view = { λ left. option_map (λ both. both.value) left.both };
+}
+
+impl Left {
+    /// Nothing is left. Takes no memory.
+    pub fn none() -> Left
+        ensures { result ≡ None }
+    {
+        Left { both: None }
+    }
+
+    /// These may be left.
+    fn some(alloc: Global, both: Stretches) -> Result<Left, NoMemory>
+        ensures { IfOk result (λ left. left ≡ Some both) }
+    {
+        Ok(Left {
+            both: Some(Box::new(alloc, both)?),
+        })
+    }
 }
 
 /// The client sent the packet. Where no client is known, neither data nor acknowledgements count.
@@ -134,8 +169,34 @@ impl Session {
         (self.client.extent.size(), self.server.extent.size())
     }
 
-    /// Takes what is left of stretches that have ended.
-    pub fn take_left_stretches(&mut self, alloc: Global) -> Result<Stretches, NoMemory>
+    /// Whether something may be left of stretches that have ended. Takes no memory.
+    fn has_left(&self) -> bool
+        ensures client { result ≡ false → HasNoneLeft self.now.client }
+        ensures server { result ≡ false → HasNoneLeft self.now.server }
+    {
+        self.client.has_left() || self.server.has_left()
+    }
+
+    /// Takes what is left of stretches that have ended; None where nothing can be.
+    pub fn take_left(&mut self, alloc: Global) -> Result<Left, NoMemory>
+        requires { AreWithin self.old (2 ^ 63) (2 ^ 63) }
+        ensures left { IfOk result (TellsLeft self.old) }
+        ensures state { OnOk result (self.new ≡ settled self.old) }
+        ensures within { KeepsWithin self.old self.new }
+        ensures same { self.new.state ≡ self.old.state }
+    {
+        if !self.has_left() {
+            return Ok(Left::none());
+        }
+        let both = self.take_left_stretches(alloc)?;
+        let left = Left::some(alloc, both)?;
+        Ok(left)
+    }
+
+    /// Takes what is left of stretches that have ended, of both sides.
+    // Kept out of the line of most packets, before which nothing is left.
+    #[inline(never)]
+    fn take_left_stretches(&mut self, alloc: Global) -> Result<Stretches, NoMemory>
         requires { AreWithin self.old (2 ^ 63) (2 ^ 63) }
         ensures stretches { IfOk result (λ both. both ≡ stretches_of left_payloads self.old) }
         ensures state { OnOk result (self.new ≡ settled self.old) }
@@ -183,8 +244,8 @@ impl Session {
         ensures same { self.new.state ≡ self.old.state }
     {
         let sizes = self.sizes();
-        let left = self.take_left_stretches(alloc)?;
-        push_stretches(out, moment, sizes, left)?;
+        let left = self.take_left(alloc)?;
+        push_maybe(out, moment, sizes, left)?;
         self.push_held_items(alloc, moment, sizes, out)
     }
 
@@ -279,7 +340,7 @@ impl Session {
         alloc: Global,
         p: &Arrival,
         step: &Step,
-        left: Option<Stretches>,
+        left: Left,
         out: &mut Vec<Item>,
     ) -> Result<bool, NoMemory>
         requires within { AreWithin self.old (2 ^ 63 - 2 ^ 31) (2 ^ 63 - 2 ^ 31) }

@@ -3,12 +3,12 @@
 //! specs/Sides says what becomes of it; a `Direction` puts its data together, an `Extent` counts how far
 //! they reach.
 
-ghost use Rattle.std.specs.Prelude.{◌≡◌, ℕ, ◌+◌, ◌^◌, ◌<◌, ◌≤◌, ◌++◌, length, IfOk, OnOk, Some};
+ghost use Rattle.std.specs.Prelude.{◌≡◌, ℕ, ◌+◌, ◌^◌, ◌<◌, ◌≤◌, ◌++◌, false, length, IfOk, OnOk, Some};
 ghost use Rattle.stream5_reassembly.specs.Segments.{AreLimits, idle};
 ghost use Rattle.flow_lanes.specs.Sides.{acked_payloads, direction_after_data, held_payloads, left_payloads, queues, side_after_ack, side_after_data, side_at_begin, started_by, turned, with_base, without_left};
 ghost use Rattle.flow_lanes.specs.Items.{stream_items};
 ghost use Rattle.flow_lanes.specs.Reach.{Grows, Keeps, Reaches};
-ghost use Rattle.flow_lanes.specs.Working.{stretch_of};
+ghost use Rattle.flow_lanes.specs.Working.{HasNoneLeft, stretch_of};
 
 use crate::cutting::{Stretch, cut_runs};
 use crate::item::Item;
@@ -145,9 +145,12 @@ impl Side {
         ensures state { OnOk result (self.new ≡ side_after_ack self.old ack) }
         ensures grows { Grows self.old self.new }
     {
-        let head = head_between(self.from, self.to, of_client, moment, sizes);
         let mut runs = Vec::new(alloc);
-        let _flushed = self.direction.ack(alloc, ack, &mut runs)?;
+        let flushed = self.direction.ack(alloc, ack, &mut runs)?;
+        if !flushed {
+            return Ok(());
+        }
+        let head = head_between(self.from, self.to, of_client, moment, sizes);
         let payloads = cut_runs(alloc, &runs)?;
         push_payloads(head, payloads, out)
     }
@@ -161,6 +164,9 @@ impl Side {
             ≡ record self.old { direction = idle self.old.direction.limits self.old.direction.preference }) }
         ensures keeps { Keeps self.old self.new }
     {
+        if !self.direction.started() {
+            return Ok(Items::new(alloc));
+        }
         let mut runs = Vec::new(alloc);
         self.direction.stop(alloc, &mut runs)?;
         let payloads = cut_runs(alloc, &runs)?;
@@ -186,6 +192,13 @@ impl Side {
         let head = head_between(self.from, self.to, of_client, moment, sizes);
         let payloads = self.drain(alloc)?;
         push_payloads(head, payloads, out)
+    }
+
+    /// Whether something may be left of a stretch that was ended by turning the side off. Takes no memory.
+    pub fn has_left(&self) -> bool
+        ensures { result ≡ false → HasNoneLeft self.now }
+    {
+        !self.on && self.direction.started()
     }
 
     /// Takes what is left of a stretch that was ended by turning the side off.

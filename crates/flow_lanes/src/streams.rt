@@ -6,7 +6,7 @@ ghost use Rattle.flow_lanes.specs.Working.{maybe_items, stretch_items, stretches
 
 use crate::cutting::Stretch;
 use crate::item::Item;
-use crate::session::Stretches;
+use crate::session::{Left, Stretches};
 use edge_io::{Items, Moment, NoMemory, Text};
 use packet_decode::{Body, IpHead, ItemHead, ItemKind, SessionFacts};
 use stream5_sessions::End;
@@ -80,7 +80,7 @@ pub(crate) fn push_payloads(
 }
 
 /// Appends those of both sides, the client's first.
-pub(crate) fn push_stretches(
+fn push_stretches(
     out: &mut Vec<Item>,
     moment: Moment,
     sizes: (u64, u64),
@@ -98,12 +98,12 @@ pub(crate) fn push_maybe(
     out: &mut Vec<Item>,
     moment: Moment,
     sizes: (u64, u64),
-    both: Option<Stretches>,
+    left: Left,
 ) -> Result<(), NoMemory>
-    ensures { OnOk result (out.new.items ≡ out.old.items ++ maybe_items moment sizes both) }
+    ensures { OnOk result (out.new.items ≡ out.old.items ++ maybe_items moment sizes left) }
 {
-    match both {
+    match left.both {
         None => Ok(()),
-        Some(both) => push_stretches(out, moment, sizes, both),
+        Some(both) => push_stretches(out, moment, sizes, Box::into_inner(both)),
     }
 }

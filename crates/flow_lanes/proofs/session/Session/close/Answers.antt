@@ -5,6 +5,6 @@ use Rattle.flow_lanes.proofs.session.Session.close.Goals as goal
 pub returns-clause-items : goal.returns-clause-items
 returns-clause-items c =
     on_ok_weaker c.push_held_items.result
-    (closing-is c.args.self.now c.take_left_stretches.new.self c.args.moment c.sizes-sizes.result c.in_ok-left.left c.args.out.now.items c.push_stretches.new.out.items c.push_held_items.new.out.items
-    c.sizes-sizes.ensures c.in_ok-left.ensures.stretches c.in_ok-left.ensures.state c.in_ok-push_stretches.ensures)
+    (closing-is c.args.self.now c.take_left.new.self c.args.moment c.sizes-sizes.result c.in_ok-left.left c.args.out.now.items c.push_maybe.new.out.items c.push_held_items.new.out.items
+    c.sizes-sizes.ensures c.in_ok-left.ensures.left c.in_ok-left.ensures.state c.in_ok-push_maybe.ensures)
     c.push_held_items.ensures.items

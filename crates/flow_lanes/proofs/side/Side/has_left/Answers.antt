@@ -1,0 +1,5 @@
+use Rattle.flow_lanes.proofs.SideLaws.{none-left}
+use Rattle.flow_lanes.proofs.side.Side.has_left.Goals as goal
+
+pub returns-then-not-self : goal.returns-then-not-self
+returns-then-not-self c = λ unstarted. none-left c.args.self.now (c.started.ensures.nothing unstarted)
