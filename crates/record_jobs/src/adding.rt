@@ -80,16 +80,6 @@ fn finish_of(flow: Option<u64>) -> Option<Work>
     }
 }
 
-/// A fragment by itself, if there is one.
-fn fragment_of(fragment: Option<Item>) -> Option<Work>
-    ensures { result ≡ option_map alone fragment }
-{
-    match fragment {
-        Some(item) => Some(alone(item)),
-        None => None,
-    }
-}
-
 /// A packet, if there is one.
 fn packet_of(
     by: &FrontConfig<'_>,
@@ -106,7 +96,24 @@ fn packet_of(
     }
 }
 
+/// How many jobs there is room for at least, once there is room for any: growing from one on would move the jobs of a
+/// batch again and again.
+const FIRST_ROOM: usize = 256;
+
+/// Makes room for one more job.
+#[inline(always)]
+fn make_room(out: &mut Vec<Job>) -> Result<(), NoMemory>
+    ensures { out.new.items ≡ out.old.items }
+{
+    if out.len() == out.capacity() {
+        out.reserve(FIRST_ROOM)?;
+    }
+    Ok(())
+}
+
 /// Adds a job, if there is one, and gives the number of the next.
+// Called, it would have its job moved twice more.
+#[inline(always)]
 fn add(out: &mut Vec<Job>, number: u64, moment: Moment, work: Option<Work>) -> Result<u64, NoMemory>
     requires { number + 1 < 2 ^ 64 }
     ensures next { IfOk result (λ next. next ≡ number + length (option_to_list work)) }
@@ -116,12 +123,69 @@ fn add(out: &mut Vec<Job>, number: u64, moment: Moment, work: Option<Work>) -> R
     let Some(work) = work else {
         return Ok(number);
     };
+    make_room(out)?;
     out.push(Job {
         number,
         moment,
         work,
     })?;
     Ok(number + 1)
+}
+
+/// Adds a job that few records have.
+// Kept out of the line of the others, which otherwise pay for its moves.
+#[inline(never)]
+fn add_seldom(
+    out: &mut Vec<Job>,
+    number: u64,
+    moment: Moment,
+    work: Option<Work>,
+) -> Result<u64, NoMemory>
+    requires { number + 1 < 2 ^ 64 }
+    ensures next { IfOk result (λ next. next ≡ number + length (option_to_list work)) }
+    ensures added { OnOk result (out.new.items ≡ out.old.items ++ numbered number moment (option_to_list work)) }
+    ensures err { OnErr result (out.new.items ≡ out.old.items) }
+{
+    add(out, number, moment, work)
+}
+
+/// Adds the end of a flow, if one ends, and gives the number of the next job.
+fn add_finish(
+    out: &mut Vec<Job>,
+    number: u64,
+    moment: Moment,
+    flow: Option<u64>,
+) -> Result<u64, NoMemory>
+    requires { number + 1 < 2 ^ 64 }
+    ensures next { IfOk result
+        (λ next. next ≡ number + length (option_to_list (option_map (λ flow. Work.Finish flow) flow))) }
+    ensures added { OnOk result (out.new.items
+        ≡ out.old.items ++ numbered number moment (option_to_list (option_map (λ flow. Work.Finish flow) flow))) }
+    ensures err { OnErr result (out.new.items ≡ out.old.items) }
+{
+    match flow {
+        None => Ok(number),
+        Some(flow) => add_seldom(out, number, moment, Some(Work::Finish { flow })),
+    }
+}
+
+/// Adds a fragment by itself, if there is one, and gives the number of the next job.
+fn add_fragment(
+    out: &mut Vec<Job>,
+    number: u64,
+    moment: Moment,
+    fragment: Option<Item>,
+) -> Result<u64, NoMemory>
+    requires { number + 1 < 2 ^ 64 }
+    ensures next { IfOk result (λ next. next ≡ number + length (option_to_list (option_map alone fragment))) }
+    ensures added { OnOk result (out.new.items
+        ≡ out.old.items ++ numbered number moment (option_to_list (option_map alone fragment))) }
+    ensures err { OnErr result (out.new.items ≡ out.old.items) }
+{
+    match fragment {
+        None => Ok(number),
+        Some(item) => add_seldom(out, number, moment, Some(alone(item))),
+    }
 }
 
 /// Adds what is done for a record, where its touch found this, and gives the number of the next job.
@@ -145,8 +209,8 @@ pub(crate) fn add_works(
         whole,
         ..
     } = caught;
-    let number = add(out, number, time.now, finish_of(evicted(touch)))?;
-    let number = add(out, number, time.now, fragment_of(fragment))?;
+    let number = add_finish(out, number, time.now, evicted(touch))?;
+    let number = add_fragment(out, number, time.now, fragment)?;
     let next = add(
         out,
         number,

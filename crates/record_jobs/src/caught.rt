@@ -122,6 +122,8 @@ fn take_part(
 }
 
 /// What a fragment brings.
+// Kept out of the line of whole packets, which otherwise pay for its moves.
+#[inline(never)]
 fn of_part(
     alloc: Global,
     by: &FrontConfig<'_>,
