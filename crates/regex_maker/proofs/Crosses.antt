@@ -2,7 +2,6 @@
 -- a single search through all of them finds no end.
 use denote.Param.Send.{IsSend, IsSync, sendable}
 use Rattle.std.proofs.Crossing as heap
-use Rattle.std.proofs.MapsCrossing as maps
 use Rattle.regex_class.proofs.Class.TheSendSync as class
 use Rattle.regex_hir.proofs.look.Look.TheSendSync as look
 use Rattle.regex_hir.proofs.hir.Hir.TheLaws.TheKnot as knot
@@ -18,10 +17,14 @@ use Rattle.regex_meta.specs.contracts.plan.Plan as Plan
 use Rattle.regex_meta.specs.contracts.plan.Plans as Plans
 use Rattle.regex_meta.specs.contracts.program.Program as Program
 use Rattle.regex_meta.specs.contracts.signs.Signs as Signs
-use Rattle.regex_syntax.proofs.Config.TheSendSync as config
-use Rattle.regex.specs.contracts.bytes.regex.Regex as Regex
-use Rattle.regex.specs.contracts.pattern.Pattern as Compiled
+use Rattle.regex_dfa.proofs.forward.Forward.TheSendSync as forward
+use Rattle.regex_dfa.proofs.reverse.Reverse.TheSendSync as reverse
+use Rattle.counted_slot.proofs.Counted.TheSendSync as slot
 use Rattle.regex_maker.specs.contracts.made.RegexPattern as RegexPattern
+use Rattle.regex_maker.specs.contracts.memory.Memory as Memory
+use Rattle.regex_maker.specs.contracts.shelf.Kept as Kept
+use Rattle.regex_maker.specs.contracts.shelf.Shelf as Shelf
+use Rattle.regex_maker.specs.contracts.sieve.Sieve as Sieve
 
 Hir-send : IsSend Hir.the_field.row
 Hir-send = search (sendable, heap.crosses, knot.crosses, class.the_field_send, look.the_field_send) depth 40
@@ -38,14 +41,20 @@ Signs-send = search (sendable, heap.crosses, Hir-send, caseless.the_send) depth 
 Program-send : IsSend Program.the_field.row
 Program-send = search (sendable, heap.crosses, Hir-send, dfa.the_field_send, Plans-send, Signs-send, byte_set.the_send) depth 40
 
-Compiled-send : IsSend Compiled.the_field.row
-Compiled-send = search (sendable, heap.crosses, maps.crosses, Program-send, config.the_field_send) depth 40
+Memory-send : IsSend Memory.the_field.row
+Memory-send = search (sendable, forward.the_field_send, reverse.the_field_send) depth 40
 
-Regex-send : IsSend Regex.the_field.row
-Regex-send = search (sendable, Compiled-send) depth 40
+Kept-send : IsSend Kept.the_field.row
+Kept-send = search (sendable, heap.crosses, Memory-send) depth 40
+
+Shelf-send : IsSend Shelf.the_field.row
+Shelf-send = search (sendable, heap.crosses, slot.the_send, Kept-send) depth 40
+
+Sieve-send : IsSend Sieve.the_field.row
+Sieve-send = search (sendable, prefilter.the_send, ladder.the_field_send) depth 40
 
 pub RegexPattern-send : IsSend RegexPattern.the_row
-RegexPattern-send = search (sendable, heap.crosses, Regex-send) depth 40
+RegexPattern-send = search (sendable, heap.crosses, Program-send, Sieve-send, Shelf-send) depth 40
 
 Hir-sync : IsSync Hir.the_field.row
 Hir-sync = search (sendable, heap.crosses, knot.crosses, class.the_field_sync, look.the_field_sync) depth 40
@@ -62,11 +71,17 @@ Signs-sync = search (sendable, heap.crosses, Hir-sync, caseless.the_sync) depth 
 Program-sync : IsSync Program.the_field.row
 Program-sync = search (sendable, heap.crosses, Hir-sync, dfa.the_field_sync, Plans-sync, Signs-sync, byte_set.the_sync) depth 40
 
-Compiled-sync : IsSync Compiled.the_field.row
-Compiled-sync = search (sendable, heap.crosses, maps.crosses, Program-sync, config.the_field_sync) depth 40
+Memory-sync : IsSync Memory.the_field.row
+Memory-sync = search (sendable, forward.the_field_sync, reverse.the_field_sync) depth 40
 
-Regex-sync : IsSync Regex.the_field.row
-Regex-sync = search (sendable, Compiled-sync) depth 40
+Kept-sync : IsSync Kept.the_field.row
+Kept-sync = search (sendable, heap.crosses, Memory-sync) depth 40
+
+Shelf-sync : IsSync Shelf.the_field.row
+Shelf-sync = search (sendable, heap.crosses, slot.the_sync, Kept-sync, Kept-send) depth 40
+
+Sieve-sync : IsSync Sieve.the_field.row
+Sieve-sync = search (sendable, prefilter.the_sync, ladder.the_field_sync) depth 40
 
 pub RegexPattern-sync : IsSync RegexPattern.the_row
-RegexPattern-sync = search (sendable, heap.crosses, Regex-sync) depth 40
+RegexPattern-sync = search (sendable, heap.crosses, Program-sync, Sieve-sync, Shelf-sync) depth 40

@@ -7,12 +7,13 @@ use Rattle.std.specs.Option.{option_and_then}
 use Rattle.std.proofs.lemmas.Bool.Decides.{Decides-by_and, Decides-ltb}
 use Rattle.edge_io.specs.declared.pattern.PatternFlags.{PatternFlags}
 use Rattle.edge_io.specs.declared.pattern.Span.{Span}
-use Rattle.regex.specs.Bytes.{regex_pattern, regex_source, regex_config, IsReadFromSource}
 use Rattle.regex.specs.Patterns.{Re, Match, Config, SameCaptures, Reads, find, span}
-use Rattle.regex.specs.declared.bytes.regex.Regex.{Regex}
+use Rattle.regex_hir.specs.Meaning.{meaning}
+use Rattle.regex_hir.specs.declared.hir.Hir.{Hir}
 use Rattle.regex_syntax.specs.Brackets.{Nested}
 use Rattle.regex_syntax.specs.Grammar.{Names, group_count, read}
 use Rattle.regex_syntax.proofs.CapturesLemmas.{spans, find_alike}
+use Rattle.regex_maker.specs.Spelled.{IsSpelled}
 use Rattle.regex_maker.specs.Meaning.{IsPattern, are_bytes, pattern_text, options_of, span_of, span_in, regex_span}
 
 -- the test of bytes, as a fact of each of them
@@ -51,36 +52,21 @@ span_as_read : (found : Option (Nested Re × Names)) (most : ℕ) (re : Re) (nam
 span_as_read None most re names is bytes = absurd is
 span_as_read (Some found) most re names is bytes = span_in-alike re found.0.value is.1 bytes
 
-read_span : (config : Config) (source : List ℕ) (regex : Regex) → regex_source regex ≡ source → regex_config regex ≡ config → IsReadFromSource regex
-    → (bytes : List ℕ) → span_in (regex_pattern regex) bytes ≡ option_and_then (λ (read, known). span_in read.value bytes) (read config (chars source))
-unfolding Reads
-read_span config source regex spelled set is bytes =
-    span_as_read (read (regex_config regex) (chars (regex_source regex))) (regex_config regex).nest_limit (regex_pattern regex) _ is bytes
-    ∙ ap (λ (c : Config). option_and_then (λ (read, known). span_in read.value bytes) (read c (chars (regex_source regex)))) set
-    ∙ ap (λ (s : List ℕ). option_and_then (λ (read, known). span_in read.value bytes) (read config (chars s))) spelled
-
 -- what the maker's pattern finds
-pub span_in-regex_span : (text : List ℕ) (flags : PatternFlags) (regex : Regex) → regex_source regex ≡ pattern_text text → regex_config regex ≡ options_of flags → IsReadFromSource regex
-    → (bytes : List ℕ) → span_in (regex_pattern regex) bytes ≡ regex_span text flags bytes
-unfolding regex_span
-span_in-regex_span text flags regex spelled set is bytes = read_span (options_of flags) (pattern_text text) regex spelled set is bytes
+pub span_in-regex_span : (text : List ℕ) (flags : PatternFlags) (hir : Hir) → IsSpelled text flags hir
+    → (bytes : List ℕ) → span_in (meaning hir) bytes ≡ regex_span text flags bytes
+unfolding regex_span Reads
+span_in-regex_span text flags hir is bytes =
+    span_as_read (read (options_of flags) (chars (pattern_text text))) (options_of flags).nest_limit (meaning hir) is.0 is.1 bytes
 
 -- a text that an expression was read from is a pattern
 some_read : (found : Option (Nested Re × Names)) (P : Nested Re × Names → Type 0) → IsSomeAnd found P → IsSome found
 some_read None P is = absurd is
 some_read (Some found) P is = search rules
 
-some_of_source : (config : Config) (source : List ℕ) (regex : Regex) → regex_source regex ≡ source → regex_config regex ≡ config → IsReadFromSource regex
-    → IsSome (read config (chars source))
-unfolding Reads
-some_of_source config source regex spelled set is =
-    subst (λ (s : List ℕ). IsSome (read config (chars s))) spelled
-    (subst (λ (c : Config). IsSome (read c (chars (regex_source regex)))) set (some_read (read (regex_config regex) (chars (regex_source regex))) _ is))
-
-pub IsPattern-read : (text : List ℕ) (flags : PatternFlags) (regex : Regex) → regex_source regex ≡ pattern_text text → regex_config regex ≡ options_of flags → IsReadFromSource regex
-    → IsPattern text flags
-unfolding IsPattern
-IsPattern-read text flags regex spelled set is = some_of_source (options_of flags) (pattern_text text) regex spelled set is
+pub IsPattern-read : (text : List ℕ) (flags : PatternFlags) (hir : Hir) → IsSpelled text flags hir → IsPattern text flags
+unfolding IsPattern Reads
+IsPattern-read text flags hir is = some_read (read (options_of flags) (chars (pattern_text text))) _ is.1
 
 -- what a search answers
 abbrev pub place_span : ℕ × ℕ → Span

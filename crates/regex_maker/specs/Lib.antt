@@ -1,2 +1,4 @@
 pub mod Meaning
+pub mod Searching
+pub mod Spelled
 pub mod Finding

@@ -2,7 +2,7 @@
 --
 -- Public source: the syntax and the matches are those of Rust's `regex` crate, version 1, in its bytes
 -- form; the definitions `read` and `find` of the library `regex` say what they are. The flags are those
--- of the option `pcre` (Snort Users Manual 2.9, section 3.5.29): i, s, m and x.
+-- of the option `pcre` (Snort Users Manual 2.9, section 3.5): i, s, m and x.
 -- To try it on: `a.c` finds in the bytes of `xabc` the span from 1 to 4; with the flag i also in `xABC`;
 -- in `a`, line feed, `c` it finds a span with the flag s alone; `a(?=b)` is read as no pattern.
 use Rattle.std.specs.Prelude.{ℕ, Bool, false, List, ◌++◌, Option, None, IsSome, codes, nat_lt, if◌then◌else◌, chars}

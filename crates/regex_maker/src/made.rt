@@ -1,12 +1,81 @@
+ghost use Rattle.std.specs.Prelude.{◌≡◌, option_map, IfOk};
+ghost use Rattle.regex_vm.specs.Found.{span};
+ghost use Rattle.regex_meta.specs.Programs.{leftmost};
+ghost use Rattle.regex_maker.specs.Searching.{IsSieveFor, IsShelfFor, IsMemoryFor};
+
+use crate::memory::{GaveUp, Memory};
+use crate::shelf::Shelf;
+use crate::sieve::Sieve;
 use edge_io::{NoMemory, Pattern, Span};
-use regex::bytes::Regex;
+use regex_meta::{Program, Searcher};
 use std::alloc::Global;
 
 /// A regular expression over bytes.
 #[derive(Drop)]
 pub struct RegexPattern {
-    pub(crate) alloc: Global,
-    pub(crate) regex: Regex,
+    alloc: Global,
+    pub(crate) program: Program,
+    sieve: Sieve,
+    /// The working memory of searches that have ended.
+    shelf: Shelf,
+    ghost sifted: { IsSieveFor sieve program },
+    ghost shelved: { IsShelfFor shelf program.dfa },
+}
+
+impl RegexPattern {
+    /// The pattern of an expression, with nothing searched yet.
+    pub(crate) fn new(alloc: Global, program: Program) -> Result<RegexPattern, NoMemory>
+        ensures { IfOk result (λ pattern. pattern.program ≡ program) }
+    {
+        let sieve = Sieve::new(alloc, &program)?;
+        let shelf = Shelf::new(alloc, &program.dfa)?;
+        Ok(RegexPattern {
+            alloc,
+            program,
+            sieve,
+            shelf,
+        })
+    }
+
+    /// Memory that a search before left, or new memory.
+    fn memory(&self) -> Result<Box<Memory>, NoMemory>
+        ensures { IfOk result (λ memory. IsMemoryFor memory.value self.now.program.dfa) }
+    {
+        match self.shelf.take() {
+            Some(memory) => Ok(memory),
+            None => Ok(Box::new(self.alloc, Memory::new(self.alloc, &self.program.dfa)?)?),
+        }
+    }
+
+    /// The ends of the leftmost match, by the library's own choice of engines. Its working memory is
+    /// made for this search and dropped behind it.
+    #[inline(never)]
+    fn find_slowly(&self, bytes: &[u8]) -> Result<Option<(usize, usize)>, NoMemory>
+        ensures { IfOk result (λ ends. ends ≡ option_map span (leftmost self.now.program bytes.now 0)) }
+    {
+        let mut searcher = Searcher::new(self.alloc, &self.program)?;
+        Ok(searcher.find(bytes, 0))
+    }
+
+    /// The ends of the leftmost match.
+    fn ends(&self, bytes: &[u8]) -> Result<Option<(usize, usize)>, NoMemory>
+        ensures { IfOk result (λ ends. ends ≡ option_map span (leftmost self.now.program bytes.now 0)) }
+    {
+        let Some(start) = self.sieve.first_place(&self.program, bytes) else {
+            return Ok(None);
+        };
+        let mut memory = self.memory()?;
+        let found = if self.sieve.anchored {
+            memory.find_at_start(&self.program, bytes)
+        } else {
+            memory.find_from(&self.program, bytes, start)
+        };
+        self.shelf.lay(&self.program.dfa, memory);
+        match found {
+            Ok(ends) => Ok(ends),
+            Err(GaveUp) => self.find_slowly(bytes),
+        }
+    }
 }
 
 impl Pattern for RegexPattern {
@@ -14,16 +83,12 @@ impl Pattern for RegexPattern {
 
     ghost finds = { found_by };
 
-    /// The leftmost match. The working memory of the search is taken at its begin and given back at
-    /// its end.
+    /// The leftmost match. Bytes that lack a literal of every match are not searched. Otherwise the
+    /// search goes on with the memory of one that has ended, and takes new memory where there is none.
     fn find(&self, bytes: &[u8]) -> Result<Option<Span>, NoMemory> {
-        let mut matcher = self.regex.matcher(self.alloc)?;
-        match matcher.find(bytes) {
+        match self.ends(bytes)? {
             None => Ok(None),
-            Some(found) => Ok(Some(Span {
-                start: found.start(),
-                end: found.end(),
-            })),
+            Some((start, end)) => Ok(Some(Span { start, end })),
         }
     }
 }

@@ -1,15 +1,19 @@
 ghost use Rattle.std.specs.Prelude.{◌≡◌, ℕ, List, [], ◌∷◌, ◌++◌, IfOk, IsErrOf, OnOk, OnErr, string_bytes};
 ghost use Rattle.edge_io.specs.declared.pattern.PatternFlags.{PatternFlags};
-ghost use Rattle.regex.specs.Bytes.{regex_source, regex_config, IsReadFromSource};
 ghost use Rattle.regex_maker.specs.Finding.{found_by};
+ghost use Rattle.regex_maker.specs.Spelled.{IsSpelled};
 ghost use Rattle.regex_maker.specs.Meaning.{IsPattern, pattern_text, options_of, regex_span};
 
 use crate::made::RegexPattern;
 use edge_io::{MakeFault, NoMemory, PatternFlags, PatternMaker, Refusal, Text};
-use regex::bytes::Regex;
-use regex::{Error, RegexBuilder};
+use regex_compile::Error;
+use regex_meta::Program;
+use regex_syntax::{Config, ErrorKind, Parsed};
 use std::alloc::Global;
 use std::marker::Model;
+
+/// How many bytes the states of one compiled expression may take.
+const SIZE_LIMIT: usize = 10 << 20;
 
 /// Makes patterns by the library `regex`. Contracts see what it refused so far.
 #[derive(Debug, Drop)]
@@ -35,23 +39,37 @@ fn pattern_text(alloc: Global, text: &str) -> Result<String, NoMemory>
     Ok(source)
 }
 
-/// The regular expression that the text with the flags spells. It is refused where it is none, nests
-/// too deep or would take more memory than the library gives one by itself.
-fn regex_of(alloc: Global, text: &str, flags: PatternFlags) -> Result<Regex, MakeFault>
-    ensures source { IfOk result (λ regex. regex_source regex ≡ pattern_text text.now) }
-    ensures options { IfOk result (λ regex. regex_config regex ≡ options_of flags) }
-    ensures read { IfOk result IsReadFromSource }
+/// How the library reads an expression with the flags.
+fn config_of(flags: PatternFlags) -> Config
+    ensures { result ≡ options_of flags }
+{
+    let mut config = Config::default();
+    config.utf8 = false;
+    config.flags.case_insensitive = flags.nocase;
+    config.flags.dot_matches_new_line = flags.dot_all;
+    config.flags.multi_line = flags.multi_line;
+    config.flags.ignore_whitespace = flags.extended;
+    config
+}
+
+/// The expression that the text with the flags spells, and what is worked out from it before any
+/// search. It is refused where it is none, nests too deep or would take more memory than one may.
+fn program_of(alloc: Global, text: &str, flags: PatternFlags) -> Result<Program, MakeFault>
+    ensures { IfOk result (λ program. IsSpelled text.now flags program.hir) }
 {
     let source = pattern_text(alloc, text)?;
-    let builder = RegexBuilder::new(&source)
-        .case_insensitive(flags.nocase)
-        .dot_matches_new_line(flags.dot_all)
-        .multi_line(flags.multi_line)
-        .ignore_whitespace(flags.extended);
-    match builder.build_bytes(alloc) {
-        Ok(regex) => Ok(regex),
+    let Parsed { hir, names } = match regex_syntax::parse(alloc, &source, &config_of(flags)) {
+        Ok(parsed) => parsed,
+        Err(error) if error.kind == ErrorKind::OutOfMemory => return Err(MakeFault::NoMemory),
+        Err(_) => return Err(MakeFault::Refused),
+    };
+    let Ok(groups) = u32::try_from(names.len()) else {
+        return Err(MakeFault::Refused);
+    };
+    match Program::new(alloc, hir, groups, SIZE_LIMIT) {
+        Ok(program) => Ok(program),
         Err(Error::OutOfMemory) => Err(MakeFault::NoMemory),
-        Err(Error::Syntax(_) | Error::CompiledTooBig | Error::Internal) => Err(MakeFault::Refused),
+        Err(Error::TooBig | Error::Malformed) => Err(MakeFault::Refused),
     }
 }
 
@@ -98,8 +116,8 @@ impl PatternMaker for RegexMaker {
         ensures made_unrefused { OnOk result (self.new ≡ self.old) }
         ensures no_memory { IsErrOf result MakeFault.NoMemory → self.new ≡ self.old }
     {
-        match regex_of(alloc, text, flags) {
-            Ok(regex) => Ok(RegexPattern { alloc, regex }),
+        match program_of(alloc, text, flags) {
+            Ok(program) => Ok(RegexPattern::new(alloc, program)?),
             Err(MakeFault::NoMemory) => Err(MakeFault::NoMemory),
             Err(MakeFault::Refused) => {
                 self.refuse(alloc, text, flags)?;

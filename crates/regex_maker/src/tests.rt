@@ -3,6 +3,8 @@
 use crate::{RegexMaker, RegexPattern};
 use edge_io::crossing::{sendable, shareable};
 use edge_io::{MakeFault, NoMemory, Pattern, PatternFlags, PatternMaker, Span};
+use std::alloc::Global;
+use std::process::Abort;
 use std::test::Fail;
 
 const PLAIN: PatternFlags = PatternFlags {
@@ -79,6 +81,71 @@ fn texts_that_are_refused(rt: HostRuntime) {
             Err(fault) => assert_eq!(rt; fault, MakeFault::Refused, "{text}"),
         }
     }
+}
+
+/// Bytes, and the ends of the match in them.
+#[derive(Clone, Copy)]
+struct Turn(&'static [u8], Option<(usize, usize)>);
+
+/// Of the expression `[0-9]+[a-z]+(z9)+|[ab]{2,5}[0-9]`.
+const TURNS: [Turn; 7] = [
+    Turn(b"12az9", Some((0, 5))),
+    Turn(b"12a", None),
+    Turn(b"- 7bz9z9", Some((2, 8))),
+    Turn(b"", None),
+    Turn(b"aaaaaaa", None),
+    Turn(b"xaab3ab4", Some((1, 5))),
+    Turn(b"12az9", Some((0, 5))),
+];
+
+/// The ends of what a pattern finds.
+fn ends_of(pattern: &RegexPattern, bytes: &[u8]) -> Result<Option<(usize, usize)>, NoMemory> {
+    let found = pattern.find(bytes)?;
+    Ok(found.map(|span: Span| (span.start, span.end)))
+}
+
+/// Searches one behind the other, which hand their working memory on.
+fn check_turns(rt: &impl Abort, pattern: &RegexPattern) -> Result<(), NoMemory> {
+    for Turn(bytes, want) in &TURNS {
+        assert_eq!(rt; ends_of(pattern, bytes)?, *want);
+    }
+    Ok(())
+}
+
+#[test]
+fn no_search_remembers_the_match_before(rt: HostRuntime) -> Result<(), Fail> {
+    let mut maker = RegexMaker::new(rt.alloc());
+    let pattern = maker.make(rt.alloc(), "[0-9]+[a-z]+(z9)+|[ab]{2,5}[0-9]", PLAIN)?;
+    check_turns(&rt, &pattern)?;
+    check_turns(&rt, &pattern)?;
+    Ok(())
+}
+
+/// Letters a and b without an order, and behind them an a and fourteen letters b.
+fn letters(alloc: Global) -> Result<Vec<u8>, NoMemory> {
+    let mut bytes = Vec::new(alloc);
+    let mut seed: u32 = 1;
+    for _ in 0..100_000u32 {
+        seed = seed.wrapping_mul(1_103_515_245).wrapping_add(12345);
+        bytes.push(if seed < 0x8000_0000 { b'a' } else { b'b' })?;
+    }
+    bytes.extend_from_slice(b"abbbbbbbbbbbbbb")?;
+    Ok(bytes)
+}
+
+/// The automaton of this expression has more states than its memory holds.
+#[test]
+fn patterns_with_too_many_states_are_searched(rt: HostRuntime) -> Result<(), Fail> {
+    let mut bytes = letters(rt.alloc())?;
+    let mut maker = RegexMaker::new(rt.alloc());
+    let pattern = maker.make(rt.alloc(), "[ab]*a[ab]{14}c", PLAIN)?;
+    assert_eq!(rt; ends_of(&pattern, bytes.as_slice())?, None);
+    bytes.push(b'c')?;
+    assert_eq!(rt;
+        ends_of(&pattern, bytes.as_slice())?,
+        Some((0, bytes.len()))
+    );
+    Ok(())
 }
 
 #[test]

@@ -1,10 +1,14 @@
+use Rattle.std.proofs.Common.{ap, ◌∙◌}
+use Rattle.regex_meta.specs.Programs.{pattern_of}
+use Rattle.regex_meta.specs.declared.program.Program.{Program}
 use Rattle.regex_maker.proofs.Spans.{span_in-regex_span, IsPattern-read}
+use Rattle.regex_maker.specs.Meaning.{span_in}
 use Rattle.regex_maker.proofs.maker.RegexMakerPatternMaker.make.Goals as goal
 
-pub returns-in-Ok-clause-made : goal.returns-in-Ok-clause-made
-returns-in-Ok-clause-made c = λ bytes.
-    span_in-regex_span c.args.text.now c.args.flags c.in-Ok.regex c.in-Ok.ensures.source c.in-Ok.ensures.options c.in-Ok.ensures.read bytes
+pub returns-in_ok-new-in-Ok-clause-made : goal.returns-in_ok-new-in-Ok-clause-made
+returns-in_ok-new-in-Ok-clause-made c = λ bytes.
+    ap (λ (program : Program). span_in (pattern_of program) bytes) c.in_ok-new-in-Ok.ensures
+    ∙ span_in-regex_span c.args.text.now c.args.flags c.in-Ok.program.hir c.in-Ok.ensures bytes
 
-pub returns-in-Ok-clause-spelled : goal.returns-in-Ok-clause-spelled
-returns-in-Ok-clause-spelled c =
-    IsPattern-read c.args.text.now c.args.flags c.in-Ok.regex c.in-Ok.ensures.source c.in-Ok.ensures.options c.in-Ok.ensures.read
+pub returns-in_ok-new-in-Ok-clause-spelled : goal.returns-in_ok-new-in-Ok-clause-spelled
+returns-in_ok-new-in-Ok-clause-spelled c = IsPattern-read c.args.text.now c.args.flags c.in-Ok.program.hir c.in-Ok.ensures

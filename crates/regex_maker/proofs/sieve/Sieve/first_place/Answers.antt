@@ -1,0 +1,9 @@
+use Rattle.regex_meta.specs.Plans.{IsAdmitted}
+use Rattle.regex_meta.specs.Programs.{pattern_of}
+use Rattle.regex_maker.proofs.Sieves.{first_admitted, holds_of}
+use Rattle.regex_maker.proofs.sieve.Sieve.first_place.Goals as goal
+
+pub returns-in-Some : goal.returns-in-Some
+returns-in-Some c =
+    first_admitted (pattern_of c.args.program.now) c.in-Some.ladder c.args.bytes.now c.find.result
+    (holds_of (IsAdmitted (pattern_of c.args.program.now)) c.args.self.now.ladder c.in-Some.ladder c.in-Some.is c.requires.admitted) c.find.ensures

@@ -1,0 +1,80 @@
+ghost use Rattle.std.specs.Prelude.{◌≡◌, ◌≤◌, length, true, option_map, IfOk};
+ghost use Rattle.regex_vm.specs.Found.{span};
+ghost use Rattle.regex_extract.specs.Bounds.{IsAnchored};
+ghost use Rattle.regex_meta.specs.Programs.{pattern_of, leftmost};
+ghost use Rattle.regex_maker.specs.Searching.{IsMemoryFor};
+
+use edge_io::NoMemory;
+use regex_dfa::{Dfa, End, Forward, Reverse, Start};
+use regex_meta::Program;
+use std::alloc::Global;
+
+/// How many bytes of states each of the two automata keeps at most.
+const BUDGET: usize = 1 << 20;
+
+/// What a search writes to: the states that searches of an expression have met so far.
+#[derive(Drop)]
+pub(crate) struct Memory {
+    forward: Forward,
+    reverse: Reverse,
+}
+
+/// The automata met too many states: another way has to search.
+pub(crate) struct GaveUp;
+
+impl Memory {
+    pub(crate) fn new(alloc: Global, dfa: &Dfa) -> Result<Memory, NoMemory>
+        ensures { IfOk result (λ memory. IsMemoryFor memory dfa.now) }
+    {
+        let forward = Forward::with_budget(alloc, dfa, false, BUDGET)?;
+        let reverse = Reverse::with_budget(alloc, dfa, BUDGET)?;
+        Ok(Memory { forward, reverse })
+    }
+
+    /// The ends of the leftmost match that starts at `start` or later.
+    pub(crate) fn find_from(
+        &mut self,
+        program: &Program,
+        bytes: &[u8],
+        start: usize,
+    ) -> Result<Option<(usize, usize)>, GaveUp>
+        requires own { IsMemoryFor self.old program.now.dfa }
+        requires start { start ≤ length bytes.now }
+        ensures found { IfOk result (λ ends. ends ≡ option_map span (leftmost program.now bytes.now start)) }
+        ensures own { IsMemoryFor self.new program.now.dfa }
+    {
+        let end = match self
+            .forward
+            .find_end(&program.dfa, bytes, start, bytes.len(), false, false)
+        {
+            End::At(end) => end,
+            End::NoMatch => return Ok(None),
+            End::Idle(_) | End::GaveUp => return Err(GaveUp),
+        };
+        match self.reverse.find_start(&program.dfa, bytes, start, end) {
+            Start::At(from) => Ok(Some((from, end))),
+            Start::NoMatch | Start::GaveUp => Err(GaveUp),
+        }
+    }
+
+    /// The ends of the match of an expression all of whose matches start where the bytes start.
+    pub(crate) fn find_at_start(
+        &mut self,
+        program: &Program,
+        bytes: &[u8],
+    ) -> Result<Option<(usize, usize)>, GaveUp>
+        requires own { IsMemoryFor self.old program.now.dfa }
+        requires anchored { IsAnchored true (pattern_of program.now) }
+        ensures found { IfOk result (λ ends. ends ≡ option_map span (leftmost program.now bytes.now 0)) }
+        ensures own { IsMemoryFor self.new program.now.dfa }
+    {
+        match self
+            .forward
+            .find_end(&program.dfa, bytes, 0, bytes.len(), true, false)
+        {
+            End::At(end) => Ok(Some((0, end))),
+            End::NoMatch => Ok(None),
+            End::Idle(_) | End::GaveUp => Err(GaveUp),
+        }
+    }
+}
