@@ -12,4 +12,5 @@ pub mod Walking
 pub mod Heads
 pub mod Reading
 pub mod Records
+pub mod Numbers
 pub mod Beginnings

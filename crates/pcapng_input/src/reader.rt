@@ -48,6 +48,7 @@ impl NgReader {
         ensures takes { TakesHead (H.contents host.old) name.now result (H.left host.new)
             ⊎ (IsErrOf result NgFault.Failed × (H.left host.new ≡ None)) }
 
+        ensures fresh { IfOk result (λ reader. reader.refused ≡ None) }
         ensures kinds { IfErr result IsOfHead }
         ensures failed { IsErrOf result NgFault.Failed
             → Rose (H.faults host.old) (H.faults host.new) ⊎ Lacks (H.contents host.old) name.now }

@@ -1,13 +1,12 @@
 -- The steps of reading a batch, one lemma for each answer of `next`.
-use Rattle.std.proofs.Common.{◌≡◌, ℕ, ◌<◌, List, [], ◌∷◌, ◌++◌, Option, Some, None, Ok, Err, refl, sym, ap, subst, append_assoc, ◌∙◌}
-use Rattle.pcap_input.specs.declared.capture.Record.{Record}
-use Rattle.pcap_input.specs.declared.capture.CaptureFault.{CaptureFault}
-use Rattle.pcap_input.specs.declared.capture.CaptureFault.TheVariants as fault
-use Rattle.pcap_input.specs.Savefile.{next_of}
-use Rattle.pcap_input.specs.Reader.{Reading, after_next, Gives, TakesRecord, TakesNone}
-use Rattle.pcap_input.specs.Reading.{HasRead}
-use Rattle.pcap_input.proofs.Reading.{reading-more, reading-whole, reading-stopped, reading-refused, reading-ended}
-use Rattle.pcap_input.proofs.Laws.{next_means}
+use Rattle.std.proofs.Common.{◌≡◌, ℕ, List, [], ◌∷◌, ◌++◌, Option, refl, sym, ap, subst, append_assoc, ◌∙◌}
+use Rattle.record_jobs.specs.Way.{LinkedRecord}
+use Rattle.snort_engine.specs.declared.fault.ReadFault.{ReadFault}
+use Rattle.snort_engine.specs.declared.fault.ReadFault.TheVariants as fault
+use Rattle.snort_engine.specs.declared.reader.RecordReader.{RecordReader}
+use Rattle.snort_engine.specs.Records.{Clean}
+use Rattle.snort_engine.specs.Reader.{HasRead, AreWhole, EndsWith, IsRefusedBy}
+use Rattle.snort_engine.proofs.Reading.{reading-joined, reading-whole, reading-stopped, reading-refused, reading-ended}
 use Rattle.snort_engine.specs.declared.batch.Reached.{Reached}
 use Rattle.snort_engine.specs.declared.batch.Reached.TheVariants.{More, End, Fault}
 use Rattle.snort_engine.specs.Batch.{Place, HasStopped, Reaches, ReadsOn, more_of}
@@ -18,7 +17,7 @@ use Rattle.snort_engine.specs.Stop.{stop_status, outcome_status}
 use Rattle.snort_engine.specs.Watching.{IsShowStop}
 
 -- reading went no record further than what was read so far
-still_there : (first : Reading) (given : List Record) (left_first : Option (List ℕ)) (reader : Reading) (left : Option (List ℕ)) → HasRead first reader given left_first left → HasStopped first given left_first left
+still_there : (first : RecordReader) (given : List LinkedRecord) (left_first : Option (List ℕ)) (reader : RecordReader) (left : Option (List ℕ)) → HasRead first reader given left_first left → HasStopped first given left_first left
 still_there first given left_first reader left read = record {
   behind = reader;
   still = left;
@@ -35,42 +34,36 @@ pub reads_further : (old middle new : Place) (reached : Reached) → ReadsOn old
 reads_further old middle new reached one two = λ first shown left_first read. two first shown left_first (one first shown left_first read)
 
 -- a record was given
-pub reads_record : (old new : Place) (given : Record) → TakesRecord old.reader given old.left new.left → new.reader ≡ after_next old.reader (Some given) → new.records ≡ old.records ++ given ∷ [] → ReadsOn old new More
-reads_record old new given takes is more = λ first shown left_first read.
-    let own : (shown ++ old.records) ++ given ∷ [] ≡ shown ++ new.records = append_assoc shown old.records (given ∷ []) ∙ ap (λ (x : List Record). shown ++ x) (sym more) in
-    subst (λ (records : List Record). HasRead first new.reader records left_first new.left) own
-    (reading-more first old.reader new.reader (shown ++ old.records) given left_first old.left new.left read takes is)
+pub reads_record : (old new : Place) (given : LinkedRecord) → HasRead old.reader new.reader (given ∷ []) old.left new.left → new.records ≡ old.records ++ given ∷ [] → ReadsOn old new More
+reads_record old new given reads more = λ first shown left_first read.
+    let own : (shown ++ old.records) ++ given ∷ [] ≡ shown ++ new.records = append_assoc shown old.records (given ∷ []) ∙ ap (λ (x : List LinkedRecord). shown ++ x) (sym more) in
+    subst (λ (records : List LinkedRecord). HasRead first new.reader records left_first new.left) own
+    (reading-joined first old.reader new.reader (shown ++ old.records) (given ∷ []) left_first old.left new.left read reads)
 
 -- no record was left
-pub reads_end : (old new : Place) → new.records ≡ old.records → new.left ≡ old.left
-    → ((rest : List ℕ) → old.left ≡ Some rest → Gives (Ok None) (next_of old.reader.head old.reader.number old.reader.at rest)) → ReadsOn old new End
-reads_end old new same still gives = λ first shown left_first read.
-    let place : Option (List ℕ) → List Record → Place = λ left records. record { reader = new.reader; records = records; left = left } in
-    let P : List Record → Type 0 = λ records. Reaches first (shown ++ records) left_first (place old.left records) End in
-    let Q : Option (List ℕ) → Type 0 = λ left. Reaches first (shown ++ new.records) left_first (place left new.records) End in
-    subst Q (sym still) (subst P (sym same)
-    (still_there first (shown ++ old.records) left_first old.reader old.left read, reading-ended first old.reader (shown ++ old.records) left_first old.left read gives))
-
--- the capture was refused, or could not be read on
-pub reads_fault : (old new : Place) (why : CaptureFault) → new.records ≡ old.records → TakesNone old.reader why old.left new.left
-    → ((rest : List ℕ) → old.left ≡ Some rest → Gives (Err why) (next_of old.reader.head old.reader.number old.reader.at rest)) → ReadsOn old new (Fault why)
-reads_fault old new why same takes gives = λ first shown left_first read.
+pub reads_end : (old new : Place) → new.records ≡ old.records → AreWhole old.reader [] old.left new.left → EndsWith old.reader [] old.left Clean → ReadsOn old new End
+reads_end old new same whole ends = λ first shown left_first read.
     let given = shown ++ old.records in
     let stopped : HasStopped first given left_first new.left =
-    record { behind = old.reader; still = old.left; read = read; whole = reading-stopped first old.reader given why left_first old.left new.left read takes } in
-    let P : List Record → Type 0 = λ records. Reaches first (shown ++ records) left_first (let place : Place = record { reader = new.reader; records = records; left = new.left } in place) (Fault why) in
-    subst P (sym same) (stopped, reading-refused first old.reader given why left_first old.left read gives)
+    record { behind = old.reader; still = old.left; read = read; whole = reading-stopped first old.reader given left_first old.left new.left read whole } in
+    let P : List LinkedRecord → Type 0 = λ records. Reaches first (shown ++ records) left_first (let place : Place = record { reader = new.reader; records = records; left = new.left } in place) End in
+    subst P (sym same) (stopped, reading-ended first old.reader given left_first old.left Clean read ends)
+
+-- the capture was refused, or could not be read on
+pub reads_fault : (old new : Place) (why : ReadFault) → new.records ≡ old.records → AreWhole old.reader [] old.left new.left → IsRefusedBy old.reader [] old.left why → ReadsOn old new (Fault why)
+reads_fault old new why same whole refused = λ first shown left_first read.
+    let given = shown ++ old.records in
+    let stopped : HasStopped first given left_first new.left =
+    record { behind = old.reader; still = old.left; read = read; whole = reading-stopped first old.reader given left_first old.left new.left read whole } in
+    let P : List LinkedRecord → Type 0 = λ records. Reaches first (shown ++ records) left_first (let place : Place = record { reader = new.reader; records = records; left = new.left } in place) (Fault why) in
+    subst P (sym same) (stopped, reading-refused first old.reader given why left_first old.left read refused)
 
 -- memory was lacking for a record more, and nothing was taken
 pub reads_lacking : (old new : Place) → new.records ≡ old.records → new.left ≡ old.left → ReadsOn old new (Fault fault.NoMemory)
 reads_lacking old new same still = λ first shown left_first read.
-    let P : List Record → Type 0 = λ records. Reaches first (shown ++ records) left_first (let place : Place = record { reader = new.reader; records = records; left = old.left } in place) (Fault fault.NoMemory) in
+    let P : List LinkedRecord → Type 0 = λ records. Reaches first (shown ++ records) left_first (let place : Place = record { reader = new.reader; records = records; left = old.left } in place) (Fault fault.NoMemory) in
     let Q : Option (List ℕ) → Type 0 = λ left. Reaches first (shown ++ new.records) left_first (let place : Place = record { reader = new.reader; records = new.records; left = left } in place) (Fault fault.NoMemory) in
     subst Q (sym still) (subst P (sym same) (still_there first (shown ++ old.records) left_first old.reader old.left read, tt))
-
--- a record that stands next has a number below 4294967295
-pub number_below : (reader : Reading) (given : Record) (left left_next : Option (List ℕ)) → TakesRecord reader given left left_next → reader.number < 4294967295
-number_below reader given left left_next takes = (next_means reader.head reader.number reader.at (takes.taken ++ []) given [] (takes.goes [])).few
 
 -- ---- what was reached, as an answer
 
@@ -81,6 +74,7 @@ failed_reached End is = absurd cc
 failed_reached (Fault fault.NotPcap) is = absurd cc
 failed_reached (Fault (fault.LinkType link_type)) is = absurd cc
 failed_reached (Fault (fault.Truncated place)) is = absurd cc
+failed_reached (Fault (fault.BadBlock place)) is = absurd cc
 failed_reached (Fault (fault.TooLong place len)) is = absurd cc
 failed_reached (Fault fault.TooMany) is = absurd cc
 failed_reached (Fault fault.Failed) is = refl

@@ -1,14 +1,12 @@
 -- The steps from records to lines.
 use Rattle.std.proofs.Common.{◌≡◌, ℕ, ◌+◌, ◌^◌, ◌<◌, ◌≤◌, List, [], ◌∷◌, ◌++◌, Option, Result, Ok, Err, length, map, take, get_or, refl, sym, ap, subst, ◌∙◌, append_assoc, arith, length-append}
 use Rattle.std.specs.Prelude.{OnOk, OnErr, sum}
-use Rattle.std.proofs.lemmas.List.{append-nil, map-append, take_more}
+use Rattle.std.proofs.lemmas.List.{append-nil, take_more}
 use Rattle.std.proofs.lemmas.List.Sums.{sum_by-append}
-use Rattle.edge_io.specs.declared.link.Link.{Link}
 use Rattle.edge_io.specs.declared.pattern.Span.{Span}
 use Rattle.edge_io.specs.Told.{behind}
 use Rattle.edge_io.specs.Along.{along, along_from, trail, trail_from}
 use Rattle.edge_io.proofs.Along.{along-append, flat_map-along_from, pipe_more, trail-append, trail_from-append}
-use Rattle.pcap_input.specs.declared.capture.Record.{Record}
 use Rattle.rule_types.specs.declared.rule.Rule.{Rule}
 use Rattle.fast_pattern.specs.Grouping.{StandFor}
 use Rattle.fast_pattern.specs.declared.groups.Groups.{Groups}
@@ -21,7 +19,7 @@ use Rattle.flow_lanes.specs.Flows.{Detection, answer, answer_tries}
 use Rattle.flow_lanes.specs.Hits.{Test}
 use Rattle.flow_lanes.specs.Standing.{DetectsBy, IsBatchAnswered, LanesStand, LanesState, LearnsBatch}
 use Rattle.record_jobs.specs.declared.counts.RecordCounts.{RecordCounts}
-use Rattle.record_jobs.specs.Way.{LinkedRecord, Way, linked}
+use Rattle.record_jobs.specs.Way.{LinkedRecord, Way}
 use Rattle.record_jobs.specs.Jobs.{finishes, jobs}
 use Rattle.record_jobs.specs.Counts.{counts}
 use Rattle.record_jobs.specs.Fronts.{FrontState, GivesFinishes, StandsFor, TakesRecord, TellsCounts}
@@ -142,14 +140,12 @@ makes_none way front = λ before stands. record {
 }
 
 -- one record more was taken
-pub makes_step : (way : Way) (link : Link) (records : List Record) (i : ℕ) (captured : Record) (old middle new : FrontState) (made next : List Job) → i < length records → captured ≡ get_or records i captured
-    → MakesJobs way (map (linked link) (take i records)) old middle made → TakesRecord way middle (linked link captured) new made next
-    → MakesJobs way (map (linked link) (take (i + 1) records)) old new next
-makes_step way link records i captured old middle new made next lt is so_far more =
-    let front = map (linked link) (take i records) in
-    let own = linked link captured in
-    let joined : front ++ own ∷ [] ≡ map (linked link) (take (i + 1) records) =
-    sym (map-append (linked link) (take i records) (captured ∷ [])) ∙ ap (map (linked link)) (ap (λ (r : Record). take i records ++ r ∷ []) is ∙ sym (take_more records i captured lt)) in
+pub makes_step : (way : Way) (records : List LinkedRecord) (i : ℕ) (own : LinkedRecord) (old middle new : FrontState) (made next : List Job) → i < length records → own ≡ get_or records i own
+    → MakesJobs way (take i records) old middle made → TakesRecord way middle own new made next
+    → MakesJobs way (take (i + 1) records) old new next
+makes_step way records i own old middle new made next lt is so_far more =
+    let front = take i records in
+    let joined : front ++ own ∷ [] ≡ take (i + 1) records = ap (λ (r : LinkedRecord). take i records ++ r ∷ []) is ∙ sym (take_more records i own lt) in
     subst (λ (x : List LinkedRecord). MakesJobs way x old new next) joined
     (λ before stands.
     let one = so_far before stands in

@@ -1,16 +1,13 @@
 -- The steps of reading ahead of the lines.
-use Rattle.std.proofs.Common.{◌≡◌, ℕ, ◌+◌, ◌<◌, ◌≤◌, Bool, List, [], ◌++◌, length, map, Option, Some, None, Result, Ok, Err, refl, sym, ap, subst, ◌∙◌, append_assoc, arith, length-append, OnOk, OnErr}
-use Rattle.std.proofs.lemmas.List.{append-nil, map-append}
+use Rattle.std.proofs.Common.{◌≡◌, ℕ, ◌+◌, ◌<◌, ◌≤◌, Bool, List, [], ◌++◌, length, Option, Some, None, Result, Ok, Err, refl, sym, ap, subst, ◌∙◌, append_assoc, arith, length-append, OnOk, OnErr}
+use Rattle.std.proofs.lemmas.List.{append-nil}
 use Rattle.edge_io.specs.Told.{behind}
 use Rattle.edge_io.proofs.Along.{pipe_more}
-use Rattle.pcap_input.specs.declared.capture.Record.{Record}
 use Rattle.pcap_input.specs.Savefile.{most_records}
-use Rattle.pcap_input.specs.Reader.{Reading}
-use Rattle.pcap_input.specs.Reading.{HasRead}
 use Rattle.flow_lanes.specs.declared.job.Job.{Job}
 use Rattle.flow_lanes.specs.Standing.{LearnsBatch}
 use Rattle.record_jobs.specs.Ready.{AreReady}
-use Rattle.record_jobs.specs.Way.{LinkedRecord, linked}
+use Rattle.record_jobs.specs.Way.{LinkedRecord}
 use Rattle.record_jobs.specs.Fronts.{FrontState}
 use Rattle.record_jobs.specs.Jobs.{jobs}
 use Rattle.snort_engine.specs.declared.batch.Reached.{Reached}
@@ -18,10 +15,12 @@ use Rattle.snort_engine.specs.declared.batch.Reached.TheVariants.{More, End, Fau
 use Rattle.snort_engine.specs.declared.detect.Detector.{Detector}
 use Rattle.snort_engine.specs.declared.detect.Inspection.{Inspection}
 use Rattle.snort_engine.specs.declared.plan.Plan as code
+use Rattle.snort_engine.specs.declared.reader.RecordReader.{RecordReader}
 use Rattle.snort_engine.specs.declared.stop.Stop.{Stop}
 use Rattle.snort_engine.specs.Course.{Plan}
 use Rattle.snort_engine.specs.Trace.{Open, jobs_of, way_by, way_of}
 use Rattle.snort_engine.specs.Lines.{lines}
+use Rattle.snort_engine.specs.Reader.{HasRead}
 use Rattle.snort_engine.specs.Outside.{WritesPart}
 use Rattle.snort_engine.specs.Stop.{capture_stop}
 use Rattle.snort_engine.specs.Batch.{Place, Reaches, ReadsOn, more_of}
@@ -48,19 +47,19 @@ two_halves (Some room) one two a b = omega (arith, a, b)
 -- ---- reading on
 
 -- what was reached goes by the reader and by what is left
-reaches_at : (first : Reading) (given : List Record) (left_first : Option (List ℕ)) (now : Place) (records : List Record) (reached : Reached)
+reaches_at : (first : RecordReader) (given : List LinkedRecord) (left_first : Option (List ℕ)) (now : Place) (records : List LinkedRecord) (reached : Reached)
     → Reaches first given left_first now reached → Reaches first given left_first (record { reader = now.reader; records = records; left = now.left }) reached
 reaches_at first given left_first now records More reaches = reaches
 reaches_at first given left_first now records End reaches = reaches
 reaches_at first given left_first now records (Fault why) reaches = reaches
 
 -- what is read goes behind whatever was read and not shown yet
-reads_behind : (reader : Reading) (left : Option (List ℕ)) (next : List Record) (now : Place) (reached : Reached) → ReadsOn (record { reader = reader; records = []; left = left }) now reached
+reads_behind : (reader : RecordReader) (left : Option (List ℕ)) (next : List LinkedRecord) (now : Place) (reached : Reached) → ReadsOn (record { reader = reader; records = []; left = left }) now reached
     → ReadsOn (record { reader = reader; records = next; left = left }) (record { reader = now.reader; records = next ++ now.records; left = now.left }) reached
 reads_behind reader left next now reached reads = λ first shown left_first read.
     let so_far : HasRead first reader ((shown ++ next) ++ []) left_first left =
-    subst (λ (given : List Record). HasRead first reader given left_first left) (sym (append-nil (shown ++ next))) read in
-    subst (λ (given : List Record). Reaches first given left_first (record { reader = now.reader; records = next ++ now.records; left = now.left }) reached)
+    subst (λ (given : List LinkedRecord). HasRead first reader given left_first left) (sym (append-nil (shown ++ next))) read in
+    subst (λ (given : List LinkedRecord). Reaches first given left_first (record { reader = now.reader; records = next ++ now.records; left = now.left }) reached)
     (append_assoc shown next now.records)
     (reaches_at first ((shown ++ next) ++ now.records) left_first now (next ++ now.records) reached (reads first (shown ++ next) left_first so_far))
 
@@ -151,7 +150,7 @@ all_is_part plan made old new shows = λ before stands. WritesPart-all old.writt
 -- ---- the watching
 
 -- nothing was read yet, and no job waits
-pub ahead-start : (plan : Plan) (first : Reading) (start : Streams) (now : Standing) → IsUnderWay plan first start now → IsAhead plan first start now [] More
+pub ahead-start : (plan : Plan) (first : RecordReader) (start : Streams) (now : Standing) → IsUnderWay plan first start now → IsAhead plan first start now [] More
 ahead-start plan first start now going = record {
   old = now;
   next = [];
@@ -181,21 +180,20 @@ behind_shown now inspection written = record {
 }
 
 -- what waits was shown
-pub ahead_shown : (plan : Plan) (first : Reading) (start : Streams) (now : Standing) (waiting : List Job) (reached : Reached) (inspection : Inspection) (written : Option (List ℕ)) (ahead : IsAhead plan first start now waiting reached)
+pub ahead_shown : (plan : Plan) (first : RecordReader) (start : Streams) (now : Standing) (waiting : List Job) (reached : Reached) (inspection : Inspection) (written : Option (List ℕ)) (ahead : IsAhead plan first start now waiting reached)
     → ShowsJobs plan waiting (record { inspection = now.detector.inspection; written = now.streams.written }) (record { inspection = inspection; written = written })
     → GoesOn plan ahead.old (behind_shown now inspection written) (more_of reached)
 ahead_shown plan first start now waiting reached inspection written ahead shows =
-    let link = ahead.old.reader.head.link in
     let new = behind_shown now inspection written in
     let same : ShowsJobs plan waiting (record { inspection = ahead.old.detector.inspection; written = ahead.old.streams.written }) (record { inspection = inspection; written = written }) =
     rw (ahead.same_inspection, ahead.same_written) shows in
-    batch_shown plan link ahead.next ahead.old new reached refl
+    batch_shown plan ahead.next ahead.old new reached
     (omega (arith, ahead.fed.few, half_few ahead.old.room)) ahead.fed.room_is (λ other. let few = ahead.fed.fewer other in omega (arith, few, half_few ahead.old.room))
     ahead.fed.reads
-    (shows_records plan (map (linked link) ahead.next) (record { detector = ahead.old.detector; written = ahead.old.streams.written }) (record { detector = new.detector; written = written }) waiting ahead.fed.makes same)
+    (shows_records plan ahead.next (record { detector = ahead.old.detector; written = ahead.old.streams.written }) (record { detector = new.detector; written = written }) waiting ahead.fed.makes same)
 
 -- a half was read beside the work on the one that waited
-pub ahead_next : (plan : Plan) (first : Reading) (start : Streams) (now new : Standing) (waiting made : List Job) (records : List Record) (reached : Reached) → IsAhead plan first start now waiting More
+pub ahead_next : (plan : Plan) (first : RecordReader) (start : Streams) (now new : Standing) (waiting made : List Job) (records : List LinkedRecord) (reached : Reached) → IsAhead plan first start now waiting More
     → ShowsJobs plan waiting (record { inspection = now.detector.inspection; written = now.streams.written }) (record { inspection = new.detector.inspection; written = new.streams.written })
     → IsFed (way_of plan) (feed_of now) (feed_of new) records made reached
     → IsAhead plan first start new made reached
@@ -220,7 +218,7 @@ no_more_room None none = omega (arith, none)
 no_more_room (Some room) none = omega (arith, none)
 
 -- the last half was shown
-pub ahead_last : (plan : Plan) (first : Reading) (start : Streams) (now : Standing) (waiting : List Job) (reached : Reached) (inspection : Inspection) (written : Option (List ℕ)) → IsAhead plan first start now waiting reached
+pub ahead_last : (plan : Plan) (first : RecordReader) (start : Streams) (now : Standing) (waiting : List Job) (reached : Reached) (inspection : Inspection) (written : Option (List ℕ)) → IsAhead plan first start now waiting reached
     → ShowsJobs plan waiting (record { inspection = now.detector.inspection; written = now.streams.written }) (record { inspection = inspection; written = written })
     → (reached ≡ More → half_at now.room ≡ 0)
     → ComesOver plan first start (record { left = now.streams.left; written = written }) (record { front = now.detector.front; inspection = inspection }) (last_of reached)
@@ -234,42 +232,40 @@ ahead_last plan first start now waiting (Fault why) inspection written ahead sho
     ahead_shown plan first start now waiting (Fault why) inspection written ahead shows first start ahead.going
 
 -- a part of the lines of what waited was written, and nothing was read beside it
-pub ahead_stops : (plan : Plan) (first : Reading) (start : Streams) (now : Standing) (waiting : List Job) (reached : Reached) (detector : Detector) (written : Option (List ℕ)) (why : Stop) → IsAhead plan first start now waiting reached
+pub ahead_stops : (plan : Plan) (first : RecordReader) (start : Streams) (now : Standing) (waiting : List Job) (reached : Reached) (detector : Detector) (written : Option (List ℕ)) (why : Stop) → IsAhead plan first start now waiting reached
     → IsShowStop why → ShowsJobsPart plan waiting (record { inspection = now.detector.inspection; written = now.streams.written }) written
     → ComesOver plan first start (record { left = now.streams.left; written = written }) detector (Err why)
 ahead_stops plan first start now waiting reached detector written why ahead kind part =
-    let link = ahead.old.reader.head.link in
     let same : ShowsJobsPart plan waiting (record { inspection = ahead.old.detector.inspection; written = ahead.old.streams.written }) written =
     rw (ahead.same_inspection, ahead.same_written) part in
-    let shown = shows_records_part plan (map (linked link) ahead.next) [] (record { detector = ahead.old.detector; written = ahead.old.streams.written }) now.detector.front written waiting ahead.fed.makes same in
-    batch_stops plan link ahead.next ahead.old (record { reader = now.reader; room = now.room; detector = detector; streams = record { left = now.streams.left; written = written } }) reached why refl
+    let shown = shows_records_part plan ahead.next [] (record { detector = ahead.old.detector; written = ahead.old.streams.written }) now.detector.front written waiting ahead.fed.makes same in
+    batch_stops plan ahead.next ahead.old (record { reader = now.reader; room = now.room; detector = detector; streams = record { left = now.streams.left; written = written } }) reached why
     (omega (arith, ahead.fed.few, half_few ahead.old.room)) ahead.fed.reads kind
-    (subst (λ (x : List LinkedRecord). ShowsRecordsPart plan x (record { detector = ahead.old.detector; written = ahead.old.streams.written }) written) (append-nil (map (linked link) ahead.next)) shown)
+    (subst (λ (x : List LinkedRecord). ShowsRecordsPart plan x (record { detector = ahead.old.detector; written = ahead.old.streams.written }) written) (append-nil ahead.next) shown)
     first start ahead.going
 
 -- a part of the lines of what waited was written, and half a batch more was read beside it
-pub ahead_stops_beside : (plan : Plan) (first : Reading) (start : Streams) (now : Standing) (waiting : List Job) (reader : Reading) (left : Option (List ℕ)) (records : List Record) (reached : Reached) (detector : Detector) (written : Option (List ℕ)) (why : Stop)
+pub ahead_stops_beside : (plan : Plan) (first : RecordReader) (start : Streams) (now : Standing) (waiting : List Job) (reader : RecordReader) (left : Option (List ℕ)) (records : List LinkedRecord) (reached : Reached) (detector : Detector) (written : Option (List ℕ)) (why : Stop)
     → IsAhead plan first start now waiting More
     → ReadsOn (record { reader = now.reader; records = []; left = now.streams.left }) (record { reader = reader; records = records; left = left }) reached → length records ≤ half_at now.room
     → IsShowStop why → ShowsJobsPart plan waiting (record { inspection = now.detector.inspection; written = now.streams.written }) written
     → ComesOver plan first start (record { left = left; written = written }) detector (Err why)
 ahead_stops_beside plan first start now waiting reader left records reached detector written why ahead reads few kind part =
-    let link = ahead.old.reader.head.link in
     let all = ahead.next ++ records in
     let same : ShowsJobsPart plan waiting (record { inspection = ahead.old.detector.inspection; written = ahead.old.streams.written }) written =
     rw (ahead.same_inspection, ahead.same_written) part in
-    let shown = shows_records_part plan (map (linked link) ahead.next) (map (linked link) records) (record { detector = ahead.old.detector; written = ahead.old.streams.written }) now.detector.front written waiting ahead.fed.makes same in
+    let shown = shows_records_part plan ahead.next records (record { detector = ahead.old.detector; written = ahead.old.streams.written }) now.detector.front written waiting ahead.fed.makes same in
     let few_now = subst (λ (room : Option ℕ). length records ≤ half_at room) ahead.fed.room_is few in
     let few_all = two_halves ahead.old.room (length ahead.next) (length records) ahead.fed.few few_now in
     let both = reads_both (record { reader = ahead.old.reader; records = []; left = ahead.old.streams.left }) (record { reader = now.reader; records = ahead.next; left = now.streams.left })
     (record { reader = reader; records = records; left = left }) reached ahead.fed.reads reads in
-    batch_stops plan link all ahead.old (record { reader = reader; room = now.room; detector = detector; streams = record { left = left; written = written } }) reached why refl
+    batch_stops plan all ahead.old (record { reader = reader; room = now.room; detector = detector; streams = record { left = left; written = written } }) reached why
     (omega (arith, few_all, length-append ahead.next records)) both kind
-    (subst (λ (x : List LinkedRecord). ShowsRecordsPart plan x (record { detector = ahead.old.detector; written = ahead.old.streams.written }) written) (sym (map-append (linked link) ahead.next records)) shown)
+    shown
     first start ahead.going
 
 -- the same, by what was reached before
-pub stops_beside : (plan : Plan) (first : Reading) (start : Streams) (now : Standing) (waiting : List Job) (was reached : Reached) (reader : Reading) (left : Option (List ℕ)) (records : List Record) (detector : Detector) (written : Option (List ℕ)) (why : Stop)
+pub stops_beside : (plan : Plan) (first : RecordReader) (start : Streams) (now : Standing) (waiting : List Job) (was reached : Reached) (reader : RecordReader) (left : Option (List ℕ)) (records : List LinkedRecord) (detector : Detector) (written : Option (List ℕ)) (why : Stop)
     → was ≡ More → FeedsOn (record { reader = now.reader; records = []; left = now.streams.left }) (record { reader = reader; records = records; left = left }) reached → length records ≤ half_at now.room
     → IsShowStop why → ShowsJobsPart plan waiting (record { inspection = now.detector.inspection; written = now.streams.written }) written
     → IsAhead plan first start now waiting was
@@ -278,10 +274,10 @@ unfolding FeedsOn
 stops_beside plan first start now waiting was reached reader left records detector written why more reads few kind part ahead =
     ahead_stops_beside plan first start now waiting reader left records reached detector written why (subst (λ (r : Reached). IsAhead plan first start now waiting r) more ahead) reads few kind part
 
-pub goes_beside : (plan : Plan) (first : Reading) (start : Streams) (now new : Standing) (waiting made : List Job) (records : List Record) (was reached : Reached) → was ≡ More
+pub goes_beside : (plan : Plan) (first : RecordReader) (start : Streams) (now new : Standing) (waiting made : List Job) (records : List LinkedRecord) (was reached : Reached) → was ≡ More
     → ShowsJobs plan waiting (record { inspection = now.detector.inspection; written = now.streams.written }) (record { inspection = new.detector.inspection; written = new.streams.written })
     → FeedsOn (record { reader = now.reader; records = []; left = now.streams.left }) (record { reader = new.reader; records = records; left = new.streams.left }) reached
-    → MakesJobs (way_of plan) (map (linked now.reader.head.link) records) now.detector.front new.detector.front made
+    → MakesJobs (way_of plan) records now.detector.front new.detector.front made
     → length records ≤ half_at now.room → ((reached ≡ More → ⊥) → length records < half_at now.room) → new.room ≡ room_behind now.room (length records)
     → IsAhead plan first start now waiting was → IsAhead plan first start new made reached
 unfolding FeedsOn

@@ -1,7 +1,10 @@
 pub mod PieceLists
 pub mod Prefixes
+pub mod Recordings
 pub mod Limits
 pub mod LinesLaws
+pub mod Reading
+pub mod Opening
 pub mod Showing
 pub mod Learning
 pub mod Detecting

@@ -1,73 +1,73 @@
 -- What a limit leaves of a capture's records, behind those that were given.
 use Rattle.std.proofs.Common.{◌≡◌, ℕ, zero, suc, ◌+◌, ◌-◌, ◌<◌, ◌≤◌, List, [], ◌∷◌, ◌++◌, Option, Some, None, length, refl, sym, ap, ◌∙◌, arith, inl, inr, ◌⊎◌, ⊎_elim}
 use Rattle.std.proofs.lemmas.List.{append-nil, length-append}
-use Rattle.pcap_input.specs.declared.capture.Record.{Record}
-use Rattle.pcap_input.specs.Savefile.{Cut, Ending, Clean, no_more, with_first, first_records}
-use Rattle.pcap_input.specs.Reading.{with_front}
-use Rattle.pcap_input.proofs.Endings.{first_records-none, first_records-zero, first_records-no_more, first_records-with_first}
+use Rattle.record_jobs.specs.Way.{LinkedRecord}
+use Rattle.snort_engine.specs.Records.{Recording, Ending, Clean, none_before, first_of}
+use Rattle.snort_engine.specs.Reader.{with_front}
 use Rattle.snort_engine.specs.Watching.{IsRoom, most_at, room_behind}
+use Rattle.snort_engine.proofs.Recordings.{with_first, first_of-none, first_of-zero, first_of-none_before, first_of-with_first}
 
 -- a record counts once
-one_counted : (limit : ℕ) (first : Record) (cut : Cut) (room : ℕ) (given : ℕ) → suc given + room ≡ limit → first_records (Some limit) (with_first first cut) ≡ with_first first (first_records (Some (given + room)) cut)
-one_counted limit first cut room given is =
+one_counted : (limit : ℕ) (first : LinkedRecord) (recording : Recording) (room : ℕ) (given : ℕ) → suc given + room ≡ limit → first_of (Some limit) (with_first first recording) ≡ with_first first (first_of (Some (given + room)) recording)
+one_counted limit first recording room given is =
     let step : limit ≡ (given + room) + 1 = omega (arith, is) in
-    ap (λ (n : ℕ). first_records (Some n) (with_first first cut)) step ∙ first_records-with_first (given + room) first cut
+    ap (λ (n : ℕ). first_of (Some n) (with_first first recording)) step ∙ first_of-with_first (given + room) first recording
 
-front_counted : (limit room : ℕ) (given : List Record) (cut : Cut) → length given + room ≡ limit → first_records (Some limit) (with_front given cut) ≡ with_front given (first_records (Some room) cut)
-front_counted limit room [] cut is =
+front_counted : (limit room : ℕ) (given : List LinkedRecord) (recording : Recording) → length given + room ≡ limit → first_of (Some limit) (with_front given recording) ≡ with_front given (first_of (Some room) recording)
+front_counted limit room [] recording is =
     let same : limit ≡ room = omega (arith, is) in
-    ap (λ (n : ℕ). first_records (Some n) cut) same
-front_counted limit room (first ∷ given) cut is =
-    one_counted limit first (with_front given cut) room (length given) is
-    ∙ ap (with_first first) (front_counted (length given + room) room given cut refl)
+    ap (λ (n : ℕ). first_of (Some n) recording) same
+front_counted limit room (first ∷ given) recording is =
+    one_counted limit first (with_front given recording) room (length given) is
+    ∙ ap (with_first first) (front_counted (length given + room) room given recording refl)
 
 -- the records that were given come first, and then those that may still be read
-pub first_records-front : (limit room : Option ℕ) (given : List Record) (cut : Cut) → IsRoom limit (length given) room → first_records limit (with_front given cut) ≡ with_front given (first_records room cut)
-first_records-front None room given cut is =
-    first_records-none (with_front given cut)
-    ∙ ap (with_front given) (sym (ap (λ (r : Option ℕ). first_records r cut) is ∙ first_records-none cut))
-first_records-front (Some limit) None given cut is = absurd is
-first_records-front (Some limit) (Some room) given cut is = front_counted limit room given cut is
+pub first_of-front : (limit room : Option ℕ) (given : List LinkedRecord) (recording : Recording) → IsRoom limit (length given) room → first_of limit (with_front given recording) ≡ with_front given (first_of room recording)
+first_of-front None room given recording is =
+    first_of-none (with_front given recording)
+    ∙ ap (with_front given) (sym (ap (λ (r : Option ℕ). first_of r recording) is ∙ first_of-none recording))
+first_of-front (Some limit) None given recording is = absurd is
+first_of-front (Some limit) (Some room) given recording is = front_counted limit room given recording is
 
--- a cut of these records and this ending
-cut_of : List Record → Ending → Cut
-cut_of records ending = record { records = records; ending = ending }
+-- a recording of these records and this ending
+recording_with : List LinkedRecord → Ending → Recording
+recording_with records ending = record { records = records; ending = ending }
 
 -- records behind which nothing stands
-front_of_none : (given : List Record) (ending : Ending) → with_front given (no_more ending) ≡ record { records = given; ending = ending }
-unfolding cut_of
-front_of_none given ending = ap (λ (records : List Record). cut_of records ending) (append-nil given)
+front_of_none : (given : List LinkedRecord) (ending : Ending) → with_front given (none_before ending) ≡ record { records = given; ending = ending }
+unfolding recording_with
+front_of_none given ending = ap (λ (records : List LinkedRecord). recording_with records ending) (append-nil given)
 
 -- where some record may still be read, an ending behind those that were given stays
-none_left : (room : Option ℕ) (ending : Ending) → 0 < most_at room → first_records room (no_more ending) ≡ no_more ending
-none_left None ending some = first_records-none (no_more ending)
+none_left : (room : Option ℕ) (ending : Ending) → 0 < most_at room → first_of room (none_before ending) ≡ none_before ending
+none_left None ending some = first_of-none (none_before ending)
 none_left (Some room) ending some =
     let below : room ≡ (room - 1) + 1 = omega (arith, some) in
-    ap (λ (n : ℕ). first_records (Some n) (no_more ending)) below ∙ first_records-no_more (room - 1) ending
+    ap (λ (n : ℕ). first_of (Some n) (none_before ending)) below ∙ first_of-none_before (room - 1) ending
 
 -- the records that were given and the ending behind them, where more might have been read
-pub below_limit : (limit room : Option ℕ) (given : List Record) (ending : Ending) → IsRoom limit (length given) room → 0 < most_at room
-    → first_records limit (record { records = given; ending = ending }) ≡ record { records = given; ending = ending }
+pub below_limit : (limit room : Option ℕ) (given : List LinkedRecord) (ending : Ending) → IsRoom limit (length given) room → 0 < most_at room
+    → first_of limit (record { records = given; ending = ending }) ≡ record { records = given; ending = ending }
 below_limit limit room given ending is some =
-    ap (first_records limit) (sym (front_of_none given ending)) ∙ first_records-front limit room given (no_more ending) is
+    ap (first_of limit) (sym (front_of_none given ending)) ∙ first_of-front limit room given (none_before ending) is
     ∙ ap (with_front given) (none_left room ending some) ∙ front_of_none given ending
 
 -- where no more may be read, the capture ends cleanly behind the records that were given
-pub at_limit : (limit room : Option ℕ) (given : List Record) (cut : Cut) → IsRoom limit (length given) room → most_at room ≡ 0
-    → first_records limit (with_front given cut) ≡ record { records = given; ending = Clean }
-at_limit limit None given cut is none = absurd (omega (arith, none))
-at_limit limit (Some room) given cut is none =
+pub at_limit : (limit room : Option ℕ) (given : List LinkedRecord) (recording : Recording) → IsRoom limit (length given) room → most_at room ≡ 0
+    → first_of limit (with_front given recording) ≡ record { records = given; ending = Clean }
+at_limit limit None given recording is none = absurd (omega (arith, none))
+at_limit limit (Some room) given recording is none =
     let zero_left : room ≡ 0 = omega (arith, none) in
-    first_records-front limit (Some room) given cut is
-    ∙ ap (λ (n : ℕ). with_front given (first_records (Some n) cut)) zero_left
-    ∙ ap (with_front given) (first_records-zero cut) ∙ front_of_none given Clean
+    first_of-front limit (Some room) given recording is
+    ∙ ap (λ (n : ℕ). with_front given (first_of (Some n) recording)) zero_left
+    ∙ ap (with_front given) (first_of-zero recording) ∙ front_of_none given Clean
 
 -- no record stays none
-none_of_none : (room : Option ℕ) (ending : Ending) → (first_records room (no_more ending)).records ≡ []
-none_of_none None ending = ap (λ (cut : Cut). cut.records) (first_records-none (no_more ending))
+none_of_none : (room : Option ℕ) (ending : Ending) → (first_of room (none_before ending)).records ≡ []
+none_of_none None ending = ap (λ (recording : Recording). recording.records) (first_of-none (none_before ending))
 none_of_none (Some room) ending = ⊎_elim
-    (λ (is : room ≡ 0). ap (λ (n : ℕ). (first_records (Some n) (no_more ending)).records) is ∙ ap (λ (cut : Cut). cut.records) (first_records-zero (no_more ending)))
-    (λ (some : 0 < room). ap (λ (cut : Cut). cut.records) (none_left (Some room) ending (omega (arith, some))))
+    (λ (is : room ≡ 0). ap (λ (n : ℕ). (first_of (Some n) (none_before ending)).records) is ∙ ap (λ (recording : Recording). recording.records) (first_of-zero (none_before ending)))
+    (λ (some : 0 < room). ap (λ (recording : Recording). recording.records) (none_left (Some room) ending (omega (arith, some))))
     (zero_or_more room)
   where
     zero_or_more : (n : ℕ) → (n ≡ 0) ⊎ (0 < n)
@@ -75,13 +75,13 @@ none_of_none (Some room) ending = ⊎_elim
     zero_or_more (suc n) = inr (omega arith)
 
 -- records that may all be read stay
-pub within_limit : (limit room : Option ℕ) (given : List Record) (cut : Cut) → IsRoom limit (length given) room → cut.records ≡ given → (first_records limit cut).records ≡ given
-unfolding cut_of
-within_limit limit room given cut is are =
-    ap (λ (records : List Record). (first_records limit (cut_of records cut.ending)).records) are
-    ∙ ap (λ (c : Cut). (first_records limit c).records) (sym (front_of_none given cut.ending))
-    ∙ ap (λ (c : Cut). c.records) (first_records-front limit room given (no_more cut.ending) is)
-    ∙ ap (λ (records : List Record). given ++ records) (none_of_none room cut.ending) ∙ append-nil given
+pub within_limit : (limit room : Option ℕ) (given : List LinkedRecord) (recording : Recording) → IsRoom limit (length given) room → recording.records ≡ given → (first_of limit recording).records ≡ given
+unfolding recording_with
+within_limit limit room given recording is are =
+    ap (λ (records : List LinkedRecord). (first_of limit (recording_with records recording.ending)).records) are
+    ∙ ap (λ (c : Recording). (first_of limit c).records) (sym (front_of_none given recording.ending))
+    ∙ ap (λ (c : Recording). c.records) (first_of-front limit room given (none_before recording.ending) is)
+    ∙ ap (λ (records : List LinkedRecord). given ++ records) (none_of_none room recording.ending) ∙ append-nil given
 
 -- no record is given yet
 pub room_first : (limit : Option ℕ) → IsRoom limit 0 limit
@@ -89,7 +89,7 @@ room_first None = refl
 room_first (Some limit) = omega arith
 
 -- a batch more was given
-pub room_further : (limit room : Option ℕ) (given batch : List Record) → IsRoom limit (length given) room → length batch ≤ most_at room → IsRoom limit (length (given ++ batch)) (room_behind room (length batch))
+pub room_further : (limit room : Option ℕ) (given batch : List LinkedRecord) → IsRoom limit (length given) room → length batch ≤ most_at room → IsRoom limit (length (given ++ batch)) (room_behind room (length batch))
 room_further None None given batch is few = refl
 room_further None (Some room) given batch is few = absurd cc
 room_further (Some limit) None given batch is few = absurd is

@@ -1,14 +1,12 @@
 -- The laws of the lines: joined records, beginnings, the end of a capture, and a batch of jobs.
-use Rattle.std.proofs.Common.{◌≡◌, ℕ, ◌≤◌, List, [], ◌++◌, map, take, drop, refl, sym, ap, append_assoc, ◌∙◌}
+use Rattle.std.proofs.Common.{◌≡◌, ℕ, ◌≤◌, List, [], ◌++◌, take, drop, refl, sym, ap, append_assoc, ◌∙◌}
 use Rattle.std.specs.List.{flat_map}
-use Rattle.std.proofs.lemmas.List.{append-nil, take-append-drop, take-take, map-append}
+use Rattle.std.proofs.lemmas.List.{append-nil, take-append-drop, take-take}
 use Rattle.std.proofs.lemmas.List.Concat.{flat_map-append}
 use Rattle.edge_io.specs.Along.{trail, trail_from, chained}
-use Rattle.edge_io.specs.declared.link.Link.{Link}
 use Rattle.edge_io.proofs.Along.{trail_from-append, trail_from-chained, trail-chained}
-use Rattle.pcap_input.specs.declared.capture.Record.{Record}
 use Rattle.flow_lanes.specs.declared.answer.Hits.{Hits}
-use Rattle.record_jobs.specs.Way.{LinkedRecord, linked}
+use Rattle.record_jobs.specs.Way.{LinkedRecord}
 use Rattle.record_jobs.specs.Jobs.{jobs, finishes}
 use Rattle.record_jobs.specs.Touches.{touches}
 use Rattle.record_jobs.specs.Counts.{counts}
@@ -72,23 +70,20 @@ prefix_law plan records r s state within = (
   sym (lines_join plan [] (take r records) (drop r (take s records)) state) ∙ ap (λ (x : List LinkedRecord). lines plan [] x state) (sym (take_split records r s within)),
 )
 
--- ---- records of one link layer
+-- ---- a capture's first records
 
-pub lines_of-nil : (plan : Plan) (link : Link) → lines_of plan link [] Open ≡ []
+pub lines_of-nil : (plan : Plan) → lines_of plan [] Open ≡ []
 unfolding lines_of
-lines_of-nil plan link = lines-nil plan []
+lines_of-nil plan = lines-nil plan []
 
-pub lines_of-closed : (plan : Plan) (link : Link) (records : List Record) → lines_of plan link records Closed ≡ lines_of plan link records Open ++ closing_lines plan (map (linked link) records)
+pub lines_of-closed : (plan : Plan) (records : List LinkedRecord) → lines_of plan records Closed ≡ lines_of plan records Open ++ closing_lines plan records
 unfolding lines_of
-lines_of-closed plan link records = lines-closed plan (map (linked link) records)
+lines_of-closed plan records = lines-closed plan records
 
 -- the lines of records joined to others
-pub lines_of-append : (plan : Plan) (link : Link) (front back : List Record) (state : CaptureState)
-    → lines_of plan link (front ++ back) state ≡ lines_of plan link front Open ++ lines plan (map (linked link) front) (map (linked link) back) state
+pub lines_of-append : (plan : Plan) (front back : List LinkedRecord) (state : CaptureState) → lines_of plan (front ++ back) state ≡ lines_of plan front Open ++ lines plan front back state
 unfolding lines_of
-lines_of-append plan link front back state =
-    ap (λ (x : List LinkedRecord). lines plan [] x state) (map-append (linked link) front back)
-    ∙ lines_join plan [] (map (linked link) front) (map (linked link) back) state
+lines_of-append plan front back state = lines_join plan [] front back state
 
 -- ---- jobs
 

@@ -4,15 +4,19 @@ use Rattle.std.specs.Prelude.{codes, min, nat_le, if◌then◌else◌}
 use Rattle.std.proofs.lemmas.List.{length-drop, length-map, length-take-le, drop_at}
 use Rattle.std.proofs.lemmas.Bool.Decides.{nat_tests}
 use Rattle.byteorder.specs.Numbers.{little_number-reads_back}
-use Rattle.pcap_input.specs.Savefile.{Cut, Clean, Stands, first_records, captured_length, number_at, next_of, place_behind, records_left, record_of}
+use Rattle.pcap_input.specs.Savefile.{Cut, Clean, Stands, captured_length, number_at, next_of, place_behind, records_left, record_of}
 use Rattle.pcap_input.specs.Frames.{ip_fields, ip_header, tcp_fields, tcp_header, udp_header, frame, tcp_frame, udp_frame}
 use Rattle.pcap_input.specs.Generated.{step, draw, letters, marked, payload_drawn, has_payload, payload_at, text_drawn, with_state, made, made_datagram, made_segment, made_of_session, frames, record_fields, record_bytes, records_from, header_bytes, first_traffic, capture_of, generated}
 use Rattle.pcap_input.proofs.Laws.{bytes_stand, next_of_header, next_of_nothing}
 use Rattle.pcap_input.proofs.Records.{records_left-ends, records_left-stands}
 use Rattle.pcap_input.proofs.Making.{text-short}
-use Rattle.pcap_input.proofs.Endings.{savefile-ok}
 use Rattle.record_jobs.specs.Way.{linked}
-use Rattle.snort_engine.specs.Records.{Recording, recording_of, recording_in, records_of, limited, MadeIsWhole}
+use Rattle.pcap_input.specs.Reader.{new_reader}
+use Rattle.snort_engine.specs.declared.reader.RecordReader.TheVariants.{Savefile}
+use Rattle.snort_engine.specs.Records as recordings
+use Rattle.snort_engine.specs.Records.{Recording, recording_of, records_of, first_of, limited, IsWhole, MadeIsWhole}
+use Rattle.snort_engine.specs.Reader.{recording_for}
+use Rattle.snort_engine.proofs.Opening.{records_in-ok}
 use Rattle.snort_engine.proofs.MadeCaptures.{generated_head}
 use Rattle.snort_engine.specs.MadeCapture.{made_head}
 
@@ -108,32 +112,33 @@ records_whole (suc count) number place millis traffic few =
 
 -- ---- what a plan reads of it
 
-limit_whole : (limit : Option ℕ) (count : ℕ) (cut : Cut) → IsCutWhole count cut → IsCutWhole (limited limit count) (first_records limit cut)
-unfolding first_records
-limit_whole None count cut whole = whole
-limit_whole (Some limit) count cut whole = by_test (nat_le limit (length cut.records)) refl
+limit_whole : (limit : Option ℕ) (count : ℕ) (recording : Recording) → IsWhole count recording → IsWhole (limited limit count) (first_of limit recording)
+unfolding first_of
+limit_whole None count recording whole = whole
+limit_whole (Some limit) count recording whole = by_test (nat_le limit (length recording.records)) refl
   where
-    by_test : (test : Bool) → nat_le limit (length cut.records) ≡ test → IsCutWhole (min limit count) (first_records (Some limit) cut)
+    by_test : (test : Bool) → nat_le limit (length recording.records) ≡ test → IsWhole (min limit count) (first_of (Some limit) recording)
     by_test true is =
-        let enough : limit ≤ length cut.records = grind (arith, nat_tests) in
-        let first : length (take limit cut.records) ≡ limit = length-take-le limit cut.records enough in
+        let enough : limit ≤ length recording.records = grind (arith, nat_tests) in
+        let first : length (take limit recording.records) ≡ limit = length-take-le limit recording.records enough in
         rw is (record { count_is = omega (arith, first, enough, whole.count_is); clean = refl })
     by_test false is =
-        let fewer : length cut.records < limit = grind (arith, nat_tests) in
+        let fewer : length recording.records < limit = grind (arith, nat_tests) in
         rw is (record { count_is = omega (arith, fewer, whole.count_is); clean = whole.clean })
 
+-- a cut that is whole, as a recording
+recording_whole : (count : ℕ) (cut : Cut) → IsCutWhole count cut → IsWhole count (recording_of made_head.link cut)
+recording_whole count cut whole = record {
+  count_is = length-map cut.records (linked made_head.link) ∙ whole.count_is;
+  clean = ap recordings.savefile_ending whole.clean;
+}
+
 pub made_is_whole : MadeIsWhole
-unfolding records_of generated capture_of
+unfolding recording_for generated capture_of
 made_is_whole plan seed count few =
     let frames_are = frames count (first_traffic seed) in
-    let head = generated_head seed count in
     let behind : drop 24 (generated seed count) ≡ records_from 0 frames_are = drop_at header_bytes (records_from 0 frames_are) 24 refl in
     let whole : IsCutWhole count (records_left made_head 0 24 (drop 24 (generated seed count))) =
     subst (λ (rest : List ℕ). IsCutWhole count (records_left made_head 0 24 rest)) (sym behind) (records_whole count 0 24 0 (first_traffic seed) (omega arith)) in
-    let cut = first_records plan.limit (records_left made_head 0 24 (drop 24 (generated seed count))) in
-    let limit : IsCutWhole (limited plan.limit count) cut = limit_whole plan.limit count _ whole in
-    let is : records_of plan (generated seed count) ≡ recording_of made_head.link cut = ap recording_in (savefile-ok (generated seed count) plan.limit made_head head) in
-    record {
-      count_is = ap (λ (r : Recording). length r.records) is ∙ length-map cut.records (linked made_head.link) ∙ limit.count_is;
-      clean = ap (λ (r : Recording). r.ending) is ∙ limit.clean;
-    }
+    subst (IsWhole (limited plan.limit count)) (sym (records_in-ok plan.limit (generated seed count) made_head (generated_head seed count)))
+    (limit_whole plan.limit count (recording_for (Savefile (new_reader made_head)) (drop 24 (generated seed count))) (recording_whole count _ whole))

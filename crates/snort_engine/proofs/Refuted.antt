@@ -1,6 +1,6 @@
--- Runs that the headline refuses: one line short, one record too far ahead, a second opening.
+-- Runs that the headline refuses: one line short, one record too far ahead, one opening too many.
 --
--- The first and the last speak of any capture, the second of one whose first record alerts, and behind
+-- The first and the last ones speak of any capture, the second of one whose first record alerts, and behind
 -- which a whole batch was taken. They show that the relations say something of such runs by themselves,
 -- whatever a body's proof looks like.
 use Rattle.std.proofs.Common.{◌≡◌, ℕ, ◌+◌, ◌-◌, ◌≤◌, List, [], ◌∷◌, ◌++◌, Option, Some, length, take, refl, sym, ap, subst, ◌∙◌, arith, ⊎_elim}
@@ -9,8 +9,9 @@ use Rattle.std.proofs.lemmas.List.{length-append, take_at}
 use Rattle.edge_io.specs.Told.{behind}
 use Rattle.edge_io.specs.Files.{Files}
 use Rattle.option_eval.specs.Places.{Means}
+use Rattle.command_words.specs.CommandLine.{command_line}
 use Rattle.snort_engine.specs.declared.status.Status.TheVariants as status
-use Rattle.snort_engine.specs.Course.{Plan, Way, Goes, Course}
+use Rattle.snort_engine.specs.Course.{Plan, Way, Goes, Course, given}
 use Rattle.record_jobs.specs.Way.{LinkedRecord}
 use Rattle.snort_engine.specs.Records.{records_of}
 use Rattle.snort_engine.specs.Trace.{Open}
@@ -19,7 +20,7 @@ use Rattle.snort_engine.specs.Answer.{answer_of}
 use Rattle.snort_engine.specs.Outside.{Outside, Work}
 use Rattle.snort_engine.specs.ReadAhead.{batch, all_but, lines_due, IsReadAhead, ReadsAhead, ReadsAheadOn}
 use Rattle.snort_engine.specs.Ending.{Ends}
-use Rattle.snort_engine.specs.Headline.{Headline}
+use Rattle.snort_engine.specs.Headline.{HasOther, Headline}
 
 -- behind what is told, a text and no text differ
 behind_apart : (old text : List ℕ) (byte : ℕ) (rest : List ℕ) → behind (Some old) text ≡ behind (Some old) (text ++ byte ∷ rest) → ⊥
@@ -76,6 +77,12 @@ one_record_too_far files course plan before after message old taken rest first o
     (λ cut. ⊎_elim (λ is. absurd cc) (λ is. absurd cc) cut.0)
     (subst (λ (way : Way). ReadsAheadOn files way before after status.WriteFault) goes ends.read_ahead)
 
--- a capture that was opened a second time
-pub opened_twice : (words : List (List ℕ)) (means : Means) (before after : Outside) → before.opens + 2 ≤ after.opens → Headline words means before after status.Done → ⊥
-opened_twice words means before after twice run = absurd (omega (arith, run.opened_once))
+-- a capture that was opened a third time
+pub opened_thrice : (words : List (List ℕ)) (means : Means) (before after : Outside) → before.opens + 3 ≤ after.opens → Headline words means before after status.Done → ⊥
+opened_thrice words means before after thrice run = absurd (omega (arith, run.opened_once.at_most))
+
+-- a capture that was opened a second time, and doesn't begin as no savefile does
+pub opened_twice : (words : List (List ℕ)) (means : Means) (before after : Outside) (files : Files) → before.files ≡ Some files → before.opens + 2 ≤ after.opens
+    → (run : Headline words means before after status.Done) → (HasOther (command_line words) (given files run.matches run.refused) → ⊥) → ⊥
+opened_twice words means before after files told twice run savefile =
+    ⊎_elim (λ once. let most = once.0 in absurd (omega (arith, most, twice))) (λ again. savefile again.1) (run.opened_once.exactly files told)

@@ -6,7 +6,8 @@ use Rattle.edge_io.specs.Told.{behind, Rose, one_more}
 use Rattle.edge_io.specs.Files.{Files, Lacks}
 use Rattle.snort_engine.specs.declared.plan.Source.{Source}
 use Rattle.snort_engine.specs.declared.plan.Source.TheVariants.{File, Made}
-use Rattle.snort_engine.specs.Sources.{IsMade, LacksCapture, opens_behind}
+use Rattle.snort_engine.specs.Reader.{IsToldOther, MayBeOther, OpensSo}
+use Rattle.snort_engine.specs.Sources.{IsMade, LacksCapture, BeginsOtherwise, OpensOn, way_from}
 use Rattle.edge_io.proofs.Told.{behind-nil}
 use Rattle.option_eval.specs.Places.{Means}
 use Rattle.command_words.specs.CommandLine.{Asked, command_line}
@@ -15,7 +16,7 @@ use Rattle.snort_engine.specs.declared.status.Status.{Status}
 use Rattle.snort_engine.specs.declared.status.Status.TheVariants as status
 use Rattle.snort_engine.specs.declared.stop.Stop.{Stop}
 use Rattle.snort_engine.specs.declared.stop.Stop.TheVariants as stop
-use Rattle.snort_engine.specs.Course.{Way, Stops, Goes, Makes, Course, Given, given, IsCourse, IsForMade, AreRefused}
+use Rattle.snort_engine.specs.Course.{Plan, Way, Stops, Goes, Makes, Course, Given, given, IsCourse, IsForMade, AreRefused}
 use Rattle.snort_engine.specs.Answer.{Answer, answer_of, way_answer, capture_answer}
 use Rattle.snort_engine.specs.Messages.{no_memory_text}
 use Rattle.snort_engine.specs.Outside.{Outside, Work, work_of, NoFault, NoCountFell}
@@ -24,7 +25,7 @@ use Rattle.snort_engine.specs.Ending.{IsStated, IsAnswered, Ends, EndsEarly, End
 use Rattle.snort_engine.specs.Stop.{stop_status, stop_text, outcome_status}
 use Rattle.snort_engine.specs.Reporting.{TellsOn, TellsLast}
 use Rattle.snort_engine.specs.Preparing.{HasWay, stops, Prepares, IsPrepared, HasCause, IsForFaultyWords}
-use Rattle.snort_engine.specs.Headline.{refused_since, EndsSo, HasAnswer, LacksOne, Headline}
+use Rattle.snort_engine.specs.Headline.{refused_since, EndsSo, HasAnswer, LacksOne, HasOther, MayBeCut, OpensBy, Headline}
 use Rattle.snort_engine.proofs.Prefixes.{rose_since}
 use Rattle.snort_engine.proofs.LinesLaws.{lines_join, prefix_law}
 use Rattle.snort_engine.proofs.Prepared.{one_course}
@@ -135,6 +136,7 @@ HoldsOf asked matches before after ended files refused =
     AreRefused asked files refused (refused_since before after)
     × EndsSo asked (given files matches refused) before after ended
     × (ended ≡ status.HostFault → Rose before.host_faults after.host_faults ⊎ HasAnswer asked (given files matches refused) status.HostFault)
+    × OpensBy asked (given files matches refused) before after ended
 
 -- the list, and what holds of told files
 pub record OfOne (seen : Option Files) (P : Files → List ℕ → Type 0) : Type 0 where
@@ -155,7 +157,7 @@ pub record IsRun (asked : Option Asked) (means : Means) (before after : Outside)
   pub untold : ended ≡ status.HostFault → before.files ≡ None → Rose before.host_faults after.host_faults
   pub write_fault : ended ≡ status.WriteFault → Rose before.alert_faults after.alert_faults
   pub faulty_words : asked ≡ None → (ended ≡ status.Refused) ⊎ (ended ≡ status.NoMemory)
-  pub opened_once : after.opens ≤ before.opens + 1
+  pub opened_twice : after.opens ≤ before.opens + 2
   pub made_unopened : IsForMade asked → (after.opens ≡ before.opens) × (after.left ≡ before.left)
   pub same_files : after.files ≡ before.files
   pub counts : NoCountFell before after
@@ -195,7 +197,10 @@ headline words means before after ended run = record {
   ends = λ files is. ((of_one before.files (HoldsOf (command_line words) run.matches before after ended) run.told).holds files is).1;
   complete = λ files is calm.
       complete_by (command_line words) _ before after ended run.write_fault ((of_one before.files (HoldsOf (command_line words) run.matches before after ended) run.told).holds files is).1 calm;
-  opened_once = run.opened_once;
+  opened_once = record {
+    at_most = run.opened_twice;
+    exactly = λ files is. ((of_one before.files (HoldsOf (command_line words) run.matches before after ended) run.told).holds files is).3;
+  };
   made_unopened = run.made_unopened;
   write_fault = run.write_fault;
   host_fault = λ failed. by_files before.files refl failed;
@@ -284,6 +289,28 @@ ends_told asked here warnings text outcome before after ended told ends untold =
     })
     told.reports
 
+-- a course has one way
+same_other : (asked : Option Asked) (here : Given) (warnings : List (List ℕ)) (way : Way) → HasWay asked here warnings way → HasOther asked here → BeginsOtherwise (Some here.files) way
+same_other asked here warnings way has other =
+    let same : other.course ≡ has.course = one_course asked here other.course has.course other.is has.is in
+    subst (BeginsOtherwise (Some here.files)) (ap (λ (c : Course). c.way) same ∙ has.way_is) other.other
+
+-- a run that was stopped before a capture that begins as no savefile does was cut short
+stop_cut : {A : Type 0} (view : A → Way) (asked : Option Asked) (here : Given) (before after : Outside) (ended : Status) (host : Option Files) (why : Stop) (warnings : List (List ℕ)) (text : List ℕ) → HasCause (Rose before.host_faults after.host_faults) host why
+    → Prepares view asked here (Rose before.host_faults after.host_faults) (Err why) warnings → IsTold warnings text (Err why) before after ended → HasOther asked here → MayBeCut before after ended
+stop_cut view asked here before after ended host stop.Usage warnings text cause has told other = absurd (same_other asked here warnings _ has other)
+stop_cut view asked here before after ended host stop.Version warnings text cause has told other = absurd (same_other asked here warnings _ has other)
+stop_cut view asked here before after ended host (stop.Accepted rules) warnings text cause has told other = absurd (same_other asked here warnings _ has other)
+stop_cut view asked here before after ended host stop.CommandLine warnings text cause has told other = absurd (same_other asked here warnings _ has other)
+stop_cut view asked here before after ended host (stop.Refused message) warnings text cause has told other = absurd (same_other asked here warnings _ has other)
+stop_cut view asked here before after ended host (stop.CannotReadFile name) warnings text cause has told other =
+    ⊎_elim
+    (λ (way : HasWay asked here warnings (stops (stop.CannotReadFile name))). absurd (same_other asked here warnings (stops (stop.CannotReadFile name)) way other))
+    (λ read. inl read.0)
+    has
+stop_cut view asked here before after ended host stop.NoMemory warnings text cause has told other = ⊎_elim (λ said. inr said.0) (λ lacking. inr lacking.0) told.reports
+stop_cut view asked here before after ended host why warnings text cause has told other = absurd cause
+
 -- what is known of a run that was stopped
 pub record IsStopped {A : Type 0} (ways : Test → A → Way) (asked : Option Asked) (before after : Outside) (why : Stop) (warnings : List (List ℕ)) : Type 0 where
   pub prepared : (files : Files) → before.files ≡ Some files → IsPrepared ways asked files (Rose before.host_faults after.host_faults) (refused_since before after) (Err why) warnings
@@ -309,6 +336,10 @@ stopped_run {A} ways asked means before after why warnings ended decided run tol
               (stop_ends (ways decided.0) asked here (work_of before) (work_of after) warnings run.unopened before.files why run.cause has)
               (stop_untold (ways decided.0) asked here (work_of before) (work_of after) warnings run.unopened before.files why run.cause has),
           λ failed. stop_answered (ways decided.0) asked here (Rose before.host_faults after.host_faults) before.files why warnings run.cause has (by_outcome warnings (stop_text [] why) (Err why) before after ended status.HostFault told (λ e. cc) failed),
+          inl (
+            (let same = run.unopened.opens in omega (arith, same)),
+            λ other. stop_cut (ways decided.0) asked here before after ended before.files why warnings (stop_text [] why) run.cause has told other,
+          ),
         ),
       );
   untold = λ failed none. stop_untold_rose (Rose before.host_faults after.host_faults) before.files why run.cause (by_outcome warnings (stop_text [] why) (Err why) before after ended status.HostFault told (λ e. cc) failed) none;
@@ -317,7 +348,7 @@ stopped_run {A} ways asked means before after why warnings ended decided run tol
       ⊎_elim
       (λ said. ⊎_elim (λ refused. inl (said.0 ∙ refused)) (λ lacking. inr (said.0 ∙ lacking)) (faulty_status {A = A} (Err why) (run.faulty_words none)))
       (λ lacking. inr lacking.0) told.reports;
-  opened_once = let same = run.unopened.opens in omega (arith, same);
+  opened_twice = let same = run.unopened.opens in omega (arith, same);
   made_unopened = λ for_made. (run.unopened.opens, run.unopened.left);
   same_files = run.same_files;
   counts = run.counts;
@@ -329,15 +360,37 @@ stopped_run {A} ways asked means before after why warnings ended decided run tol
 one_more_most : (count : ℕ) → one_more count ≤ count + 1
 one_more_most count = grind (arith, nat_tests)
 
--- a run opens a capture once at most
-pub opens_behind_most : (source : Source) (opens : ℕ) → opens_behind source opens ≤ opens + 1
-opens_behind_most (File name) opens = one_more_most opens
-opens_behind_most (Made seed count) opens = omega arith
+-- a file is opened twice at most
+so_most : (told : Option Files) (name : List ℕ) (failed : Type 0) (old new : ℕ) → OpensSo told name failed old new → new ≤ old + 2
+so_most told name failed old new opens =
+    let one = one_more_most old in
+    let two = one_more_most (one_more old) in
+    ⊎_elim (λ once. let is = once.0 in omega (arith, is, one)) (λ twice. let is = twice.0 in omega (arith, is, one, two)) opens
 
--- and none where it is made
-pub opens_behind_made : (source : Source) (opens : ℕ) → IsMade source → opens_behind source opens ≡ opens
-opens_behind_made (File name) opens made = absurd made
-opens_behind_made (Made seed count) opens made = refl
+-- and so is a capture
+pub opens_most : (told : Option Files) (way : Way) (failed : Type 0) (old new : ℕ) → OpensOn told way failed old new → new ≤ old + 2
+opens_most told (Goes plan) failed old new opens = so_most told plan.source failed old new opens
+opens_most told (Stops message ended) failed old new opens = omega (arith, opens)
+opens_most told (Makes plan seed count) failed old new opens = omega (arith, opens)
+
+-- one that is made isn't opened
+pub opens_made : (told : Option Files) (source : Source) (plan : Plan) (failed : Type 0) (old new : ℕ) → IsMade source → OpensOn told (way_from source plan) failed old new → new ≡ old
+opens_made told (File name) plan failed old new made opens = absurd made
+opens_made told (Made seed count) plan failed old new made opens = opens
+
+-- how often a capture was opened that was watched, by its way
+opens_by : (asked : Option Asked) (here : Given) (warnings : List (List ℕ)) (before after : Outside) (ended : Status) (failed : Type 0) (way : Way) → (failed → Rose before.host_faults after.host_faults) → HasWay asked here warnings way
+    → OpensOn (Some here.files) way failed before.opens after.opens → OpensBy asked here before after ended
+opens_by asked here warnings before after ended failed (Stops message status_then) rises has opens = inl (omega (arith, opens), λ other. absurd (same_other asked here warnings (Stops message status_then) has other))
+opens_by asked here warnings before after ended failed (Makes plan seed count) rises has opens = inl (omega (arith, opens), λ other. absurd (same_other asked here warnings (Makes plan seed count) has other))
+opens_by asked here warnings before after ended failed (Goes plan) rises has opens =
+    let most = one_more_most before.opens in
+    ⊎_elim
+    (λ (once : (after.opens ≡ one_more before.opens) × (IsToldOther (Some here.files) plan.source → failed)).
+    inl ((let is = once.0 in omega (arith, is, most)), λ other. inl (rises (once.1 (same_other asked here warnings (Goes plan) has other)))))
+    (λ (twice : (after.opens ≡ one_more (one_more before.opens)) × MayBeOther (Some here.files) plan.source).
+    inr (twice.0, record { course = has.course; is = has.is; other = subst (BeginsOtherwise (Some here.files)) (sym has.way_is) twice.1 }))
+    opens
 
 -- what is known of a run that watched its capture
 pub record IsWatching {A : Type 0} (ways : Test → A → Way) (asked : Option Asked) (means : Means) (before after : Outside) (ready : A) (text : List ℕ) (outcome : Result (Unit {0}) Stop) (warnings : List (List ℕ)) : Type 0 where
@@ -349,7 +402,7 @@ pub record IsWatching {A : Type 0} (ways : Test → A → Way) (asked : Option A
       → Ends files course middle (work_of after) (outcome_status outcome) (concat course.warnings ++ text)
   pub write_fault : outcome_status outcome ≡ status.WriteFault → Rose before.alert_faults after.alert_faults
   pub read_fault : (matches : Test) → outcome_status outcome ≡ status.HostFault → Rose middle.host_faults after.host_faults ⊎ LacksCapture before.files (ways matches ready)
-  pub opened_once : after.opens ≤ before.opens + 1
+  pub opened : (matches : Test) → OpensOn before.files (ways matches ready) (Rose middle.host_faults after.host_faults) before.opens after.opens
   pub made_unopened : IsForMade asked → (after.opens ≡ before.opens) × (after.left ≡ before.left)
   pub same_files : after.files ≡ before.files
   pub counts : NoCountFell before after
@@ -409,6 +462,9 @@ watched_run ways asked means before after ready text outcome warnings ended deci
               (λ (lacks : LacksCapture before.files (ways decided.0 ready)).
               inr (lacking_capture asked here (ways decided.0 ready) warnings has (subst (λ (t : Option Files). LacksCapture t (ways decided.0 ready)) is lacks)))
               (run.read_fault decided.0 (by_outcome warnings text outcome before after ended status.HostFault told (λ e. cc) failed)),
+          opens_by asked here warnings before after ended (Rose run.middle.host_faults after.host_faults) (ways decided.0 ready)
+              (rose_since before.host_faults run.middle.host_faults after.host_faults run.since.later) has
+              (subst (λ (t : Option Files). OpensOn t (ways decided.0 ready) (Rose run.middle.host_faults after.host_faults) before.opens after.opens) is (run.opened decided.0)),
         ),
       );
   untold = λ failed none. ⊎_elim
@@ -417,7 +473,7 @@ watched_run ways asked means before after ready text outcome warnings ended deci
       (run.read_fault decided.0 (by_outcome warnings text outcome before after ended status.HostFault told (λ e. cc) failed));
   write_fault = λ failed. run.write_fault (by_outcome warnings text outcome before after ended status.WriteFault told (λ e. cc) failed);
   faulty_words = λ none. absurd (run.faulty_words none);
-  opened_once = run.opened_once;
+  opened_twice = opens_most before.files (ways decided.0 ready) (Rose run.middle.host_faults after.host_faults) before.opens after.opens (run.opened decided.0);
   made_unopened = run.made_unopened;
   same_files = run.same_files;
   counts = run.counts;

@@ -1,23 +1,19 @@
 -- The steps of watching a capture.
-use Rattle.std.proofs.Common.{◌≡◌, ℕ, ◌+◌, ◌<◌, ◌≤◌, Bool, true, false, List, [], ◌++◌, length, map, Option, Some, None, Result, Ok, Err, refl, sym, ap, subst, ◌∙◌, append_assoc, arith, ◌⊎◌, ⊎_elim}
-use Rattle.std.proofs.lemmas.List.{append-nil, map-append}
-use Rattle.edge_io.specs.declared.link.Link.{Link}
+use Rattle.std.proofs.Common.{◌≡◌, ℕ, ◌<◌, ◌≤◌, Bool, true, false, List, [], ◌++◌, length, Option, Some, None, Result, Ok, Err, refl, sym, ap, subst, ◌∙◌, append_assoc, arith, ⊎_elim}
+use Rattle.std.proofs.lemmas.List.{append-nil}
 use Rattle.edge_io.specs.Told.{behind}
 use Rattle.edge_io.proofs.Told.{behind-nil, behind-behind}
-use Rattle.pcap_input.specs.declared.capture.Record.{Record}
-use Rattle.pcap_input.specs.declared.capture.CaptureFault.{CaptureFault}
-use Rattle.pcap_input.specs.Savefile.{Cut, Ending, Clean, Refused, first_records}
-use Rattle.pcap_input.specs.declared.capture.CaptureFault.TheVariants as fault
-use Rattle.pcap_input.specs.declared.capture.CaptureHead.{CaptureHead}
-use Rattle.pcap_input.specs.Reader.{Reading}
-use Rattle.pcap_input.specs.Reading.{cut_for, HasRead, AreWhole, EndsWith, IsRefusedBy}
-use Rattle.pcap_input.proofs.Reading.{reading-start, reading-told, reading-whole}
-use Rattle.record_jobs.specs.Way.{LinkedRecord, linked}
+use Rattle.record_jobs.specs.Way.{LinkedRecord}
 use Rattle.snort_engine.specs.declared.counts.Counts.{Counts}
 use Rattle.snort_engine.specs.declared.detect.Detector.{Detector}
+use Rattle.snort_engine.specs.declared.fault.ReadFault.{ReadFault}
+use Rattle.snort_engine.specs.declared.fault.ReadFault.TheVariants as fault
+use Rattle.snort_engine.specs.declared.reader.RecordReader.{RecordReader}
 use Rattle.snort_engine.specs.declared.stop.Stop.{Stop}
 use Rattle.snort_engine.specs.declared.stop.Stop.TheVariants as stop
 use Rattle.snort_engine.specs.Course.{Plan}
+use Rattle.snort_engine.specs.Records.{Recording, Ending, Clean, Refused, first_of}
+use Rattle.snort_engine.specs.Reader.{IsFresh, recording_for, HasRead, AreWhole, EndsWith, IsRefusedBy}
 use Rattle.snort_engine.specs.Outside.{WritesPart}
 use Rattle.snort_engine.specs.Stop.{capture_stop, is_whole}
 use Rattle.snort_engine.specs.Trace.{Open, Closed}
@@ -27,56 +23,57 @@ use Rattle.snort_engine.specs.Batch.{Place, HasStopped, Reaches, ReadsOn, more_o
 use Rattle.snort_engine.specs.declared.batch.Reached.{Reached}
 use Rattle.snort_engine.specs.declared.batch.Reached.TheVariants.{More, End, Fault}
 use Rattle.snort_engine.specs.ReadAhead.{batch}
-use Rattle.snort_engine.specs.Detecting.{AreShown, Closes, ClosesPart, DetectorStands, ShowsRecords, ShowsRecordsPart, closing_lines}
+use Rattle.snort_engine.specs.Detecting.{Closes, ClosesPart, DetectorStands, ShowsRecords, ShowsRecordsPart, closing_lines}
 use Rattle.snort_engine.specs.Watching.{Streams, Standing, lines_of, lines_left, IsRoom, most_at, room_behind, IsUnderWay, IsAtEnd, IsCutOff, IsCloseBehind, WritesSome, WatchesTo, Watches, Comes, ComesOver, GoesOn, IsShowStop, IsLeft, IsClosedWhole, IsClosedInPart, ClosesWatched}
 use Rattle.snort_engine.proofs.Prefixes.{WritesPart-all, WritesPart-behind, WritesPart-longer}
-use Rattle.snort_engine.proofs.Limits.{first_records-front, below_limit, at_limit, within_limit, room_first, room_further, room_left}
+use Rattle.snort_engine.proofs.Limits.{first_of-front, below_limit, at_limit, within_limit, room_first, room_further, room_left}
+use Rattle.snort_engine.proofs.Reading.{reading-start, reading-told, reading-whole}
 use Rattle.snort_engine.proofs.LinesLaws.{lines_of-nil, lines_of-closed, lines_of-append}
 
 -- nothing was done yet
-pub under_way-start : (plan : Plan) (reader : Reading) (room : Option ℕ) (detector : Detector) (old : Streams) → reader.refused ≡ None → room ≡ plan.limit → DetectorStands plan [] detector
+pub under_way-start : (plan : Plan) (reader : RecordReader) (room : Option ℕ) (detector : Detector) (old : Streams) → IsFresh reader → room ≡ plan.limit → DetectorStands plan [] detector
     → IsUnderWay plan reader old (record { reader = reader; room = room; detector = detector; streams = old })
 under_way-start plan reader room detector old fresh all stands = record {
   given = [];
   read = reading-start reader old.left fresh;
   room_is = subst (λ (r : Option ℕ). IsRoom plan.limit 0 r) (sym all) (room_first plan.limit);
   stands = stands;
-  wrote = sym (behind-nil old.written) ∙ ap (behind old.written) (sym (lines_of-nil plan reader.head.link));
+  wrote = sym (behind-nil old.written) ∙ ap (behind old.written) (sym (lines_of-nil plan));
 }
 
 -- the lines of a batch behind those of the records before it
-lines_of-batch : (plan : Plan) (link : Link) (given records : List Record) → lines_of plan link (given ++ records) Open ≡ lines_of plan link given Open ++ lines plan (map (linked link) given) (map (linked link) records) Open
-lines_of-batch plan link given records = lines_of-append plan link given records Open
+lines_of-batch : (plan : Plan) (given records : List LinkedRecord) → lines_of plan (given ++ records) Open ≡ lines_of plan given Open ++ lines plan given records Open
+lines_of-batch plan given records = lines_of-append plan given records Open
 
 -- the records that are whole within the bytes taken are those so far
-cut_off : (plan : Plan) (first : Reading) (room : Option ℕ) (given : List Record) (old after : Streams) → IsRoom plan.limit (length given) room
-    → after.written ≡ behind old.written (lines_of plan first.head.link given Open) → AreWhole first given old.left after.left → IsCutOff plan first old after
+cut_off : (plan : Plan) (first : RecordReader) (room : Option ℕ) (given : List LinkedRecord) (old after : Streams) → IsRoom plan.limit (length given) room
+    → after.written ≡ behind old.written (lines_of plan given Open) → AreWhole first given old.left after.left → IsCutOff plan first old after
 cut_off plan first room given old after is wrote whole = record {
   taken = whole.taken;
   took = whole.took;
-  wrote = wrote ∙ ap (λ (x : List Record). behind old.written (lines_of plan first.head.link x Open)) (sym (within_limit plan.limit room given (cut_for first whole.taken) is whole.are));
+  wrote = wrote ∙ ap (λ (x : List LinkedRecord). behind old.written (lines_of plan x Open)) (sym (within_limit plan.limit room given (recording_for first whole.taken) is whole.are));
 }
 
 -- what was written of the lines of some records, and of no others, is a part of all
-part_of_all : (plan : Plan) (first reader : Reading) (room : Option ℕ) (given : List Record) (old : Streams) (left new : Option (List ℕ)) → IsRoom plan.limit (length given) room
+part_of_all : (plan : Plan) (first reader : RecordReader) (room : Option ℕ) (given : List LinkedRecord) (old : Streams) (left new : Option (List ℕ)) → IsRoom plan.limit (length given) room
     → HasRead first reader given old.left left
-    → WritesPart old.written (lines_of plan first.head.link given Open) new
+    → WritesPart old.written (lines_of plan given Open) new
     → (whole : List ℕ) → old.left ≡ Some whole → WritesPart old.written (lines_left plan first whole Closed) new
 part_of_all plan first reader room given old left new is read part whole told =
     let found = reading-told first reader given old.left left whole read told in
-    let others = (first_records room (cut_for reader found.0)).records in
+    let others = (first_of room (recording_for reader found.0)).records in
     let all : lines_left plan first whole Closed
-    ≡ lines_of plan first.head.link given Open ++ lines plan (map (linked first.head.link) given) (map (linked first.head.link) others) Closed =
-    ap (λ (c : Cut). lines_of plan first.head.link (first_records plan.limit c).records Closed) found.2
-    ∙ ap (λ (c : Cut). lines_of plan first.head.link c.records Closed) (first_records-front plan.limit room given (cut_for reader found.0) is)
-    ∙ lines_of-append plan first.head.link given others Closed in
+    ≡ lines_of plan given Open ++ lines plan given others Closed =
+    ap (λ (c : Recording). lines_of plan (first_of plan.limit c).records Closed) found.2
+    ∙ ap (λ (c : Recording). lines_of plan c.records Closed) (first_of-front plan.limit room given (recording_for reader found.0) is)
+    ∙ lines_of-append plan given others Closed in
     let P : List ℕ → Type 0 = λ x. WritesPart old.written x new in
-    subst P (sym all) (WritesPart-longer old.written new (lines_of plan first.head.link given Open) _ part)
+    subst P (sym all) (WritesPart-longer old.written new (lines_of plan given Open) _ part)
 
 -- ---- what was reached
 
 -- whatever was reached, reading stood at a reader behind the records, and went no record further
-stopped_at : (first : Reading) (given : List Record) (left_first : Option (List ℕ)) (now : Place) (reached : Reached) → Reaches first given left_first now reached → HasStopped first given left_first now.left
+stopped_at : (first : RecordReader) (given : List LinkedRecord) (left_first : Option (List ℕ)) (now : Place) (reached : Reached) → Reaches first given left_first now reached → HasStopped first given left_first now.left
 stopped_at first given left_first now More read = record {
   behind = now.reader;
   still = now.left;
@@ -87,64 +84,65 @@ stopped_at first given left_first now End (stopped, ends) = stopped
 stopped_at first given left_first now (Fault why) (stopped, ends) = stopped
 
 -- from the first reader on
-reached_behind : (plan : Plan) (first : Reading) (start : Streams) (old : Standing) (now : Place) (reached : Reached) (going : IsUnderWay plan first start old)
+reached_behind : (plan : Plan) (first : RecordReader) (start : Streams) (old : Standing) (now : Place) (reached : Reached) (going : IsUnderWay plan first start old)
     → ReadsOn (record { reader = old.reader; records = []; left = old.streams.left }) now reached → Reaches first (going.given ++ now.records) start.left now reached
 reached_behind plan first start old now reached going reads =
-    reads first going.given start.left (subst (λ (given : List Record). HasRead first old.reader given start.left old.streams.left) (sym (append-nil going.given)) going.read)
+    reads first going.given start.left (subst (λ (given : List LinkedRecord). HasRead first old.reader given start.left old.streams.left) (sym (append-nil going.given)) going.read)
 
 -- ---- the end of all batches
 
 -- the lines of all whole records were written: they are close behind
-close_by : (plan : Plan) (first : Reading) (room : Option ℕ) (given : List Record) (old after : Streams) → IsRoom plan.limit (length given) room
-    → after.written ≡ behind old.written (lines_of plan first.head.link given Open) → AreWhole first given old.left after.left
+close_by : (plan : Plan) (first : RecordReader) (room : Option ℕ) (given : List LinkedRecord) (old after : Streams) → IsRoom plan.limit (length given) room
+    → after.written ≡ behind old.written (lines_of plan given Open) → AreWhole first given old.left after.left
     → IsCloseBehind plan first old after
 close_by plan first room given old after is wrote whole = record {
   taken = whole.taken;
   took = whole.took;
   given = given;
   last = [];
-  are = within_limit plan.limit room given (cut_for first whole.taken) is whole.are ∙ sym (append-nil given);
+  are = within_limit plan.limit room given (recording_for first whole.taken) is whole.are ∙ sym (append-nil given);
   few = omega arith;
   more = [];
-  wrote = wrote ∙ ap (behind old.written) (sym (append-nil (lines_of plan first.head.link given Open)));
+  wrote = wrote ∙ ap (behind old.written) (sym (append-nil (lines_of plan given Open)));
 }
 
 -- all records were given, where more might have been read
-at_end : (plan : Plan) (first : Reading) (room : Option ℕ) (given : List Record) (old after : Streams) (detector : Detector) (ending : Ending) → IsRoom plan.limit (length given) room → 0 < most_at room
-    → DetectorStands plan (map (linked first.head.link) given) detector
-    → after.written ≡ behind old.written (lines_of plan first.head.link given Open)
+at_end : (plan : Plan) (first : RecordReader) (room : Option ℕ) (given : List LinkedRecord) (old after : Streams) (detector : Detector) (ending : Ending) → IsRoom plan.limit (length given) room → 0 < most_at room
+    → DetectorStands plan given detector
+    → after.written ≡ behind old.written (lines_of plan given Open)
     → EndsWith first given old.left ending → IsAtEnd plan first old after detector ending
 at_end plan first room given old after detector ending is some stands wrote ends = record {
   given = given;
-  ends = λ whole told. ap (first_records plan.limit) (ends whole told) ∙ below_limit plan.limit room given ending is some;
+  ends = λ whole told. ap (first_of plan.limit) (ends whole told) ∙ below_limit plan.limit room given ending is some;
   stands = stands;
   wrote = wrote;
 }
 
 -- a refusal of the capture, behind records whose lines were written
-fault_comes : (plan : Plan) (first : Reading) (room : Option ℕ) (given : List Record) (old after : Streams) (detector : Detector) (why : CaptureFault) → IsRoom plan.limit (length given) room → 0 < most_at room
-    → DetectorStands plan (map (linked first.head.link) given) detector
-    → after.written ≡ behind old.written (lines_of plan first.head.link given Open)
+fault_comes : (plan : Plan) (first : RecordReader) (room : Option ℕ) (given : List LinkedRecord) (old after : Streams) (detector : Detector) (why : ReadFault) → IsRoom plan.limit (length given) room → 0 < most_at room
+    → DetectorStands plan given detector
+    → after.written ≡ behind old.written (lines_of plan given Open)
     → HasStopped first given old.left after.left → IsRefusedBy first given old.left why → Comes plan first old after detector (Err (capture_stop why))
 fault_comes plan first room given old after detector why is some stands wrote stopped ends = by_fault why ends
   where
     part : WritesSome plan first old after
     part = part_of_all plan first stopped.behind room given old stopped.still after.written is stopped.read (WritesPart-all old.written after.written _ wrote)
 
-    to : (f : CaptureFault) → EndsWith first given old.left (Refused f) → IsAtEnd plan first old after detector (Refused f)
+    to : (f : ReadFault) → EndsWith first given old.left (Refused f) → IsAtEnd plan first old after detector (Refused f)
     to f ends_so = at_end plan first room given old after detector (Refused f) is some stands wrote ends_so
 
-    by_fault : (f : CaptureFault) → IsRefusedBy first given old.left f → Comes plan first old after detector (Err (capture_stop f))
+    by_fault : (f : ReadFault) → IsRefusedBy first given old.left f → Comes plan first old after detector (Err (capture_stop f))
     by_fault fault.NotPcap ends = (fault.NotPcap, refl, to fault.NotPcap ends)
     by_fault (fault.LinkType link_type) ends = (fault.LinkType link_type, refl, to (fault.LinkType link_type) ends)
     by_fault (fault.Truncated place) ends = (fault.Truncated place, refl, to (fault.Truncated place) ends)
+    by_fault (fault.BadBlock place) ends = (fault.BadBlock place, refl, to (fault.BadBlock place) ends)
     by_fault (fault.TooLong place len) ends = (fault.TooLong place len, refl, to (fault.TooLong place len) ends)
     by_fault fault.TooMany ends = (fault.TooMany, refl, to fault.TooMany ends)
     by_fault fault.Failed ends = (cut_off plan first room given old after is wrote stopped.whole, part)
     by_fault fault.NoMemory ends = part
 
 -- the lines were not all written
-showing_stops : (plan : Plan) (first : Reading) (old after : Streams) (detector : Detector) (why : Stop) → IsShowStop why → WritesSome plan first old after → Comes plan first old after detector (Err why)
+showing_stops : (plan : Plan) (first : RecordReader) (old after : Streams) (detector : Detector) (why : Stop) → IsShowStop why → WritesSome plan first old after → Comes plan first old after detector (Err why)
 showing_stops plan first old after detector stop.CannotWrite kind some = some
 showing_stops plan first old after detector stop.NoMemory kind some = some
 showing_stops plan first old after detector why kind some = absurd kind
@@ -159,45 +157,35 @@ nothing_left plan old none = λ first start going.
         given = going.given;
         ends = λ whole told.
             let found = reading-told first old.reader going.given start.left old.streams.left whole going.read told in
-            ap (first_records plan.limit) found.2 ∙ at_limit plan.limit old.room going.given (cut_for old.reader found.0) going.room_is none;
+            ap (first_of plan.limit) found.2 ∙ at_limit plan.limit old.room going.given (recording_for old.reader found.0) going.room_is none;
         stands = going.stands;
         wrote = going.wrote;
       },
       close_by plan first old.room going.given start old.streams going.room_is going.wrote stopped,
     )
 
--- records of the link layer of the first reader
-own_records : (plan : Plan) (first : Reading) (start : Streams) (old : Standing) (link : Link) (records : List Record) → IsUnderWay plan first start old → link ≡ old.reader.head.link
-    → map (linked link) records ≡ map (linked first.head.link) records
-own_records plan first start old link records going is =
-    ap (λ (l : Link). map (linked l) records) (is ∙ ap (λ (head : CaptureHead). head.link) going.read.head)
-
 -- a batch was shown behind the records that were given
-batch_is : (plan : Plan) (link : Link) (records : List Record) (old new : Standing) (first : Reading) (start : Streams) (going : IsUnderWay plan first start old) → link ≡ old.reader.head.link
-    → ShowsRecords plan (map (linked link) records) (record { detector = old.detector; written = old.streams.written }) (record { detector = new.detector; written = new.streams.written })
-    → DetectorStands plan (map (linked first.head.link) (going.given ++ records)) new.detector × (new.streams.written ≡ behind start.written (lines_of plan first.head.link (going.given ++ records) Open))
+batch_is : (plan : Plan) (records : List LinkedRecord) (old new : Standing) (first : RecordReader) (start : Streams) (going : IsUnderWay plan first start old)
+    → ShowsRecords plan records (record { detector = old.detector; written = old.streams.written }) (record { detector = new.detector; written = new.streams.written })
+    → DetectorStands plan (going.given ++ records) new.detector × (new.streams.written ≡ behind start.written (lines_of plan (going.given ++ records) Open))
 unfolding ShowsRecords
-batch_is plan link records old new first start going is shows =
-    let own = first.head.link in
-    let earlier = map (linked own) going.given in
-    let shown : AreShown plan earlier (map (linked own) records) (record { detector = old.detector; written = old.streams.written }) (record { detector = new.detector; written = new.streams.written }) =
-    subst (λ (x : List LinkedRecord). AreShown plan earlier x (record { detector = old.detector; written = old.streams.written }) (record { detector = new.detector; written = new.streams.written }))
-    (own_records plan first start old link records going is) (shows earlier going.stands) in (
-      subst (λ (x : List LinkedRecord). DetectorStands plan x new.detector) (sym (map-append (linked own) going.given records)) shown.stands,
-      shown.wrote ∙ ap (λ (x : Option (List ℕ)). behind x (lines plan earlier (map (linked own) records) Open)) going.wrote
-          ∙ behind-behind start.written (lines_of plan own going.given Open) (lines plan earlier (map (linked own) records) Open)
-          ∙ ap (behind start.written) (sym (lines_of-batch plan own going.given records)),
+batch_is plan records old new first start going shows =
+    let shown = shows going.given going.stands in (
+      shown.stands,
+      shown.wrote ∙ ap (λ (x : Option (List ℕ)). behind x (lines plan going.given records Open)) going.wrote
+          ∙ behind-behind start.written (lines_of plan going.given Open) (lines plan going.given records Open)
+          ∙ ap (behind start.written) (sym (lines_of-batch plan going.given records)),
     )
 
 -- a batch was read and shown
-pub batch_shown : (plan : Plan) (link : Link) (records : List Record) (old new : Standing) (reached : Reached) → link ≡ old.reader.head.link
+pub batch_shown : (plan : Plan) (records : List LinkedRecord) (old new : Standing) (reached : Reached)
     → length records ≤ most_at old.room → new.room ≡ room_behind old.room (length records) → ((reached ≡ More → ⊥) → length records < most_at old.room)
     → ReadsOn (record { reader = old.reader; records = []; left = old.streams.left }) (record { reader = new.reader; records = records; left = new.streams.left }) reached
-    → ShowsRecords plan (map (linked link) records) (record { detector = old.detector; written = old.streams.written }) (record { detector = new.detector; written = new.streams.written })
+    → ShowsRecords plan records (record { detector = old.detector; written = old.streams.written }) (record { detector = new.detector; written = new.streams.written })
     → GoesOn plan old new (more_of reached)
-batch_shown plan link records old new reached is few room_is fewer reads shows = by_case reached fewer reads
+batch_shown plan records old new reached few room_is fewer reads shows = by_case reached fewer reads
   where
-    room_now : (first : Reading) (start : Streams) (going : IsUnderWay plan first start old) → IsRoom plan.limit (length (going.given ++ records)) new.room
+    room_now : (first : RecordReader) (start : Streams) (going : IsUnderWay plan first start old) → IsRoom plan.limit (length (going.given ++ records)) new.room
     room_now first start going =
         subst (λ (r : Option ℕ). IsRoom plan.limit (length (going.given ++ records)) r) (sym room_is) (room_further plan.limit old.room going.given records going.room_is few)
 
@@ -207,7 +195,7 @@ batch_shown plan link records old new reached is few room_is fewer reads shows =
     by_case : (r : Reached) → ((r ≡ More → ⊥) → length records < most_at old.room)
         → ReadsOn (record { reader = old.reader; records = []; left = old.streams.left }) (record { reader = new.reader; records = records; left = new.streams.left }) r → GoesOn plan old new (more_of r)
     by_case More short on = λ first start going.
-        let own = batch_is plan link records old new first start going is shows in record {
+        let own = batch_is plan records old new first start going shows in record {
           given = going.given ++ records;
           read = reached_behind plan first start old (record { reader = new.reader; records = records; left = new.streams.left }) More going on;
           room_is = room_now first start going;
@@ -216,7 +204,7 @@ batch_shown plan link records old new reached is few room_is fewer reads shows =
         }
     by_case End short on = λ first start going.
         let given = going.given ++ records in
-        let own = batch_is plan link records old new first start going is shows in
+        let own = batch_is plan records old new first start going shows in
         let came = reached_behind plan first start old (record { reader = new.reader; records = records; left = new.streams.left }) End going on in
         let some = some_left (short (λ e. cc)) in (
           at_end plan first new.room given start new.streams new.detector Clean (room_now first start going) some own.0 own.1 came.1,
@@ -224,7 +212,7 @@ batch_shown plan link records old new reached is few room_is fewer reads shows =
         )
     by_case (Fault why) short on = λ first start going.
         let given = going.given ++ records in
-        let own = batch_is plan link records old new first start going is shows in
+        let own = batch_is plan records old new first start going shows in
         let came = reached_behind plan first start old (record { reader = new.reader; records = records; left = new.streams.left }) (Fault why) going on in
         let some = some_left (short (λ e. cc)) in (
           fault_comes plan first new.room given start new.streams new.detector why (room_now first start going) some own.0 own.1 came.0 came.1,
@@ -237,25 +225,22 @@ batch_few None count few = few
 batch_few (Some room) count few = omega (arith, few)
 
 -- a batch was read, and a part of its lines was written
-pub batch_stops : (plan : Plan) (link : Link) (records : List Record) (old new : Standing) (reached : Reached) (why : Stop) → link ≡ old.reader.head.link
+pub batch_stops : (plan : Plan) (records : List LinkedRecord) (old new : Standing) (reached : Reached) (why : Stop)
     → length records ≤ most_at old.room
     → ReadsOn (record { reader = old.reader; records = []; left = old.streams.left }) (record { reader = new.reader; records = records; left = new.streams.left }) reached
-    → IsShowStop why → ShowsRecordsPart plan (map (linked link) records) (record { detector = old.detector; written = old.streams.written }) new.streams.written
+    → IsShowStop why → ShowsRecordsPart plan records (record { detector = old.detector; written = old.streams.written }) new.streams.written
     → GoesOn plan old new (Err why)
 unfolding WritesPart ShowsRecordsPart
-batch_stops plan link records old new reached why is few reads kind shown = λ first start going.
+batch_stops plan records old new reached why few reads kind shown = λ first start going.
     let given = going.given ++ records in
-    let own_link = first.head.link in
-    let earlier = map (linked own_link) going.given in
-    let text = lines plan earlier (map (linked own_link) records) Open in
+    let text = lines plan going.given records Open in
     let now : Place = record { reader = new.reader; records = records; left = new.streams.left } in
     let room_is = room_further plan.limit old.room going.given records going.room_is few in
     let stopped = stopped_at first given start.left now reached (reached_behind plan first start old now reached going reads) in
-    let own : WritesPart old.streams.written text new.streams.written =
-    subst (λ (x : List LinkedRecord). WritesPart old.streams.written (lines plan earlier x Open) new.streams.written) (own_records plan first start old link records going is) (shown earlier going.stands) in
+    let own : WritesPart old.streams.written text new.streams.written = shown going.given going.stands in
     let part = own.0 in
-    let some : WritesPart start.written (lines_of plan own_link given Open) new.streams.written =
-    subst (λ (x : List ℕ). WritesPart start.written x new.streams.written) (sym (lines_of-batch plan own_link going.given records))
+    let some : WritesPart start.written (lines_of plan given Open) new.streams.written =
+    subst (λ (x : List ℕ). WritesPart start.written x new.streams.written) (sym (lines_of-batch plan going.given records))
     (WritesPart-behind start.written old.streams.written new.streams.written _ _ going.wrote own) in (
       showing_stops plan first start new.streams new.detector why kind (part_of_all plan first stopped.behind (room_behind old.room (length records)) given start stopped.still new.streams.written room_is stopped.read some),
       record {
@@ -263,51 +248,49 @@ batch_stops plan link records old new reached why is few reads kind shown = λ f
         took = stopped.whole.took;
         given = going.given;
         last = records;
-        are = within_limit plan.limit (room_behind old.room (length records)) given (cut_for first stopped.whole.taken) room_is stopped.whole.are;
+        are = within_limit plan.limit (room_behind old.room (length records)) given (recording_for first stopped.whole.taken) room_is stopped.whole.are;
         few = batch_few old.room (length records) few;
         more = part;
-        wrote = own.2 ∙ ap (λ (x : Option (List ℕ)). behind x part) going.wrote ∙ behind-behind start.written (lines_of plan own_link going.given Open) part;
+        wrote = own.2 ∙ ap (λ (x : Option (List ℕ)). behind x part) going.wrote ∙ behind-behind start.written (lines_of plan going.given Open) part;
       },
     )
 
 -- ---- the closing
 
 -- where nothing was read yet, the lines are close behind the records
-pub close-start : (plan : Plan) (reader : Reading) (old : Streams) → reader.refused ≡ None → IsCloseBehind plan reader old old
+pub close-start : (plan : Plan) (reader : RecordReader) (old : Streams) → IsFresh reader → IsCloseBehind plan reader old old
 close-start plan reader old fresh =
     close_by plan reader plan.limit [] old old (room_first plan.limit)
-    (sym (behind-nil old.written) ∙ ap (behind old.written) (sym (lines_of-nil plan reader.head.link)))
+    (sym (behind-nil old.written) ∙ ap (behind old.written) (sym (lines_of-nil plan)))
     (reading-whole reader reader [] old.left old.left (reading-start reader old.left fresh))
 
 -- a capture at its end was closed
-closed_to : (plan : Plan) (first : Reading) (start now : Streams) (detector : Detector) (ending : Ending) (written : Option (List ℕ)) (counts : Counts) → IsAtEnd plan first start now detector ending
+closed_to : (plan : Plan) (first : RecordReader) (start now : Streams) (detector : Detector) (ending : Ending) (written : Option (List ℕ)) (counts : Counts) → IsAtEnd plan first start now detector ending
     → Closes plan (record { detector = detector; written = now.written }) written counts
     → (left : Option (List ℕ)) → WatchesTo plan first ending start (record { left = left; written = written }) counts
 unfolding Closes
 closed_to plan first start now detector ending written counts came closes left = λ whole told.
-    let own = first.head.link in
     let cut = came.ends whole told in
-    let shut = closes (map (linked own) came.given) came.stands in record {
-      ends = ap (λ (c : Cut). c.ending) cut;
-      wrote = shut.wrote ∙ ap (λ (x : Option (List ℕ)). behind x (closing_lines plan (map (linked own) came.given))) came.wrote
-          ∙ behind-behind start.written (lines_of plan own came.given Open) (closing_lines plan (map (linked own) came.given))
-          ∙ ap (behind start.written) (sym (ap (λ (c : Cut). lines_of plan own c.records Closed) cut ∙ lines_of-closed plan own came.given));
-      counted = shut.counted ∙ sym (ap (λ (c : Cut). counts_of plan (map (linked own) c.records)) cut);
+    let shut = closes came.given came.stands in record {
+      ends = ap (λ (c : Recording). c.ending) cut;
+      wrote = shut.wrote ∙ ap (λ (x : Option (List ℕ)). behind x (closing_lines plan came.given)) came.wrote
+          ∙ behind-behind start.written (lines_of plan came.given Open) (closing_lines plan came.given)
+          ∙ ap (behind start.written) (sym (ap (λ (c : Recording). lines_of plan c.records Closed) cut ∙ lines_of-closed plan came.given));
+      counted = shut.counted ∙ sym (ap (λ (c : Recording). counts_of plan c.records) cut);
     }
 
 -- or in part
-closed_some : (plan : Plan) (first : Reading) (start now : Streams) (detector : Detector) (ending : Ending) (written : Option (List ℕ)) → IsAtEnd plan first start now detector ending
+closed_some : (plan : Plan) (first : RecordReader) (start now : Streams) (detector : Detector) (ending : Ending) (written : Option (List ℕ)) → IsAtEnd plan first start now detector ending
     → ClosesPart plan (record { detector = detector; written = now.written }) written
     → (left : Option (List ℕ)) → WritesSome plan first start (record { left = left; written = written })
 unfolding ClosesPart
 closed_some plan first start now detector ending written came part left = λ whole told.
-    let own = first.head.link in
     subst (λ (x : List ℕ). WritesPart start.written x written)
-    (sym (ap (λ (c : Cut). lines_of plan own c.records Closed) (came.ends whole told) ∙ lines_of-closed plan own came.given))
-    (WritesPart-behind start.written now.written written (lines_of plan own came.given Open) (closing_lines plan (map (linked own) came.given)) came.wrote (part (map (linked own) came.given) came.stands))
+    (sym (ap (λ (c : Recording). lines_of plan c.records Closed) (came.ends whole told) ∙ lines_of-closed plan came.given))
+    (WritesPart-behind start.written now.written written (lines_of plan came.given Open) (closing_lines plan came.given) came.wrote (part came.given came.stands))
 
 -- a part of lines stopped the showing of them
-stopped_some : (plan : Plan) (first : Reading) (start after : Streams) (counts : Counts) (why : Stop) → IsShowStop why → WritesSome plan first start after → Watches plan first start after counts (Err why)
+stopped_some : (plan : Plan) (first : RecordReader) (start after : Streams) (counts : Counts) (why : Stop) → IsShowStop why → WritesSome plan first start after → Watches plan first start after counts (Err why)
 stopped_some plan first start after counts stop.CannotWrite kind some = some
 stopped_some plan first start after counts stop.NoMemory kind some = some
 stopped_some plan first start after counts why kind some = absurd kind
@@ -317,7 +300,7 @@ not_both : (b : Bool) → b ≡ true → b ≡ false → ⊥
 not_both b yes_ no_ = let e : true ≡ false = sym yes_ ∙ no_ in cc
 
 -- how the watching ends, by how the batches ended and how it was closed
-module _ (plan : Plan) (first : Reading) (start now : Streams) (detector : Detector) (written : Option (List ℕ)) (counts : Counts) where
+module _ (plan : Plan) (first : RecordReader) (start now : Streams) (detector : Detector) (written : Option (List ℕ)) (counts : Counts) where
   abbrev after_it : Streams
   after_it = record { left = now.left; written = written }
 
@@ -367,11 +350,11 @@ module _ (plan : Plan) (first : Reading) (start now : Streams) (detector : Detec
   -- what was written in the closing comes behind
   wrote_more : (watched : Result (Unit {0}) Stop) → is_whole watched ≡ true → Comes plan first start now detector watched → ((records : List LinkedRecord) → DetectorStands plan records detector → (more : List ℕ) × (written ≡ behind now.written more))
       → (more : List ℕ) × (written ≡ behind now.written more)
-  wrote_more (Ok done) whole came more = more (map (linked first.head.link) came.given) came.stands
+  wrote_more (Ok done) whole came more = more came.given came.stands
   wrote_more (Err stop.CannotRead) whole came more = absurd cc
   wrote_more (Err stop.CannotWrite) whole came more = absurd cc
   wrote_more (Err stop.NoMemory) whole came more = absurd cc
-  wrote_more (Err why) whole (fault_then, is, came) more = more (map (linked first.head.link) came.given) came.stands
+  wrote_more (Err why) whole (fault_then, is, came) more = more came.given came.stands
 
   closer : IsCloseBehind plan first start now → (more : List ℕ) → written ≡ behind now.written more → IsCloseBehind plan first start after_it
   closer close more wrote = record {
@@ -383,8 +366,8 @@ module _ (plan : Plan) (first : Reading) (start now : Streams) (detector : Detec
     few = close.few;
     more = close.more ++ more;
     wrote = wrote ∙ ap (λ (x : Option (List ℕ)). behind x more) close.wrote
-        ∙ behind-behind start.written (lines_of plan first.head.link close.given Open ++ close.more) more
-        ∙ ap (behind start.written) (append_assoc (lines_of plan first.head.link close.given Open) close.more more);
+        ∙ behind-behind start.written (lines_of plan close.given Open ++ close.more) more
+        ∙ ap (behind start.written) (append_assoc (lines_of plan close.given Open) close.more more);
   }
 
   pub closed_behind : (watched result_then : Result (Unit {0}) Stop) → ComesOver plan first start now detector watched → ClosesWatched plan detector watched now.written written counts result_then

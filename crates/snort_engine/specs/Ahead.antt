@@ -4,28 +4,27 @@
 -- written behind that. So whatever ends a run, the lines of all records but those of two halves, one batch,
 -- stand in the alerts. To try it on: of 300 records with a line each, those of the first 128 are written
 -- when 256 were read, and those of the next 128 when all were.
-use Rattle.std.specs.Prelude.{◌≡◌, ℕ, ◌+◌, ◌-◌, ◌^◌, ◌<◌, ◌≤◌, min, Bool, true, false, List, [], ◌++◌, length, map, Option, None, Some, Result, Ok, Err}
+use Rattle.std.specs.Prelude.{◌≡◌, ℕ, ◌+◌, ◌-◌, ◌^◌, ◌<◌, ◌≤◌, min, Bool, true, false, List, [], ◌++◌, length, Option, None, Some, Result, Ok, Err}
 use Rattle.edge_io.specs.Told.{behind}
-use Rattle.edge_io.specs.declared.link.Link.{Link}
 use Rattle.edge_io.specs.declared.pattern.Span.{Span}
-use Rattle.pcap_input.specs.declared.capture.Record.{Record}
 use Rattle.pcap_input.specs.Savefile.{most_records}
-use Rattle.pcap_input.specs.Reader.{Reading}
 use Rattle.flow_lanes.specs.declared.answer.BatchOut.{BatchOut}
 use Rattle.flow_lanes.specs.declared.job.Job.{Job}
 use Rattle.flow_lanes.specs.Standing.{LanesState, AnswersBatch}
 use Rattle.record_jobs.specs.Ready.{AreReady}
-use Rattle.record_jobs.specs.Way.{LinkedRecord, Way, linked}
+use Rattle.record_jobs.specs.Way.{LinkedRecord, Way}
 use Rattle.record_jobs.specs.Fronts.{FrontState}
 use Rattle.snort_engine.specs.declared.batch.Reached.{Reached}
 use Rattle.snort_engine.specs.declared.batch.Reached.TheVariants.{More}
 use Rattle.snort_engine.specs.declared.detect.Detector.{Detector}
 use Rattle.snort_engine.specs.declared.detect.Inspection.{Inspection}
 use Rattle.snort_engine.specs.declared.plan.Plan as code
+use Rattle.snort_engine.specs.declared.reader.RecordReader.{RecordReader}
 use Rattle.snort_engine.specs.declared.stop.Stop.{Stop}
 use Rattle.snort_engine.specs.Course.{Plan}
 use Rattle.snort_engine.specs.Trace.{way_by, way_of}
 use Rattle.snort_engine.specs.Outside.{WritesPart}
+use Rattle.snort_engine.specs.Reader.{IsFresh, number_of}
 use Rattle.snort_engine.specs.Batch.{Place, ReadsOn}
 use Rattle.snort_engine.specs.Detecting.{InspectionStands, IsKnown, MakesJobs, Running, jobs_lines}
 use Rattle.snort_engine.specs.Watching.{Standing, Streams, IsUnderWay, ComesOver, room_behind}
@@ -41,10 +40,10 @@ abbrev pub AnswersBy : {P : Type 0} → (P → List ℕ → Option Span) → cod
     → Type 0
 AnswersBy finds plan old jobs out new = AnswersBatch finds plan.config.now.stream plan.set.now old jobs out new
 
--- records of one link layer were made into jobs
-abbrev pub MakesBy : {P : Type 0} → code.Plan P → Link → List Record → FrontState → FrontState → List Job → Type 0
-MakesBy plan link records old new made =
-    MakesJobs (way_by plan.checks plan.hosts.now plan.config.now) (map (linked link) records) old new made
+-- records were made into jobs
+abbrev pub MakesBy : {P : Type 0} → code.Plan P → List LinkedRecord → FrontState → FrontState → List Job → Type 0
+MakesBy plan records old new made =
+    MakesJobs (way_by plan.checks plan.hosts.now plan.config.now) records old new made
 
 -- ---- one half of a batch
 
@@ -59,7 +58,7 @@ half_at (Some room) = min half room
 
 -- where reading stands, and the making of jobs
 pub record Feed : Type 0 where
-  pub reader : Reading
+  pub reader : RecordReader
   pub room : Option ℕ
   pub front : FrontState
   pub left : Option (List ℕ)
@@ -72,10 +71,10 @@ unfoldable pub FeedsOn : Place → Place → Reached → Type 0
 FeedsOn old new reached = ReadsOn old new reached
 
 -- half a batch of records was read behind others, and made into jobs; this was reached behind them
-pub record IsFed (way : Way) (old new : Feed) (records : List Record) (jobs : List Job) (reached : Reached) : Type 0 where
+pub record IsFed (way : Way) (old new : Feed) (records : List LinkedRecord) (jobs : List Job) (reached : Reached) : Type 0 where
   pub reads : ReadsOn (record { reader = old.reader; records = []; left = old.left })
       (record { reader = new.reader; records = records; left = new.left }) reached
-  pub makes : MakesJobs way (map (linked old.reader.head.link) records) old.front new.front jobs
+  pub makes : MakesJobs way records old.front new.front jobs
   pub few : length records ≤ half_at old.room
   pub fewer : (reached ≡ More → ⊥) → length records < half_at old.room
   pub room_is : new.room ≡ room_behind old.room (length records)
@@ -111,10 +110,10 @@ ShowsJobsPart plan jobs old written =
 
 -- the work was under way where the records stood whose lines were written, and half a batch of records was
 -- read from there and made into jobs, which wait
-pub record IsAhead (plan : Plan) (first : Reading) (start : Streams) (now : Standing) (jobs : List Job) (reached : Reached) :
+pub record IsAhead (plan : Plan) (first : RecordReader) (start : Streams) (now : Standing) (jobs : List Job) (reached : Reached) :
     Type 0 where
   pub old : Standing
-  pub next : List Record
+  pub next : List LinkedRecord
   pub going : IsUnderWay plan first start old
   pub fed : IsFed (way_of plan) (feed_of old) (feed_of now) next jobs reached
   pub same_inspection : old.detector.inspection ≡ now.detector.inspection
@@ -131,23 +130,23 @@ pub record KnowsAhead {P : Type 0} (plan : code.Plan P) (detector : Detector) (j
   pub few : front.counts.records + length next ≤ most_records
 
 -- where more records may follow, the reader may go on, and has counted all that were made into jobs
-abbrev pub CanReadOn : Reached → Reading → ℕ → Type 0
+abbrev pub CanReadOn : Reached → RecordReader → ℕ → Type 0
 CanReadOn reached reader count =
-    reached ≡ More → (reader.refused ≡ None) × (reader.number ≤ most_records) × (count ≤ reader.number)
+    reached ≡ More → IsFresh reader × (number_of reader ≤ most_records) × (count ≤ number_of reader)
 
 -- how much may still be read at most
-abbrev pub yet : Reached → Reading → ℕ
-yet More reader = 2 ^ 32 - reader.number
+abbrev pub yet : Reached → RecordReader → ℕ
+yet More reader = 2 ^ 32 - number_of reader
 yet reached reader = 0
 
 -- a half more was read beside the work on the one that waited, or all is done
 abbrev pub GoesAhead : Plan → Standing → List Job → Reached → Standing → List Job → Reached → Result Bool Stop → Type 0
 GoesAhead plan old jobs reached new jobs_then reached_then (Ok true) =
-    (first : Reading) (start : Streams) → IsAhead plan first start old jobs reached
+    (first : RecordReader) (start : Streams) → IsAhead plan first start old jobs reached
     → IsAhead plan first start new jobs_then reached_then
 GoesAhead plan old jobs reached new jobs_then reached_then (Ok false) =
-    (first : Reading) (start : Streams) → IsAhead plan first start old jobs reached
+    (first : RecordReader) (start : Streams) → IsAhead plan first start old jobs reached
     → ComesOver plan first start new.streams new.detector (Ok tt)
 GoesAhead plan old jobs reached new jobs_then reached_then (Err why) =
-    (first : Reading) (start : Streams) → IsAhead plan first start old jobs reached
+    (first : RecordReader) (start : Streams) → IsAhead plan first start old jobs reached
     → ComesOver plan first start new.streams new.detector (Err why)

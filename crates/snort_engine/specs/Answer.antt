@@ -9,18 +9,17 @@ use Rattle.std.specs.Prelude.{ℕ, List, [], ◌++◌, Option, Some, None}
 use Rattle.std.specs.FinMap.{get}
 use Rattle.std.specs.List.{concat}
 use Rattle.edge_io.specs.Files.{Files}
-use Rattle.pcap_input.specs.declared.capture.CaptureFault.{CaptureFault}
-use Rattle.pcap_input.specs.declared.capture.CaptureFault.TheVariants as fault
-use Rattle.pcap_input.specs.Savefile.{Ending, Clean, Refused}
 use Rattle.pcap_input.specs.Generated.{generated}
+use Rattle.snort_engine.specs.declared.fault.ReadFault.{ReadFault}
+use Rattle.snort_engine.specs.declared.fault.ReadFault.TheVariants as fault
 use Rattle.snort_engine.specs.declared.status.Status.{Status}
 use Rattle.snort_engine.specs.declared.status.Status.TheVariants as status
 use Rattle.snort_engine.specs.Course.{Plan, Way, Stops, Goes, Makes, Course}
-use Rattle.snort_engine.specs.Records.{Recording, records_of}
+use Rattle.snort_engine.specs.Records.{Ending, Clean, Refused, Recording, records_of}
 use Rattle.snort_engine.specs.Trace.{Closed}
 use Rattle.snort_engine.specs.Lines.{lines}
 use Rattle.snort_engine.specs.Counts.{counts_of, told_counts, with_counts}
-use Rattle.snort_engine.specs.Messages.{cannot_read_text, no_memory_text, not_pcap_text, link_type_text, truncated_text, too_long_text, too_many_text}
+use Rattle.snort_engine.specs.Messages.{cannot_read_text, no_memory_text, not_pcap_text, link_type_text, truncated_text, bad_block_text, too_long_text, too_many_text}
 
 -- the bytes of the alerts and of the errors, and the status
 pub record Answer : Type 0 where
@@ -29,17 +28,18 @@ pub record Answer : Type 0 where
   pub status : Status
 
 -- the message of a capture of this name that is refused, or that can't be read
-abbrev pub fault_text : List ℕ → CaptureFault → List ℕ
+abbrev pub fault_text : List ℕ → ReadFault → List ℕ
 fault_text name fault.NotPcap = not_pcap_text
 fault_text name (fault.LinkType link_type) = link_type_text link_type
 fault_text name (fault.Truncated at) = truncated_text at
+fault_text name (fault.BadBlock at) = bad_block_text at
 fault_text name (fault.TooLong at len) = too_long_text at len
 fault_text name fault.TooMany = too_many_text
 fault_text name fault.Failed = cannot_read_text name
 fault_text name fault.NoMemory = no_memory_text
 
 -- the status that goes with it
-abbrev pub fault_status : CaptureFault → Status
+abbrev pub fault_status : ReadFault → Status
 fault_status fault.Failed = status.HostFault
 fault_status fault.NoMemory = status.NoMemory
 fault_status why = status.BadCapture

@@ -9,7 +9,7 @@
 -- To try it on: where the alert sink fails at its second write, the alert bytes are a beginning of the
 -- answer's, and the message is `ERROR: cannot write`.
 use Rattle.std.specs.Prelude.{◌≡◌, ℕ, ◌+◌, ◌≤◌, List, Option, Some, None, ◌⊎◌, length, drop}
-use Rattle.edge_io.specs.Told.{Rose}
+use Rattle.edge_io.specs.Told.{one_more, Rose}
 use Rattle.edge_io.specs.Files.{Files}
 use Rattle.edge_io.specs.declared.pattern.Refusal.{Refusal}
 use Rattle.option_eval.specs.Places.{Means}
@@ -19,6 +19,7 @@ use Rattle.snort_engine.specs.declared.status.Status.{Status}
 use Rattle.snort_engine.specs.declared.status.Status.TheVariants as status
 use Rattle.snort_engine.specs.Course.{Course, Given, given, IsCourse, IsForMade, HasOneCourse, AreRefused}
 use Rattle.snort_engine.specs.Records.{MadeIsWhole}
+use Rattle.snort_engine.specs.Sources.{BeginsOtherwise}
 use Rattle.snort_engine.specs.Lines.{LinesJoin, PrefixLaw}
 use Rattle.snort_engine.specs.Answer.{answer_of}
 use Rattle.snort_engine.specs.Outside.{Outside, work_of, NoFault, NoCountFell}
@@ -49,6 +50,28 @@ pub record HasAnswer (asked : Option Asked) (given : Given) (ended : Status) : T
 abbrev pub LacksOne : Option Files → (Files → Given) → Option Asked → Type 0
 LacksOne told given_of asked = (files : Files) × (told ≡ Some files) × HasAnswer asked (given_of files) status.HostFault
 
+-- the capture of the words' course begins as no savefile does
+pub record HasOther (asked : Option Asked) (given : Given) : Type 0 where
+  pub course : Course
+  pub is : IsCourse asked given course
+  pub other : BeginsOtherwise (Some given.files) course.way
+
+-- a fault of the host, or want of memory, may have cut a run short
+abbrev pub MayBeCut : Outside → Outside → Status → Type 0
+MayBeCut before after ended = Rose before.host_faults after.host_faults ⊎ (ended ≡ status.NoMemory)
+
+-- how often a capture was opened: at most once, and a second time exactly where it begins as no savefile
+-- does, unless the run was cut short
+abbrev pub OpensBy : Option Asked → Given → Outside → Outside → Status → Type 0
+OpensBy asked given before after ended =
+    ((after.opens ≤ before.opens + 1) × (HasOther asked given → MayBeCut before after ended))
+    ⊎ ((after.opens ≡ one_more (one_more before.opens)) × HasOther asked given)
+
+-- the same, where the files are told; whatever is told, at most twice
+pub record IsOpenedOnce (asked : Option Asked) (given_of : Files → Given) (before after : Outside) (ended : Status) : Type 0 where
+  pub at_most : after.opens ≤ before.opens + 2
+  pub exactly : OfTold before.files (λ files. OpensBy asked (given_of files) before after ended)
+
 -- a run with these words and a maker that means this, by what is seen before and after it, and the
 -- status with which it ends
 pub record Headline (words : List (List ℕ)) (means : Means) (before after : Outside) (ended : Status) : Type 0 where
@@ -63,8 +86,9 @@ pub record Headline (words : List (List ℕ)) (means : Means) (before after : Ou
   -- complete: where no count rose, the status is the answer's, unless memory is lacking
   pub complete : OfTold before.files (λ files. NoFault before after
       → HasAnswer (command_line words) (given files matches refused) ended ⊎ (ended ≡ status.NoMemory))
-  -- the capture is opened at most once; one that is made isn't, and what the host has open stays as it is
-  pub opened_once : after.opens ≤ before.opens + 1
+  -- the capture is opened once, and a second time exactly where it begins as no savefile does; one that is
+  -- made isn't, and what the host has open stays as it is
+  pub opened_once : IsOpenedOnce (command_line words) (λ files. given files matches refused) before after ended
   pub made_unopened : IsForMade (command_line words) → (after.opens ≡ before.opens) × (after.left ≡ before.left)
   -- causes: a fault is answered only where its count rose, or a file is lacking; faulty words are
   -- refused, whatever the host tells

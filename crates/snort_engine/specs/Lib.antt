@@ -3,6 +3,7 @@ pub mod Messages
 pub mod Status
 pub mod Course
 pub mod Records
+pub mod Reader
 pub mod Trace
 pub mod Lines
 pub mod Counts

@@ -33,7 +33,7 @@ cannot_write_text = codes "ERROR: cannot write\n"
 unfoldable pub no_memory_text : List ℕ
 no_memory_text = codes "ERROR: no memory\n"
 
--- the capture does not begin as a libpcap savefile does
+-- the capture begins neither as a libpcap savefile does nor with a section header
 unfoldable pub not_pcap_text : List ℕ
 not_pcap_text = codes "ERROR: capture is not a pcap file\n"
 
@@ -41,11 +41,15 @@ not_pcap_text = codes "ERROR: capture is not a pcap file\n"
 unfoldable pub link_type_text : ℕ → List ℕ
 link_type_text link = codes "ERROR: capture has link type " ++ decimal link ++ codes "\n"
 
--- the capture ends within its head or within the record that begins at this byte
+-- the capture ends within its head, or within the record or the block that begins at this byte
 unfoldable pub truncated_text : ℕ → List ℕ
 truncated_text at = codes "ERROR: capture is truncated at byte " ++ decimal at ++ codes "\n"
 
--- a record of the capture, which begins at this byte, is longer than any packet
+-- the block of the capture that begins at this byte is not as the format has it
+unfoldable pub bad_block_text : ℕ → List ℕ
+bad_block_text at = codes "ERROR: capture has a bad block at byte " ++ decimal at ++ codes "\n"
+
+-- a record of the capture, which, or whose block, begins at this byte, is longer than any packet
 unfoldable pub too_long_text : ℕ → ℕ → List ℕ
 too_long_text at len =
     codes "ERROR: capture has a record of " ++ decimal len ++ codes " bytes at byte " ++ decimal at ++ codes "\n"

@@ -1,14 +1,15 @@
 -- Where a capture comes from: a file of the host, or a seed.
 --
--- To try it on: the source of `snort -c r -r p` is the file `p`, and a run opens it once; that of
--- `snort -c r --generate 5 --seed 7` is made of the seed 7 with 5 packets, and a run opens nothing.
+-- To try it on: the source of `snort -c r -r p` is the file `p`, and a run opens it once where it is a
+-- savefile, and twice where it begins otherwise; that of `snort -c r --generate 5 --seed 7` is made of the
+-- seed 7 with 5 packets, and a run opens nothing.
 use Rattle.std.specs.Prelude.{◌≡◌, ℕ, List, [], Option, Some, None, ⊤}
 use Rattle.edge_io.specs.Files.{Files, Lacks}
-use Rattle.edge_io.specs.Told.{one_more}
 use Rattle.command_words.specs.CommandLine.{Run}
 use Rattle.snort_engine.specs.declared.plan.Source.{Source}
 use Rattle.snort_engine.specs.declared.plan.Source.TheVariants.{File, Made}
 use Rattle.snort_engine.specs.Course.{Plan, Way, Goes, Makes}
+use Rattle.snort_engine.specs.Reader.{IsToldOther, OpensSo}
 
 -- the name of the file; empty where there is none
 abbrev pub source_name : Source → List ℕ
@@ -31,12 +32,17 @@ abbrev pub way_from : Source → Plan → Way
 way_from (File name) plan = Goes plan
 way_from (Made seed count) plan = Makes plan seed count
 
--- how often captures were opened, behind a run for this source
-abbrev pub opens_behind : Source → ℕ → ℕ
-opens_behind (File name) opens = one_more opens
-opens_behind (Made seed count) opens = opens
-
 -- the host's files are told, and lack the capture of this way
 abbrev pub LacksCapture : Option Files → Way → Type 0
 LacksCapture told (Goes plan) = Lacks told plan.source
 LacksCapture told way = ⊥
+
+-- the capture of this way is told to begin as no savefile does
+abbrev pub BeginsOtherwise : Option Files → Way → Type 0
+BeginsOtherwise told (Goes plan) = IsToldOther told plan.source
+BeginsOtherwise told way = ⊥
+
+-- how often a capture was opened on this way
+abbrev pub OpensOn : Option Files → Way → Type 0 → ℕ → ℕ → Type 0
+OpensOn told (Goes plan) failed old new = OpensSo told plan.source failed old new
+OpensOn told way failed old new = new ≡ old

@@ -1,17 +1,17 @@
 -- What ends a run before a capture is read to its end: the status and the message of each stop.
 --
--- To try it on: a capture that is no savefile ends a run as BadCapture, with
+-- To try it on: a capture that is neither a savefile nor blocks ends a run as BadCapture, with
 -- `ERROR: capture is not a pcap file`.
 use Rattle.std.specs.Prelude.{ℕ, Bool, true, false, List, [], Result, Ok, Err}
-use Rattle.pcap_input.specs.declared.capture.CaptureFault.{CaptureFault}
-use Rattle.pcap_input.specs.declared.capture.CaptureFault.TheVariants as fault
 use Rattle.snort_setup.specs.declared.stop.SetupStop.{SetupStop}
 use Rattle.snort_setup.specs.declared.stop.SetupStop.TheVariants as setup
+use Rattle.snort_engine.specs.declared.fault.ReadFault.{ReadFault}
+use Rattle.snort_engine.specs.declared.fault.ReadFault.TheVariants as fault
 use Rattle.snort_engine.specs.declared.status.Status.{Status}
 use Rattle.snort_engine.specs.declared.status.Status.TheVariants as status
 use Rattle.snort_engine.specs.declared.stop.Stop.{Stop}
 use Rattle.snort_engine.specs.declared.stop.Stop.TheVariants as stop
-use Rattle.snort_engine.specs.Messages.{usage_text, version_text, accepted_text, command_line_text, cannot_read_text, cannot_write_text, no_memory_text, not_pcap_text, link_type_text, truncated_text, too_long_text, too_many_text}
+use Rattle.snort_engine.specs.Messages.{usage_text, version_text, accepted_text, command_line_text, cannot_read_text, cannot_write_text, no_memory_text, not_pcap_text, link_type_text, truncated_text, bad_block_text, too_long_text, too_many_text}
 
 -- the status of a stop
 abbrev pub stop_status : Stop → Status
@@ -27,6 +27,7 @@ stop_status stop.NoMemory = status.NoMemory
 stop_status stop.NotPcap = status.BadCapture
 stop_status (stop.LinkType link_type) = status.BadCapture
 stop_status (stop.Truncated at) = status.BadCapture
+stop_status (stop.BadBlock at) = status.BadCapture
 stop_status (stop.TooLong at len) = status.BadCapture
 stop_status stop.TooMany = status.BadCapture
 
@@ -44,14 +45,16 @@ stop_text source stop.NoMemory = no_memory_text
 stop_text source stop.NotPcap = not_pcap_text
 stop_text source (stop.LinkType link_type) = link_type_text link_type
 stop_text source (stop.Truncated at) = truncated_text at
+stop_text source (stop.BadBlock at) = bad_block_text at
 stop_text source (stop.TooLong at len) = too_long_text at len
 stop_text source stop.TooMany = too_many_text
 
 -- how a fault of the capture stops a run
-abbrev pub capture_stop : CaptureFault → Stop
+abbrev pub capture_stop : ReadFault → Stop
 capture_stop fault.NotPcap = stop.NotPcap
 capture_stop (fault.LinkType link_type) = stop.LinkType link_type
 capture_stop (fault.Truncated at) = stop.Truncated at
+capture_stop (fault.BadBlock at) = stop.BadBlock at
 capture_stop (fault.TooLong at len) = stop.TooLong at len
 capture_stop fault.TooMany = stop.TooMany
 capture_stop fault.Failed = stop.CannotRead

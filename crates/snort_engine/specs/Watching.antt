@@ -3,26 +3,25 @@
 -- What is left for a reader are the records that it has yet to give. To try it on: where a write fails
 -- in the lines of the second batch, the lines of the first were written, a part of those of the second
 -- may be, and the bytes of two batches were taken.
-use Rattle.std.specs.Prelude.{◌≡◌, ℕ, ◌+◌, ◌-◌, ◌≤◌, min, ◌⊎◌, Bool, true, false, List, [], ◌++◌, length, map, Option, None, Some, Result, Ok, Err, ⊤}
+use Rattle.std.specs.Prelude.{◌≡◌, ℕ, ◌+◌, ◌-◌, ◌≤◌, min, ◌⊎◌, Bool, true, false, List, [], ◌++◌, length, Option, None, Some, Result, Ok, Err, ⊤}
 use Rattle.edge_io.specs.Told.{before, behind}
-use Rattle.edge_io.specs.declared.link.Link.{Link}
 use Rattle.edge_io.specs.declared.pattern.Span.{Span}
-use Rattle.pcap_input.specs.declared.capture.Record.{Record}
-use Rattle.pcap_input.specs.declared.capture.CaptureFault.{CaptureFault}
-use Rattle.pcap_input.specs.Savefile.{Cut, Ending, Clean, Refused, first_records, most_records}
-use Rattle.pcap_input.specs.Reader.{Reading}
-use Rattle.pcap_input.specs.Reading.{cut_for, HasRead}
+use Rattle.pcap_input.specs.Savefile.{most_records}
 use Rattle.option_eval.specs.Places.{Means}
 use Rattle.option_eval.specs.RuleSet.{Rules, FindWhatIsMeant}
 use Rattle.flow_lanes.specs.Hits.{Test, Tells}
-use Rattle.record_jobs.specs.Way.{linked}
+use Rattle.record_jobs.specs.Way.{LinkedRecord}
 use Rattle.snort_engine.specs.declared.counts.Counts.{Counts}
 use Rattle.snort_engine.specs.declared.detect.Detector.{Detector}
+use Rattle.snort_engine.specs.declared.fault.ReadFault.{ReadFault}
 use Rattle.snort_engine.specs.declared.plan.Plan as code
+use Rattle.snort_engine.specs.declared.reader.RecordReader.{RecordReader}
 use Rattle.snort_engine.specs.declared.stop.Stop.{Stop}
 use Rattle.snort_engine.specs.declared.stop.Stop.TheVariants as stop
 use Rattle.snort_engine.specs.Course.{Plan}
 use Rattle.snort_engine.specs.Sources.{source_name}
+use Rattle.snort_engine.specs.Records.{Ending, Clean, Refused, Recording, first_of}
+use Rattle.snort_engine.specs.Reader.{recording_for, HasRead}
 use Rattle.snort_engine.specs.Trace.{Open, Closed, CaptureState}
 use Rattle.snort_engine.specs.Lines.{lines}
 use Rattle.snort_engine.specs.Counts.{counts_of}
@@ -64,63 +63,63 @@ pub record Streams : Type 0 where
   pub left : Option (List ℕ)
   pub written : Option (List ℕ)
 
--- the lines of records of one link layer
-unfoldable pub lines_of : Plan → Link → List Record → CaptureState → List ℕ
-lines_of plan link records state = lines plan [] (map (linked link) records) state
+-- the lines of a capture's first records
+unfoldable pub lines_of : Plan → List LinkedRecord → CaptureState → List ℕ
+lines_of plan records state = lines plan [] records state
 
 -- what these bytes hold for a reader, up to the plan's limit
-abbrev pub cut_by : Plan → Reading → List ℕ → Cut
-cut_by plan reader rest = first_records plan.limit (cut_for reader rest)
+abbrev pub recording_by : Plan → RecordReader → List ℕ → Recording
+recording_by plan reader rest = first_of plan.limit (recording_for reader rest)
 
 -- the lines of the records that these bytes hold for a reader
-abbrev pub lines_left : Plan → Reading → List ℕ → CaptureState → List ℕ
-lines_left plan reader rest state = lines_of plan reader.head.link (cut_by plan reader rest).records state
+abbrev pub lines_left : Plan → RecordReader → List ℕ → CaptureState → List ℕ
+lines_left plan reader rest state = lines_of plan (recording_by plan reader rest).records state
 
 -- the counts of the records that these bytes hold for a reader
-abbrev pub counts_left : Plan → Reading → List ℕ → Counts
-counts_left plan reader rest = counts_of plan (map (linked reader.head.link) (cut_by plan reader rest).records)
+abbrev pub counts_left : Plan → RecordReader → List ℕ → Counts
+counts_left plan reader rest = counts_of plan (recording_by plan reader rest).records
 
 -- all lines of the bytes that were left were written, they end so, and all was counted
-pub record IsWatched (plan : Plan) (reader : Reading) (rest : List ℕ) (ending : Ending) (old new : Streams) (counts : Counts) : Type 0 where
-  pub ends : (cut_by plan reader rest).ending ≡ ending
+pub record IsWatched (plan : Plan) (reader : RecordReader) (rest : List ℕ) (ending : Ending) (old new : Streams) (counts : Counts) : Type 0 where
+  pub ends : (recording_by plan reader rest).ending ≡ ending
   pub wrote : new.written ≡ behind old.written (lines_left plan reader rest Closed)
   pub counted : counts ≡ counts_left plan reader rest
 
 -- the lines of the records that are whole within the bytes taken were written
-pub record IsCutOff (plan : Plan) (reader : Reading) (old new : Streams) : Type 0 where
+pub record IsCutOff (plan : Plan) (reader : RecordReader) (old new : Streams) : Type 0 where
   pub taken : List ℕ
   pub took : old.left ≡ before taken new.left
   pub wrote : new.written ≡ behind old.written (lines_left plan reader taken Open)
 
 -- of the records that are whole within the bytes taken, the lines of all but the last batch were
 -- written, and maybe more
-pub record IsCloseBehind (plan : Plan) (reader : Reading) (old new : Streams) : Type 0 where
+pub record IsCloseBehind (plan : Plan) (reader : RecordReader) (old new : Streams) : Type 0 where
   pub taken : List ℕ
   pub took : old.left ≡ before taken new.left
-  pub given : List Record
-  pub last : List Record
-  pub are : (cut_by plan reader taken).records ≡ given ++ last
+  pub given : List LinkedRecord
+  pub last : List LinkedRecord
+  pub are : (recording_by plan reader taken).records ≡ given ++ last
   pub few : length last ≤ batch
   pub more : List ℕ
-  pub wrote : new.written ≡ behind old.written (lines_of plan reader.head.link given Open ++ more)
+  pub wrote : new.written ≡ behind old.written (lines_of plan given Open ++ more)
 
 -- a part of the lines that were left was written, and no other byte
-abbrev pub WritesSome : Plan → Reading → Streams → Streams → Type 0
+abbrev pub WritesSome : Plan → RecordReader → Streams → Streams → Type 0
 WritesSome plan reader old new = (rest : List ℕ) → old.left ≡ Some rest → WritesPart old.written (lines_left plan reader rest Closed) new.written
 
 -- the capture was watched to an ending
-abbrev pub WatchesTo : Plan → Reading → Ending → Streams → Streams → Counts → Type 0
+abbrev pub WatchesTo : Plan → RecordReader → Ending → Streams → Streams → Counts → Type 0
 WatchesTo plan reader ending old new counts = (rest : List ℕ) → old.left ≡ Some rest → IsWatched plan reader rest ending old new counts
 
 -- how the watching ends: at the end of the capture; cut off by the host; stopped by the sink or for
 -- want of memory; or at what can't be read
-abbrev pub Watches : Plan → Reading → Streams → Streams → Counts → Result (Unit {0}) Stop → Type 0
+abbrev pub Watches : Plan → RecordReader → Streams → Streams → Counts → Result (Unit {0}) Stop → Type 0
 Watches plan reader old new counts (Ok done) = WatchesTo plan reader Clean old new counts
 Watches plan reader old new counts (Err stop.CannotRead) = IsCutOff plan reader old new × WritesSome plan reader old new
 Watches plan reader old new counts (Err stop.CannotWrite) = WritesSome plan reader old new
 Watches plan reader old new counts (Err stop.NoMemory) = WritesSome plan reader old new
 Watches plan reader old new counts (Err why) =
-    (fault : CaptureFault) × (why ≡ capture_stop fault) × WatchesTo plan reader (Refused fault) old new counts
+    (fault : ReadFault) × (why ≡ capture_stop fault) × WatchesTo plan reader (Refused fault) old new counts
 
 -- ---- batch by batch
 
@@ -142,49 +141,49 @@ room_behind (Some room) count = Some (room - count)
 
 -- where a watching stands: the reader, how many records may still be read, the detector, and what is told
 pub record Standing : Type 0 where
-  pub reader : Reading
+  pub reader : RecordReader
   pub room : Option ℕ
   pub detector : Detector
   pub streams : Streams
 
 -- from the first reader on some records were given, the detector stands for them, and their lines were
 -- written
-pub record IsUnderWay (plan : Plan) (first : Reading) (start : Streams) (now : Standing) : Type 0 where
-  pub given : List Record
+pub record IsUnderWay (plan : Plan) (first : RecordReader) (start : Streams) (now : Standing) : Type 0 where
+  pub given : List LinkedRecord
   pub read : HasRead first now.reader given start.left now.streams.left
   pub room_is : IsRoom plan.limit (length given) now.room
-  pub stands : DetectorStands plan (map (linked first.head.link) given) now.detector
-  pub wrote : now.streams.written ≡ behind start.written (lines_of plan first.head.link given Open)
+  pub stands : DetectorStands plan given now.detector
+  pub wrote : now.streams.written ≡ behind start.written (lines_of plan given Open)
 
 -- all records were given, up to this ending, the detector stands for them, and their lines were written:
 -- nothing is closed yet
-pub record IsAtEnd (plan : Plan) (first : Reading) (start : Streams) (now : Streams) (detector : Detector) (ending : Ending) : Type 0 where
-  pub given : List Record
-  pub ends : (rest : List ℕ) → start.left ≡ Some rest → cut_by plan first rest ≡ record { records = given; ending = ending }
-  pub stands : DetectorStands plan (map (linked first.head.link) given) detector
-  pub wrote : now.written ≡ behind start.written (lines_of plan first.head.link given Open)
+pub record IsAtEnd (plan : Plan) (first : RecordReader) (start : Streams) (now : Streams) (detector : Detector) (ending : Ending) : Type 0 where
+  pub given : List LinkedRecord
+  pub ends : (rest : List ℕ) → start.left ≡ Some rest → recording_by plan first rest ≡ record { records = given; ending = ending }
+  pub stands : DetectorStands plan given detector
+  pub wrote : now.written ≡ behind start.written (lines_of plan given Open)
 
 -- how the reading of all batches ends
-abbrev pub Comes : Plan → Reading → Streams → Streams → Detector → Result (Unit {0}) Stop → Type 0
+abbrev pub Comes : Plan → RecordReader → Streams → Streams → Detector → Result (Unit {0}) Stop → Type 0
 Comes plan first start now detector (Ok done) = IsAtEnd plan first start now detector Clean
 Comes plan first start now detector (Err stop.CannotRead) = IsCutOff plan first start now × WritesSome plan first start now
 Comes plan first start now detector (Err stop.CannotWrite) = WritesSome plan first start now
 Comes plan first start now detector (Err stop.NoMemory) = WritesSome plan first start now
 Comes plan first start now detector (Err why) =
-    (fault : CaptureFault) × (why ≡ capture_stop fault) × IsAtEnd plan first start now detector (Refused fault)
+    (fault : ReadFault) × (why ≡ capture_stop fault) × IsAtEnd plan first start now detector (Refused fault)
 
 -- and its lines are close behind its records
-abbrev pub ComesOver : Plan → Reading → Streams → Streams → Detector → Result (Unit {0}) Stop → Type 0
+abbrev pub ComesOver : Plan → RecordReader → Streams → Streams → Detector → Result (Unit {0}) Stop → Type 0
 ComesOver plan first start now detector outcome = Comes plan first start now detector outcome × IsCloseBehind plan first start now
 
 -- a watching that was under way is so still, behind one more batch, or all batches are read
 abbrev pub GoesOn : Plan → Standing → Standing → Result Bool Stop → Type 0
 GoesOn plan old new (Ok true) =
-    (first : Reading) (start : Streams) → IsUnderWay plan first start old → IsUnderWay plan first start new
+    (first : RecordReader) (start : Streams) → IsUnderWay plan first start old → IsUnderWay plan first start new
 GoesOn plan old new (Ok false) =
-    (first : Reading) (start : Streams) → IsUnderWay plan first start old → ComesOver plan first start new.streams new.detector (Ok tt)
+    (first : RecordReader) (start : Streams) → IsUnderWay plan first start old → ComesOver plan first start new.streams new.detector (Ok tt)
 GoesOn plan old new (Err why) =
-    (first : Reading) (start : Streams) → IsUnderWay plan first start old → ComesOver plan first start new.streams new.detector (Err why)
+    (first : RecordReader) (start : Streams) → IsUnderWay plan first start old → ComesOver plan first start new.streams new.detector (Err why)
 
 -- ---- the end
 

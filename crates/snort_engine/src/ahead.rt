@@ -1,12 +1,13 @@
 //! Reading ahead: the lanes inspect the jobs of one half of a batch, while the next half is read and made
 //! into jobs.
-ghost use Rattle.std.specs.Prelude.{List, ◌≡◌, ◌≢◌, ◌+◌, ◌<◌, ◌≤◌, None, [], length, OnOk, OnErr, IfOk, IfErr, IsErrOf, vec_len};
+ghost use Rattle.std.specs.Prelude.{List, ◌≡◌, ◌≢◌, ◌+◌, ◌<◌, ◌≤◌, [], length, OnOk, OnErr, IfOk, IfErr, IsErrOf, vec_len};
 ghost use Rattle.edge_io.specs.Told.{Rose};
 ghost use Rattle.pcap_input.specs.Savefile.{most_records};
 ghost use Rattle.fast_pattern.specs.Grouping.{StandFor};
 ghost use Rattle.flow_lanes.specs.declared.job.Job.{Job};
 ghost use Rattle.flow_lanes.specs.Hits.{Test};
 ghost use Rattle.flow_lanes.specs.Standing.{LanesState, LearnsBatch};
+ghost use Rattle.snort_engine.specs.Reader.{IsFresh, number_of};
 ghost use Rattle.snort_engine.specs.Detecting.{IsSoundPlan};
 ghost use Rattle.snort_engine.specs.Watching.{plan_of, IsTest, IsShowStop};
 ghost use Rattle.snort_engine.specs.Ahead.{at_lanes, half_at, AnswersBy, AreReadyBy, FeedsOn, MakesBy, CanReadOn, ShowsJobs, ShowsJobsPart};
@@ -16,13 +17,14 @@ use crate::context::Context;
 use crate::counts::sum;
 use crate::detect::{Inspection, make_jobs};
 use crate::events::show_hits;
+use crate::fault::ReadFault;
 use crate::lines::offer;
 use crate::plan::{Plan, front_config};
+use crate::reader::{LinkedRecord, RecordReader};
 use crate::stop::Stop;
 use edge_io::{Gate, Host, NoMemory, Pattern, Sink};
 use fast_pattern::Groups;
 use flow_lanes::{BatchFault, BatchOut, Job, Lanes, Work};
-use pcap_input::{CaptureFault, CaptureReader, Record};
 use record_jobs::Front;
 use std::thread::{Threads, join_mut};
 
@@ -68,37 +70,36 @@ fn is_worth_a_thread(jobs: &[Job]) -> bool {
 fn feed<H: Host, P, G, R>(
     context: &Context<'_, P, G, R>,
     host: &mut H,
-    reader: &mut CaptureReader,
+    reader: &mut RecordReader,
     most: usize,
-    records: &mut Vec<Record>,
+    records: &mut Vec<LinkedRecord>,
     front: &mut Front,
 ) -> (Reached, Result<Vec<Job>, NoMemory>)
     requires plan { IsSoundPlan context.now.plan.now }
-    requires fresh { reader.old.refused ≡ None }
+    requires fresh { IsFresh reader.old }
     requires some { 0 < most }
     requires empty { records.old.items ≡ [] }
-    requires within { reader.old.number ≤ most_records }
-    requires behind { front.old.counts.records ≤ reader.old.number }
+    requires within { number_of reader.old ≤ most_records }
+    requires behind { front.old.counts.records ≤ number_of reader.old }
     ensures reads { FeedsOn
         (record { reader = reader.old; records = []; left = H.left host.old })
         (record { reader = reader.new; records = records.new.items; left = H.left host.new }) result.0 }
-    ensures makes { IfOk result.1 (λ jobs. MakesBy context.now.plan.now reader.old.head.link
+    ensures makes { IfOk result.1 (λ jobs. MakesBy context.now.plan.now
         records.new.items front.old front.new jobs.items) }
     ensures few { vec_len records.new ≤ most }
     ensures fewer { result.0 ≢ Reached.More → vec_len records.new < most }
-    ensures further { result.0 ≡ Reached.More → reader.old.number < reader.new.number }
+    ensures further { result.0 ≡ Reached.More → number_of reader.old < number_of reader.new }
     ensures goes_on { OnOk result.1 (CanReadOn result.0 reader.new front.new.counts.records) }
     ensures filled { front.old.counts.records + vec_len records.new ≤ most_records }
     ensures counted { OnOk result.1 (front.new.counts.records ≡ front.old.counts.records + vec_len records.new) }
-    ensures failed { result.0 ≡ Reached.Fault CaptureFault.Failed → Rose (H.faults host.old) (H.faults host.new) }
+    ensures failed { result.0 ≡ Reached.Fault ReadFault.Failed → Rose (H.faults host.old) (H.faults host.new) }
     ensures same_opens { H.opens host.new ≡ H.opens host.old }
     ensures same_contents { H.contents host.new ≡ H.contents host.old }
     ensures later { H.faults host.old ≤ H.faults host.new }
 {
-    let link = reader.head().link;
     let reached = read_batch(context.alloc, host, reader, most, records);
     let by = front_config(context.plan);
-    let jobs = make_jobs(context.alloc, &by, link, records, front);
+    let jobs = make_jobs(context.alloc, &by, records, front);
     (reached, jobs)
 }
 
@@ -135,9 +136,9 @@ pub(crate) fn inspect_and_feed<H: Host, P: Pattern, G: Gate, R: Threads + Sync>(
     groups: &Groups,
     lanes: &mut Lanes,
     host: &mut H,
-    reader: &mut CaptureReader,
+    reader: &mut RecordReader,
     most: usize,
-    records: &mut Vec<Record>,
+    records: &mut Vec<LinkedRecord>,
     front: &mut Front,
 ) -> (
     Result<BatchOut, BatchFault>,
@@ -146,11 +147,11 @@ pub(crate) fn inspect_and_feed<H: Host, P: Pattern, G: Gate, R: Threads + Sync>(
     requires plan { IsSoundPlan context.now.plan.now }
     requires ready { AreReadyBy context.now.plan.now lanes.old jobs.now }
     requires groups { StandFor groups.now context.now.plan.now.set.now.rules }
-    requires fresh { reader.old.refused ≡ None }
+    requires fresh { IsFresh reader.old }
     requires some { 0 < most }
     requires empty { records.old.items ≡ [] }
-    requires within { reader.old.number ≤ most_records }
-    requires behind { front.old.counts.records ≤ reader.old.number }
+    requires within { number_of reader.old ≤ most_records }
+    requires behind { front.old.counts.records ≤ number_of reader.old }
 
     // The lanes have answered as they would alone.
     ensures answers { IfOk result.0 (λ out. AnswersBy P.finds context.now.plan.now lanes.old jobs.now out lanes.new) }
@@ -160,15 +161,15 @@ pub(crate) fn inspect_and_feed<H: Host, P: Pattern, G: Gate, R: Threads + Sync>(
     ensures reads { FeedsOn
         (record { reader = reader.old; records = []; left = H.left host.old })
         (record { reader = reader.new; records = records.new.items; left = H.left host.new }) result.1.0 }
-    ensures makes { IfOk result.1.1 (λ jobs. MakesBy context.now.plan.now reader.old.head.link
+    ensures makes { IfOk result.1.1 (λ jobs. MakesBy context.now.plan.now
         records.new.items front.old front.new jobs.items) }
     ensures few { vec_len records.new ≤ most }
     ensures fewer { result.1.0 ≢ Reached.More → vec_len records.new < most }
-    ensures further { result.1.0 ≡ Reached.More → reader.old.number < reader.new.number }
+    ensures further { result.1.0 ≡ Reached.More → number_of reader.old < number_of reader.new }
     ensures goes_on { OnOk result.1.1 (CanReadOn result.1.0 reader.new front.new.counts.records) }
     ensures filled { front.old.counts.records + vec_len records.new ≤ most_records }
     ensures counted { OnOk result.1.1 (front.new.counts.records ≡ front.old.counts.records + vec_len records.new) }
-    ensures failed { result.1.0 ≡ Reached.Fault CaptureFault.Failed → Rose (H.faults host.old) (H.faults host.new) }
+    ensures failed { result.1.0 ≡ Reached.Fault ReadFault.Failed → Rose (H.faults host.old) (H.faults host.new) }
     ensures same_opens { H.opens host.new ≡ H.opens host.old }
     ensures same_contents { H.contents host.new ≡ H.contents host.old }
     ensures later { H.faults host.old ≤ H.faults host.new }
@@ -181,22 +182,22 @@ pub(crate) fn inspect_and_feed<H: Host, P: Pattern, G: Gate, R: Threads + Sync>(
         ensures learns { OnOk result (LearnsBatch lanes.entry.now jobs.entry.now lanes.exit.now) }
     { inspect(context, jobs, groups, lanes) };
     let mut feeding = || -> (Reached, Result<Vec<Job>, NoMemory>)
-        requires { IsSoundPlan context.now.plan.now × (reader.now.refused ≡ None) × (0 < most)
-            × (records.now.items ≡ []) × (reader.now.number ≤ most_records)
-            × (front.now.counts.records ≤ reader.now.number) }
+        requires { IsSoundPlan context.now.plan.now × (IsFresh reader.now) × (0 < most)
+            × (records.now.items ≡ []) × (number_of reader.now ≤ most_records)
+            × (front.now.counts.records ≤ number_of reader.now) }
         ensures reads { FeedsOn
             (record { reader = reader.entry.now; records = []; left = H.left host.entry.now })
             (record { reader = reader.exit.now; records = records.exit.now.items; left = H.left host.exit.now }) result.0 }
-        ensures makes { IfOk result.1 (λ jobs. MakesBy context.entry.now.plan.now reader.entry.now.head.link
+        ensures makes { IfOk result.1 (λ jobs. MakesBy context.entry.now.plan.now
             records.exit.now.items front.entry.now front.exit.now jobs.items) }
         ensures few { vec_len records.exit.now ≤ most }
         ensures fewer { result.0 ≢ Reached.More → vec_len records.exit.now < most }
-        ensures further { result.0 ≡ Reached.More → reader.entry.now.number < reader.exit.now.number }
+        ensures further { result.0 ≡ Reached.More → number_of reader.entry.now < number_of reader.exit.now }
         ensures goes_on { OnOk result.1 (CanReadOn result.0 reader.exit.now front.exit.now.counts.records) }
         ensures filled { front.entry.now.counts.records + vec_len records.exit.now ≤ most_records }
         ensures counted { OnOk result.1
             (front.exit.now.counts.records ≡ front.entry.now.counts.records + vec_len records.exit.now) }
-        ensures failed { result.0 ≡ Reached.Fault CaptureFault.Failed
+        ensures failed { result.0 ≡ Reached.Fault ReadFault.Failed
             → Rose (H.faults host.entry.now) (H.faults host.exit.now) }
         ensures same_opens { H.opens host.exit.now ≡ H.opens host.entry.now }
         ensures same_contents { H.contents host.exit.now ≡ H.contents host.entry.now }

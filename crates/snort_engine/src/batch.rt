@@ -1,12 +1,14 @@
-ghost use Rattle.std.specs.Prelude.{◌≡◌, ◌≢◌, ◌+◌, ◌-◌, ◌<◌, ◌≤◌, None, [], option_map, vec_len};
+ghost use Rattle.std.specs.Prelude.{◌≡◌, ◌≢◌, ◌+◌, ◌-◌, ◌<◌, ◌≤◌, [], vec_len};
 ghost use Rattle.edge_io.specs.Told.{Rose};
 ghost use Rattle.pcap_input.specs.Savefile.{most_records};
-ghost use Rattle.snort_engine.specs.Batch.{IsNext, ReadsOn, more_of};
+ghost use Rattle.snort_engine.specs.Reader.{IsFresh, IsNext, number_of};
+ghost use Rattle.snort_engine.specs.Batch.{ReadsOn, more_of};
 ghost use Rattle.snort_engine.specs.Watching.{most_at, room_behind};
 
+use crate::fault::ReadFault;
+use crate::reader::{LinkedRecord, RecordReader};
 use crate::stop::Stop;
 use edge_io::Host;
-use pcap_input::{CaptureFault, CaptureReader, Record};
 use std::alloc::Global;
 
 /// How many records are read before their lines are offered.
@@ -20,36 +22,36 @@ pub(crate) enum Reached {
     /// The capture ends there.
     End,
     /// The capture is refused there, or can't be read on.
-    Fault(CaptureFault),
+    Fault(ReadFault),
 }
 
 /// Reads one record behind those that were read.
 fn read_one<H: Host>(
     alloc: Global,
     host: &mut H,
-    reader: &mut CaptureReader,
-    records: &mut Vec<Record>,
+    reader: &mut RecordReader,
+    records: &mut Vec<LinkedRecord>,
 ) -> Reached
-    requires { reader.old.refused ≡ None }
+    requires { IsFresh reader.old }
     ensures reads { ReadsOn
         (record { reader = reader.old; records = records.old.items; left = H.left host.old })
         (record { reader = reader.new; records = records.new.items; left = H.left host.new }) result }
     ensures one { result ≡ Reached.More → vec_len records.new ≡ vec_len records.old + 1 }
     ensures none { result ≢ Reached.More → vec_len records.new ≡ vec_len records.old }
-    ensures next { result ≡ Reached.More → IsNext reader.old reader.new }
-    ensures failed { result ≡ Reached.Fault CaptureFault.Failed → Rose (H.faults host.old) (H.faults host.new) }
+    ensures next { result ≡ Reached.More → IsFresh reader.new × IsNext reader.old reader.new }
+    ensures failed { result ≡ Reached.Fault ReadFault.Failed → Rose (H.faults host.old) (H.faults host.new) }
     ensures same_opens { H.opens host.new ≡ H.opens host.old }
     ensures same_contents { H.contents host.new ≡ H.contents host.old }
     ensures later { H.faults host.old ≤ H.faults host.new }
 {
     // Room comes first, so that no record is lost that was taken.
     if records.reserve(1).is_err() {
-        return Reached::Fault(CaptureFault::NoMemory);
+        return Reached::Fault(ReadFault::NoMemory);
     }
     match reader.next(alloc, host) {
         Ok(Some(given)) => match records.push(given) {
             Ok(()) => Reached::More,
-            Err(_full) => Reached::Fault(CaptureFault::NoMemory),
+            Err(_full) => Reached::Fault(ReadFault::NoMemory),
         },
         Ok(None) => Reached::End,
         Err(why) => Reached::Fault(why),
@@ -82,11 +84,11 @@ pub(crate) fn room_behind(room: Option<u32>, count: usize) -> Option<u32>
 pub(crate) fn read_batch<H: Host>(
     alloc: Global,
     host: &mut H,
-    reader: &mut CaptureReader,
+    reader: &mut RecordReader,
     most: usize,
-    records: &mut Vec<Record>,
+    records: &mut Vec<LinkedRecord>,
 ) -> Reached
-    requires fresh { reader.old.refused ≡ None }
+    requires fresh { IsFresh reader.old }
     requires some { 0 < most }
     requires empty { records.old.items ≡ [] }
     ensures reads { ReadsOn
@@ -94,12 +96,12 @@ pub(crate) fn read_batch<H: Host>(
         (record { reader = reader.new; records = records.new.items; left = H.left host.new }) result }
     ensures few { vec_len records.new ≤ most }
     ensures fewer { result ≢ Reached.More → vec_len records.new < most }
-    ensures further { result ≡ Reached.More → reader.old.number < reader.new.number }
-    ensures goes_on { result ≡ Reached.More → reader.new.refused ≡ None }
-    ensures within { result ≡ Reached.More → reader.new.number ≤ most_records }
-    ensures numbered { result ≡ Reached.More → reader.new.number ≡ reader.old.number + vec_len records.new }
-    ensures filled { 0 < vec_len records.new → reader.old.number + vec_len records.new ≤ most_records }
-    ensures failed { result ≡ Reached.Fault CaptureFault.Failed → Rose (H.faults host.old) (H.faults host.new) }
+    ensures further { result ≡ Reached.More → number_of reader.old < number_of reader.new }
+    ensures goes_on { result ≡ Reached.More → IsFresh reader.new }
+    ensures within { result ≡ Reached.More → number_of reader.new ≤ most_records }
+    ensures numbered { result ≡ Reached.More → number_of reader.new ≡ number_of reader.old + vec_len records.new }
+    ensures filled { 0 < vec_len records.new → number_of reader.old + vec_len records.new ≤ most_records }
+    ensures failed { result ≡ Reached.Fault ReadFault.Failed → Rose (H.faults host.old) (H.faults host.new) }
     ensures same_opens { H.opens host.new ≡ H.opens host.old }
     ensures same_contents { H.contents host.new ≡ H.contents host.old }
     ensures later { H.faults host.old ≤ H.faults host.new }
@@ -125,11 +127,11 @@ pub(crate) fn more(reached: Reached) -> Result<bool, Stop>
 }
 
 /// Gives the memory of the records that were shown back to the reader, for later ones.
-pub(crate) fn give_back(alloc: Global, reader: &mut CaptureReader, records: &mut Vec<Record>)
+pub(crate) fn give_back(alloc: Global, reader: &mut RecordReader, records: &mut Vec<LinkedRecord>)
     ensures same { reader.new ≡ reader.old }
     ensures emptied { records.new.items ≡ [] }
 {
     'batch: while let Some(shown) = records.pop() {
-        reader.take_back(alloc, shown.bytes);
+        reader.take_back(alloc, shown);
     }
 }

@@ -5,7 +5,7 @@ ghost use Rattle.edge_io.specs.Files.{Files};
 ghost use Rattle.edge_io.specs.Told.{Rose};
 ghost use Rattle.flow_lanes.specs.Hits.{Test};
 ghost use Rattle.snort_engine.specs.Course.{Course, Makes};
-ghost use Rattle.snort_engine.specs.Sources.{IsMade, LacksCapture, opens_behind, source_name, way_from};
+ghost use Rattle.snort_engine.specs.Sources.{IsMade, LacksCapture, OpensOn, source_name, way_from};
 ghost use Rattle.snort_engine.specs.Outside.{Work};
 ghost use Rattle.snort_engine.specs.Ending.{Ends};
 ghost use Rattle.snort_engine.specs.Stop.{outcome_status, outcome_text};
@@ -101,7 +101,8 @@ pub(crate) fn watch_capture<H: Host, P: Pattern, G: Gate, A: Sink, R: Threads + 
     ensures read_fault { (matches : Test) → outcome_status result ≡ Status.HostFault
         → Rose (H.faults host.old) (H.faults host.new)
         ⊎ LacksCapture (H.contents host.old) (way_from plan.now.source (plan_of matches plan.now)) }
-    ensures opened { H.opens host.new ≡ opens_behind plan.now.source (H.opens host.old) }
+    ensures opened { (matches : Test) → OpensOn (H.contents host.old) (way_from plan.now.source (plan_of matches plan.now))
+        (Rose (H.faults host.old) (H.faults host.new)) (H.opens host.old) (H.opens host.new) }
     ensures made_unopened { IsMade plan.now.source → H.left host.new ≡ H.left host.old }
     ensures same_contents { H.contents host.new ≡ H.contents host.old }
     ensures later { H.faults host.old ≤ H.faults host.new }

@@ -1,5 +1,5 @@
 //! Records with what stands before them: their jobs, what these find, and the lines of it.
-ghost use Rattle.std.specs.Prelude.{◌≡◌, ◌+◌, ◌≤◌, ◌^◌, ◌<◌, [], ◌++◌, length, map, All, OnOk, OnErr, IfOk, IfErr, IsErrOf};
+ghost use Rattle.std.specs.Prelude.{◌≡◌, ◌+◌, ◌≤◌, ◌^◌, ◌<◌, [], ◌++◌, length, All, OnOk, OnErr, IfOk, IfErr, IsErrOf};
 ghost use Rattle.edge_io.specs.Told.{Rose};
 ghost use Rattle.conf_types.specs.Sound as conf;
 ghost use Rattle.fast_pattern.specs.Grouping.{StandFor};
@@ -15,11 +15,11 @@ use crate::counts::{Counts, sum};
 use crate::events::{Events, show_hits};
 use crate::lines::offer;
 use crate::plan::{Plan, front_config};
+use crate::reader::LinkedRecord;
 use crate::stop::Stop;
-use edge_io::{Gate, Link, NoMemory, Pattern, Sink};
+use edge_io::{Gate, NoMemory, Pattern, Sink};
 use fast_pattern::Groups;
 use flow_lanes::{Job, Lanes};
-use pcap_input::Record;
 use record_jobs::{Front, FrontConfig, RecordCounts};
 use rule_parser::Rule;
 use std::alloc::Global;
@@ -104,19 +104,18 @@ impl Detector {
 pub(crate) fn make_jobs(
     alloc: Global,
     by: &FrontConfig<'_>,
-    link: Link,
-    records: &[Record],
+    records: &[LinkedRecord],
     front: &mut Front,
 ) -> Result<Vec<Job>, NoMemory>
     requires sound { conf.IsSound by.now.config.now }
     requires few { front.old.counts.records + length records.now ≤ 2 ^ 32 }
-    ensures makes { IfOk result (λ jobs. MakesJobs (ways.way_of by.now) (map (ways.linked link) records.now)
+    ensures makes { IfOk result (λ jobs. MakesJobs (ways.way_of by.now) records.now
         front.old front.new jobs.items) }
     ensures records { OnOk result (front.new.counts.records ≡ front.old.counts.records + length records.now) }
 {
     let mut jobs = Vec::new(alloc);
-    for captured in records {
-        front.jobs(alloc, by, link, captured, &mut jobs)?;
+    for record in records {
+        front.jobs(alloc, by, record.link(), record.captured(), &mut jobs)?;
     }
     Ok(jobs)
 }
@@ -174,8 +173,7 @@ pub(crate) fn show_records<P: Pattern, G: Gate, A: Sink, R: Threads + Sync>(
     alloc: Global,
     plan: &Plan<'_, P>,
     gate: &G,
-    link: Link,
-    records: &[Record],
+    records: &[LinkedRecord],
     detector: &mut Detector,
     alerts: &mut A,
 ) -> Result<(), Stop>
@@ -183,11 +181,11 @@ pub(crate) fn show_records<P: Pattern, G: Gate, A: Sink, R: Threads + Sync>(
     requires known { Knows plan.now detector.old }
     requires few { detector.old.front.counts.records + length records.now ≤ 2 ^ 32 }
     ensures shown { (matches : Test) → IsTest P.finds plan.now.set.now matches
-        → OnOk result (ShowsRecords (plan_of matches plan.now) (map (ways.linked link) records.now)
+        → OnOk result (ShowsRecords (plan_of matches plan.now) records.now
         (record { detector = detector.old; written = A.written alerts.old })
         (record { detector = detector.new; written = A.written alerts.new })) }
     ensures stopped { (matches : Test) → IsTest P.finds plan.now.set.now matches
-        → OnErr result (ShowsRecordsPart (plan_of matches plan.now) (map (ways.linked link) records.now)
+        → OnErr result (ShowsRecordsPart (plan_of matches plan.now) records.now
         (record { detector = detector.old; written = A.written alerts.old }) (A.written alerts.new)) }
     ensures known { OnOk result (Knows plan.now detector.new) }
     ensures records { OnOk result (detector.new.front.counts.records ≡ detector.old.front.counts.records + length records.now) }
@@ -195,13 +193,7 @@ pub(crate) fn show_records<P: Pattern, G: Gate, A: Sink, R: Threads + Sync>(
     ensures fault { IsErrOf result Stop.CannotWrite → Rose (A.faults alerts.old) (A.faults alerts.new) }
     ensures later { A.faults alerts.old ≤ A.faults alerts.new }
 {
-    let jobs = make_jobs(
-        alloc,
-        &front_config(plan),
-        link,
-        records,
-        &mut detector.front,
-    )?;
+    let jobs = make_jobs(alloc, &front_config(plan), records, &mut detector.front)?;
     run_jobs(
         rt,
         alloc,

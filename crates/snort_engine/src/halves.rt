@@ -1,8 +1,9 @@
 //! Watching a capture by halves of batches: the lines of one half are made while the next is read.
-ghost use Rattle.std.specs.Prelude.{true, false, ◌≡◌, ◌≢◌, ◌<◌, ◌≤◌, None, [], OnOk, IsErrOf};
+ghost use Rattle.std.specs.Prelude.{true, false, ◌≡◌, ◌≢◌, ◌<◌, ◌≤◌, [], OnOk, IsErrOf};
 ghost use Rattle.edge_io.specs.Told.{Rose};
 ghost use Rattle.pcap_input.specs.Savefile.{most_records};
 ghost use Rattle.flow_lanes.specs.Hits.{Test};
+ghost use Rattle.snort_engine.specs.Reader.{IsFresh, number_of};
 ghost use Rattle.snort_engine.specs.Stop.{is_whole, outcome_status};
 ghost use Rattle.snort_engine.specs.Detecting.{IsSoundPlan, Knows, DetectorStands};
 ghost use Rattle.snort_engine.specs.Watching.{plan_of, IsTest, ComesOver, StaysKnown, StaysFew};
@@ -13,10 +14,11 @@ use crate::ahead::{half_at, inspect_and_feed, show_found, show_jobs};
 use crate::batch::{Reached, give_back, more, room_behind};
 use crate::context::Context;
 use crate::detect::Detector;
+use crate::fault::ReadFault;
+use crate::reader::{LinkedRecord, RecordReader};
 use crate::stop::Stop;
 use edge_io::{Gate, Host, Pattern, Sink};
 use flow_lanes::Job;
-use pcap_input::{CaptureFault, CaptureReader, Record};
 use std::thread::Threads;
 
 /// Jobs that wait for the lanes, and what was reached behind their records.
@@ -43,10 +45,10 @@ fn may_read(reached: Reached, most: usize) -> bool
 fn watch_next<H: Host, P: Pattern, G: Gate, A: Sink, R: Threads + Sync>(
     context: &Context<'_, P, G, R>,
     host: &mut H,
-    reader: &mut CaptureReader,
+    reader: &mut RecordReader,
     most: usize,
     room: &mut Option<u32>,
-    records: &mut Vec<Record>,
+    records: &mut Vec<LinkedRecord>,
     ahead: &mut Ahead,
     detector: &mut Detector,
     alerts: &mut A,
@@ -80,7 +82,7 @@ fn watch_next<H: Host, P: Pattern, G: Gate, A: Sink, R: Threads + Sync>(
     ensures goes { result ≢ Ok true → is_whole result ≡ false }
     ensures write_fault { IsErrOf result Stop.CannotWrite → Rose (A.faults alerts.old) (A.faults alerts.new) }
     ensures read_fault { outcome_status result ≢ Status.HostFault }
-    ensures failed { result ≡ Ok true → ahead.new.reached ≡ Reached.Fault CaptureFault.Failed
+    ensures failed { result ≡ Ok true → ahead.new.reached ≡ Reached.Fault ReadFault.Failed
         → Rose (H.faults host.old) (H.faults host.new) }
     ensures same_opens { H.opens host.new ≡ H.opens host.old }
     ensures same_contents { H.contents host.new ≡ H.contents host.old }
@@ -115,9 +117,9 @@ fn watch_next<H: Host, P: Pattern, G: Gate, A: Sink, R: Threads + Sync>(
 fn watch_half<H: Host, P: Pattern, G: Gate, A: Sink, R: Threads + Sync>(
     context: &Context<'_, P, G, R>,
     host: &mut H,
-    reader: &mut CaptureReader,
+    reader: &mut RecordReader,
     room: &mut Option<u32>,
-    records: &mut Vec<Record>,
+    records: &mut Vec<LinkedRecord>,
     ahead: &mut Ahead,
     detector: &mut Detector,
     alerts: &mut A,
@@ -149,8 +151,8 @@ fn watch_half<H: Host, P: Pattern, G: Gate, A: Sink, R: Threads + Sync>(
     ensures known { result ≢ Ok true → StaysKnown context.now.plan.now detector.new result }
     ensures few { StaysFew detector.new result }
     ensures write_fault { IsErrOf result Stop.CannotWrite → Rose (A.faults alerts.old) (A.faults alerts.new) }
-    ensures read_fault { outcome_status result ≡ Status.HostFault → ahead.old.reached ≡ Reached.Fault CaptureFault.Failed }
-    ensures failed { result ≡ Ok true → ahead.new.reached ≡ Reached.Fault CaptureFault.Failed
+    ensures read_fault { outcome_status result ≡ Status.HostFault → ahead.old.reached ≡ Reached.Fault ReadFault.Failed }
+    ensures failed { result ≡ Ok true → ahead.new.reached ≡ Reached.Fault ReadFault.Failed
         → Rose (H.faults host.old) (H.faults host.new) }
     ensures same_opens { H.opens host.new ≡ H.opens host.old }
     ensures same_contents { H.contents host.new ≡ H.contents host.old }
@@ -174,15 +176,15 @@ fn watch_half<H: Host, P: Pattern, G: Gate, A: Sink, R: Threads + Sync>(
 pub(crate) fn watch_halves<H: Host, P: Pattern, G: Gate, A: Sink, R: Threads + Sync>(
     context: &Context<'_, P, G, R>,
     host: &mut H,
-    reader: &mut CaptureReader,
+    reader: &mut RecordReader,
     detector: &mut Detector,
     alerts: &mut A,
 ) -> Result<(), Stop>
     requires plan { IsSoundPlan context.now.plan.now }
     requires known { Knows context.now.plan.now detector.old }
     requires none { detector.old.front.counts.records ≡ 0 }
-    requires within { reader.old.number ≤ most_records }
-    requires fresh { reader.old.refused ≡ None }
+    requires within { number_of reader.old ≤ most_records }
+    requires fresh { IsFresh reader.old }
     ensures comes { (matches : Test) → IsTest P.finds context.now.plan.now.set.now matches
         → DetectorStands (plan_of matches context.now.plan.now) [] detector.old
         → ComesOver (plan_of matches context.now.plan.now) reader.old

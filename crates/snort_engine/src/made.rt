@@ -2,8 +2,10 @@
 ghost use Rattle.std.specs.Prelude.{◌≡◌, ◌≤◌, Some, length, drop};
 ghost use Rattle.pcap_input.specs.Savefile.{file_header};
 ghost use Rattle.pcap_input.specs.Reader.{new_reader};
+ghost use Rattle.snort_engine.specs.declared.reader.RecordReader.TheVariants.{Savefile};
 ghost use Rattle.snort_engine.specs.MadeCapture.{left_of, made_head};
 
+use crate::reader::RecordReader;
 use edge_io::{Failed, Host, Link, LoadFault};
 use pcap_input::{CaptureHead, CaptureReader};
 
@@ -18,10 +20,10 @@ const HEAD: CaptureHead = CaptureHead {
 };
 
 /// A reader of a capture that is made, which has given no record.
-pub(crate) fn made_reader() -> CaptureReader
-    ensures { result ≡ new_reader made_head }
+pub(crate) fn made_reader() -> RecordReader
+    ensures { result ≡ Savefile (new_reader made_head) }
 {
-    CaptureReader::resume(HEAD, 0, FILE_HEADER as u64)
+    RecordReader::Savefile(CaptureReader::resume(HEAD, 0, FILE_HEADER as u64))
 }
 
 /// A capture that was made, from its first record on. As a host it has no file, and counts no fault, since

@@ -4,11 +4,11 @@ ghost use Rattle.snort_engine.specs.Messages.{cannot_read_text};
 ghost use Rattle.snort_engine.specs.Pieces.{pieces_text};
 
 use crate::Status;
+use crate::fault::ReadFault;
 use crate::pieces::Piece;
 use crate::pieces::Piece::{Bytes, Number};
 use edge_io::{NoMemory, Text, WriteStop};
 use flow_lanes::BatchFault;
-use pcap_input::CaptureFault;
 use snort_setup::SetupStop;
 use std::alloc::AllocFailed;
 
@@ -33,13 +33,15 @@ pub(crate) enum Stop {
     CannotWrite,
     /// Memory ran out.
     NoMemory,
-    /// The capture is no savefile of version 2.
+    /// The capture begins neither as a savefile of version 2 nor with a section header.
     NotPcap,
     /// The capture has a link type that is not read.
     LinkType(u32),
-    /// The capture ends inside its header, or inside the record that begins at this byte.
+    /// The capture ends inside its header, or inside the record or the block that begins at this byte.
     Truncated { at: u64 },
-    /// The record that begins at this byte is longer than any packet.
+    /// The block of the capture that begins at this byte is not as the format has it.
+    BadBlock { at: u64 },
+    /// The record at this byte is longer than any packet.
     TooLong { at: u64, len: u32 },
     /// The capture has more records than are read.
     TooMany,
@@ -72,13 +74,14 @@ impl Stop {
             Stop::NotPcap
             | Stop::LinkType(_)
             | Stop::Truncated { .. }
+            | Stop::BadBlock { .. }
             | Stop::TooLong { .. }
             | Stop::TooMany => Status::BadCapture,
         }
     }
 
     /// Its message, with a line feed at its end, where the capture has this name.
-    #[tactic(auto, unfolding(crate::specs::Stop::stop_text, crate::specs::Messages::cannot_read_text, crate::specs::Messages::accepted_text, crate::specs::Messages::link_type_text, crate::specs::Messages::truncated_text))]
+    #[tactic(auto, unfolding(crate::specs::Stop::stop_text, crate::specs::Messages::cannot_read_text, crate::specs::Messages::accepted_text, crate::specs::Messages::link_type_text, crate::specs::Messages::truncated_text, crate::specs::Messages::bad_block_text))]
     pub fn pieces<'a>(&'a self, source: &'a str) -> [Piece<'a>; 5]
         ensures { pieces_text result ≡ stop_text source.now self.now }
     {
@@ -102,6 +105,13 @@ impl Stop {
             ],
             Stop::Truncated { at } => [
                 Bytes(b"ERROR: capture is truncated at byte "),
+                Number(*at),
+                Bytes(b"\n"),
+                NOTHING,
+                NOTHING,
+            ],
+            Stop::BadBlock { at } => [
+                Bytes(b"ERROR: capture has a bad block at byte "),
                 Number(*at),
                 Bytes(b"\n"),
                 NOTHING,
@@ -183,20 +193,21 @@ impl From<WriteStop> for Stop {
     }
 }
 
-impl From<CaptureFault> for Stop {
+impl From<ReadFault> for Stop {
     ghost use Rattle.snort_engine.specs.Stop.{capture_stop};
 
     ghost from_gives = { λ why stop. stop ≡ capture_stop why };
 
-    fn from(why: CaptureFault) -> Stop {
+    fn from(why: ReadFault) -> Stop {
         match why {
-            CaptureFault::NotPcap => Stop::NotPcap,
-            CaptureFault::LinkType(link_type) => Stop::LinkType(link_type),
-            CaptureFault::Truncated { at } => Stop::Truncated { at },
-            CaptureFault::TooLong { at, len } => Stop::TooLong { at, len },
-            CaptureFault::TooMany => Stop::TooMany,
-            CaptureFault::Failed => Stop::CannotRead,
-            CaptureFault::NoMemory => Stop::NoMemory,
+            ReadFault::NotPcap => Stop::NotPcap,
+            ReadFault::LinkType(link_type) => Stop::LinkType(link_type),
+            ReadFault::Truncated { at } => Stop::Truncated { at },
+            ReadFault::BadBlock { at } => Stop::BadBlock { at },
+            ReadFault::TooLong { at, len } => Stop::TooLong { at, len },
+            ReadFault::TooMany => Stop::TooMany,
+            ReadFault::Failed => Stop::CannotRead,
+            ReadFault::NoMemory => Stop::NoMemory,
         }
     }
 }

@@ -1,10 +1,11 @@
-ghost use Rattle.std.specs.Prelude.{◌≡◌, ◌<◌, ◌≤◌, ◌⊎◌, ◌++◌, None, Some, true, [], All, OnOk, IsErrOf};
+ghost use Rattle.std.specs.Prelude.{◌≡◌, ◌<◌, ◌≤◌, ◌⊎◌, ◌++◌, Some, true, [], All, OnOk, IsErrOf};
 ghost use Rattle.std.specs.List.{concat};
 ghost use Rattle.edge_io.specs.Files.{Files, Lacks};
-ghost use Rattle.edge_io.specs.Told.{one_more, Rose};
+ghost use Rattle.edge_io.specs.Told.{Rose};
 ghost use Rattle.pcap_input.specs.Savefile.{most_records};
 ghost use Rattle.flow_lanes.specs.Hits.{Test};
 ghost use Rattle.snort_engine.specs.Course.{Course, Goes};
+ghost use Rattle.snort_engine.specs.Reader.{IsFresh, number_of, OpensSo};
 ghost use Rattle.snort_engine.specs.Sources.{source_name};
 ghost use Rattle.snort_engine.specs.Ending.{Ends};
 ghost use Rattle.snort_engine.specs.Stop.{outcome_status, outcome_text};
@@ -20,9 +21,9 @@ use crate::counts::Counts;
 use crate::detect::{Detector, close, show_records};
 use crate::halves::watch_halves;
 use crate::plan::Plan;
+use crate::reader::{LinkedRecord, RecordReader};
 use crate::stop::{Stop, is_whole};
 use edge_io::{Gate, Host, Pattern, Sink};
-use pcap_input::{CaptureReader, Record};
 use std::alloc::Global;
 use std::thread::Threads;
 
@@ -33,19 +34,19 @@ fn watch_batch<H: Host, P: Pattern, G: Gate, A: Sink, R: Threads + Sync>(
     rt: &R,
     alloc: Global,
     host: &mut H,
-    reader: &mut CaptureReader,
+    reader: &mut RecordReader,
     plan: &Plan<'_, P>,
     gate: &G,
     room: &mut Option<u32>,
-    records: &mut Vec<Record>,
+    records: &mut Vec<LinkedRecord>,
     detector: &mut Detector,
     alerts: &mut A,
 ) -> Result<bool, Stop>
     requires plan { IsSoundPlan plan.now }
     requires known { Knows plan.now detector.old }
-    requires behind { detector.old.front.counts.records ≤ reader.old.number }
-    requires within { reader.old.number ≤ most_records }
-    requires fresh { reader.old.refused ≡ None }
+    requires behind { detector.old.front.counts.records ≤ number_of reader.old }
+    requires within { number_of reader.old ≤ most_records }
+    requires fresh { IsFresh reader.old }
     requires no_records { records.old.items ≡ [] }
     ensures goes_on { (matches : Test) → IsTest P.finds plan.now.set.now matches
         → GoesOn (plan_of matches plan.now)
@@ -62,10 +63,10 @@ fn watch_batch<H: Host, P: Pattern, G: Gate, A: Sink, R: Threads + Sync>(
           streams = record { left = H.left host.new; written = A.written alerts.new };
         })
         result }
-    ensures further { result ≡ Ok true → reader.old.number < reader.new.number }
-    ensures within { result ≡ Ok true → reader.new.number ≤ most_records }
-    ensures fresh { result ≡ Ok true → reader.new.refused ≡ None }
-    ensures behind { result ≡ Ok true → detector.new.front.counts.records ≤ reader.new.number }
+    ensures further { result ≡ Ok true → number_of reader.old < number_of reader.new }
+    ensures within { result ≡ Ok true → number_of reader.new ≤ most_records }
+    ensures fresh { result ≡ Ok true → IsFresh reader.new }
+    ensures behind { result ≡ Ok true → detector.new.front.counts.records ≤ number_of reader.new }
     ensures shown { OnOk result (records.new.items ≡ []) }
     ensures known { StaysKnown plan.now detector.new result }
     ensures few { StaysFew detector.new result }
@@ -80,10 +81,9 @@ fn watch_batch<H: Host, P: Pattern, G: Gate, A: Sink, R: Threads + Sync>(
     if most == 0 {
         return Ok(false);
     }
-    let link = reader.head().link;
     let reached = read_batch(alloc, host, reader, most, records);
     *room = room_behind(*room, records.len());
-    show_records(rt, alloc, plan, gate, link, records, detector, alerts)?;
+    show_records(rt, alloc, plan, gate, records, detector, alerts)?;
     give_back(alloc, reader, records);
     more(reached)
 }
@@ -95,7 +95,7 @@ fn watch_batches<H: Host, P: Pattern, G: Gate, A: Sink, R: Threads + Sync>(
     rt: &R,
     alloc: Global,
     host: &mut H,
-    reader: &mut CaptureReader,
+    reader: &mut RecordReader,
     plan: &Plan<'_, P>,
     gate: &G,
     detector: &mut Detector,
@@ -104,8 +104,8 @@ fn watch_batches<H: Host, P: Pattern, G: Gate, A: Sink, R: Threads + Sync>(
     requires plan { IsSoundPlan plan.now }
     requires known { Knows plan.now detector.old }
     requires none { detector.old.front.counts.records ≡ 0 }
-    requires within { reader.old.number ≤ most_records }
-    requires fresh { reader.old.refused ≡ None }
+    requires within { number_of reader.old ≤ most_records }
+    requires fresh { IsFresh reader.old }
     ensures comes { (matches : Test) → IsTest P.finds plan.now.set.now matches
         → DetectorStands (plan_of matches plan.now) [] detector.old
         → ComesOver (plan_of matches plan.now) reader.old
@@ -144,7 +144,7 @@ fn watch_all<H: Host, P: Pattern, G: Gate, A: Sink, R: Threads + Sync>(
     rt: &R,
     alloc: Global,
     host: &mut H,
-    reader: &mut CaptureReader,
+    reader: &mut RecordReader,
     plan: &Plan<'_, P>,
     gate: &G,
     detector: &mut Detector,
@@ -153,8 +153,8 @@ fn watch_all<H: Host, P: Pattern, G: Gate, A: Sink, R: Threads + Sync>(
     requires plan { IsSoundPlan plan.now }
     requires known { Knows plan.now detector.old }
     requires none { detector.old.front.counts.records ≡ 0 }
-    requires within { reader.old.number ≤ most_records }
-    requires fresh { reader.old.refused ≡ None }
+    requires within { number_of reader.old ≤ most_records }
+    requires fresh { IsFresh reader.old }
     ensures comes { (matches : Test) → IsTest P.finds plan.now.set.now matches
         → DetectorStands (plan_of matches plan.now) [] detector.old
         → ComesOver (plan_of matches plan.now) reader.old
@@ -218,15 +218,15 @@ pub(crate) fn watch_records<H: Host, P: Pattern, G: Gate, A: Sink, R: Threads + 
     rt: &R,
     alloc: Global,
     host: &mut H,
-    reader: &mut CaptureReader,
+    reader: &mut RecordReader,
     plan: &Plan<'_, P>,
     gate: &G,
     alerts: &mut A,
     counts: &mut Counts,
 ) -> Result<(), Stop>
     requires plan { IsSoundPlan plan.now }
-    requires within { reader.old.number ≤ most_records }
-    requires fresh { reader.old.refused ≡ None }
+    requires within { number_of reader.old ≤ most_records }
+    requires fresh { IsFresh reader.old }
     ensures watches { (matches : Test) → IsTest P.finds plan.now.set.now matches
         → Watches (plan_of matches plan.now) reader.old
         (record { left = H.left host.old; written = A.written alerts.old })
@@ -284,11 +284,12 @@ pub(crate) fn watch_file<H: Host, P: Pattern, G: Gate, A: Sink, R: Threads + Syn
     ensures write_fault { outcome_status result ≡ Status.WriteFault → Rose (A.faults alerts.old) (A.faults alerts.new) }
     ensures read_fault { outcome_status result ≡ Status.HostFault
         → Rose (H.faults host.old) (H.faults host.new) ⊎ Lacks (H.contents host.old) name.now }
-    ensures opened { H.opens host.new ≡ one_more (H.opens host.old) }
+    ensures opened { OpensSo (H.contents host.old) name.now (Rose (H.faults host.old) (H.faults host.new))
+        (H.opens host.old) (H.opens host.new) }
     ensures same_contents { H.contents host.new ≡ H.contents host.old }
     ensures later { H.faults host.old ≤ H.faults host.new }
     ensures later_alerts { A.faults alerts.old ≤ A.faults alerts.new }
 {
-    let mut reader = CaptureReader::open(host, name)?;
+    let mut reader = RecordReader::open(alloc, host, name)?;
     watch_records(rt, alloc, host, &mut reader, plan, gate, alerts, counts)
 }

@@ -1,6 +1,7 @@
 -- Reading went on from where the batch began, by as many records as the batch has.
-use Rattle.std.proofs.Common.{◌≡◌, ◌+◌, ◌-◌, ◌<◌, ◌≤◌, [], None, vec_len}
+use Rattle.std.proofs.Common.{◌≡◌, ◌+◌, ◌-◌, ◌<◌, ◌≤◌, [], vec_len}
 use Rattle.pcap_input.specs.Savefile.{most_records}
+use Rattle.snort_engine.specs.Reader.{IsFresh, number_of}
 use Rattle.snort_engine.specs.Batch.{ReadsOn}
 use Rattle.snort_engine.specs.declared.batch.Reached.TheVariants.{More}
 use Rattle.snort_engine.proofs.batch.read_batch.Given as goal
@@ -8,10 +9,10 @@ use Rattle.snort_engine.proofs.batch.read_batch.Given as goal
 abbrev pub invariant-batch : goal.invariant-batch
 invariant-batch g l = record {
   reads : ReadsOn (record { reader = l.fn.reader; records = []; left = g.H.Host.left l.fn.host }) (record { reader = l.reader; records = l.records.items; left = g.H.Host.left l.host }) More;
-  fresh : l.reader.refused ≡ None;
+  fresh : IsFresh l.reader;
   few : vec_len l.records ≤ l.most;
-  number : l.reader.number ≡ l.fn.reader.number + vec_len l.records;
-  within : 0 < vec_len l.records → l.reader.number ≤ most_records;
+  number : number_of l.reader ≡ number_of l.fn.reader + vec_len l.records;
+  within : 0 < vec_len l.records → number_of l.reader ≤ most_records;
   opens : g.H.Host.opens l.host ≡ g.H.Host.opens l.fn.host;
   contents : g.H.Host.contents l.host ≡ g.H.Host.contents l.fn.host;
   later : g.H.Host.faults l.fn.host ≤ g.H.Host.faults l.host;

@@ -1,8 +1,7 @@
 -- What was reached, by the answer of `next`.
 use Rattle.std.proofs.Common.{[], ◌∷◌, ◌++◌, refl, ap, ◌∙◌}
-use Rattle.pcap_input.specs.Reader.{Reading}
 use Rattle.snort_engine.specs.Batch.{Place}
-use Rattle.snort_engine.proofs.Batches.{reads_record, reads_end, reads_fault, reads_lacking, number_below}
+use Rattle.snort_engine.proofs.Batches.{reads_record, reads_end, reads_fault, reads_lacking}
 use Rattle.snort_engine.proofs.batch.read_one.Goals as goal
 
 pub returns-then-is_err-clause-reads : goal.returns-then-is_err-clause-reads
@@ -13,32 +12,25 @@ returns-then-is_err-clause-reads g c =
 
 pub returns-in-Ok-clause-reads : goal.returns-in-Ok-clause-reads
 returns-in-Ok-clause-reads g c =
-    let takes = rw c.in-Ok-Some.field-0-is at c.in-Ok-Some.ensures.takes in
-    let stands = rw c.in-Ok-Some.field-0-is at c.in-Ok-Some.ensures.stands in
+    let gives = rw c.in-Ok-Some.field-0-is at c.in-Ok-Some.ensures.gives in
     let old : Place = record { reader = c.args.reader.now; records = c.args.records.now.items; left = g.H.Host.left c.args.host.now } in
     let new : Place = record { reader = c.next.new.self; records = c.push.new.self.items; left = g.H.Host.left c.next.new.host } in
-    reads_record old new c.in-Ok-Some.given takes stands (c.in-Ok.ensures.items ∙ ap (λ records. records ++ c.in-Ok-Some.given ∷ []) c.reserve.ensures.items)
+    reads_record old new c.in-Ok-Some.given gives.0 (c.in-Ok.ensures.items ∙ ap (λ records. records ++ c.in-Ok-Some.given ∷ []) c.reserve.ensures.items)
 
 pub returns-in-Ok-clause-next : goal.returns-in-Ok-clause-next
 returns-in-Ok-clause-next g c = λ more.
-    let takes = rw c.in-Ok-Some.field-0-is at c.in-Ok-Some.ensures.takes in
-    let stands = rw c.in-Ok-Some.field-0-is at c.in-Ok-Some.ensures.stands in
-    record {
-      fresh = ap (λ (r : Reading). r.refused) stands ∙ c.requires;
-      number = ap (λ (r : Reading). r.number) stands;
-      within = number_below c.args.reader.now c.in-Ok-Some.given _ _ takes;
-    }
+    let gives = rw c.in-Ok-Some.field-0-is at c.in-Ok-Some.ensures.gives in
+    (gives.0.fresh, gives.1)
 
 pub returns-in-Ok-None-clause-reads : goal.returns-in-Ok-None-clause-reads
 returns-in-Ok-None-clause-reads g c =
-    let gives = rw c.in-Ok-None.field-0-is at (c.in-Ok-None.ensures.gives c.requires) in
-    let ended = rw c.in-Ok-None.field-0-is at c.in-Ok-None.ensures.ended in
+    let gives = rw c.in-Ok-None.field-0-is at c.in-Ok-None.ensures.gives in
     let old : Place = record { reader = c.args.reader.now; records = c.args.records.now.items; left = g.H.Host.left c.args.host.now } in
     let new : Place = record { reader = c.next.new.self; records = c.reserve.new.self.items; left = g.H.Host.left c.next.new.host } in
-    reads_end old new c.reserve.ensures.items ended gives
+    reads_end old new c.reserve.ensures.items gives.0 gives.1
 
 pub returns-in-Err-clause-reads : goal.returns-in-Err-clause-reads
 returns-in-Err-clause-reads g c =
     let old : Place = record { reader = c.args.reader.now; records = c.args.records.now.items; left = g.H.Host.left c.args.host.now } in
     let new : Place = record { reader = c.next.new.self; records = c.reserve.new.self.items; left = g.H.Host.left c.next.new.host } in
-    reads_fault old new c.in-Err.why c.reserve.ensures.items (c.in-Err.ensures.partial c.requires) (c.in-Err.ensures.gives c.requires)
+    reads_fault old new c.in-Err.why c.reserve.ensures.items c.in-Err.ensures.gives.0 c.in-Err.ensures.gives.1

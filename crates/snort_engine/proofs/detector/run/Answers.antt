@@ -1,6 +1,6 @@
 use Rattle.std.proofs.Common.{refl, sym, ◌∙◌, arith}
 use Rattle.snort_engine.specs.Preparing.{way_for}
-use Rattle.snort_engine.proofs.Runs.{headline, stopped_run, watched_run, opens_behind_most, opens_behind_made}
+use Rattle.snort_engine.proofs.Runs.{headline, stopped_run, watched_run, opens_made}
 use Rattle.snort_engine.proofs.detector.run.Goals as goal
 
 pub watch_capture-outcome-requires-clause-plan : goal.watch_capture-outcome-requires-clause-plan
@@ -34,12 +34,11 @@ returns-in-Ok-clause-headline g c =
       write_fault = c.watch_capture-outcome.ensures.write_fault;
       read_fault = λ matches failed.
           rw (c.prepare-prepared.ensures.same_contents, c.plan_for-plan.ensures.way matches) at (c.watch_capture-outcome.ensures.read_fault matches failed);
-      opened_once =
-          let most = opens_behind_most c.plan_for-plan.result.source (g.H.Host.opens c.prepare-prepared.new.host) in
-          omega (arith, c.watch_capture-outcome.ensures.opened, c.prepare-prepared.ensures.same_opens, most);
+      opened = λ matches.
+          rw (c.prepare-prepared.ensures.same_contents, c.prepare-prepared.ensures.same_opens, c.plan_for-plan.ensures.way matches) at (c.watch_capture-outcome.ensures.opened matches);
       made_unopened = λ for_made.
           let made = c.plan_for-plan.ensures.made (c.in-Ok.ensures.made for_made) in (
-            c.watch_capture-outcome.ensures.opened ∙ opens_behind_made c.plan_for-plan.result.source (g.H.Host.opens c.prepare-prepared.new.host) made ∙ c.prepare-prepared.ensures.same_opens,
+            opens_made _ c.plan_for-plan.result.source _ _ _ _ made (c.watch_capture-outcome.ensures.opened (c.matching_is_decided.ensures (g.M.PatternMaker.means c.args.maker.now)).0) ∙ c.prepare-prepared.ensures.same_opens,
             c.watch_capture-outcome.ensures.made_unopened made ∙ c.prepare-prepared.ensures.same_left,
           );
       same_files = c.watch_capture-outcome.ensures.same_contents ∙ c.prepare-prepared.ensures.same_contents;

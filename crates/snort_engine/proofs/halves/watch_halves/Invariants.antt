@@ -2,7 +2,7 @@
 use Rattle.std.proofs.Common.{◌≡◌, ◌≤◌, []}
 use Rattle.edge_io.specs.Told.{Rose}
 use Rattle.pcap_input.specs.Savefile.{most_records}
-use Rattle.pcap_input.specs.declared.capture.CaptureFault.TheVariants as fault
+use Rattle.snort_engine.specs.declared.fault.ReadFault.TheVariants as fault
 use Rattle.flow_lanes.specs.Hits.{Test}
 use Rattle.snort_engine.specs.declared.batch.Reached.TheVariants.{Fault}
 use Rattle.snort_engine.specs.Detecting.{DetectorStands}

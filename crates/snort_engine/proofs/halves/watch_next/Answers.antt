@@ -1,8 +1,6 @@
-use Rattle.std.proofs.Common.{◌≡◌, ◌≤◌, ℕ, length, map, sym, ap, ◌∙◌, subst, arith}
-use Rattle.std.proofs.lemmas.List.{length-map}
+use Rattle.std.proofs.Common.{◌≡◌, ◌≤◌, ℕ, length, sym, ap, ◌∙◌, subst, arith}
 use Rattle.std.proofs.lemmas.Result.{err_from_is_err_and}
 use Rattle.flow_lanes.specs.Standing.{LanesState, LearnsBatch}
-use Rattle.record_jobs.specs.Way.{linked}
 use Rattle.snort_engine.specs.declared.stop.Stop.TheVariants as stop
 use Rattle.snort_engine.specs.Watching.{plan_of, room_behind, Standing}
 use Rattle.snort_engine.specs.Ahead.{half_at}
@@ -67,9 +65,8 @@ pub returns-clause-known_ahead : goal.returns-clause-known_ahead
 returns-clause-known_ahead g c = λ done.
     let learns = rw (c.in_ok-found.was, c.deref.ensures.value) at c.inspect_and_feed-found.ensures.learns in
     let makes = rw c.in_ok-jobs.was at c.inspect_and_feed-found.ensures.makes in
-    let size = length-map c.inspect_and_feed-found.new.records.items (linked c.args.reader.now.head.link) in
     known_next c.args.context.now.plan.now c.args.detector.now (record { front = c.inspect_and_feed-found.new.front; inspection = c.show_found.new.inspection }) c.args.ahead.now.jobs.items c.in_ok-jobs.field-0.items
-    (map (linked c.args.reader.now.head.link) c.inspect_and_feed-found.new.records.items) c.requires.known
+    c.inspect_and_feed-found.new.records.items c.requires.known
     (subst (λ (lanes : LanesState). LearnsBatch c.args.detector.now.inspection.lanes c.args.ahead.now.jobs.items lanes) (sym c.show_found.ensures.lanes) learns)
     c.show_found.ensures.groups c.in_ok-show_found.ensures.emptied makes
-    (omega (arith, size, c.inspect_and_feed-found.ensures.filled, c.inspect_and_feed-found.new.records.ok.0))
+    (omega (arith, c.inspect_and_feed-found.ensures.filled, c.inspect_and_feed-found.new.records.ok.0))

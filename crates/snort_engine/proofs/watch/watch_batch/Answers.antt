@@ -1,6 +1,5 @@
 use Rattle.std.proofs.Common.{◌≡◌, ◌≤◌, ℕ, length, ap, ◌∙◌, arith}
 use Rattle.std.proofs.lemmas.Result.{err_from_is_err_and}
-use Rattle.pcap_input.specs.declared.capture.CaptureHead.{CaptureHead}
 use Rattle.snort_engine.specs.Watching.{plan_of, most_at, room_behind, Standing}
 use Rattle.snort_engine.proofs.Watched.{nothing_left, batch_shown, batch_stops}
 use Rattle.snort_engine.proofs.watch.watch_batch.Goals as goal
@@ -17,8 +16,8 @@ returns-in_err-show_records-clause-goes_on g c = λ matches test.
     let stopped = rw c.deref.ensures.value at (c.in_err-show_records.ensures.stopped matches test) in
     let old : Standing = record { reader = c.args.reader.now; room = c.args.room.now; detector = c.args.detector.now; streams = record { left = g.H.Host.left c.args.host.now; written = g.A.Sink.written c.args.alerts.now } } in
     let new : Standing = record { reader = c.read_batch-reached.new.reader; room = c.room_behind.result; detector = c.show_records.new.detector; streams = record { left = g.H.Host.left c.read_batch-reached.new.host; written = g.A.Sink.written c.show_records.new.alerts } } in
-    rw (p.1, p.2) (batch_stops (plan_of matches c.args.plan.now) c.head-link.result.link c.read_batch-reached.new.records.items old new c.read_batch-reached.result c.in_err-show_records.field-0.0
-    (ap (λ (head : CaptureHead). head.link) c.head-link.ensures) few c.read_batch-reached.ensures.reads c.in_err-show_records.ensures.kind stopped)
+    rw (p.1, p.2) (batch_stops (plan_of matches c.args.plan.now) c.read_batch-reached.new.records.items old new c.read_batch-reached.result c.in_err-show_records.field-0.0
+    few c.read_batch-reached.ensures.reads c.in_err-show_records.ensures.kind stopped)
 
 pub returns-clause-goes_on : goal.returns-clause-goes_on
 returns-clause-goes_on g c = λ matches test.
@@ -28,7 +27,7 @@ returns-clause-goes_on g c = λ matches test.
     let new : Standing = record { reader = c.read_batch-reached.new.reader; room = c.room_behind.result; detector = c.show_records.new.detector; streams = record { left = g.H.Host.left c.read_batch-reached.new.host; written = g.A.Sink.written c.show_records.new.alerts } } in
     let count : c.len.result ≡ length c.read_batch-reached.new.records.items = omega (arith, c.len.ensures, c.read_batch-reached.new.records.ok.0) in
     let room_is : c.room_behind.result ≡ room_behind c.args.room.now (length c.read_batch-reached.new.records.items) = c.room_behind.ensures ∙ ap (λ (n : ℕ). room_behind c.args.room.now n) count in
-    rw (c.more.ensures, c.give_back.ensures.same) (batch_shown (plan_of matches c.args.plan.now) c.head-link.result.link c.read_batch-reached.new.records.items old new c.read_batch-reached.result
-    (ap (λ (head : CaptureHead). head.link) c.head-link.ensures) few room_is
+    rw (c.more.ensures, c.give_back.ensures.same) (batch_shown (plan_of matches c.args.plan.now) c.read_batch-reached.new.records.items old new c.read_batch-reached.result
+    few room_is
     (λ other. omega (arith, c.read_batch-reached.ensures.fewer other, c.most_at-most.ensures, c.read_batch-reached.new.records.ok.0))
     c.read_batch-reached.ensures.reads shown)

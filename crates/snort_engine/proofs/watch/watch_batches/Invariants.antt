@@ -1,7 +1,8 @@
 -- The work is under way, no record waits, what is known is known, and no count fell.
-use Rattle.std.proofs.Common.{◌≡◌, ◌≤◌, ◌-◌, [], None}
+use Rattle.std.proofs.Common.{◌≡◌, ◌≤◌, ◌-◌, []}
 use Rattle.pcap_input.specs.Savefile.{most_records}
 use Rattle.flow_lanes.specs.Hits.{Test}
+use Rattle.snort_engine.specs.Reader.{IsFresh, number_of}
 use Rattle.snort_engine.specs.Detecting.{Knows, DetectorStands}
 use Rattle.snort_engine.specs.Watching.{plan_of, IsTest, IsUnderWay}
 use Rattle.snort_engine.proofs.watch.watch_batches.Given as goal
@@ -12,9 +13,9 @@ invariant-batches g l = record {
       → IsUnderWay (plan_of matches l.plan) l.fn.reader (record { left = g.H.Host.left l.fn.host; written = g.A.Sink.written l.fn.alerts })
       (record { reader = l.reader; room = l.room; detector = l.detector; streams = record { left = g.H.Host.left l.host; written = g.A.Sink.written l.alerts } });
   known : Knows l.plan l.detector;
-  behind : l.detector.front.counts.records ≤ l.reader.number;
-  within : l.reader.number ≤ most_records;
-  fresh : l.reader.refused ≡ None;
+  behind : l.detector.front.counts.records ≤ number_of l.reader;
+  within : number_of l.reader ≤ most_records;
+  fresh : IsFresh l.reader;
   shown : l.records.items ≡ [];
   opens : g.H.Host.opens l.host ≡ g.H.Host.opens l.fn.host;
   contents : g.H.Host.contents l.host ≡ g.H.Host.contents l.fn.host;
@@ -23,4 +24,4 @@ invariant-batches g l = record {
 }
 
 abbrev pub decreases-batches : goal.decreases-batches
-decreases-batches g l = 4294967296 - l.reader.number
+decreases-batches g l = 4294967296 - number_of l.reader

@@ -1,0 +1,169 @@
+//! The reader of a run's capture, in either format.
+ghost use Rattle.std.specs.Prelude.{◌≡◌, ◌≢◌, ◌≤◌, ◌⊎◌, true, false, Some, None, IfOk, IsErrOf};
+ghost use Rattle.std.specs.FinMap.{get};
+ghost use Rattle.edge_io.specs.Told.{Rose};
+ghost use Rattle.edge_io.specs.Files.{Files, Lacks};
+ghost use Rattle.snort_engine.specs.declared.reader.RecordReader.TheVariants.{Savefile, Blocks};
+ghost use Rattle.snort_engine.specs.Reader.{IsFresh, number_of, Gives, Opens, OpensSo};
+
+use crate::fault::ReadFault;
+use edge_io::{Host, Link, Text};
+use pcap_input::{CaptureFault, CaptureReader, Record};
+use pcapng_input::{NgReader, NgRecord};
+use std::alloc::Global;
+use std::marker::Model;
+
+/// A record of a capture, and the link layer that its bytes begin with.
+#[derive(Debug, Drop)]
+pub(crate) struct LinkedRecord {
+    link: Link,
+    captured: Record,
+}
+
+impl Model for LinkedRecord {
+    ghost use Rattle.record_jobs.specs.Way.{LinkedRecord as Linked};
+
+    ghost Value = { Linked };
+
+    ghost view = { λ r. record { link = r.link; captured = r.captured } };
+}
+
+impl LinkedRecord {
+    pub fn link(&self) -> Link
+        ensures { result ≡ self.now.link }
+    {
+        self.link
+    }
+
+    pub fn captured(&self) -> &Record
+        ensures { result.now ≡ self.now.captured }
+    {
+        &self.captured
+    }
+}
+
+/// A reader of the host's open capture.
+#[derive(Debug, Drop)]
+pub(crate) enum RecordReader {
+    /// Of a libpcap savefile.
+    Savefile(CaptureReader),
+    /// Of pcapng blocks.
+    Blocks(NgReader),
+}
+
+impl RecordReader {
+    /// Opens a file of the host as its capture and reads its head. Where the file begins as no savefile
+    /// does, it is opened once more, as blocks.
+    pub fn open<H: Host>(alloc: Global, host: &mut H, name: &str) -> Result<RecordReader, ReadFault>
+        ensures opens { (files : Files) → H.contents host.old ≡ Some files
+            → Opens (get files name.now) result (H.left host.new) }
+        ensures fresh { IfOk result (λ reader. IsFresh reader × (number_of reader ≡ 0)) }
+        ensures failed { IsErrOf result ReadFault.Failed
+            → Rose (H.faults host.old) (H.faults host.new) ⊎ Lacks (H.contents host.old) name.now }
+        ensures opened { OpensSo (H.contents host.old) name.now (Rose (H.faults host.old) (H.faults host.new))
+            (H.opens host.old) (H.opens host.new) }
+        ensures same_contents { H.contents host.new ≡ H.contents host.old }
+        ensures later { H.faults host.old ≤ H.faults host.new }
+    {
+        let why = match CaptureReader::open(host, name) {
+            Ok(reader) => return Ok(RecordReader::Savefile(reader)),
+            Err(why) => why,
+        };
+        if !begins_otherwise(why) {
+            return Err(ReadFault::from(why));
+        }
+        let reader = NgReader::open(alloc, host, name)?;
+        Ok(RecordReader::Blocks(reader))
+    }
+
+    /// Reads the next record, or None where none is left.
+    pub fn next<H: Host>(
+        &mut self,
+        alloc: Global,
+        host: &mut H,
+    ) -> Result<Option<LinkedRecord>, ReadFault>
+        requires { IsFresh self.old }
+        ensures gives { Gives self.old self.new result (H.left host.old) (H.left host.new) }
+        ensures failed { IsErrOf result ReadFault.Failed → Rose (H.faults host.old) (H.faults host.new) }
+        ensures same_contents { H.contents host.new ≡ H.contents host.old }
+        ensures same_opens { H.opens host.new ≡ H.opens host.old }
+        ensures later { H.faults host.old ≤ H.faults host.new }
+    {
+        match self {
+            RecordReader::Savefile(reader) => next_of_savefile(alloc, host, reader),
+            RecordReader::Blocks(reader) => next_of_blocks(alloc, host, reader),
+        }
+    }
+
+    /// Takes back the bytes of a record that is done with: a later record is read into their memory. The
+    /// reader stands where it stood.
+    pub fn take_back(&mut self, alloc: Global, shown: LinkedRecord)
+        ensures { self.new ≡ self.old }
+    {
+        let bytes: Text = shown.captured.bytes;
+        match self {
+            RecordReader::Savefile(reader) => reader.take_back(alloc, bytes),
+            RecordReader::Blocks(reader) => reader.take_back(alloc, bytes),
+        }
+    }
+}
+
+/// Whether a file was refused since it begins as no savefile does.
+fn begins_otherwise(why: CaptureFault) -> bool
+    ensures otherwise { result ≡ true → why ≡ CaptureFault.NotPcap }
+    ensures not_otherwise { result ≡ false → why ≢ CaptureFault.NotPcap }
+{
+    match why {
+        CaptureFault::NotPcap => true,
+        CaptureFault::LinkType(_)
+        | CaptureFault::Truncated { .. }
+        | CaptureFault::TooLong { .. }
+        | CaptureFault::TooMany
+        | CaptureFault::Failed
+        | CaptureFault::NoMemory => false,
+    }
+}
+
+/// Reads the next record of a savefile.
+fn next_of_savefile<H: Host>(
+    alloc: Global,
+    host: &mut H,
+    reader: &mut CaptureReader,
+) -> Result<Option<LinkedRecord>, ReadFault>
+    requires { reader.old.refused ≡ None }
+    ensures gives { Gives (Savefile reader.old) (Savefile reader.new) result (H.left host.old) (H.left host.new) }
+    ensures failed { IsErrOf result ReadFault.Failed → Rose (H.faults host.old) (H.faults host.new) }
+    ensures same_contents { H.contents host.new ≡ H.contents host.old }
+    ensures same_opens { H.opens host.new ≡ H.opens host.old }
+    ensures later { H.faults host.old ≤ H.faults host.new }
+{
+    let link = reader.head().link;
+    match reader.next(alloc, host) {
+        Ok(Some(captured)) => Ok(Some(LinkedRecord { link, captured })),
+        Ok(None) => Ok(None),
+        Err(why) => Err(ReadFault::from(why)),
+    }
+}
+
+/// Reads the next record of blocks.
+fn next_of_blocks<H: Host>(
+    alloc: Global,
+    host: &mut H,
+    reader: &mut NgReader,
+) -> Result<Option<LinkedRecord>, ReadFault>
+    requires { reader.old.refused ≡ None }
+    ensures gives { Gives (Blocks reader.old) (Blocks reader.new) result (H.left host.old) (H.left host.new) }
+    ensures failed { IsErrOf result ReadFault.Failed → Rose (H.faults host.old) (H.faults host.new) }
+    ensures same_contents { H.contents host.new ≡ H.contents host.old }
+    ensures same_opens { H.opens host.new ≡ H.opens host.old }
+    ensures later { H.faults host.old ≤ H.faults host.new }
+{
+    match reader.next(alloc, host) {
+        Ok(Some(NgRecord { link, item })) => Ok(Some(LinkedRecord {
+            link,
+            captured: item,
+        })),
+        Ok(None) => Ok(None),
+        Err(why) => Err(ReadFault::from(why)),
+    }
+}
