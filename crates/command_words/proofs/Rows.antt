@@ -108,7 +108,7 @@ clap_is words =
     ∙ level_is table (drop 1 words) (λ rows. refl)
 
 table_found : AllFound table table
-table_found = (refl, (refl, (refl, (refl, (refl, (refl, (refl, (refl, (refl, (refl, (refl, (refl, (refl, (refl, (refl, (refl, (refl, (refl, tt))))))))))))))))))
+table_found = (refl, (refl, (refl, (refl, (refl, (refl, (refl, (refl, (refl, (refl, (refl, (refl, (refl, (refl, (refl, (refl, (refl, (refl, (refl, (refl, tt))))))))))))))))))))
 
 map_map : {X Y Z : Type 0} (f : X → Y) (g : Y → Z) (value : Option X) → option_map g (option_map f value) ≡ option_map (λ x. g (f x)) value
 map_map f g None = refl

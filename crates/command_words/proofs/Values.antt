@@ -1,6 +1,6 @@
 -- A value is found in clap's rows as in the uses: a default stands for a flag that is not there.
 use Rattle.std.proofs.Common.{◌≡◌, ◌∙◌, ◌||◌, Bool, cond, true, false, not, refl, sym, ap, List, [], ◌∷◌, ◌++◌, map, drop, Option, Some, None, codes}
-use Rattle.std.specs.Prelude.{option_and_then, option_map, find, slice_get}
+use Rattle.std.specs.Prelude.{option_and_then, option_map, find, is_some, slice_get}
 use Rattle.std.specs.Str.{bytes_eq}
 use Rattle.std.specs.List.{list_all}
 use Rattle.clap.specs.Walk.{Row, Rule, Text, default_rows, first_of, has_row, more_values, reading_by, with_default}
@@ -124,30 +124,37 @@ module _ (uses : List Use) where
   flag_is : (label : Text) → is_on (in_rows label) ≡ is_on (value_in uses label)
   flag_is label = on_kept table label (map row_for uses) ∙ ap is_on (first_in label uses)
 
-abbrev values_at : (console checks limit lanes flush_point generate seed conf capture defined host_table : Option Text) (quiet test version skip_refused stats help : Bool) → Option Values
-values_at console checks limit lanes flush_point generate seed conf capture defined host_table quiet test version skip_refused stats help =
+abbrev values_at : (console checks limit lanes flush_point generate seed conf capture defined host_table file : Option Text)
+    (quiet plain test version skip_refused stats unified2 help : Bool) → Option Values
+values_at console checks limit lanes flush_point generate seed conf capture defined host_table file quiet plain test version skip_refused stats unified2 help =
     cond (is_console console)
-    (maybe mode_named checks >>= λ checks.
-    maybe (number_in 1 4294967295) limit >>= λ limit.
-    number_or 1 1 64 lanes >>= λ lanes.
-    number_or 1024 1 65536 flush_point >>= λ flush_point.
-    maybe (number_in 1 100000) generate >>= λ generate.
-    option_map (λ seed. record {
+    (maybe mode_named checks >>= λ checks_are.
+    maybe (number_in 1 4294967295) limit >>= λ limit_is.
+    number_or 1 1 64 lanes >>= λ lanes_are.
+    number_or 1024 1 65536 flush_point >>= λ flush_point_is.
+    maybe (number_in 1 100000) generate >>= λ generate_is.
+    option_map (λ seed_is. record {
       conf = conf;
       capture = capture;
-      checks = checks;
-      limit = limit;
+      checks = checks_are;
+      limit = limit_is;
       defined = defined;
       host_table = host_table;
-      lanes = lanes;
-      flush_point = flush_point;
-      generate = generate;
-      seed = seed;
+      lanes = lanes_are;
+      flush_point = flush_point_is;
+      generate = generate_is;
+      seed = seed_is;
       quiet = quiet;
       test = test;
       version = version;
       skip_refused = skip_refused;
       stats = stats;
+      unified2 = unified2;
+      read_unified2 = file;
+      others =
+          (is_some conf || (is_some capture || (is_some console || (is_some checks || (is_some limit || (is_some defined || false))))))
+          || ((is_some host_table || (is_some lanes || (is_some flush_point || (is_some generate || (is_some seed || false)))))
+          || (quiet || (plain || (test || (skip_refused || (stats || (unified2 || false)))))));
       help = help;
     }) (number_or 1 0 2147483647 seed))
     None
@@ -158,8 +165,9 @@ values_are uses = λ i. values_at
     (option_is uses (codes "A") refl i) (option_is uses (codes "k") refl i) (option_is uses (codes "n") refl i) (option_is uses (codes "lanes") refl i)
     (option_is uses (codes "flush-point") refl i) (option_is uses (codes "generate") refl i) (option_is uses (codes "seed") refl i) (option_is uses (codes "c") refl i)
     (option_is uses (codes "r") refl i) (option_is uses (codes "S") refl i) (option_is uses (codes "host-table") refl i)
-    (flag_is uses (codes "q") i) (flag_is uses (codes "T") i) (flag_is uses (codes "V") i) (flag_is uses (codes "skip-refused") i) (flag_is uses (codes "stats") i)
-    (flag_is uses (codes "help") i)
+    (option_is uses (codes "read-unified2") refl i)
+    (flag_is uses (codes "q") i) (flag_is uses (codes "U") i) (flag_is uses (codes "T") i) (flag_is uses (codes "V") i) (flag_is uses (codes "skip-refused") i) (flag_is uses (codes "stats") i)
+    (flag_is uses (codes "unified2") i) (flag_is uses (codes "help") i)
 
 -- ---- the command
 

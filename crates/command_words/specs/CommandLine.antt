@@ -1,13 +1,15 @@
 -- What a command asks for, by its words.
 --
 -- The first word is the program's name. The values of the options are read in their forms and ranges, and
--- then the first of these that holds decides: `--help`; `-V`; no `-c`; an `-S` that is not a name, `=` and at
--- least one byte; `-r` beside `--generate`; neither of them, without `-T`.
+-- then the first of these that holds decides: `--help`; `-V`; `--read-unified2`, which is refused beside any
+-- other option or flag; no `-c`; an `-S` that is not a name, `=` and at least one byte; `-r` beside
+-- `--generate`; neither of them, without `-T`.
 -- (Snort Users Manual 2.9, section 1.6, for `-c -r -A -k -n -S -q -U -T -V`; the rest is our own.)
 -- To try it on: `snort -c a.conf -r b.pcap -n 5` is a run with the limit 5; `snort -c a.conf` is refused;
--- `snort --lanes 65 --help` is refused; `snort -V --help` asks for help.
+-- `snort --lanes 65 --help` is refused; `snort -V --help` asks for help; `snort --read-unified2 u` asks for the
+-- records of `u`, and `snort -q --read-unified2 u` is refused.
 use Rattle.std.specs.Prelude.{ℕ, ◌==◌, ◌&&◌, ◌||◌, Bool, true, false, not, List, [], ◌∷◌, Option, Some, None, drop, length, is_some, codes, if◌then◌else◌, option_map}
-use Rattle.std.specs.List.{list_all}
+use Rattle.std.specs.List.{list_all, list_any}
 use Rattle.std.specs.Str.{bytes_eq}
 use Rattle.edge_io.specs.OnOption.{◌>>=◌}
 use Rattle.net_lists.specs.Addresses.{cut}
@@ -40,6 +42,10 @@ pub record Values : Type 0 where
   pub version : Bool
   pub skip_refused : Bool
   pub stats : Bool
+  pub unified2 : Bool
+  pub read_unified2 : Option (List ℕ)
+  -- something is used beside `--read-unified2`, `--help` and `-V`
+  pub others : Bool
   pub help : Bool
 
 -- a run that the words ask for
@@ -58,11 +64,14 @@ pub record Run : Type 0 where
   pub test : Bool
   pub skip_refused : Bool
   pub stats : Bool
+  pub unified2 : Bool
 
 -- what the words ask for
 pub data Asked : Type 0 where
   help : Asked
   version : Asked
+  -- the records of the Unified2 file of this name
+  records_of : List ℕ → Asked
   run : Run → Asked
 
 -- ---- the values
@@ -98,6 +107,22 @@ abbrev pub is_on : Option (List ℕ) → Bool
 is_on None = false
 is_on (Some text) = bytes_eq text (codes "true")
 
+-- the options and the flags that may not stand beside `--read-unified2`
+abbrev pub other_letters : List (List ℕ)
+other_letters = codes "c" ∷ codes "r" ∷ codes "A" ∷ codes "k" ∷ codes "n" ∷ codes "S" ∷ []
+
+abbrev pub other_names : List (List ℕ)
+other_names = codes "host-table" ∷ codes "lanes" ∷ codes "flush-point" ∷ codes "generate" ∷ codes "seed" ∷ []
+
+abbrev pub other_flags : List (List ℕ)
+other_flags = codes "q" ∷ codes "U" ∷ codes "T" ∷ codes "skip-refused" ∷ codes "stats" ∷ codes "unified2" ∷ []
+
+-- one of them is there
+abbrev pub has_others : (List ℕ → Option (List ℕ)) → Bool
+has_others text_of =
+    list_any (λ label. is_some (text_of label)) other_letters
+    || (list_any (λ label. is_some (text_of label)) other_names || list_any (λ label. is_on (text_of label)) other_flags)
+
 -- the values behind `-A`, by the text that each option and flag has
 abbrev pub values_behind : (List ℕ → Option (List ℕ)) → Option Values
 values_behind text_of =
@@ -122,6 +147,9 @@ values_behind text_of =
       version = is_on (text_of (codes "V"));
       skip_refused = is_on (text_of (codes "skip-refused"));
       stats = is_on (text_of (codes "stats"));
+      unified2 = is_on (text_of (codes "unified2"));
+      read_unified2 = text_of (codes "read-unified2");
+      others = has_others text_of;
       help = is_on (text_of (codes "help"));
     }) (number_or 1 0 2147483647 (text_of (codes "seed")))
 
@@ -167,14 +195,20 @@ run_by values (Some conf) defined = if has_its_capture values then Some (run (re
   test = values.test;
   skip_refused = values.skip_refused;
   stats = values.stats || is_some values.generate;
+  unified2 = values.unified2;
 })) else None
+
+-- the records of a Unified2 file alone, or a run
+abbrev pub asked_of : Values → Option (List ℕ) → Option Asked
+asked_of values None = maybe definition values.defined >>= run_by values values.conf
+asked_of values (Some file) = if values.others then None else Some (records_of file)
 
 -- what the values ask for: the first step that holds
 unfoldable pub asked_by : Values → Option Asked
 asked_by values =
     if values.help then Some help
     else if values.version then Some version
-    else maybe definition values.defined >>= run_by values values.conf
+    else asked_of values values.read_unified2
 
 -- what the words of a command ask for, the program's name among them
 unfoldable pub command_line : List (List ℕ) → Option Asked

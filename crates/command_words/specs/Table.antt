@@ -45,6 +45,6 @@ abbrev pub table : List Choice
 table =
     letter_option 99 ∷ letter_option 114 ∷ letter_option 65 ∷ letter_option 107 ∷ letter_option 110 ∷ letter_option 83
     ∷ name_option (codes "host-table") ∷ name_option (codes "lanes") ∷ name_option (codes "flush-point")
-    ∷ name_option (codes "generate") ∷ name_option (codes "seed")
+    ∷ name_option (codes "generate") ∷ name_option (codes "seed") ∷ name_option (codes "read-unified2")
     ∷ letter_flag 113 ∷ letter_flag 85 ∷ letter_flag 84 ∷ letter_flag 86
-    ∷ name_flag (codes "skip-refused") ∷ name_flag (codes "stats") ∷ name_flag (codes "help") ∷ []
+    ∷ name_flag (codes "skip-refused") ∷ name_flag (codes "stats") ∷ name_flag (codes "unified2") ∷ name_flag (codes "help") ∷ []

@@ -8,7 +8,7 @@ use Rattle.command_words.specs.declared.asked.Definition.{Definition}
 use Rattle.command_words.specs.declared.fields.Fields.{Fields}
 use Rattle.command_words.specs.declared.read.WordsFault.{WordsFault}
 use Rattle.command_words.specs.declared.read.WordsFault.TheVariants as fault
-use Rattle.command_words.specs.CommandLine.{Asked, help, version, run, Run, Defined, Values}
+use Rattle.command_words.specs.CommandLine.{Asked, help, version, records_of, run, Run, Defined, Values}
 
 abbrev pub lent : Bor (List ℕ) → List ℕ
 lent word = word.now
@@ -32,12 +32,14 @@ run_of w = record {
   test = w.test;
   skip_refused = w.skip_refused;
   stats = w.stats;
+  unified2 = w.unified2;
 }
 
 -- what the answer asks for
 abbrev pub asked : Command → Asked
 asked command.Help = help
 asked command.Version = version
+asked (command.ReadUnified2 file) = records_of file.now
 asked (command.Run w) = run (run_of w)
 
 abbrev pub values_of : Fields → Values
@@ -57,6 +59,9 @@ values_of f = record {
   version = f.version;
   skip_refused = f.skip_refused;
   stats = f.stats;
+  unified2 = f.unified2;
+  read_unified2 = option_map lent f.read_unified2;
+  others = f.others;
   help = f.help;
 }
 

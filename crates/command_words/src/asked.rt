@@ -57,6 +57,8 @@ pub struct Words<'a> {
     pub skip_refused: bool,
     /// `--stats`, or `--generate`: the counts of the run are written.
     pub stats: bool,
+    /// `--unified2`: alerts are written as Unified2 records, not as lines.
+    pub unified2: bool,
 }
 
 /// What the words of a command ask for.
@@ -66,6 +68,8 @@ pub enum Command<'a> {
     Help,
     /// `-V`: the version is shown.
     Version,
+    /// `--read-unified2`: the records of the Unified2 file of this name are shown.
+    ReadUnified2(&'a str),
     /// A run, or with `-T` the test of its configuration.
     Run(Words<'a>),
 }

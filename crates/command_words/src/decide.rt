@@ -1,7 +1,7 @@
 //! What the values of a command's options and flags ask for.
-ghost use Rattle.std.specs.Prelude.{◌≡◌, ◌<◌, ◌==◌, IfSome, length, option_map, position};
+ghost use Rattle.std.specs.Prelude.{◌≡◌, ◌<◌, ◌==◌, IfSome, None, Some, length, option_map, position};
 ghost use Rattle.net_lists.specs.Addresses.{cut};
-ghost use Rattle.command_words.specs.CommandLine.{asked_by, definition, has_its_capture, is_variable, named};
+ghost use Rattle.command_words.specs.CommandLine.{asked_by, asked_of, definition, has_its_capture, is_variable, named};
 ghost use Rattle.command_words.specs.Told.{asked, defined_of, values_of};
 
 use crate::asked::{Command, Definition, Words};
@@ -73,6 +73,27 @@ pub(crate) fn decide<'a>(fields: &Fields<'a>) -> Option<Command<'a>>
     if fields.version {
         return Some(Command::Version);
     }
+    if let Some(file) = fields.read_unified2 {
+        return records_of(fields, file);
+    }
+    decide_run(fields)
+}
+
+/// The records of a Unified2 file, where nothing else is wanted.
+fn records_of<'a>(fields: &Fields<'a>, file: &'a str) -> Option<Command<'a>>
+    ensures { option_map asked result ≡ asked_of (values_of fields.now) (Some file.entry.now) }
+{
+    if fields.others {
+        None
+    } else {
+        Some(Command::ReadUnified2(file))
+    }
+}
+
+/// The run that the values ask for.
+fn decide_run<'a>(fields: &Fields<'a>) -> Option<Command<'a>>
+    ensures { option_map asked result ≡ asked_of (values_of fields.now) None }
+{
     let defined = match fields.defined {
         None => None,
         Some(text) => Some(definition(text.as_bytes())?),
@@ -96,5 +117,6 @@ pub(crate) fn decide<'a>(fields: &Fields<'a>) -> Option<Command<'a>>
         test: fields.test,
         skip_refused: fields.skip_refused,
         stats: fields.stats || fields.generate.is_some(),
+        unified2: fields.unified2,
     }))
 }

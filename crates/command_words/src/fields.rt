@@ -1,7 +1,8 @@
 //! The values of a command's options, and which of its flags are there.
-ghost use Rattle.std.specs.Prelude.{◌≡◌, codes, option_map};
+ghost use Rattle.std.specs.Prelude.{◌≡◌, codes, is_some, option_map};
+ghost use Rattle.std.specs.List.{list_any};
 ghost use Rattle.clap.specs.Words.{first_of, rows_of, found_of};
-ghost use Rattle.command_words.specs.CommandLine.{is_console, is_on, maybe, mode_named, number_or, values_by};
+ghost use Rattle.command_words.specs.CommandLine.{has_others, is_console, is_on, maybe, mode_named, number_or, other_flags, other_letters, other_names, values_by};
 ghost use Rattle.command_words.specs.Told.{lent, values_of};
 ghost use Rattle.net_lists.specs.Numbers.{number_in};
 
@@ -27,6 +28,10 @@ pub(crate) struct Fields<'a> {
     pub version: bool,
     pub skip_refused: bool,
     pub stats: bool,
+    pub unified2: bool,
+    pub read_unified2: Option<&'a str>,
+    /// Something is there beside `--read-unified2`, `--help` and `-V`.
+    pub others: bool,
     pub help: bool,
 }
 
@@ -102,6 +107,51 @@ fn flag(matches: &ArgMatches, id: &str) -> bool
     }
 }
 
+/// Whether one of the options with a letter is there, which may not stand beside `--read-unified2`.
+fn has_other_letters(matches: &ArgMatches) -> bool
+    ensures { result ≡ list_any
+        (λ label. is_some (first_of label (rows_of (found_of matches.now)))) other_letters }
+{
+    text_of(matches, "c").is_some()
+        || text_of(matches, "r").is_some()
+        || text_of(matches, "A").is_some()
+        || text_of(matches, "k").is_some()
+        || text_of(matches, "n").is_some()
+        || text_of(matches, "S").is_some()
+}
+
+/// Whether one of the options with a name is there, which may not stand beside `--read-unified2`.
+fn has_other_names(matches: &ArgMatches) -> bool
+    ensures { result ≡ list_any
+        (λ label. is_some (first_of label (rows_of (found_of matches.now)))) other_names }
+{
+    text_of(matches, "host-table").is_some()
+        || text_of(matches, "lanes").is_some()
+        || text_of(matches, "flush-point").is_some()
+        || text_of(matches, "generate").is_some()
+        || text_of(matches, "seed").is_some()
+}
+
+/// Whether one of the flags is there, which may not stand beside `--read-unified2`.
+fn has_other_flags(matches: &ArgMatches) -> bool
+    ensures { result ≡ list_any
+        (λ label. is_on (first_of label (rows_of (found_of matches.now)))) other_flags }
+{
+    flag(matches, "q")
+        || flag(matches, "U")
+        || flag(matches, "T")
+        || flag(matches, "skip-refused")
+        || flag(matches, "stats")
+        || flag(matches, "unified2")
+}
+
+/// Whether something is there beside `--read-unified2`, `--help` and `-V`.
+fn has_others(matches: &ArgMatches) -> bool
+    ensures { result ≡ has_others (λ label. first_of label (rows_of (found_of matches.now))) }
+{
+    has_other_letters(matches) || has_other_names(matches) || has_other_flags(matches)
+}
+
 /// The values of the options and flags, or None where one has another form or lies outside its range.
 #[tactic(auto, unfolding(crate::specs::CommandLine::values_by))]
 pub(crate) fn read_fields<'a>(matches: &ArgMatches<'a>) -> Option<Fields<'a>>
@@ -133,6 +183,9 @@ pub(crate) fn read_fields<'a>(matches: &ArgMatches<'a>) -> Option<Fields<'a>>
         version: flag(matches, "V"),
         skip_refused: flag(matches, "skip-refused"),
         stats: flag(matches, "stats"),
+        unified2: flag(matches, "unified2"),
+        read_unified2: text_of(matches, "read-unified2"),
+        others: has_others(matches),
         help: flag(matches, "help"),
     })
 }

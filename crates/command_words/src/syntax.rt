@@ -61,12 +61,14 @@ fn snort<'a>(alloc: Global) -> Result<Command<'a>, AllocError>
     let command = command.arg(name_option(alloc, "flush-point"))?;
     let command = command.arg(name_option(alloc, "generate"))?;
     let command = command.arg(name_option(alloc, "seed"))?;
+    let command = command.arg(name_option(alloc, "read-unified2"))?;
     let command = command.arg(letter_flag(alloc, "q", 'q'))?;
     let command = command.arg(letter_flag(alloc, "U", 'U'))?;
     let command = command.arg(letter_flag(alloc, "T", 'T'))?;
     let command = command.arg(letter_flag(alloc, "V", 'V'))?;
     let command = command.arg(name_flag(alloc, "skip-refused"))?;
     let command = command.arg(name_flag(alloc, "stats"))?;
+    let command = command.arg(name_flag(alloc, "unified2"))?;
     let command = command.arg(name_flag(alloc, "help"))?;
     Ok(command)
 }

@@ -9,21 +9,26 @@ use std::test::Fail;
 
 /// A row for each case: what is asked for, and the words. A run has its `-c`, `-r`, `-k`, `-n`, `-S`,
 /// `--host-table`, `--lanes`, `--flush-point`, `--generate`, `--seed` and flags; `N=1` is 78 and 49.
-const ACCEPTED: &str = "a b None None None none 1 1024 None 1 .... = snort -c a -r b
-a b None None None none 1 1024 None 1 .... = -V -r b -c a
-a none Some(NoIp) Some(4294967295) Some(Definition { name: [78], value: [49] }) h 64 65536 Some(100000) 0 qTrs = \
+const ACCEPTED: &str = "a b None None None none 1 1024 None 1 ..... = snort -c a -r b
+a b None None None none 1 1024 None 1 ..... = -V -r b -c a
+a none Some(NoIp) Some(4294967295) Some(Definition { name: [78], value: [49] }) h 64 65536 Some(100000) 0 qTrs. = \
 snort --seed 0 --generate 100000 --flush-point 65536 --lanes 64 --host-table h -S N=1 -n 4294967295 -k noip \
 -A console -c a -q -U -T --skip-refused --stats
-a none None None None none 1 1024 None 1 qT.. = snort -qTc=a
-a b None Some(1) None none 2 1024 None 1 .... = snort -ca -rb -n=1 --lanes=2 --
-a - Some(All) None None none 1 1 None 2147483647 .... = snort -r - -c a -k all --flush-point 1 --seed=2147483647
-a none None None None none 1 1024 Some(1) 1 ...s = snort -c a --generate 1
-a b Some(Nothing) None Some(Definition { name: [95, 50], value: [61] }) none 1 1024 None 1 .T.. = \
+a none None None None none 1 1024 None 1 qT... = snort -qTc=a
+a b None Some(1) None none 2 1024 None 1 ..... = snort -ca -rb -n=1 --lanes=2 --
+a - Some(All) None None none 1 1 None 2147483647 ..... = snort -r - -c a -k all --flush-point 1 --seed=2147483647
+a none None None None none 1 1024 Some(1) 1 ...s. = snort -c a --generate 1
+a b Some(Nothing) None Some(Definition { name: [95, 50], value: [61] }) none 1 1024 None 1 .T... = \
 snort -T -c a -r b -S _2== -knone
+a b None None None none 1 1024 None 1 ....u = snort -c a --unified2 -r b
 version = snort -V
 version = snort -r b --generate 1 -S 1 -V
 help = snort -V --help
 help = snort --help -S 1
+help = snort --read-unified2 u -q --help
+version = snort --stats -V --read-unified2 u
+records of u = snort --read-unified2 u
+records of - = snort --read-unified2=-
 ";
 
 /// A row for each line of words that is refused.
@@ -64,6 +69,28 @@ snort -c a -r b -S N=
 snort -c a -r b -S =1
 snort -c a -r b -S 1N=1
 snort -c a -r b -S N-M=1
+snort -c a -r b --unified2 --unified2
+snort -c a -r b --unified2=1
+snort --read-unified2
+snort --read-unified2 u --read-unified2 u
+snort --read-unified2 u -c a
+snort --read-unified2 u -r b
+snort --read-unified2 u -A console
+snort --read-unified2 u -k all
+snort --read-unified2 u -n 1
+snort --read-unified2 u -S N=1
+snort --read-unified2 u --host-table h
+snort --read-unified2 u --lanes 1
+snort --read-unified2 u --flush-point 1024
+snort --read-unified2 u --generate 1
+snort --read-unified2 u --seed 1
+snort --read-unified2 u -q
+snort --read-unified2 u -U
+snort --read-unified2 u -T
+snort --read-unified2 u --skip-refused
+snort --read-unified2 u --stats
+snort --read-unified2 u --unified2
+snort --read-unified2 u x
 ";
 
 /// The letter of a flag that is there.
@@ -92,11 +119,12 @@ fn numbers_text(alloc: Global, words: &Words) -> Result<String, AllocError> {
 /// The flags of a run.
 fn flags_text(alloc: Global, words: &Words) -> Result<String, AllocError> {
     format!(in alloc;
-        "{}{}{}{}",
+        "{}{}{}{}{}",
         mark(words.quiet, "q"),
         mark(words.test, "T"),
         mark(words.skip_refused, "r"),
-        mark(words.stats, "s")
+        mark(words.stats, "s"),
+        mark(words.unified2, "u")
     )
 }
 
@@ -124,6 +152,9 @@ fn outcome(alloc: Global, line: &str) -> Result<String, NoMemory> {
         Ok(Command::Run(words)) => return Ok(run_text(alloc, &words)?),
         Ok(Command::Help) => "help",
         Ok(Command::Version) => "version",
+        Ok(Command::ReadUnified2(file)) => {
+            return Ok(format!(in alloc; "records of {file}")?);
+        }
         Err(WordsFault::CommandLine) => "refused",
         Err(WordsFault::NoMemory) => "memory",
     };

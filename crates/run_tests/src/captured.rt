@@ -56,7 +56,7 @@ pub(crate) fn push_packet(
 }
 
 /// The words of a command, between single blanks.
-fn words_of(alloc: Global, command: &str) -> Result<Vec<String>, AllocError> {
+pub(crate) fn words_of(alloc: Global, command: &str) -> Result<Vec<String>, AllocError> {
     let mut words = Vec::new(alloc);
     for word in command.split(' ') {
         words.push(String::from_str(alloc, word)?)?;

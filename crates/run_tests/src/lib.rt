@@ -11,4 +11,6 @@ mod endings;
 #[cfg(test)]
 mod meeting;
 #[cfg(test)]
+mod unified2;
+#[cfg(test)]
 mod watched;

@@ -1,12 +1,12 @@
 -- The steps from records to lines.
-use Rattle.std.proofs.Common.{◌≡◌, ℕ, ◌+◌, ◌^◌, ◌<◌, ◌≤◌, List, [], ◌∷◌, ◌++◌, Option, Result, Ok, Err, length, map, take, get_or, refl, sym, ap, subst, ◌∙◌, append_assoc, arith, length-append}
+use Rattle.std.proofs.Common.{◌≡◌, ℕ, ◌+◌, ◌^◌, ◌<◌, ◌≤◌, List, [], ◌∷◌, ◌++◌, Option, Result, Ok, Err, length, map, take, get_or, refl, sym, ap, ap₂, subst, ◌∙◌, append_assoc, arith, length-append}
 use Rattle.std.specs.Prelude.{OnOk, OnErr, sum}
 use Rattle.std.proofs.lemmas.List.{append-nil, take_more}
 use Rattle.std.proofs.lemmas.List.Sums.{sum_by-append}
 use Rattle.edge_io.specs.declared.pattern.Span.{Span}
 use Rattle.edge_io.specs.Told.{behind}
 use Rattle.edge_io.specs.Along.{along, along_from, trail, trail_from}
-use Rattle.edge_io.proofs.Along.{along-append, flat_map-along_from, pipe_more, trail-append, trail_from-append}
+use Rattle.edge_io.proofs.Along.{along-append, pipe_more, trail-append, trail_from-append}
 use Rattle.rule_types.specs.declared.rule.Rule.{Rule}
 use Rattle.fast_pattern.specs.Grouping.{StandFor}
 use Rattle.fast_pattern.specs.declared.groups.Groups.{Groups}
@@ -34,16 +34,20 @@ use Rattle.snort_engine.specs.declared.events.Tally.{Tally}
 use Rattle.snort_engine.specs.declared.plan.Plan as code
 use Rattle.snort_engine.specs.declared.stop.Stop.{Stop}
 use Rattle.snort_engine.specs.Course.{Plan}
-use Rattle.snort_engine.specs.Trace.{Alert, Closed, Open, closing_alerts, closing_items, detection_of, filtered_item, item_alerts, items_of, job_items, jobs_of, trace, way_by, way_of}
+use Rattle.snort_engine.specs.Beside.{beside, by_place, places_along, source_in, whats}
+use Rattle.snort_engine.specs.Trace.{Closed, Open, closing_items, detection_of, filtered_item, items_of, job_items, jobs_of, last_of, trace, way_by, way_of}
 use Rattle.snort_engine.specs.Lines.{lines}
 use Rattle.snort_engine.specs.Counts.{counts_of, hit_count, try_count}
 use Rattle.snort_engine.specs.Outside.{WritesPart}
 use Rattle.snort_engine.specs.Gathering.{Gathers}
-use Rattle.snort_engine.specs.Showing.{EventsStand, Showing, Shows, ShowsPart, hits_in, items_lines, tally_of}
-use Rattle.snort_engine.specs.Detecting.{Closes, ClosesPart, Detecting, InspectionStands, IsKnown, IsNewInspection, IsSoundPlan, MakesJobs, Running, Runs, RunsPart, ShowsRecords, ShowsRecordsPart, counted, jobs_lines, waiting}
+use Rattle.snort_engine.specs.Showing.{EventsStand, Showing, Shows, ShowsPart, Told, items_lines, tally_of}
+use Rattle.snort_engine.specs.Sourcing.{PlacesJobs, Sourced, last_behind, told_in}
+use Rattle.snort_engine.specs.Detecting.{AreTaken, Closes, ClosesPart, Detecting, InspectionStands, IsKnown, IsNewInspection, IsSoundPlan, MakesJobs, Running, Runs, RunsPart, ShowsRecords, ShowsRecordsPart, closing_lines, counted, jobs_lines, waiting}
 use Rattle.snort_engine.specs.Watching.{IsTest, plan_of}
 use Rattle.snort_engine.proofs.Prefixes.{WritesPart-none, gathers_written, gathers_stopped}
-use Rattle.snort_engine.proofs.LinesLaws.{alerts-items, jobs_lines-closing, jobs_lines-records}
+use Rattle.snort_engine.proofs.Beside.{whats-by_place, whats-carried}
+use Rattle.snort_engine.proofs.LinesLaws.{alerts-counted, jobs_lines-closing, jobs_lines-records}
+use Rattle.snort_engine.proofs.Sourcing.{last_of-more, sources_last, sources_made, told_found}
 use Rattle.snort_engine.proofs.Learning.{stand-new}
 
 -- ---- jobs
@@ -52,10 +56,13 @@ use Rattle.snort_engine.proofs.Learning.{stand-new}
 pub detects_by : {P : Type 0} (finds : P → List ℕ → Option Span) (plan : code.Plan P) (matches : Test) (test : IsTest finds plan.set.now matches) → DetectsBy finds test.means plan.config.now.stream plan.set.now (detection_of (plan_of matches plan))
 detects_by finds plan matches test = record { config = refl; rules = refl; made = test.find; told = test.tells }
 
--- the items of the answers to a batch
-items_found : (d : Detection) (before batch : List Job) (hits : List JobHits) → hits ≡ along_from (answer d) before batch → hits_in hits ≡ trail_from (job_items d) before batch
-unfolding job_items
-items_found d before batch hits is = ap hits_in is ∙ flat_map-along_from (λ (job : JobHits). job.items) (answer d) before batch
+-- the items of the answers to a batch, without their records
+items_found : (d : Detection) (source : ℕ → LinkedRecord) (before batch : List Job) (hits : List JobHits) → hits ≡ along_from (answer d) before batch
+    → whats (told_in (by_place source 0 hits)) ≡ trail_from (job_items d) before batch
+items_found d source before batch hits is =
+    ap whats (told_found d source before batch hits is)
+    ∙ whats-carried (job_items d) before (by_place source 0 batch)
+    ∙ ap (trail_from (job_items d) before) (whats-by_place source 0 batch)
 
 -- the tries of a batch come behind those so far
 tries_found : (d : Detection) (before batch : List Job) (old new more : ℕ) → old ≡ try_count d before → new ≡ old + more → more ≡ sum (along_from (answer_tries d) before batch) → new ≡ try_count d (before ++ batch)
@@ -67,59 +74,66 @@ tries_found d before batch old new more so_far is found =
 abbrev pub showing_of : Running → Showing
 showing_of running = record { events = running.inspection.events; written = running.written }
 
+-- an inspection that stands behind jobs stands behind them, whatever records they are beside
+stands_beside : (plan : Plan) (source : ℕ → LinkedRecord) (before batch : List Job) (inspection : Inspection) → InspectionStands plan (before ++ batch) inspection
+    → InspectionStands plan (before ++ whats (by_place source 0 batch)) inspection
+stands_beside plan source before batch inspection stands =
+    subst (λ (x : List Job). InspectionStands plan (before ++ x) inspection) (sym (whats-by_place source 0 batch)) stands
+
 -- the jobs of a batch were run, and the items that were found shown
-pub runs_found : (plan : Plan) (batch : List Job) (old new : Running) (out : BatchOut)
+pub runs_found : (plan : Plan) (source : ℕ → LinkedRecord) (batch : List Job) (old new : Running) (out : BatchOut)
     → ((before : List Job) → LanesStand (detection_of plan) old.inspection.lanes before → IsBatchAnswered (detection_of plan) before batch out new.inspection.lanes)
     → new.inspection.tries ≡ old.inspection.tries + out.tries
-    → Shows plan.config plan.rules (hits_in out.hits) (showing_of old) (showing_of new)
-    → Runs plan batch old new
+    → Shows plan.form plan.config plan.rules (told_in (by_place source 0 out.hits)) (showing_of old) (showing_of new)
+    → Runs plan (by_place source 0 batch) old new
 unfolding Runs Shows jobs_lines
-runs_found plan batch old new out answers tries shows = λ before stands.
+runs_found plan source batch old new out answers tries shows = λ before stands.
     let d = detection_of plan in
     let answered = answers before stands.lanes in
-    let items = items_found d before batch out.hits answered.hits in
+    let items = items_found d source before batch out.hits answered.hits in
     let shown = shows (trail (job_items d) before) stands.events in record {
-      stands = record {
+      stands = stands_beside plan source before batch new.inspection (record {
         lanes = answered.stands;
         events = subst (λ (x : List Hits). EventsStand plan.config plan.rules x new.inspection.events)
             (ap (λ (x : List Hits). trail (job_items d) before ++ x) items ∙ pipe_more (job_items d) before batch) shown.stands;
         tries = tries_found d before batch old.inspection.tries new.inspection.tries out.tries stands.tries tries answered.tries;
-      };
-      came = subst (λ (x : List Hits). Gathers (items_lines plan.config plan.rules (trail (job_items d) before) x) (waiting old) (waiting new)) items shown.came;
+      });
+      came = subst (λ (x : List Told). Gathers (items_lines plan.form plan.config plan.rules (trail (job_items d) before) x) (waiting old) (waiting new))
+          (told_found d source before batch out.hits answered.hits) shown.came;
     }
 
 -- or a part of their lines was written
-pub runs_part_found : (plan : Plan) (batch : List Job) (old : Running) (new : Option (List ℕ)) (out : BatchOut) (lanes : LanesState)
+pub runs_part_found : (plan : Plan) (source : ℕ → LinkedRecord) (batch : List Job) (old : Running) (new : Option (List ℕ)) (out : BatchOut) (lanes : LanesState)
     → ((before : List Job) → LanesStand (detection_of plan) old.inspection.lanes before → IsBatchAnswered (detection_of plan) before batch out lanes)
-    → ShowsPart plan.config plan.rules (hits_in out.hits) (showing_of old) new
-    → RunsPart plan batch old new
+    → ShowsPart plan.form plan.config plan.rules (told_in (by_place source 0 out.hits)) (showing_of old) new
+    → RunsPart plan (by_place source 0 batch) old new
 unfolding RunsPart ShowsPart jobs_lines
-runs_part_found plan batch old new out lanes answers part = λ before stands.
+runs_part_found plan source batch old new out lanes answers part = λ before stands.
     let d = detection_of plan in
-    let items = items_found d before batch out.hits (answers before stands.lanes).hits in
-    subst (λ (x : List Hits). WritesPart old.written (old.inspection.events.block.items ++ items_lines plan.config plan.rules (trail (job_items d) before) x) new) items
+    let items = told_found d source before batch out.hits (answers before stands.lanes).hits in
+    subst (λ (x : List Told). WritesPart old.written (old.inspection.events.block.items ++ items_lines plan.form plan.config plan.rules (trail (job_items d) before) x) new) items
     (part (trail (job_items d) before) stands.events)
 
 -- or nothing was
-pub runs_nothing : (plan : Plan) (batch : List Job) (old : Running) → RunsPart plan batch old old.written
+pub runs_nothing : (plan : Plan) (batch : List Sourced) (old : Running) → RunsPart plan batch old old.written
 unfolding RunsPart
 runs_nothing plan batch old = λ before stands. WritesPart-none old.written _
 
 -- by the answer of the last step
-pub runs_by : (answer : Result (Unit {0}) Stop) (plan : Plan) (batch : List Job) (old new : Running) (out : BatchOut)
+pub runs_by : (answer : Result (Unit {0}) Stop) (plan : Plan) (source : ℕ → LinkedRecord) (batch : List Job) (old new : Running) (out : BatchOut)
     → ((before : List Job) → LanesStand (detection_of plan) old.inspection.lanes before → IsBatchAnswered (detection_of plan) before batch out new.inspection.lanes)
     → new.inspection.tries ≡ old.inspection.tries + out.tries
-    → OnOk answer (Shows plan.config plan.rules (hits_in out.hits) (showing_of old) (showing_of new))
-    → OnOk answer (Runs plan batch old new)
-runs_by (Ok done) plan batch old new out answers tries shows = runs_found plan batch old new out answers tries shows
-runs_by (Err why) plan batch old new out answers tries shows = tt
+    → OnOk answer (Shows plan.form plan.config plan.rules (told_in (by_place source 0 out.hits)) (showing_of old) (showing_of new))
+    → OnOk answer (Runs plan (by_place source 0 batch) old new)
+runs_by (Ok done) plan source batch old new out answers tries shows = runs_found plan source batch old new out answers tries shows
+runs_by (Err why) plan source batch old new out answers tries shows = tt
 
-pub runs_part_by : (answer : Result (Unit {0}) Stop) (plan : Plan) (batch : List Job) (old : Running) (new : Option (List ℕ)) (out : BatchOut) (lanes : LanesState)
+pub runs_part_by : (answer : Result (Unit {0}) Stop) (plan : Plan) (source : ℕ → LinkedRecord) (batch : List Job) (old : Running) (new : Option (List ℕ)) (out : BatchOut) (lanes : LanesState)
     → ((before : List Job) → LanesStand (detection_of plan) old.inspection.lanes before → IsBatchAnswered (detection_of plan) before batch out lanes)
-    → OnErr answer (ShowsPart plan.config plan.rules (hits_in out.hits) (showing_of old) new)
-    → OnErr answer (RunsPart plan batch old new)
-runs_part_by (Ok done) plan batch old new out lanes answers part = tt
-runs_part_by (Err why) plan batch old new out lanes answers part = runs_part_found plan batch old new out lanes answers part
+    → OnErr answer (ShowsPart plan.form plan.config plan.rules (told_in (by_place source 0 out.hits)) (showing_of old) new)
+    → OnErr answer (RunsPart plan (by_place source 0 batch) old new)
+runs_part_by (Ok done) plan source batch old new out lanes answers part = tt
+runs_part_by (Err why) plan source batch old new out lanes answers part = runs_part_found plan source batch old new out lanes answers part
 
 -- what holds anyhow holds of any answer
 pub on_ok : {A E : Type 0} {P : Type 0} (answer : Result A E) → P → OnOk answer P
@@ -170,75 +184,72 @@ stands_on plan before old new lanes filters tally tries stands = record {
   tries = tries ∙ stands.tries;
 }
 
--- a batch of records was taken and run, and its lines written whole
-pub records_shown : (plan : Plan) (records : List LinkedRecord) (old new : Detecting) (made : List Job) (middle : Running)
-    → MakesJobs (way_of plan) records old.detector.front new.detector.front made
-    → Runs plan made (record { inspection = old.detector.inspection; written = old.written }) middle
+-- the lines of the jobs of records that were taken are those of the records
+pub lines_made : (plan : Plan) (records : List LinkedRecord) (last : LinkedRecord) (before : List LinkedRecord) (new : FrontState) (made : List Job) (places : List ℕ)
+    → AreTaken (way_of plan) before records new made → places ≡ places_along (jobs (way_of plan)) before 0 records
+    → jobs_lines plan (jobs_of plan before) (by_place (source_in records last places) 0 made) ≡ lines plan before records Open
+lines_made plan records last before new made places taken places_are =
+    ap (jobs_lines plan (jobs_of plan before)) (sources_made (way_of plan) records last before made places taken.jobs_are places_are)
+    ∙ jobs_lines-records plan before records
+
+-- the inspection that ran the jobs of records stands behind them
+pub stands_made : (plan : Plan) (source : ℕ → LinkedRecord) (before records : List LinkedRecord) (new : FrontState) (made : List Job) (inspection : Inspection) → AreTaken (way_of plan) before records new made
+    → InspectionStands plan (jobs_of plan before ++ whats (by_place source 0 made)) inspection → InspectionStands plan (jobs_of plan (before ++ records)) inspection
+stands_made plan source before records new made inspection taken stands =
+    subst (λ (x : List Job). InspectionStands plan x inspection)
+    (ap (λ (x : List Job). jobs_of plan before ++ x) (whats-by_place source 0 made ∙ taken.jobs_are) ∙ pipe_more (jobs (way_of plan)) before records) stands
+
+-- a batch of records was taken and run, its lines written whole, and its last record kept
+pub records_shown : (plan : Plan) (records : List LinkedRecord) (old new : Detecting) (made : List Job) (places : List ℕ) (middle : Running)
+    → MakesJobs (way_of plan) records old.detector.front new.detector.front made → PlacesJobs (way_of plan) records old.detector.front places
+    → Runs plan (by_place (source_in records old.detector.inspection.last places) 0 made) (record { inspection = old.detector.inspection; written = old.written }) middle
     → old.detector.inspection.events.block.items ≡ [] → new.written ≡ behind middle.written middle.inspection.events.block.items
     → ((before : List Job) → InspectionStands plan before middle.inspection → InspectionStands plan before new.detector.inspection)
+    → new.detector.inspection.last ≡ last_behind old.detector.inspection.last records
     → ShowsRecords plan records old new
 unfolding ShowsRecords Runs
-records_shown plan records old new made middle makes runs empty offered on = λ before stands.
+records_shown plan records old new made places middle makes placed runs empty offered on kept = λ before stands.
+    let last = old.detector.inspection.last in
+    let source = source_in records last places in
+    let batch = by_place source 0 made in
     let taken = makes before stands.front in
-    let run = runs (jobs_of plan before) stands.inspection in
-    let way = way_of plan in record {
+    let run = runs (jobs_of plan before) stands.inspection in record {
       stands = record {
         front = taken.stands;
-        inspection = subst (λ (x : List Job). InspectionStands plan x new.detector.inspection)
-            (ap (λ (x : List Job). jobs_of plan before ++ x) taken.jobs_are ∙ pipe_more (jobs way) before records) (on (jobs_of plan before ++ made) run.stands);
+        inspection = stands_made plan source before records new.detector.front made new.detector.inspection taken (on (jobs_of plan before ++ whats batch) run.stands);
+        last = kept ∙ last_of-more before last records stands.last;
       };
-      wrote = gathers_written (jobs_lines plan (jobs_of plan before) made) (waiting (record { inspection = old.detector.inspection; written = old.written })) (waiting middle) new.written empty run.came offered
-          ∙ ap (behind old.written) (ap (jobs_lines plan (jobs_of plan before)) taken.jobs_are ∙ jobs_lines-records plan before records);
+      wrote = gathers_written (jobs_lines plan (jobs_of plan before) batch) (waiting (record { inspection = old.detector.inspection; written = old.written })) (waiting middle) new.written empty run.came offered
+          ∙ ap (behind old.written) (lines_made plan records last before new.detector.front made places taken (placed before stands.front));
     }
 
--- the lines of a batch, by its jobs
-lines_made : (plan : Plan) (records : List LinkedRecord) (before : List LinkedRecord) (old : FrontState) (new : FrontState) (made : List Job) → MakesJobs (way_of plan) records old new made → StandsFor (way_of plan) old before
-    → jobs_lines plan (jobs_of plan before) made ≡ lines plan before records Open
-lines_made plan records before old new made makes stands = ap (jobs_lines plan (jobs_of plan before)) (makes before stands).jobs_are ∙ jobs_lines-records plan before records
-
 -- or a part of its lines was
-pub records_part : (plan : Plan) (records : List LinkedRecord) (old : Detecting) (front : FrontState) (new : Option (List ℕ)) (made : List Job)
-    → MakesJobs (way_of plan) records old.detector.front front made
+pub records_part : (plan : Plan) (records : List LinkedRecord) (old : Detecting) (front : FrontState) (new : Option (List ℕ)) (made : List Job) (places : List ℕ)
+    → MakesJobs (way_of plan) records old.detector.front front made → PlacesJobs (way_of plan) records old.detector.front places
     → old.detector.inspection.events.block.items ≡ []
-    → RunsPart plan made (record { inspection = old.detector.inspection; written = old.written }) new
+    → RunsPart plan (by_place (source_in records old.detector.inspection.last places) 0 made) (record { inspection = old.detector.inspection; written = old.written }) new
     → ShowsRecordsPart plan records old new
 unfolding ShowsRecordsPart RunsPart
-records_part plan records old front new made makes empty part = λ before stands.
+records_part plan records old front new made places makes placed empty part = λ before stands.
+    let last = old.detector.inspection.last in
+    let batch = by_place (source_in records last places) 0 made in
     let own = part (jobs_of plan before) stands.inspection in
     subst (λ (x : List ℕ). WritesPart old.written x new)
-    (ap (λ (x : List ℕ). x ++ jobs_lines plan (jobs_of plan before) made) empty ∙ lines_made plan records before old.detector.front front made makes stands.front) own
+    (ap (λ (x : List ℕ). x ++ jobs_lines plan (jobs_of plan before) batch) empty
+    ∙ lines_made plan records last before front made places (makes before stands.front) (placed before stands.front)) own
 
-pub records_offered_part : (plan : Plan) (records : List LinkedRecord) (old : Detecting) (front : FrontState) (middle : Running) (new : Option (List ℕ)) (made : List Job)
-    → MakesJobs (way_of plan) records old.detector.front front made
-    → Runs plan made (record { inspection = old.detector.inspection; written = old.written }) middle
+pub records_offered_part : (plan : Plan) (records : List LinkedRecord) (old : Detecting) (front : FrontState) (middle : Running) (new : Option (List ℕ)) (made : List Job) (places : List ℕ)
+    → MakesJobs (way_of plan) records old.detector.front front made → PlacesJobs (way_of plan) records old.detector.front places
+    → Runs plan (by_place (source_in records old.detector.inspection.last places) 0 made) (record { inspection = old.detector.inspection; written = old.written }) middle
     → old.detector.inspection.events.block.items ≡ [] → WritesPart middle.written middle.inspection.events.block.items new
     → ShowsRecordsPart plan records old new
 unfolding ShowsRecordsPart Runs
-records_offered_part plan records old front middle new made makes runs empty part = λ before stands.
+records_offered_part plan records old front middle new made places makes placed runs empty part = λ before stands.
+    let last = old.detector.inspection.last in
+    let batch = by_place (source_in records last places) 0 made in
     let run = runs (jobs_of plan before) stands.inspection in
-    subst (λ (x : List ℕ). WritesPart old.written x new) (lines_made plan records before old.detector.front front made makes stands.front)
-    (gathers_stopped (jobs_lines plan (jobs_of plan before) made) (waiting (record { inspection = old.detector.inspection; written = old.written })) (waiting middle) new empty run.came part)
-
--- by the answer of the last offer
-pub records_shown_by : (answer : Result (Unit {0}) Stop) (plan : Plan) (records : List LinkedRecord) (old new : Detecting) (made : List Job) (middle : Running)
-    → MakesJobs (way_of plan) records old.detector.front new.detector.front made
-    → Runs plan made (record { inspection = old.detector.inspection; written = old.written }) middle
-    → old.detector.inspection.events.block.items ≡ []
-    → new.detector.inspection.lanes ≡ middle.inspection.lanes → new.detector.inspection.events.filters ≡ middle.inspection.events.filters
-    → new.detector.inspection.events.tally ≡ middle.inspection.events.tally → new.detector.inspection.tries ≡ middle.inspection.tries
-    → OnOk answer (new.written ≡ behind middle.written middle.inspection.events.block.items)
-    → OnOk answer (ShowsRecords plan records old new)
-records_shown_by (Ok done) plan records old new made middle makes runs empty lanes filters tally tries offered =
-    records_shown plan records old new made middle makes runs empty offered (λ before stands. stands_on plan before middle.inspection new.detector.inspection lanes filters tally tries stands)
-records_shown_by (Err why) plan records old new made middle makes runs empty lanes filters tally tries offered = tt
-
-pub records_offered_by : (answer : Result (Unit {0}) Stop) (plan : Plan) (records : List LinkedRecord) (old : Detecting) (front : FrontState) (middle : Running) (new : Option (List ℕ)) (made : List Job)
-    → MakesJobs (way_of plan) records old.detector.front front made
-    → Runs plan made (record { inspection = old.detector.inspection; written = old.written }) middle
-    → old.detector.inspection.events.block.items ≡ [] → OnErr answer (WritesPart middle.written middle.inspection.events.block.items new)
-    → OnErr answer (ShowsRecordsPart plan records old new)
-records_offered_by (Ok done) plan records old front middle new made makes runs empty part = tt
-records_offered_by (Err why) plan records old front middle new made makes runs empty part = records_offered_part plan records old front middle new made makes runs empty part
+    subst (λ (x : List ℕ). WritesPart old.written x new) (lines_made plan records last before front made places (makes before stands.front) (placed before stands.front))
+    (gathers_stopped (jobs_lines plan (jobs_of plan before) batch) (waiting (record { inspection = old.detector.inspection; written = old.written })) (waiting middle) new empty run.came part)
 
 pub records_nothing : (plan : Plan) (records : List LinkedRecord) (old : Detecting) → ShowsRecordsPart plan records old old.written
 unfolding ShowsRecordsPart
@@ -328,65 +339,75 @@ same_counts seen seen' items items' hits hits' alerts alerts' tries tries' a b c
 -- all was counted
 counted_all : (plan : Plan) (records : List LinkedRecord) (seen : RecordCounts) (inspection : Inspection) → seen ≡ counts (way_of plan) records
     → InspectionStands plan (jobs_of plan records ++ finishes (way_of plan) records) inspection → counted seen inspection ≡ counts_of plan records
-unfolding counts_of trace tally_of items_of closing_items closing_alerts
+unfolding counts_of tally_of items_of closing_items
 counted_all plan records seen inspection is stands =
     let d = detection_of plan in
     let made = jobs_of plan records in
     let last = finishes (way_of plan) records in
-    let shown = item_alerts plan.config plan.rules in
     let items = items_of plan records in
     let behind_all = closing_items plan records in
     let found : trail (job_items d) (made ++ last) ≡ items ++ behind_all = trail-append (job_items d) made last in
     let tally : inspection.events.tally ≡ tally_of plan.config plan.rules (items ++ behind_all) = stands.events.tally ∙ ap (tally_of plan.config plan.rules) found in
-    let alerts : trail shown (items ++ behind_all) ≡ trace plan [] records Closed =
-    trail-append shown items behind_all ∙ ap (λ (x : List Alert). x ++ closing_alerts plan records) (alerts-items plan records) in
     same_counts seen (counts (way_of plan) records)
     inspection.events.tally.items (length (items ++ behind_all)) inspection.events.tally.hits (hit_count (items ++ behind_all))
     inspection.events.tally.alerts (length (trace plan [] records Closed)) inspection.tries (try_count d (made ++ last))
     is (ap (λ (t : Tally). t.items) tally) (ap (λ (t : Tally). t.hits) tally)
-    (ap (λ (t : Tally). t.alerts) tally ∙ ap length alerts) stands.tries
+    (ap (λ (t : Tally). t.alerts) tally ∙ alerts-counted plan records (items ++ behind_all) refl) stands.tries
+
+-- the lines of the jobs behind all records, each beside the last one
+lines_closing : (plan : Plan) (records : List LinkedRecord) (last : LinkedRecord) (made : List Job) → made ≡ finishes (way_of plan) records → last ≡ last_of records
+    → jobs_lines plan (jobs_of plan records) (by_place (source_in [] last []) 0 made) ≡ closing_lines plan records
+lines_closing plan records last made are is =
+    ap (jobs_lines plan (jobs_of plan records)) (sources_last last made ∙ ap₂ (λ (l : LinkedRecord) (m : List Job). map (beside l) m) is are)
+    ∙ jobs_lines-closing plan records
 
 -- the jobs behind all records were run, and their lines written whole
-pub closed_whole : (plan : Plan) (old : Detecting) (made : List Job) (middle : Running) (last : Inspection) (written : Option (List ℕ)) (seen : RecordCounts)
+pub closed_whole : (plan : Plan) (old : Detecting) (made : List Job) (middle : Running) (end : Inspection) (written : Option (List ℕ)) (seen : RecordCounts)
     → GivesFinishes old.detector.front [] made → TellsCounts old.detector.front seen
-    → Runs plan made (record { inspection = old.detector.inspection; written = old.written }) middle
+    → Runs plan (by_place (source_in [] old.detector.inspection.last []) 0 made) (record { inspection = old.detector.inspection; written = old.written }) middle
     → old.detector.inspection.events.block.items ≡ [] → written ≡ behind middle.written middle.inspection.events.block.items
-    → ((before : List Job) → InspectionStands plan before middle.inspection → InspectionStands plan before last)
-    → Closes plan old written (counted seen last)
+    → ((before : List Job) → InspectionStands plan before middle.inspection → InspectionStands plan before end)
+    → Closes plan old written (counted seen end)
 unfolding Closes Runs
-closed_whole plan old made middle last written seen gives tells runs empty offered on = λ records stands.
+closed_whole plan old made middle end written seen gives tells runs empty offered on = λ records stands.
     let way = way_of plan in
+    let last = old.detector.inspection.last in
+    let source = source_in [] last [] in
+    let batch = by_place source 0 made in
     let are : made ≡ finishes way records = gives way records stands.front in
     let run = runs (jobs_of plan records) stands.inspection in record {
-      wrote = gathers_written (jobs_lines plan (jobs_of plan records) made) (waiting (record { inspection = old.detector.inspection; written = old.written })) (waiting middle) written empty run.came offered
-          ∙ ap (behind old.written) (ap (jobs_lines plan (jobs_of plan records)) are ∙ jobs_lines-closing plan records);
-      counted = counted_all plan records seen last (tells way records stands.front)
-          (subst (λ (x : List Job). InspectionStands plan (jobs_of plan records ++ x) last) are (on (jobs_of plan records ++ made) run.stands));
+      wrote = gathers_written (jobs_lines plan (jobs_of plan records) batch) (waiting (record { inspection = old.detector.inspection; written = old.written })) (waiting middle) written empty run.came offered
+          ∙ ap (behind old.written) (lines_closing plan records last made are stands.last);
+      counted = counted_all plan records seen end (tells way records stands.front)
+          (subst (λ (x : List Job). InspectionStands plan (jobs_of plan records ++ x) end) (whats-by_place source 0 made ∙ are) (on (jobs_of plan records ++ whats batch) run.stands));
     }
 
 -- or a part of them was
 pub closed_part : (plan : Plan) (old : Detecting) (made : List Job) (written : Option (List ℕ))
     → GivesFinishes old.detector.front [] made → old.detector.inspection.events.block.items ≡ []
-    → RunsPart plan made (record { inspection = old.detector.inspection; written = old.written }) written
+    → RunsPart plan (by_place (source_in [] old.detector.inspection.last []) 0 made) (record { inspection = old.detector.inspection; written = old.written }) written
     → ClosesPart plan old written
 unfolding ClosesPart RunsPart
 closed_part plan old made written gives empty part = λ records stands.
+    let last = old.detector.inspection.last in
     subst (λ (x : List ℕ). WritesPart old.written x written)
-    (ap (λ (x : List ℕ). x ++ jobs_lines plan (jobs_of plan records) made) empty
-    ∙ ap (jobs_lines plan (jobs_of plan records)) (gives (way_of plan) records stands.front) ∙ jobs_lines-closing plan records)
+    (ap (λ (x : List ℕ). x ++ jobs_lines plan (jobs_of plan records) (by_place (source_in [] last []) 0 made)) empty
+    ∙ lines_closing plan records last made (gives (way_of plan) records stands.front) stands.last)
     (part (jobs_of plan records) stands.inspection)
 
 pub closed_offered_part : (plan : Plan) (old : Detecting) (made : List Job) (middle : Running) (written : Option (List ℕ))
     → GivesFinishes old.detector.front [] made
-    → Runs plan made (record { inspection = old.detector.inspection; written = old.written }) middle
+    → Runs plan (by_place (source_in [] old.detector.inspection.last []) 0 made) (record { inspection = old.detector.inspection; written = old.written }) middle
     → old.detector.inspection.events.block.items ≡ [] → WritesPart middle.written middle.inspection.events.block.items written
     → ClosesPart plan old written
 unfolding ClosesPart Runs
 closed_offered_part plan old made middle written gives runs empty part = λ records stands.
+    let last = old.detector.inspection.last in
+    let batch = by_place (source_in [] last []) 0 made in
     let run = runs (jobs_of plan records) stands.inspection in
     subst (λ (x : List ℕ). WritesPart old.written x written)
-    (ap (jobs_lines plan (jobs_of plan records)) (gives (way_of plan) records stands.front) ∙ jobs_lines-closing plan records)
-    (gathers_stopped (jobs_lines plan (jobs_of plan records) made) (waiting (record { inspection = old.detector.inspection; written = old.written })) (waiting middle) written empty run.came part)
+    (lines_closing plan records last made (gives (way_of plan) records stands.front) stands.last)
+    (gathers_stopped (jobs_lines plan (jobs_of plan records) batch) (waiting (record { inspection = old.detector.inspection; written = old.written })) (waiting middle) written empty run.came part)
 
 pub closed_nothing : (plan : Plan) (old : Detecting) → ClosesPart plan old old.written
 unfolding ClosesPart

@@ -5,8 +5,11 @@ pub mod Limits
 pub mod LinesLaws
 pub mod Reading
 pub mod Opening
+pub mod Texts
+pub mod Beside
 pub mod Showing
 pub mod Learning
+pub mod Sourcing
 pub mod Detecting
 pub mod Batches
 pub mod Watched

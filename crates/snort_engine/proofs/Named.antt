@@ -11,7 +11,7 @@ use Rattle.std.proofs.lemmas.List.Elements.{All-nil, All-cons}
 use Rattle.net_lists.specs.Addresses.{cut}
 use Rattle.net_lists.specs.Numbers.{whole_number, kept_in, number_in}
 use Rattle.net_lists.specs.Variables.{begins_name, continues_name, IsName}
-use Rattle.command_words.specs.CommandLine.{Asked, help, version, run, Run, Defined, Values, maybe, is_variable, named, definition, has_its_capture, is_console, mode_named, number_or, run_by, asked_by, values_behind, values_by, command_line}
+use Rattle.command_words.specs.CommandLine.{Asked, help, version, records_of, run, asked_of, Run, Defined, Values, maybe, is_variable, named, definition, has_its_capture, is_console, mode_named, number_or, run_by, asked_by, values_behind, values_by, command_line}
 use Rattle.command_words.specs.Table.{table}
 use Rattle.command_words.specs.Uses.{uses_of, value_in}
 use Rattle.snort_setup.specs.Words.{HasName}
@@ -63,6 +63,7 @@ run_defined values (Some conf) defined wanted is =
     defined_in : Asked → Option Defined
     defined_in help = None
     defined_in version = None
+    defined_in (records_of file) = None
     defined_in (run found) = found.defined
 
 -- neither of the flags is there where a run is asked for
@@ -71,11 +72,22 @@ no_flags true version_on rest wanted is = absurd cc
 no_flags false true rest wanted is = absurd cc
 no_flags false false rest wanted is = is
 
+-- and no records of a file
+no_file : (values : Values) (file : Option (List ℕ)) (wanted : Run) → asked_of values file ≡ Some (run wanted)
+    → option_and_then (run_by values values.conf) (maybe definition values.defined) ≡ Some (run wanted)
+no_file values None wanted is = is
+no_file values (Some file) wanted is = by_others values.others is
+  where
+    by_others : (others : Bool) → cond others None (Some (records_of file)) ≡ Some (run wanted)
+        → option_and_then (run_by values values.conf) (maybe definition values.defined) ≡ Some (run wanted)
+    by_others true other = absurd cc
+    by_others false other = absurd cc
+
 asked_named : (values : Values) (wanted : Run) → asked_by values ≡ Some (run wanted) → HasName (option_map definition_of wanted.defined)
 unfolding asked_by
 asked_named values wanted is =
     option_and_then_some (run_by values values.conf) (maybe definition values.defined) (run wanted)
-    (no_flags values.help values.version (option_and_then (run_by values values.conf) (maybe definition values.defined)) wanted is)
+    (no_file values values.read_unified2 wanted (no_flags values.help values.version (asked_of values values.read_unified2) wanted is))
     (λ defined read ran.
     let P : Option Defined → Type 0 = λ d. HasName (option_map definition_of d) in
     subst P (run_defined values values.conf defined wanted ran) (maybe_named values.defined defined read))
@@ -141,18 +153,20 @@ run_numbers values (Some conf) defined wanted is =
     lanes_in : Asked → ℕ
     lanes_in help = 0
     lanes_in version = 0
+    lanes_in (records_of file) = 0
     lanes_in (run found) = found.lanes
 
     flush_in : Asked → ℕ
     flush_in help = 0
     flush_in version = 0
+    flush_in (records_of file) = 0
     flush_in (run found) = found.flush_point
 
 asked_numbers : (values : Values) (wanted : Run) → asked_by values ≡ Some (run wanted) → (values.lanes ≡ wanted.lanes) × (values.flush_point ≡ wanted.flush_point)
 unfolding asked_by
 asked_numbers values wanted is =
     option_and_then_some (run_by values values.conf) (maybe definition values.defined) (run wanted)
-    (no_flags values.help values.version (option_and_then (run_by values values.conf) (maybe definition values.defined)) wanted is)
+    (no_file values values.read_unified2 wanted (no_flags values.help values.version (asked_of values values.read_unified2) wanted is))
     (λ defined read ran. run_numbers values values.conf defined wanted ran)
 
 by_console : (b : Bool) (rest : Option Values) (values : Values) → cond b rest None ≡ Some values → rest ≡ Some values

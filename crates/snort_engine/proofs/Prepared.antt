@@ -11,7 +11,7 @@ use Rattle.packet_decode.specs.declared.checks.Checks.{Checks}
 use Rattle.edge_io.specs.Files.{Files}
 use Rattle.edge_io.specs.declared.pattern.Refusal.{Refusal}
 use Rattle.conf_parser.specs.Reading.{Ended, Whole, Refused as RefusedAt, Asks, told}
-use Rattle.command_words.specs.CommandLine.{Asked, help, version, run, Run}
+use Rattle.command_words.specs.CommandLine.{Asked, help, version, records_of, run, Run}
 use Rattle.flow_lanes.specs.Hits.{Test}
 use Rattle.snort_setup.specs.declared.setup.Setup.{Setup}
 use Rattle.snort_setup.specs.declared.stop.SetupStop.{SetupStop}
@@ -52,6 +52,7 @@ unfolding AreRefused
 none_refused None files grown = refl
 none_refused (Some help) files grown = refl
 none_refused (Some version) files grown = refl
+none_refused (Some (records_of file)) files grown = refl
 none_refused (Some (run wanted)) files grown = none_refused_by (setup_words wanted) (conf_read (setup_words wanted) (told files)) grown
 
 -- ---- words that read no file
@@ -89,6 +90,16 @@ pub prepared_version : {A : Type 0} (view : Test → A → Way) (asked : Option 
 prepared_version view asked files rose grown warnings is none =
     subst (λ (a : Option Asked). IsPrepared view a files rose grown (Err stop.Version) warnings) (sym is)
     (stopped_at_once view (Some version) files rose grown stop.Version warnings none (λ matches. version_way (given files matches [])))
+
+-- the records of a file are not shown
+file_way : (file : List ℕ) (here : Given) → HasWay (Some (records_of file)) here [] (stops stop.CommandLine)
+unfolding IsCourse stop_text
+file_way file here = record { course = stopping command_line_text status.Refused; is = refl; warnings_are = refl; way_is = refl }
+
+pub prepared_file : {A : Type 0} (view : Test → A → Way) (asked : Option Asked) (file : List ℕ) (files : Files) (rose : Type 0) (grown : List Refusal) (warnings : List (List ℕ)) → asked ≡ Some (records_of file) → warnings ≡ [] → IsPrepared view asked files rose grown (Err stop.CommandLine) warnings
+prepared_file view asked file files rose grown warnings is none =
+    subst (λ (a : Option Asked). IsPrepared view a files rose grown (Err stop.CommandLine) warnings) (sym is)
+    (stopped_at_once view (Some (records_of file)) files rose grown stop.CommandLine warnings none (λ matches. file_way file (given files matches [])))
 
 -- memory was lacking
 pub prepared_lacking : {A : Type 0} (view : Test → A → Way) (asked : Option Asked) (files : Files) (rose : Type 0) (grown : List Refusal) (warnings : List (List ℕ)) → warnings ≡ [] → IsPrepared view asked files rose grown (Err stop.NoMemory) warnings
@@ -153,6 +164,7 @@ unfolding IsCourse
 one_course None here a b of_a of_b = of_a ∙ sym of_b
 one_course (Some help) here a b of_a of_b = of_a ∙ sym of_b
 one_course (Some version) here a b of_a of_b = of_a ∙ sym of_b
+one_course (Some (records_of file)) here a b of_a of_b = of_a ∙ sym of_b
 one_course (Some (run wanted)) here a b (setup_a, is_a, of_a) (setup_b, is_b, of_b) =
     of_a ∙ ap (λ (setup : Warned Ready). course_by here.matches wanted setup) (setup-one (setup_words wanted) here.files here.refused setup_a setup_b is_a is_b) ∙ sym of_b
 

@@ -14,6 +14,7 @@ use Rattle.flow_lanes.specs.Standing.{LanesState, AnswersBatch}
 use Rattle.record_jobs.specs.Ready.{AreReady}
 use Rattle.record_jobs.specs.Way.{LinkedRecord, Way}
 use Rattle.record_jobs.specs.Fronts.{FrontState}
+use Rattle.snort_engine.specs.declared.halves.Ahead.{Ahead}
 use Rattle.snort_engine.specs.declared.batch.Reached.{Reached}
 use Rattle.snort_engine.specs.declared.batch.Reached.TheVariants.{More}
 use Rattle.snort_engine.specs.declared.detect.Detector.{Detector}
@@ -27,6 +28,8 @@ use Rattle.snort_engine.specs.Outside.{WritesPart}
 use Rattle.snort_engine.specs.Reader.{IsFresh, number_of}
 use Rattle.snort_engine.specs.Batch.{Place, ReadsOn}
 use Rattle.snort_engine.specs.Detecting.{InspectionStands, IsKnown, MakesJobs, Running, jobs_lines}
+use Rattle.snort_engine.specs.Beside.{by_place, source_in, whats}
+use Rattle.snort_engine.specs.Sourcing.{PlacesJobs, Sourced}
 use Rattle.snort_engine.specs.Watching.{Standing, Streams, IsUnderWay, ComesOver, room_behind}
 
 -- ---- by a plan
@@ -46,6 +49,23 @@ MakesBy plan records old new made =
     MakesJobs (way_by plan.checks plan.hosts.now plan.config.now) records old new made
 
 -- ---- one half of a batch
+
+-- records that were read, their jobs, and the place of each job's record among them
+pub record Waiting : Type 0 where
+  pub records : List LinkedRecord
+  pub jobs : List Job
+  pub places : List ℕ
+
+abbrev pub waiting_in : Ahead → Waiting
+waiting_in ahead = record {
+  records = ahead.records.items;
+  jobs = ahead.made.jobs.items;
+  places = ahead.made.places.items;
+}
+
+-- the jobs that wait, each with its record, behind this last record
+abbrev pub sourced_in : Waiting → LinkedRecord → List Sourced
+sourced_in waiting last = by_place (source_in waiting.records last waiting.places) 0 waiting.jobs
 
 -- how many records are read while as many wait
 abbrev pub half : ℕ
@@ -71,13 +91,18 @@ unfoldable pub FeedsOn : Place → Place → Reached → Type 0
 FeedsOn old new reached = ReadsOn old new reached
 
 -- half a batch of records was read behind others, and made into jobs; this was reached behind them
-pub record IsFed (way : Way) (old new : Feed) (records : List LinkedRecord) (jobs : List Job) (reached : Reached) : Type 0 where
+pub record IsFed (way : Way) (old new : Feed) (fed : Waiting) (reached : Reached) : Type 0 where
   pub reads : ReadsOn (record { reader = old.reader; records = []; left = old.left })
-      (record { reader = new.reader; records = records; left = new.left }) reached
-  pub makes : MakesJobs way records old.front new.front jobs
-  pub few : length records ≤ half_at old.room
-  pub fewer : (reached ≡ More → ⊥) → length records < half_at old.room
-  pub room_is : new.room ≡ room_behind old.room (length records)
+      (record { reader = new.reader; records = fed.records; left = new.left }) reached
+  pub makes : MakesJobs way fed.records old.front new.front fed.jobs
+  pub places : PlacesJobs way fed.records old.front fed.places
+  pub few : length fed.records ≤ half_at old.room
+  pub fewer : (reached ≡ More → ⊥) → length fed.records < half_at old.room
+  pub room_is : new.room ≡ room_behind old.room (length fed.records)
+
+-- whatever records stood before, these are the places of the jobs of these records
+abbrev pub PlacesBy : {P : Type 0} → code.Plan P → List LinkedRecord → FrontState → List ℕ → Type 0
+PlacesBy plan records old places = PlacesJobs (way_by plan.checks plan.hosts.now plan.config.now) records old places
 
 -- ---- the lines of jobs, whole
 
@@ -88,20 +113,21 @@ at_lanes lanes inspection = record {
   groups = inspection.groups;
   events = inspection.events;
   tries = inspection.tries;
+  last = inspection.last;
 }
 
 -- jobs came behind earlier jobs: the inspection was given them, and their lines were written
-pub record IsShown (plan : Plan) (before jobs : List Job) (old new : Running) : Type 0 where
-  pub stands : InspectionStands plan (before ++ jobs) new.inspection
+pub record IsShown (plan : Plan) (before : List Job) (jobs : List Sourced) (old new : Running) : Type 0 where
+  pub stands : InspectionStands plan (before ++ whats jobs) new.inspection
   pub wrote : new.written ≡ behind old.written (jobs_lines plan before jobs)
 
 -- the same, whatever jobs came before
-unfoldable pub ShowsJobs : Plan → List Job → Running → Running → Type 0
+unfoldable pub ShowsJobs : Plan → List Sourced → Running → Running → Type 0
 ShowsJobs plan jobs old new =
     (before : List Job) → InspectionStands plan before old.inspection → IsShown plan before jobs old new
 
 -- or no more than a part of their lines was written
-unfoldable pub ShowsJobsPart : Plan → List Job → Running → Option (List ℕ) → Type 0
+unfoldable pub ShowsJobsPart : Plan → List Sourced → Running → Option (List ℕ) → Type 0
 ShowsJobsPart plan jobs old written =
     (before : List Job) → InspectionStands plan before old.inspection
     → WritesPart old.written (jobs_lines plan before jobs) written
@@ -110,12 +136,11 @@ ShowsJobsPart plan jobs old written =
 
 -- the work was under way where the records stood whose lines were written, and half a batch of records was
 -- read from there and made into jobs, which wait
-pub record IsAhead (plan : Plan) (first : RecordReader) (start : Streams) (now : Standing) (jobs : List Job) (reached : Reached) :
+pub record IsAhead (plan : Plan) (first : RecordReader) (start : Streams) (now : Standing) (waiting : Waiting) (reached : Reached) :
     Type 0 where
   pub old : Standing
-  pub next : List LinkedRecord
   pub going : IsUnderWay plan first start old
-  pub fed : IsFed (way_of plan) (feed_of old) (feed_of now) next jobs reached
+  pub fed : IsFed (way_of plan) (feed_of old) (feed_of now) waiting reached
   pub same_inspection : old.detector.inspection ≡ now.detector.inspection
   pub same_written : old.streams.written ≡ now.streams.written
 
@@ -140,13 +165,13 @@ yet More reader = 2 ^ 32 - number_of reader
 yet reached reader = 0
 
 -- a half more was read beside the work on the one that waited, or all is done
-abbrev pub GoesAhead : Plan → Standing → List Job → Reached → Standing → List Job → Reached → Result Bool Stop → Type 0
-GoesAhead plan old jobs reached new jobs_then reached_then (Ok true) =
-    (first : RecordReader) (start : Streams) → IsAhead plan first start old jobs reached
-    → IsAhead plan first start new jobs_then reached_then
-GoesAhead plan old jobs reached new jobs_then reached_then (Ok false) =
-    (first : RecordReader) (start : Streams) → IsAhead plan first start old jobs reached
+abbrev pub GoesAhead : Plan → Standing → Waiting → Reached → Standing → Waiting → Reached → Result Bool Stop → Type 0
+GoesAhead plan old waiting reached new waiting_then reached_then (Ok true) =
+    (first : RecordReader) (start : Streams) → IsAhead plan first start old waiting reached
+    → IsAhead plan first start new waiting_then reached_then
+GoesAhead plan old waiting reached new waiting_then reached_then (Ok false) =
+    (first : RecordReader) (start : Streams) → IsAhead plan first start old waiting reached
     → ComesOver plan first start new.streams new.detector (Ok tt)
-GoesAhead plan old jobs reached new jobs_then reached_then (Err why) =
-    (first : RecordReader) (start : Streams) → IsAhead plan first start old jobs reached
+GoesAhead plan old waiting reached new waiting_then reached_then (Err why) =
+    (first : RecordReader) (start : Streams) → IsAhead plan first start old waiting reached
     → ComesOver plan first start new.streams new.detector (Err why)

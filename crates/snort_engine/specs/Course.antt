@@ -20,13 +20,15 @@ use Rattle.conf_types.specs.declared.config.Config.{Config}
 use Rattle.rule_types.specs.declared.rule.Rule.{Rule}
 use Rattle.command_words.specs.declared.asked.ChecksumMode.{ChecksumMode}
 use Rattle.command_words.specs.declared.asked.ChecksumMode.TheVariants as mode
-use Rattle.command_words.specs.CommandLine.{Asked, help, version, run, Run, Defined}
+use Rattle.command_words.specs.CommandLine.{Asked, help, version, records_of, run, Run, Defined}
 use Rattle.flow_lanes.specs.Hits.{Test}
 use Rattle.snort_setup.specs.Words.{Words, Definition}
 use Rattle.conf_parser.specs.Reading.{told}
 use Rattle.edge_io.specs.declared.pattern.Refusal.{Refusal}
 use Rattle.snort_setup.specs.Answers.{AreRefusedBy}
 use Rattle.snort_setup.specs.Setup.{Halt, Refused, Lacks, Ready, Warned, IsSetup, IsReading, conf_read}
+use Rattle.snort_engine.specs.declared.form.Form.{Form}
+use Rattle.snort_engine.specs.declared.form.Form.TheVariants as form
 use Rattle.snort_engine.specs.declared.status.Status.{Status}
 use Rattle.snort_engine.specs.declared.status.Status.TheVariants as status
 use Rattle.snort_engine.specs.Messages.{usage_text, version_text, accepted_text, command_line_text, cannot_read_text}
@@ -34,7 +36,8 @@ use Rattle.snort_engine.specs.Messages.{usage_text, version_text, accepted_text,
 -- what is done with a capture: the name of its file, empty where it has none; how many records are read
 -- at most; which checksums are verified; the configuration of fragments, streams and events; the table of hosts; how many bytes of
 -- a stream are acknowledged at least before they are an item; the rules that are tried, and the test that
--- says which of them match; and whether counts are told. How many lanes do the work is no part of it.
+-- says which of them match; the form in which alerts are written; and whether counts are told. How many lanes
+-- do the work is no part of it.
 pub record Plan : Type 0 where
   pub source : List ℕ
   pub limit : Option ℕ
@@ -44,6 +47,7 @@ pub record Plan : Type 0 where
   pub flush : ℕ
   pub rules : List Rule
   pub matches : Test
+  pub form : Form
   pub counted : Bool
 
 -- a run stops with a message and a status, or goes on with a plan: for the capture in the plan's file, or
@@ -82,6 +86,10 @@ checks_of mode.NoTcp = record { ip = true; tcp = false; udp = true; icmp = true 
 checks_of mode.NoUdp = record { ip = true; tcp = true; udp = false; icmp = true }
 checks_of mode.NoIcmp = record { ip = true; tcp = true; udp = true; icmp = false }
 
+-- the form of alerts: lines, or Unified2 records under `--unified2`
+abbrev pub form_of : Bool → Form
+form_of unified2 = if unified2 then form.Unified2 else form.Lines
+
 -- the plan for a capture of this name: `-k` stands in place of the configuration's mode
 abbrev pub plan_for : Test → Run → Ready → List ℕ → Plan
 plan_for matches wanted ready source = record {
@@ -93,6 +101,7 @@ plan_for matches wanted ready source = record {
   flush = wanted.flush_point;
   rules = ready.rules;
   matches = matches;
+  form = form_of wanted.unified2;
   counted = wanted.stats;
 }
 
@@ -146,6 +155,7 @@ unfoldable pub IsCourse : Option Asked → Given → Course → Type 0
 IsCourse None given course = course ≡ stopping command_line_text status.Refused
 IsCourse (Some help) given course = course ≡ stopping usage_text status.Done
 IsCourse (Some version) given course = course ≡ stopping version_text status.Done
+IsCourse (Some (records_of file)) given course = course ≡ stopping command_line_text status.Refused
 IsCourse (Some (run wanted)) given course = IsRunCourse wanted given course
 
 -- the words ask for a capture that is made

@@ -5,7 +5,6 @@
 -- To try it on: of a UDP packet whose flow has a rule's bit set by an earlier one, the second batch shows
 -- what it would show if both stood in one.
 use Rattle.std.specs.Prelude.{◌≡◌, ℕ, ◌≤◌, List, [], ◌++◌, Option, All}
-use Rattle.std.specs.List.{flat_map}
 use Rattle.edge_io.specs.Along.{trail, trail_from}
 use Rattle.edge_io.specs.Told.{behind}
 use Rattle.conf_types.specs.Sound as conf
@@ -24,12 +23,14 @@ use Rattle.snort_engine.specs.declared.plan.Plan as code
 use Rattle.snort_engine.specs.declared.detect.Inspection.{Inspection}
 use Rattle.snort_engine.specs.declared.detect.Detector.{Detector}
 use Rattle.snort_engine.specs.Course.{Plan}
-use Rattle.snort_engine.specs.Trace.{Open, closing_alerts, detection_of, job_items, jobs_of, way_by, way_of}
-use Rattle.snort_engine.specs.Lines.{lines, text_of}
+use Rattle.snort_engine.specs.Trace.{Open, closing_alerts, detection_of, job_items, jobs_of, last_of, no_record, way_by, way_of}
+use Rattle.snort_engine.specs.Lines.{alert_count, lines, text_of, texts_from}
 use Rattle.snort_engine.specs.Counts.{counts_of, try_count}
 use Rattle.snort_engine.specs.Outside.{WritesPart}
 use Rattle.snort_engine.specs.Gathering.{Gathering, Gathers}
 use Rattle.snort_engine.specs.Showing.{EventsStand, items_lines}
+use Rattle.snort_engine.specs.Beside.{carried, whats}
+use Rattle.snort_engine.specs.Sourcing.{Sourced}
 
 -- ---- plans
 
@@ -61,11 +62,13 @@ pub record IsNewInspection {P : Type 0} (plan : code.Plan P) (inspection : Inspe
   pub events : EventsStand plan.config.now plan.set.now.rules [] inspection.events
   pub none : inspection.events.block.items ≡ []
   pub tries : inspection.tries ≡ 0
+  pub last : inspection.last ≡ no_record
 
 -- the lines of jobs behind earlier jobs
-unfoldable pub jobs_lines : Plan → List Job → List Job → List ℕ
+unfoldable pub jobs_lines : Plan → List Job → List Sourced → List ℕ
 jobs_lines plan before batch =
-    items_lines plan.config plan.rules (trail (job_items (detection_of plan)) before) (trail_from (job_items (detection_of plan)) before batch)
+    items_lines plan.form plan.config plan.rules (trail (job_items (detection_of plan)) before)
+    (carried (job_items (detection_of plan)) before batch)
 
 -- the inspection, and what was written where it is told
 pub record Running : Type 0 where
@@ -76,16 +79,16 @@ abbrev pub waiting : Running → Gathering
 waiting running = record { written = running.written; block = running.inspection.events.block.items }
 
 -- jobs came behind earlier jobs: the inspection was given them, and their lines came behind those that wait
-pub record IsRun (plan : Plan) (before batch : List Job) (old new : Running) : Type 0 where
-  pub stands : InspectionStands plan (before ++ batch) new.inspection
+pub record IsRun (plan : Plan) (before : List Job) (batch : List Sourced) (old new : Running) : Type 0 where
+  pub stands : InspectionStands plan (before ++ whats batch) new.inspection
   pub came : Gathers (jobs_lines plan before batch) (waiting old) (waiting new)
 
 -- the same, whatever jobs came before
-unfoldable pub Runs : Plan → List Job → Running → Running → Type 0
+unfoldable pub Runs : Plan → List Sourced → Running → Running → Type 0
 Runs plan batch old new = (before : List Job) → InspectionStands plan before old.inspection → IsRun plan before batch old new
 
 -- or no more than a part of their lines, and of those that wait, was written
-unfoldable pub RunsPart : Plan → List Job → Running → Option (List ℕ) → Type 0
+unfoldable pub RunsPart : Plan → List Sourced → Running → Option (List ℕ) → Type 0
 RunsPart plan batch old written =
     (before : List Job) → InspectionStands plan before old.inspection
     → WritesPart old.written (old.inspection.events.block.items ++ jobs_lines plan before batch) written
@@ -105,6 +108,7 @@ MakesJobs way records old new made = (before : List LinkedRecord) → StandsFor 
 pub record DetectorStands (plan : Plan) (records : List LinkedRecord) (detector : Detector) : Type 0 where
   pub front : StandsFor (way_of plan) detector.front records
   pub inspection : InspectionStands plan (jobs_of plan records) detector.inspection
+  pub last : detector.inspection.last ≡ last_of records
 
 -- it was given some records, the lanes have learnt of all their jobs, and no line waits
 pub record IsKnown (way : Way) (rules : List Rule) (detector : Detector) : Type 0 where
@@ -150,7 +154,7 @@ counted seen inspection = record {
 
 -- the lines of the flows that end with a capture of these records
 unfoldable pub closing_lines : Plan → List LinkedRecord → List ℕ
-closing_lines plan records = flat_map (text_of plan.config.classes) (closing_alerts plan records)
+closing_lines plan records = texts_from (text_of plan.form plan.config.classes) (alert_count plan records) (closing_alerts plan records)
 
 -- they were written, and all was counted
 pub record IsClosed (plan : Plan) (records : List LinkedRecord) (old : Detecting) (written : Option (List ℕ)) (counts : Counts) : Type 0 where

@@ -4,11 +4,14 @@ pub mod Status
 pub mod Course
 pub mod Records
 pub mod Reader
+pub mod Beside
 pub mod Trace
+pub mod Unified2
 pub mod Lines
 pub mod Counts
 pub mod Gathering
 pub mod Showing
+pub mod Sourcing
 pub mod Detecting
 pub mod Answer
 pub mod Outside

@@ -1,23 +1,39 @@
--- The lines of a capture's records, and the laws that say how they follow one another.
+-- The text of a capture's alerts, in the form that is wanted, and the laws that say how they follow one another.
 --
+-- An alert is a line, or two Unified2 records. A line goes by its item, its rule and the classes alone; the
+-- records of an alert also by how many alerts stand before it in the run, and by its packet. What is said below
+-- of lines is said of either form.
 -- To try it on: where a plan shows one alert of each of three records, the lines of the three are the
 -- line of the first and then those of the other two behind the first.
-use Rattle.std.specs.Prelude.{◌≡◌, ℕ, ◌≤◌, List, [], ◌++◌, take}
-use Rattle.std.specs.List.{flat_map}
+use Rattle.std.specs.Prelude.{◌≡◌, ℕ, ◌+◌, ◌≤◌, List, [], ◌∷◌, ◌++◌, length, take}
 use mathlib.Core.List.{IsPrefix}
 use Rattle.record_jobs.specs.Way.{LinkedRecord}
 use Rattle.snort_engine.specs.Course.{Plan}
 use Rattle.alert_fast.specs.Line.{line_text}
 use Rattle.conf_types.specs.declared.classes.Class.{Class}
+use Rattle.snort_engine.specs.declared.form.Form.{Form}
+use Rattle.snort_engine.specs.declared.form.Form.TheVariants as form
 use Rattle.snort_engine.specs.Trace.{Alert, CaptureState, Open, trace}
+use Rattle.snort_engine.specs.Unified2.{records_text}
 
--- the line of an alert, where these are the classes
-abbrev pub text_of : List Class → Alert → List ℕ
-text_of classes alert = line_text alert.head alert.rule classes
+-- the text of an alert behind so many, where these are the classes
+abbrev pub text_of : Form → List Class → ℕ → Alert → List ℕ
+text_of form.Lines classes before alert = line_text alert.what.head alert.what.rule classes
+text_of form.Unified2 classes before alert = records_text before alert
+
+-- the texts of alerts behind so many, one behind another
+abbrev pub texts_from : {A : Type 0} → (ℕ → A → List ℕ) → ℕ → List A → List ℕ
+texts_from text before [] = []
+texts_from text before (alert ∷ later) = text before alert ++ texts_from text (before + 1) later
+
+-- how many alerts stand before, of these records
+unfoldable pub alert_count : Plan → List LinkedRecord → ℕ
+alert_count plan before = length (trace plan [] before Open)
 
 -- the lines of records behind these records
 unfoldable pub lines : Plan → List LinkedRecord → List LinkedRecord → CaptureState → List ℕ
-lines plan before records state = flat_map (text_of plan.config.classes) (trace plan before records state)
+lines plan before records state =
+    texts_from (text_of plan.form plan.config.classes) (alert_count plan before) (trace plan before records state)
 
 -- the one law: the lines of records joined to others are those of the first, while the capture goes
 -- on, and then those of the others behind the first

@@ -37,6 +37,7 @@ plan_by matches prepared = record {
   flush = prepared.flush;
   rules = prepared.setup.set.rules;
   matches = matches;
+  form = prepared.form;
   counted = prepared.counted;
 }
 

@@ -3,16 +3,18 @@
 -- Each record makes jobs: of packets, of datagrams that its fragment makes whole, of flows that end
 -- (record_jobs specs/Jobs). Each job has items, packets and stretches of streams, each with all rules
 -- that match it (flow_lanes specs/Flows). Each item has events, of which some are kept (event_filters
--- specs/Events); each that is kept is an alert. A stage depends on what came to it before, and on nothing
--- else: not on lanes or batches. Where the capture has ended, the flows that live then end too, and the
--- last stages go on over these jobs.
+-- specs/Events); each that is kept is an alert, beside the record whose decoding made the item's job. A
+-- stage depends on what came to it before, and on nothing else: not on lanes or batches. Where the capture
+-- has ended, the flows that live then end too, and the last stages go on over these jobs, whose alerts
+-- stand beside the last record.
 -- (Snort Users Manual 2.9, sections 2.2.1 and 2.2.2 for what is put together, 2.4 and 3 for events.)
 -- To try it on: a packet with payload `abc` and the rules for `bc`, `x` and `a` shows the alerts of
 -- the first and of the third.
-use Rattle.std.specs.Prelude.{ℕ, List, ◌++◌, map, slice_get, option_map}
+use Rattle.std.specs.Prelude.{ℕ, List, [], ◌++◌, fold, map, slice_get, option_map}
 use Rattle.std.specs.Option.{option_to_list}
 use Rattle.std.specs.List.{flat_map}
 use Rattle.edge_io.specs.Along.{trail, trail_from, chained}
+use Rattle.edge_io.specs.declared.link.Link.TheVariants.{Ethernet}
 use Rattle.packet_decode.specs.declared.item.ItemHead.{ItemHead}
 use Rattle.packet_decode.specs.declared.checks.Checks.{Checks}
 use Rattle.conf_types.specs.declared.config.Config.{Config}
@@ -24,12 +26,17 @@ use Rattle.flow_lanes.specs.declared.answer.Hits.{Hits}
 use Rattle.flow_lanes.specs.declared.job.Job.{Job}
 use Rattle.flow_lanes.specs.Flows.{Detection, answer}
 use Rattle.event_filters.specs.Events.{Item, kept}
+use Rattle.snort_engine.specs.Beside.{Beside, beside, own}
 use Rattle.snort_engine.specs.Course.{Plan}
 
 -- an item and a rule that alerts on it
-pub record Alert : Type 0 where
+pub record Event : Type 0 where
   pub head : ItemHead
   pub rule : Rule
+
+-- an event that is shown, beside the record whose decoding made the job of its item
+abbrev pub Alert : Type 0
+Alert = Beside LinkedRecord Event
 
 -- ---- from records to jobs
 
@@ -61,36 +68,51 @@ job_items d before job = (answer d before job).items
 unfoldable pub items_of : Plan → List LinkedRecord → List Hits
 items_of plan records = trail (job_items (detection_of plan)) (jobs_of plan records)
 
--- ---- from items to alerts
+-- ---- from items to events
 
 -- an item as the filters of events see it
 abbrev pub filtered_item : Hits → Item
 filtered_item hits = record { head = hits.head; hits = hits.rules }
 
-abbrev pub alert_of : ItemHead → Rule → Alert
-alert_of head rule = record { head = head; rule = rule }
+abbrev pub event_of : ItemHead → Rule → Event
+event_of head rule = record { head = head; rule = rule }
 
--- the alert of the rule at a place
-abbrev pub alert_at : List Rule → ItemHead → ℕ → List Alert
-alert_at rules head place = option_to_list (option_map (alert_of head) (slice_get rules place))
+-- the event of the rule at a place
+abbrev pub event_at : List Rule → ItemHead → ℕ → List Event
+event_at rules head place = option_to_list (option_map (event_of head) (slice_get rules place))
 
--- the alerts of an item behind earlier items, in the order of their lines
-unfoldable pub item_alerts : Config → List Rule → List Hits → Hits → List Alert
-item_alerts config rules before hits =
-    flat_map (alert_at rules hits.head) (kept config rules (map filtered_item before) (filtered_item hits))
+-- the events of an item behind earlier items that are kept, in the order in which they are shown
+unfoldable pub item_events : Config → List Rule → List Hits → Hits → List Event
+item_events config rules before hits =
+    flat_map (event_at rules hits.head) (kept config rules (map filtered_item before) (filtered_item hits))
 
 -- ---- all stages
 
--- the alerts of a record behind earlier records
-unfoldable pub record_alerts : Plan → List LinkedRecord → LinkedRecord → List Alert
-record_alerts plan = chained (item_alerts plan.config plan.rules) (chained (job_items (detection_of plan)) (jobs (way_of plan)))
+-- the events of a record behind earlier records
+unfoldable pub record_events : Plan → List LinkedRecord → LinkedRecord → List Event
+record_events plan = chained (item_events plan.config plan.rules) (chained (job_items (detection_of plan)) (jobs (way_of plan)))
+
+-- its alerts
+abbrev pub record_alerts : Plan → List LinkedRecord → LinkedRecord → List Alert
+record_alerts plan = own (record_events plan)
 
 -- behind all records of a capture the flows that live then end: their items, and the alerts of these
 unfoldable pub closing_items : Plan → List LinkedRecord → List Hits
 closing_items plan records = trail_from (job_items (detection_of plan)) (jobs_of plan records) (finishes (way_of plan) records)
 
+unfoldable pub closing_events : Plan → List LinkedRecord → List Event
+closing_events plan records = trail_from (item_events plan.config plan.rules) (items_of plan records) (closing_items plan records)
+
+-- what stands for the last record where there is none: no flow lives then that could end
+abbrev pub no_record : LinkedRecord
+no_record = record { link = Ethernet; captured = record { number = 0; moment = record { nanos = 0 }; original = 0; bytes = [] } }
+
+-- the last of these records
+abbrev pub last_of : List LinkedRecord → LinkedRecord
+last_of records = fold (λ _ r. r) no_record records
+
 unfoldable pub closing_alerts : Plan → List LinkedRecord → List Alert
-closing_alerts plan records = trail_from (item_alerts plan.config plan.rules) (items_of plan records) (closing_items plan records)
+closing_alerts plan records = map (beside (last_of records)) (closing_events plan records)
 
 -- whether more records may follow, or the capture has ended
 pub data CaptureState : Type 0 where

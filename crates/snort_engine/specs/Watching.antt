@@ -47,6 +47,7 @@ plan_of matches plan = record {
   flush = plan.flush;
   rules = plan.set.now.rules;
   matches = matches;
+  form = plan.form;
   counted = plan.counted;
 }
 

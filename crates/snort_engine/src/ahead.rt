@@ -10,7 +10,9 @@ ghost use Rattle.flow_lanes.specs.Standing.{LanesState, LearnsBatch};
 ghost use Rattle.snort_engine.specs.Reader.{IsFresh, number_of};
 ghost use Rattle.snort_engine.specs.Detecting.{IsSoundPlan};
 ghost use Rattle.snort_engine.specs.Watching.{plan_of, IsTest, IsShowStop};
-ghost use Rattle.snort_engine.specs.Ahead.{at_lanes, half_at, AnswersBy, AreReadyBy, FeedsOn, MakesBy, CanReadOn, ShowsJobs, ShowsJobsPart};
+ghost use Rattle.snort_engine.specs.Beside.{by_place, source_in};
+ghost use Rattle.snort_engine.specs.Sourcing.{last_behind};
+ghost use Rattle.snort_engine.specs.Ahead.{at_lanes, half_at, AnswersBy, AreReadyBy, FeedsOn, MakesBy, PlacesBy, CanReadOn, ShowsJobs, ShowsJobsPart};
 
 use crate::batch::{Reached, read_batch};
 use crate::context::Context;
@@ -21,6 +23,7 @@ use crate::fault::ReadFault;
 use crate::lines::offer;
 use crate::plan::{Plan, front_config};
 use crate::reader::{LinkedRecord, RecordReader};
+use crate::sources::{Made, Sources, keep_last};
 use crate::stop::Stop;
 use edge_io::{Gate, Host, NoMemory, Pattern, Sink};
 use fast_pattern::Groups;
@@ -74,7 +77,7 @@ fn feed<H: Host, P, G, R>(
     most: usize,
     records: &mut Vec<LinkedRecord>,
     front: &mut Front,
-) -> (Reached, Result<Vec<Job>, NoMemory>)
+) -> (Reached, Result<Made, NoMemory>)
     requires plan { IsSoundPlan context.now.plan.now }
     requires fresh { IsFresh reader.old }
     requires some { 0 < most }
@@ -84,8 +87,10 @@ fn feed<H: Host, P, G, R>(
     ensures reads { FeedsOn
         (record { reader = reader.old; records = []; left = H.left host.old })
         (record { reader = reader.new; records = records.new.items; left = H.left host.new }) result.0 }
-    ensures makes { IfOk result.1 (λ jobs. MakesBy context.now.plan.now
-        records.new.items front.old front.new jobs.items) }
+    ensures makes { IfOk result.1 (λ made. MakesBy context.now.plan.now
+        records.new.items front.old front.new made.jobs.items) }
+    ensures places { IfOk result.1 (λ made. PlacesBy context.now.plan.now
+        records.new.items front.old made.places.items) }
     ensures few { vec_len records.new ≤ most }
     ensures fewer { result.0 ≢ Reached.More → vec_len records.new < most }
     ensures further { result.0 ≡ Reached.More → number_of reader.old < number_of reader.new }
@@ -99,8 +104,8 @@ fn feed<H: Host, P, G, R>(
 {
     let reached = read_batch(context.alloc, host, reader, most, records);
     let by = front_config(context.plan);
-    let jobs = make_jobs(context.alloc, &by, records, front);
-    (reached, jobs)
+    let made = make_jobs(context.alloc, &by, records, front);
+    (reached, made)
 }
 
 /// The answers of the lanes to a batch of jobs.
@@ -142,7 +147,7 @@ pub(crate) fn inspect_and_feed<H: Host, P: Pattern, G: Gate, R: Threads + Sync>(
     front: &mut Front,
 ) -> (
     Result<BatchOut, BatchFault>,
-    (Reached, Result<Vec<Job>, NoMemory>),
+    (Reached, Result<Made, NoMemory>),
 )
     requires plan { IsSoundPlan context.now.plan.now }
     requires ready { AreReadyBy context.now.plan.now lanes.old jobs.now }
@@ -161,8 +166,10 @@ pub(crate) fn inspect_and_feed<H: Host, P: Pattern, G: Gate, R: Threads + Sync>(
     ensures reads { FeedsOn
         (record { reader = reader.old; records = []; left = H.left host.old })
         (record { reader = reader.new; records = records.new.items; left = H.left host.new }) result.1.0 }
-    ensures makes { IfOk result.1.1 (λ jobs. MakesBy context.now.plan.now
-        records.new.items front.old front.new jobs.items) }
+    ensures makes { IfOk result.1.1 (λ made. MakesBy context.now.plan.now
+        records.new.items front.old front.new made.jobs.items) }
+    ensures places { IfOk result.1.1 (λ made. PlacesBy context.now.plan.now
+        records.new.items front.old made.places.items) }
     ensures few { vec_len records.new ≤ most }
     ensures fewer { result.1.0 ≢ Reached.More → vec_len records.new < most }
     ensures further { result.1.0 ≡ Reached.More → number_of reader.old < number_of reader.new }
@@ -181,15 +188,17 @@ pub(crate) fn inspect_and_feed<H: Host, P: Pattern, G: Gate, R: Threads + Sync>(
             lanes.entry.now jobs.entry.now out lanes.exit.now) }
         ensures learns { OnOk result (LearnsBatch lanes.entry.now jobs.entry.now lanes.exit.now) }
     { inspect(context, jobs, groups, lanes) };
-    let mut feeding = || -> (Reached, Result<Vec<Job>, NoMemory>)
+    let mut feeding = || -> (Reached, Result<Made, NoMemory>)
         requires { IsSoundPlan context.now.plan.now × (IsFresh reader.now) × (0 < most)
             × (records.now.items ≡ []) × (number_of reader.now ≤ most_records)
             × (front.now.counts.records ≤ number_of reader.now) }
         ensures reads { FeedsOn
             (record { reader = reader.entry.now; records = []; left = H.left host.entry.now })
             (record { reader = reader.exit.now; records = records.exit.now.items; left = H.left host.exit.now }) result.0 }
-        ensures makes { IfOk result.1 (λ jobs. MakesBy context.entry.now.plan.now
-            records.exit.now.items front.entry.now front.exit.now jobs.items) }
+        ensures makes { IfOk result.1 (λ made. MakesBy context.entry.now.plan.now
+            records.exit.now.items front.entry.now front.exit.now made.jobs.items) }
+        ensures places { IfOk result.1 (λ made. PlacesBy context.entry.now.plan.now
+            records.exit.now.items front.entry.now made.places.items) }
         ensures few { vec_len records.exit.now ≤ most }
         ensures fewer { result.0 ≢ Reached.More → vec_len records.exit.now < most }
         ensures further { result.0 ≡ Reached.More → number_of reader.entry.now < number_of reader.exit.now }
@@ -212,11 +221,14 @@ pub(crate) fn inspect_and_feed<H: Host, P: Pattern, G: Gate, R: Threads + Sync>(
     }
 }
 
-/// Makes the lines of what the lanes found in a batch of jobs, and writes them whole.
+/// Makes the lines of what the lanes found in a batch of jobs, and writes them whole; and keeps the last of
+/// the records that they were made of.
 #[tactic(auto, using(crate::proofs::Prefixes::rising))]
 pub(crate) fn show_found<P: Pattern, A: Sink>(
     plan: &Plan<'_, P>,
     found: &BatchOut,
+    records: &mut Vec<LinkedRecord>,
+    places: &[usize],
     inspection: &mut Inspection,
     alerts: &mut A,
 ) -> Result<(), Stop>
@@ -225,14 +237,17 @@ pub(crate) fn show_found<P: Pattern, A: Sink>(
     ensures shown { (matches : Test) → IsTest P.finds plan.now.set.now matches
         → (jobs : List Job) (lanes : LanesState)
         → AnswersBy P.finds plan.now lanes jobs found.now inspection.old.lanes
-        → OnOk result (ShowsJobs (plan_of matches plan.now) jobs
+        → OnOk result (ShowsJobs (plan_of matches plan.now)
+        (by_place (source_in records.old.items inspection.old.last places.now) 0 jobs)
         (record { inspection = at_lanes lanes inspection.old; written = A.written alerts.old })
         (record { inspection = inspection.new; written = A.written alerts.new })) }
     ensures stopped { (matches : Test) → IsTest P.finds plan.now.set.now matches
         → (jobs : List Job) (lanes : LanesState)
         → AnswersBy P.finds plan.now lanes jobs found.now inspection.old.lanes
-        → OnErr result (ShowsJobsPart (plan_of matches plan.now) jobs
+        → OnErr result (ShowsJobsPart (plan_of matches plan.now)
+        (by_place (source_in records.old.items inspection.old.last places.now) 0 jobs)
         (record { inspection = at_lanes lanes inspection.old; written = A.written alerts.old }) (A.written alerts.new)) }
+    ensures last { OnOk result (inspection.new.last ≡ last_behind inspection.old.last records.old.items) }
     ensures lanes { inspection.new.lanes ≡ inspection.old.lanes }
     ensures groups { inspection.new.groups ≡ inspection.old.groups }
     ensures emptied { OnOk result (inspection.new.events.block.items ≡ []) }
@@ -241,42 +256,64 @@ pub(crate) fn show_found<P: Pattern, A: Sink>(
     ensures later { A.faults alerts.old ≤ A.faults alerts.new }
 {
     inspection.tries = sum(inspection.tries, found.tries)?;
+    let sources = Sources { records, places };
     show_hits(
         plan.config,
         plan.set.rules(),
+        plan.form,
+        sources,
+        &inspection.last,
         found.hits.as_slice(),
         &mut inspection.events,
         alerts,
     )?;
-    offer(&mut inspection.events.block, alerts)
+    offer(&mut inspection.events.block, alerts)?;
+    keep_last(records, &mut inspection.last);
+    Ok(())
 }
 
-/// Writes the lines of a batch of jobs, whole.
+/// Writes the lines of a batch of jobs, whole, and keeps the last of the records that they were made of.
 #[tactic(auto, using(crate::proofs::Prefixes::rising))]
 pub(crate) fn show_jobs<P: Pattern, G: Gate, A: Sink, R: Threads + Sync>(
     context: &Context<'_, P, G, R>,
-    jobs: &[Job],
+    made: &Made,
+    records: &mut Vec<LinkedRecord>,
     inspection: &mut Inspection,
     alerts: &mut A,
 ) -> Result<(), Stop>
     requires plan { IsSoundPlan context.now.plan.now }
-    requires ready { AreReadyBy context.now.plan.now inspection.old.lanes jobs.now }
+    requires ready { AreReadyBy context.now.plan.now inspection.old.lanes made.now.jobs.items }
     requires groups { StandFor inspection.old.groups context.now.plan.now.set.now.rules }
     requires none { inspection.old.events.block.items ≡ [] }
     ensures shown { (matches : Test) → IsTest P.finds context.now.plan.now.set.now matches
-        → OnOk result (ShowsJobs (plan_of matches context.now.plan.now) jobs.now
+        → OnOk result (ShowsJobs (plan_of matches context.now.plan.now)
+        (by_place (source_in records.old.items inspection.old.last made.now.places.items) 0 made.now.jobs.items)
         (record { inspection = inspection.old; written = A.written alerts.old })
         (record { inspection = inspection.new; written = A.written alerts.new })) }
     ensures stopped { (matches : Test) → IsTest P.finds context.now.plan.now.set.now matches
-        → OnErr result (ShowsJobsPart (plan_of matches context.now.plan.now) jobs.now
+        → OnErr result (ShowsJobsPart (plan_of matches context.now.plan.now)
+        (by_place (source_in records.old.items inspection.old.last made.now.places.items) 0 made.now.jobs.items)
         (record { inspection = inspection.old; written = A.written alerts.old }) (A.written alerts.new)) }
-    ensures learns { OnOk result (LearnsBatch inspection.old.lanes jobs.now inspection.new.lanes) }
+    ensures last { OnOk result (inspection.new.last ≡ last_behind inspection.old.last records.old.items) }
+    ensures learns { OnOk result (LearnsBatch inspection.old.lanes made.now.jobs.items inspection.new.lanes) }
     ensures groups_stay { OnOk result (inspection.new.groups ≡ inspection.old.groups) }
     ensures emptied { OnOk result (inspection.new.events.block.items ≡ []) }
     ensures kind { IfErr result IsShowStop }
     ensures fault { IsErrOf result Stop.CannotWrite → Rose (A.faults alerts.old) (A.faults alerts.new) }
     ensures later { A.faults alerts.old ≤ A.faults alerts.new }
 {
-    let found = inspect(context, jobs, &inspection.groups, &mut inspection.lanes)?;
-    show_found(context.plan, &found, inspection, alerts)
+    let found = inspect(
+        context,
+        &made.jobs,
+        &inspection.groups,
+        &mut inspection.lanes,
+    )?;
+    show_found(
+        context.plan,
+        &found,
+        records,
+        &made.places,
+        inspection,
+        alerts,
+    )
 }

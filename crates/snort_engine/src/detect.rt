@@ -8,6 +8,8 @@ ghost use Rattle.flow_lanes.specs.Standing.{LearnsBatch};
 ghost use Rattle.record_jobs.specs.Way as ways;
 ghost use Rattle.record_jobs.specs.Ready.{AreReady};
 ghost use Rattle.record_jobs.specs.Fronts.{GivesFinishes};
+ghost use Rattle.snort_engine.specs.Beside.{by_place};
+ghost use Rattle.snort_engine.specs.Sourcing.{PlacesJobs, source_by};
 ghost use Rattle.snort_engine.specs.Watching.{plan_of, IsTest, IsShowStop};
 ghost use Rattle.snort_engine.specs.Detecting.{IsSoundPlan, IsNewInspection, counted, MakesJobs, Runs, RunsPart, Knows, DetectorStands, ShowsRecords, ShowsRecordsPart, Closes, ClosesPart};
 
@@ -16,6 +18,7 @@ use crate::events::{Events, show_hits};
 use crate::lines::offer;
 use crate::plan::{Plan, front_config};
 use crate::reader::LinkedRecord;
+use crate::sources::{Made, Sources, keep_last};
 use crate::stop::Stop;
 use edge_io::{Gate, NoMemory, Pattern, Sink};
 use fast_pattern::Groups;
@@ -33,6 +36,8 @@ pub(crate) struct Inspection {
     pub events: Events,
     /// How many rules were worth being tried, over all items.
     pub tries: u128,
+    /// The last record that was shown: the alerts of the flows that end with the capture are of it.
+    pub last: LinkedRecord,
 }
 
 /// What records go through: they are made into jobs, and these are inspected.
@@ -68,6 +73,7 @@ impl Inspection {
             groups: groups_of(alloc, rules)?,
             events: Events::new(alloc, plan.config, rules)?,
             tries: 0,
+            last: LinkedRecord::none(alloc),
         })
     }
 
@@ -100,24 +106,30 @@ impl Detector {
     }
 }
 
-/// The jobs of records, one behind another.
+/// The jobs of records, one behind another, and the place of each one's record.
 pub(crate) fn make_jobs(
     alloc: Global,
     by: &FrontConfig<'_>,
     records: &[LinkedRecord],
     front: &mut Front,
-) -> Result<Vec<Job>, NoMemory>
+) -> Result<Made, NoMemory>
     requires sound { conf.IsSound by.now.config.now }
     requires few { front.old.counts.records + length records.now ≤ 2 ^ 32 }
-    ensures makes { IfOk result (λ jobs. MakesJobs (ways.way_of by.now) records.now
-        front.old front.new jobs.items) }
+    ensures makes { IfOk result (λ made. MakesJobs (ways.way_of by.now) records.now
+        front.old front.new made.jobs.items) }
+    ensures places { IfOk result (λ made. PlacesJobs (ways.way_of by.now) records.now
+        front.old made.places.items) }
     ensures records { OnOk result (front.new.counts.records ≡ front.old.counts.records + length records.now) }
 {
     let mut jobs = Vec::new(alloc);
+    let mut places = Vec::new(alloc);
+    let mut place = 0;
     for record in records {
         front.jobs(alloc, by, record.link(), record.captured(), &mut jobs)?;
+        places.resize(jobs.len(), place)?;
+        place += 1;
     }
-    Ok(jobs)
+    Ok(Made { jobs, places })
 }
 
 /// Runs a batch of jobs, and makes the lines of what it finds, behind those that wait.
@@ -128,6 +140,7 @@ fn run_jobs<P: Pattern, G: Gate, A: Sink, R: Threads + Sync>(
     plan: &Plan<'_, P>,
     gate: &G,
     jobs: &[Job],
+    sources: Sources<'_>,
     inspection: &mut Inspection,
     alerts: &mut A,
 ) -> Result<(), Stop>
@@ -135,14 +148,17 @@ fn run_jobs<P: Pattern, G: Gate, A: Sink, R: Threads + Sync>(
     requires ready { AreReady (length plan.now.config.now.stream.engines) inspection.old.lanes jobs.now }
     requires groups { StandFor inspection.old.groups plan.now.set.now.rules }
     ensures shown { (matches : Test) → IsTest P.finds plan.now.set.now matches
-        → OnOk result (Runs (plan_of matches plan.now) jobs.now
+        → OnOk result (Runs (plan_of matches plan.now)
+        (by_place (source_by sources.entry inspection.old.last) 0 jobs.now)
         (record { inspection = inspection.old; written = A.written alerts.old })
         (record { inspection = inspection.new; written = A.written alerts.new })) }
     ensures stopped { (matches : Test) → IsTest P.finds plan.now.set.now matches
-        → OnErr result (RunsPart (plan_of matches plan.now) jobs.now
+        → OnErr result (RunsPart (plan_of matches plan.now)
+        (by_place (source_by sources.entry inspection.old.last) 0 jobs.now)
         (record { inspection = inspection.old; written = A.written alerts.old }) (A.written alerts.new)) }
     ensures learns { OnOk result (LearnsBatch inspection.old.lanes jobs.now inspection.new.lanes) }
     ensures groups_stay { OnOk result (inspection.new.groups ≡ inspection.old.groups) }
+    ensures last_stays { OnOk result (inspection.new.last ≡ inspection.old.last) }
     ensures kind { IfErr result IsShowStop }
     ensures fault { IsErrOf result Stop.CannotWrite → Rose (A.faults alerts.old) (A.faults alerts.new) }
     ensures later { A.faults alerts.old ≤ A.faults alerts.new }
@@ -160,50 +176,56 @@ fn run_jobs<P: Pattern, G: Gate, A: Sink, R: Threads + Sync>(
     show_hits(
         plan.config,
         plan.set.rules(),
+        plan.form,
+        sources,
+        &inspection.last,
         out.hits.as_slice(),
         &mut inspection.events,
         alerts,
     )
 }
 
-/// Writes the lines of a batch of records, whole.
+/// Writes the lines of a batch of records, whole, and keeps its last record: what was kept before stands
+/// in its place then.
 #[tactic(auto, using(crate::proofs::Prefixes::rising))]
 pub(crate) fn show_records<P: Pattern, G: Gate, A: Sink, R: Threads + Sync>(
     rt: &R,
     alloc: Global,
     plan: &Plan<'_, P>,
     gate: &G,
-    records: &[LinkedRecord],
+    records: &mut Vec<LinkedRecord>,
     detector: &mut Detector,
     alerts: &mut A,
 ) -> Result<(), Stop>
     requires plan { IsSoundPlan plan.now }
     requires known { Knows plan.now detector.old }
-    requires few { detector.old.front.counts.records + length records.now ≤ 2 ^ 32 }
+    requires few { detector.old.front.counts.records + length records.old.items ≤ 2 ^ 32 }
     ensures shown { (matches : Test) → IsTest P.finds plan.now.set.now matches
-        → OnOk result (ShowsRecords (plan_of matches plan.now) records.now
+        → OnOk result (ShowsRecords (plan_of matches plan.now) records.old.items
         (record { detector = detector.old; written = A.written alerts.old })
         (record { detector = detector.new; written = A.written alerts.new })) }
     ensures stopped { (matches : Test) → IsTest P.finds plan.now.set.now matches
-        → OnErr result (ShowsRecordsPart (plan_of matches plan.now) records.now
+        → OnErr result (ShowsRecordsPart (plan_of matches plan.now) records.old.items
         (record { detector = detector.old; written = A.written alerts.old }) (A.written alerts.new)) }
     ensures known { OnOk result (Knows plan.now detector.new) }
-    ensures records { OnOk result (detector.new.front.counts.records ≡ detector.old.front.counts.records + length records.now) }
+    ensures records { OnOk result (detector.new.front.counts.records
+        ≡ detector.old.front.counts.records + length records.old.items) }
     ensures kind { IfErr result IsShowStop }
     ensures fault { IsErrOf result Stop.CannotWrite → Rose (A.faults alerts.old) (A.faults alerts.new) }
     ensures later { A.faults alerts.old ≤ A.faults alerts.new }
 {
-    let jobs = make_jobs(alloc, &front_config(plan), records, &mut detector.front)?;
+    let made = make_jobs(alloc, &front_config(plan), records, &mut detector.front)?;
+    let inspection = &mut detector.inspection;
+    let sources = Sources {
+        records,
+        places: &made.places,
+    };
     run_jobs(
-        rt,
-        alloc,
-        plan,
-        gate,
-        &jobs,
-        &mut detector.inspection,
-        alerts,
+        rt, alloc, plan, gate, &made.jobs, sources, inspection, alerts,
     )?;
-    offer(&mut detector.inspection.events.block, alerts)
+    offer(&mut inspection.events.block, alerts)?;
+    keep_last(records, &mut inspection.last);
+    Ok(())
 }
 
 /// The jobs behind all records.
@@ -245,7 +267,21 @@ pub(crate) fn close<P: Pattern, G: Gate, A: Sink, R: Threads + Sync>(
     } = detector;
     let seen = front.counts();
     let jobs = last_jobs(alloc, front)?;
-    run_jobs(rt, alloc, plan, gate, &jobs, &mut inspection, alerts)?;
+    // All of them are of the last record.
+    let sources = Sources {
+        records: &[],
+        places: &[],
+    };
+    run_jobs(
+        rt,
+        alloc,
+        plan,
+        gate,
+        &jobs,
+        sources,
+        &mut inspection,
+        alerts,
+    )?;
     offer(&mut inspection.events.block, alerts)?;
     Ok(inspection.counts(seen))
 }

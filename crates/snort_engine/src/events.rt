@@ -1,13 +1,18 @@
-//! Items with the rules that match them: their events, and the lines of those that are kept.
-ghost use Rattle.std.specs.Prelude.{◌≡◌, ◌+◌, ◌≤◌, [], ◌∷◌, All, OnOk, OnErr, IfOk, IfErr, IsErrOf};
+//! Items with the rules that match them: their events, and the texts of those that are kept.
+ghost use Rattle.std.specs.Prelude.{◌≡◌, ◌+◌, ◌≤◌, [], ◌∷◌, All, OnOk, OnErr, IfOk, IfErr, IsErrOf, map};
 ghost use Rattle.edge_io.specs.Told.{Rose};
 ghost use Rattle.conf_types.specs.Sound as conf;
 ghost use Rattle.rule_types.specs.Sound.{IsSound};
 ghost use Rattle.snort_engine.specs.Watching.{IsShowStop};
-ghost use Rattle.snort_engine.specs.Showing.{EventsStand, Shows, ShowsPart, hits_in};
+ghost use Rattle.snort_engine.specs.Beside.{beside, by_place};
+ghost use Rattle.snort_engine.specs.Showing.{EventsStand, Shows, ShowsPart};
+ghost use Rattle.snort_engine.specs.Sourcing.{source_by, told_in};
 
 use crate::counts::sum;
-use crate::lines::show_places;
+use crate::form::Form;
+use crate::lines::{Subject, show_places};
+use crate::reader::LinkedRecord;
+use crate::sources::Sources;
 use crate::stop::Stop;
 use conf_parser::Config;
 use edge_io::{NoMemory, Sink};
@@ -22,12 +27,12 @@ pub(crate) struct Tally {
     pub items: u128,
     /// Rules that match, over all items.
     pub hits: u128,
-    /// Lines.
+    /// Alerts.
     pub alerts: u128,
 }
 
 impl Tally {
-    /// One item more, with so many rules that match it and so many lines.
+    /// One item more, with so many rules that match it and so many alerts.
     fn with(self, hits: usize, alerts: usize) -> Result<Tally, NoMemory>
         ensures { IfOk result (λ tally. tally ≡ record { items = self.items + 1; hits = self.hits + hits; alerts = self.alerts + alerts }) }
     {
@@ -46,7 +51,7 @@ pub(crate) struct Events {
     pub tally: Tally,
     /// The places of the rules whose events of the item at hand are kept: they stand here for their memory.
     pub kept: Vec<u32>,
-    /// The lines that wait for a write.
+    /// The texts that wait for a write.
     pub block: Vec<u8>,
 }
 
@@ -71,20 +76,22 @@ impl Events {
     }
 }
 
-/// Makes the lines of an item, behind those that wait.
+/// Makes the texts of an item, behind those that wait.
 #[tactic(auto, using(crate::proofs::Prefixes::rising))]
 fn show_item<A: Sink>(
     config: &Config,
     rules: &[Rule],
+    form: Form,
+    origin: &LinkedRecord,
     hits: &Hits,
     events: &mut Events,
     alerts: &mut A,
 ) -> Result<(), Stop>
     requires { All (IsSound config.now.classes) rules.now }
-    ensures shown { OnOk result (Shows config.now rules.now (hits.now ∷ [])
+    ensures shown { OnOk result (Shows form config.now rules.now (beside origin.now hits.now ∷ [])
         (record { events = events.old; written = A.written alerts.old })
         (record { events = events.new; written = A.written alerts.new })) }
-    ensures stopped { OnErr result (ShowsPart config.now rules.now (hits.now ∷ [])
+    ensures stopped { OnErr result (ShowsPart form config.now rules.now (beside origin.now hits.now ∷ [])
         (record { events = events.old; written = A.written alerts.old }) (A.written alerts.new)) }
     ensures kind { IfErr result IsShowStop }
     ensures fault { IsErrOf result Stop.CannotWrite → Rose (A.faults alerts.old) (A.faults alerts.new) }
@@ -95,10 +102,16 @@ fn show_item<A: Sink>(
     events
         .filters
         .pass(config, rules, &hits.head, matching, &mut events.kept)?;
-    let count = show_places(
-        &config.classes,
+    let subject = Subject {
+        form,
+        classes: &config.classes,
         rules,
-        &hits.head,
+        origin,
+        head: &hits.head,
+    };
+    let count = show_places(
+        &subject,
+        events.tally.alerts,
         &events.kept,
         &mut events.block,
         alerts,
@@ -107,52 +120,63 @@ fn show_item<A: Sink>(
     Ok(())
 }
 
-/// Makes the lines of the items of a job, one behind another.
+/// Makes the texts of the items of a job, one behind another.
 #[tactic(auto, using(crate::proofs::Prefixes::rising))]
 fn show_items<A: Sink>(
     config: &Config,
     rules: &[Rule],
+    form: Form,
+    origin: &LinkedRecord,
     items: &[Hits],
     events: &mut Events,
     alerts: &mut A,
 ) -> Result<(), Stop>
     requires { All (IsSound config.now.classes) rules.now }
-    ensures shown { OnOk result (Shows config.now rules.now items.now
+    ensures shown { OnOk result (Shows form config.now rules.now (map (beside origin.now) items.now)
         (record { events = events.old; written = A.written alerts.old })
         (record { events = events.new; written = A.written alerts.new })) }
-    ensures stopped { OnErr result (ShowsPart config.now rules.now items.now
+    ensures stopped { OnErr result (ShowsPart form config.now rules.now (map (beside origin.now) items.now)
         (record { events = events.old; written = A.written alerts.old }) (A.written alerts.new)) }
     ensures kind { IfErr result IsShowStop }
     ensures fault { IsErrOf result Stop.CannotWrite → Rose (A.faults alerts.old) (A.faults alerts.new) }
     ensures later { A.faults alerts.old ≤ A.faults alerts.new }
 {
     for hits in items {
-        show_item(config, rules, hits, events, alerts)?;
+        show_item(config, rules, form, origin, hits, events, alerts)?;
     }
     Ok(())
 }
 
-/// Makes the lines of the items of jobs, in the order of the jobs.
+/// Makes the texts of the items of jobs, in the order of the jobs; `last` is the last record before theirs.
 #[tactic(auto, using(crate::proofs::Prefixes::rising))]
-pub(crate) fn show_hits<A: Sink>(
+pub(crate) fn show_hits<'a, A: Sink>(
     config: &Config,
     rules: &[Rule],
+    form: Form,
+    sources: Sources<'a>,
+    last: &'a LinkedRecord,
     jobs: &[JobHits],
     events: &mut Events,
     alerts: &mut A,
 ) -> Result<(), Stop>
     requires { All (IsSound config.now.classes) rules.now }
-    ensures shown { OnOk result (Shows config.now rules.now (hits_in jobs.now)
+    ensures shown { OnOk result (Shows form config.now rules.now
+        (told_in (by_place (source_by sources.entry last.now) 0 jobs.now))
         (record { events = events.old; written = A.written alerts.old })
         (record { events = events.new; written = A.written alerts.new })) }
-    ensures stopped { OnErr result (ShowsPart config.now rules.now (hits_in jobs.now)
+    ensures stopped { OnErr result (ShowsPart form config.now rules.now
+        (told_in (by_place (source_by sources.entry last.now) 0 jobs.now))
         (record { events = events.old; written = A.written alerts.old }) (A.written alerts.new)) }
     ensures kind { IfErr result IsShowStop }
     ensures fault { IsErrOf result Stop.CannotWrite → Rose (A.faults alerts.old) (A.faults alerts.new) }
     ensures later { A.faults alerts.old ≤ A.faults alerts.new }
 {
+    let mut place = 0;
     for job in jobs {
-        show_items(config, rules, job.items.as_slice(), events, alerts)?;
+        let origin = sources.of(last, place);
+        let items = job.items.as_slice();
+        show_items(config, rules, form, origin, items, events, alerts)?;
+        place += 1;
     }
     Ok(())
 }

@@ -7,7 +7,7 @@ ghost use Rattle.snort_engine.specs.Reader.{IsFresh, number_of};
 ghost use Rattle.snort_engine.specs.Stop.{is_whole, outcome_status};
 ghost use Rattle.snort_engine.specs.Detecting.{IsSoundPlan, Knows, DetectorStands};
 ghost use Rattle.snort_engine.specs.Watching.{plan_of, IsTest, ComesOver, StaysKnown, StaysFew};
-ghost use Rattle.snort_engine.specs.Ahead.{half_at, yet, CanReadOn, GoesAhead, KnowsAhead};
+ghost use Rattle.snort_engine.specs.Ahead.{half_at, waiting_in, yet, CanReadOn, GoesAhead, KnowsAhead};
 
 use crate::Status;
 use crate::ahead::{half_at, inspect_and_feed, show_found, show_jobs};
@@ -16,15 +16,17 @@ use crate::context::Context;
 use crate::detect::Detector;
 use crate::fault::ReadFault;
 use crate::reader::{LinkedRecord, RecordReader};
+use crate::sources::Made;
 use crate::stop::Stop;
 use edge_io::{Gate, Host, Pattern, Sink};
-use flow_lanes::Job;
+use std::mem::swap;
 use std::thread::Threads;
 
-/// Jobs that wait for the lanes, and what was reached behind their records.
+/// Jobs that wait for the lanes, with their records, and what was reached behind these.
 #[derive(Drop)]
 pub(crate) struct Ahead {
-    pub jobs: Vec<Job>,
+    pub records: Vec<LinkedRecord>,
+    pub made: Made,
     pub reached: Reached,
 }
 
@@ -54,7 +56,7 @@ fn watch_next<H: Host, P: Pattern, G: Gate, A: Sink, R: Threads + Sync>(
     alerts: &mut A,
 ) -> Result<bool, Stop>
     requires plan { IsSoundPlan context.now.plan.now }
-    requires known { KnowsAhead context.now.plan.now detector.old ahead.old.jobs.items }
+    requires known { KnowsAhead context.now.plan.now detector.old ahead.old.made.jobs.items }
     requires can { CanReadOn ahead.old.reached reader.old detector.old.front.counts.records }
     requires more { ahead.old.reached ≡ Reached.More }
     requires some { 0 < most }
@@ -67,17 +69,17 @@ fn watch_next<H: Host, P: Pattern, G: Gate, A: Sink, R: Threads + Sync>(
           room = room.old;
           detector = detector.old;
           streams = record { left = H.left host.old; written = A.written alerts.old };
-        }) ahead.old.jobs.items ahead.old.reached
+        }) (waiting_in ahead.old) ahead.old.reached
         (record {
           reader = reader.new;
           room = room.new;
           detector = detector.new;
           streams = record { left = H.left host.new; written = A.written alerts.new };
-        }) ahead.new.jobs.items ahead.new.reached result }
+        }) (waiting_in ahead.new) ahead.new.reached result }
     ensures further { result ≡ Ok true → yet ahead.new.reached reader.new < yet ahead.old.reached reader.old }
     ensures can { result ≡ Ok true → CanReadOn ahead.new.reached reader.new detector.new.front.counts.records }
     ensures emptied { OnOk result (records.new.items ≡ []) }
-    ensures known_ahead { result ≡ Ok true → KnowsAhead context.now.plan.now detector.new ahead.new.jobs.items }
+    ensures known_ahead { result ≡ Ok true → KnowsAhead context.now.plan.now detector.new ahead.new.made.jobs.items }
     ensures few_ahead { result ≡ Ok true → detector.new.front.counts.records ≤ most_records }
     ensures goes { result ≢ Ok true → is_whole result ≡ false }
     ensures write_fault { IsErrOf result Stop.CannotWrite → Rose (A.faults alerts.old) (A.faults alerts.new) }
@@ -89,9 +91,9 @@ fn watch_next<H: Host, P: Pattern, G: Gate, A: Sink, R: Threads + Sync>(
     ensures later { H.faults host.old ≤ H.faults host.new }
     ensures later_alerts { A.faults alerts.old ≤ A.faults alerts.new }
 {
-    let (found, (reached, jobs)) = inspect_and_feed(
+    let (found, (reached, made)) = inspect_and_feed(
         context,
-        &ahead.jobs,
+        &ahead.made.jobs,
         &detector.inspection.groups,
         &mut detector.inspection.lanes,
         host,
@@ -101,12 +103,18 @@ fn watch_next<H: Host, P: Pattern, G: Gate, A: Sink, R: Threads + Sync>(
         &mut detector.front,
     );
     *room = room_behind(*room, records.len());
-    give_back(context.alloc, reader, records);
-    show_found(context.plan, &found?, &mut detector.inspection, alerts)?;
-    *ahead = Ahead {
-        jobs: jobs?,
-        reached,
-    };
+    show_found(
+        context.plan,
+        &found?,
+        &mut ahead.records,
+        &ahead.made.places,
+        &mut detector.inspection,
+        alerts,
+    )?;
+    give_back(context.alloc, reader, &mut ahead.records);
+    swap(records, &mut ahead.records);
+    ahead.made = made?;
+    ahead.reached = reached;
     Ok(true)
 }
 
@@ -125,7 +133,7 @@ fn watch_half<H: Host, P: Pattern, G: Gate, A: Sink, R: Threads + Sync>(
     alerts: &mut A,
 ) -> Result<bool, Stop>
     requires plan { IsSoundPlan context.now.plan.now }
-    requires known { KnowsAhead context.now.plan.now detector.old ahead.old.jobs.items }
+    requires known { KnowsAhead context.now.plan.now detector.old ahead.old.made.jobs.items }
     requires can { CanReadOn ahead.old.reached reader.old detector.old.front.counts.records }
     requires few { detector.old.front.counts.records ≤ most_records }
     requires no_records { records.old.items ≡ [] }
@@ -136,17 +144,17 @@ fn watch_half<H: Host, P: Pattern, G: Gate, A: Sink, R: Threads + Sync>(
           room = room.old;
           detector = detector.old;
           streams = record { left = H.left host.old; written = A.written alerts.old };
-        }) ahead.old.jobs.items ahead.old.reached
+        }) (waiting_in ahead.old) ahead.old.reached
         (record {
           reader = reader.new;
           room = room.new;
           detector = detector.new;
           streams = record { left = H.left host.new; written = A.written alerts.new };
-        }) ahead.new.jobs.items ahead.new.reached result }
+        }) (waiting_in ahead.new) ahead.new.reached result }
     ensures further { result ≡ Ok true → yet ahead.new.reached reader.new < yet ahead.old.reached reader.old }
     ensures can { result ≡ Ok true → CanReadOn ahead.new.reached reader.new detector.new.front.counts.records }
     ensures emptied { OnOk result (records.new.items ≡ []) }
-    ensures known_ahead { result ≡ Ok true → KnowsAhead context.now.plan.now detector.new ahead.new.jobs.items }
+    ensures known_ahead { result ≡ Ok true → KnowsAhead context.now.plan.now detector.new ahead.new.made.jobs.items }
     ensures few_ahead { result ≡ Ok true → detector.new.front.counts.records ≤ most_records }
     ensures known { result ≢ Ok true → StaysKnown context.now.plan.now detector.new result }
     ensures few { StaysFew detector.new result }
@@ -165,7 +173,13 @@ fn watch_half<H: Host, P: Pattern, G: Gate, A: Sink, R: Threads + Sync>(
             context, host, reader, most, room, records, ahead, detector, alerts,
         );
     }
-    show_jobs(context, &ahead.jobs, &mut detector.inspection, alerts)?;
+    show_jobs(
+        context,
+        &ahead.made,
+        &mut ahead.records,
+        &mut detector.inspection,
+        alerts,
+    )?;
     more(ahead.reached)?;
     Ok(false)
 }
@@ -202,7 +216,11 @@ pub(crate) fn watch_halves<H: Host, P: Pattern, G: Gate, A: Sink, R: Threads + S
     let mut room = context.plan.limit;
     let mut records = Vec::new(context.alloc);
     let mut ahead = Ahead {
-        jobs: Vec::new(context.alloc),
+        records: Vec::new(context.alloc),
+        made: Made {
+            jobs: Vec::new(context.alloc),
+            places: Vec::new(context.alloc),
+        },
         reached: Reached::More,
     };
     'halves: while watch_half(

@@ -23,6 +23,7 @@ mod detect;
 mod detector;
 mod events;
 mod fault;
+mod form;
 mod halves;
 mod laws;
 mod lines;
@@ -32,8 +33,10 @@ mod plan;
 mod prepare;
 mod reader;
 mod report;
+mod sources;
 mod status;
 mod stop;
+mod unified2;
 mod watch;
 
 pub use detector::run;

@@ -1,24 +1,40 @@
-//! Alert lines on their way to the sink: they are made one behind another, and written in blocks.
-ghost use Rattle.std.specs.Prelude.{◌≡◌, ◌<◌, ◌≤◌, [], ◌∷◌, ◌++◌, length, All, OnOk, OnErr, IfOk, IfErr, IsErrOf};
+//! Alerts on their way to the sink: their texts are made one behind another, and written in blocks.
+ghost use Rattle.std.specs.Prelude.{◌≡◌, ◌+◌, ◌<◌, ◌≤◌, [], ◌∷◌, ◌++◌, length, All, OnOk, OnErr, IfOk, IfErr, IsErrOf};
 ghost use Rattle.std.specs.Option.{ForSome};
 ghost use Rattle.edge_io.specs.Told.{behind, Rose};
 ghost use Rattle.rule_types.specs.Sound.{IsSound};
 ghost use Rattle.snort_engine.specs.Outside.{WritesPart};
-ghost use Rattle.snort_engine.specs.Trace.{alert_of};
+ghost use Rattle.snort_engine.specs.Beside.{beside};
+ghost use Rattle.snort_engine.specs.Trace.{event_of};
 ghost use Rattle.snort_engine.specs.Lines.{text_of};
 ghost use Rattle.snort_engine.specs.Gathering.{Gathers};
 ghost use Rattle.snort_engine.specs.Watching.{IsShowStop};
-ghost use Rattle.snort_engine.specs.Showing.{ShowsPlaces, places_lines};
+ghost use Rattle.snort_engine.specs.Showing.{ShowsPlaces, places_lines, subject_of};
 
+use crate::counts::sum;
+use crate::form::Form;
+use crate::reader::LinkedRecord;
 use crate::stop::Stop;
+use crate::unified2::push_records;
 use alert_fast::line;
 use conf_parser::Classes;
-use edge_io::{Sink, write_all};
+use edge_io::{NoMemory, Sink, write_all};
 use packet_decode::ItemHead;
 use rule_parser::Rule;
 
-/// How many bytes of lines wait for a write at most, but for the last line.
+/// How many bytes of alerts wait for a write at most, but for the last alert.
 const BLOCK: usize = 65_536;
+
+/// An item whose events are shown: in which form, by which classes and rules, and the record whose
+/// decoding made its job.
+#[derive(Clone, Copy)]
+pub(crate) struct Subject<'a> {
+    pub form: Form,
+    pub classes: &'a Classes,
+    pub rules: &'a [Rule],
+    pub origin: &'a LinkedRecord,
+    pub head: &'a ItemHead,
+}
 
 /// Writes the lines that wait, whole.
 pub(crate) fn offer<A: Sink>(block: &mut Vec<u8>, alerts: &mut A) -> Result<(), Stop>
@@ -54,80 +70,100 @@ fn offer_full<A: Sink>(block: &mut Vec<u8>, alerts: &mut A) -> Result<(), Stop>
     offer(block, alerts)
 }
 
-/// Makes the line of a rule that alerts on an item, behind those that wait.
+/// Appends the text of a rule that alerts on an item, behind so many alerts.
+fn push_alert(
+    subject: &Subject<'_>,
+    before: u128,
+    rule: &Rule,
+    out: &mut Vec<u8>,
+) -> Result<(), NoMemory>
+    requires { ForSome rule.now.class (λ class. class < length subject.now.classes.now) }
+    ensures { OnOk result (out.new.items ≡ out.old.items
+        ++ text_of subject.now.form subject.now.classes.now before
+        (beside subject.now.origin.now (event_of subject.now.head.now rule.now))) }
+{
+    match subject.form {
+        Form::Lines => line(subject.head, rule, subject.classes, out),
+        Form::Unified2 => push_records(before, subject.origin, subject.head, rule, out),
+    }
+}
+
+/// Makes the text of a rule that alerts on an item, behind those that wait; so many alerts came before.
 #[tactic(auto, using(crate::proofs::Prefixes::rising))]
 fn show_line<A: Sink>(
-    classes: &Classes,
-    head: &ItemHead,
+    subject: &Subject<'_>,
+    before: u128,
     rule: &Rule,
     block: &mut Vec<u8>,
     alerts: &mut A,
 ) -> Result<(), Stop>
-    requires { ForSome rule.now.class (λ class. class < length classes.now) }
-    ensures shown { OnOk result (Gathers (text_of classes.now (alert_of head.now rule.now))
+    requires { ForSome rule.now.class (λ class. class < length subject.now.classes.now) }
+    ensures shown { OnOk result (Gathers (text_of subject.now.form subject.now.classes.now before
+        (beside subject.now.origin.now (event_of subject.now.head.now rule.now)))
         (record { written = A.written alerts.old; block = block.old.items })
         (record { written = A.written alerts.new; block = block.new.items })) }
     ensures stopped { OnErr result (WritesPart (A.written alerts.old)
-        (block.old.items ++ text_of classes.now (alert_of head.now rule.now)) (A.written alerts.new)) }
+        (block.old.items ++ text_of subject.now.form subject.now.classes.now before
+        (beside subject.now.origin.now (event_of subject.now.head.now rule.now))) (A.written alerts.new)) }
     ensures kind { IfErr result IsShowStop }
     ensures fault { IsErrOf result Stop.CannotWrite → Rose (A.faults alerts.old) (A.faults alerts.new) }
     ensures later { A.faults alerts.old ≤ A.faults alerts.new }
 {
-    line(head, rule, classes, block)?;
+    push_alert(subject, before, rule, block)?;
     offer_full(block, alerts)
 }
 
-/// Makes the line of the rule at a place, on an item. It tells how many lines these are.
+/// Makes the text of the rule at a place, on an item. It tells how many alerts these are.
 #[tactic(auto, using(crate::proofs::Prefixes::rising))]
 fn show_place<A: Sink>(
-    classes: &Classes,
-    rules: &[Rule],
-    head: &ItemHead,
+    subject: &Subject<'_>,
+    before: u128,
     place: u32,
     block: &mut Vec<u8>,
     alerts: &mut A,
 ) -> Result<usize, Stop>
-    requires { All (IsSound classes.now) rules.now }
-    ensures shown { IfOk result (λ count. ShowsPlaces classes.now rules.now head.now (place ∷ []) count
+    requires { All (IsSound subject.now.classes.now) subject.now.rules.now }
+    ensures shown { IfOk result (λ count. ShowsPlaces (subject_of subject.now) before (place ∷ []) count
         (record { written = A.written alerts.old; block = block.old.items })
         (record { written = A.written alerts.new; block = block.new.items })) }
     ensures few { IfOk result (λ count. count ≤ 1) }
     ensures stopped { OnErr result (WritesPart (A.written alerts.old)
-        (block.old.items ++ places_lines classes.now rules.now head.now (place ∷ [])) (A.written alerts.new)) }
+        (block.old.items ++ places_lines (subject_of subject.now) before (place ∷ [])) (A.written alerts.new)) }
     ensures kind { IfErr result IsShowStop }
     ensures fault { IsErrOf result Stop.CannotWrite → Rose (A.faults alerts.old) (A.faults alerts.new) }
     ensures later { A.faults alerts.old ≤ A.faults alerts.new }
 {
-    let Some(rule) = rules.get(place as usize) else {
+    let Some(rule) = subject.rules.get(place as usize) else {
         return Ok(0);
     };
-    show_line(classes, head, rule, block, alerts)?;
+    show_line(subject, before, rule, block, alerts)?;
     Ok(1)
 }
 
-/// Makes the lines of the rules at these places, on an item. It tells how many lines these are.
+/// Makes the texts of the rules at these places, on an item, behind so many alerts. It tells how many
+/// alerts these are.
 #[tactic(auto, using(crate::proofs::Prefixes::rising))]
 pub(crate) fn show_places<A: Sink>(
-    classes: &Classes,
-    rules: &[Rule],
-    head: &ItemHead,
+    subject: &Subject<'_>,
+    before: u128,
     places: &[u32],
     block: &mut Vec<u8>,
     alerts: &mut A,
 ) -> Result<usize, Stop>
-    requires { All (IsSound classes.now) rules.now }
-    ensures shown { IfOk result (λ count. ShowsPlaces classes.now rules.now head.now places.now count
+    requires { All (IsSound subject.now.classes.now) subject.now.rules.now }
+    ensures shown { IfOk result (λ count. ShowsPlaces (subject_of subject.now) before places.now count
         (record { written = A.written alerts.old; block = block.old.items })
         (record { written = A.written alerts.new; block = block.new.items })) }
     ensures stopped { OnErr result (WritesPart (A.written alerts.old)
-        (block.old.items ++ places_lines classes.now rules.now head.now places.now) (A.written alerts.new)) }
+        (block.old.items ++ places_lines (subject_of subject.now) before places.now) (A.written alerts.new)) }
     ensures kind { IfErr result IsShowStop }
     ensures fault { IsErrOf result Stop.CannotWrite → Rose (A.faults alerts.old) (A.faults alerts.new) }
     ensures later { A.faults alerts.old ≤ A.faults alerts.new }
 {
     let mut count = 0;
     for place in places {
-        count += show_place(classes, rules, head, *place, block, alerts)?;
+        let number = sum(before, count as u128)?;
+        count += show_place(subject, number, *place, block, alerts)?;
     }
     Ok(count)
 }

@@ -3,6 +3,7 @@ ghost use Rattle.record_jobs.specs.Way as ways;
 ghost use Rattle.snort_engine.specs.Trace.{way_by};
 ghost use Rattle.snort_engine.specs.Sources.{source_name};
 
+use crate::form::Form;
 use conf_parser::Config;
 use host_table::Hosts;
 use option_eval::RuleSet;
@@ -49,6 +50,8 @@ pub(crate) struct Plan<'a, P> {
     pub lanes: u32,
     /// How many bytes of a stream are acknowledged at least before they are an item, 1 to 65536.
     pub flush: u32,
+    /// The form in which alerts are written.
+    pub form: Form,
     /// The counts of the run are told.
     pub counted: bool,
 }

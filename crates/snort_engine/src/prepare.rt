@@ -13,12 +13,13 @@ ghost use Rattle.snort_setup.specs.Words.{words_of, HasName};
 ghost use Rattle.snort_setup.specs.Answers as setup_specs;
 ghost use Rattle.snort_setup.specs.Steps.{grown_by, Grows};
 ghost use Rattle.snort_setup.specs.Whole.{ready_of};
-ghost use Rattle.snort_engine.specs.Course.{IsForMade, setup_words, checks_of, way_of};
+ghost use Rattle.snort_engine.specs.Course.{IsForMade, setup_words, checks_of, form_of, way_of};
 ghost use Rattle.snort_engine.specs.Preparing.{IsPrepared, IsSetUp, KeepsSetup, HasCause, IsForFaultyWords, way_for, told_of, way_by};
 ghost use Rattle.snort_engine.specs.Sources.{source_name, IsMade, IsSourceFor, way_from};
 ghost use Rattle.snort_engine.specs.Watching.{plan_of};
 ghost use Rattle.snort_engine.specs.Detecting.{IsRanged};
 
+use crate::form::Form;
 use crate::plan::{Plan, Source};
 use crate::stop::Stop;
 use command_words::{ChecksumMode, Command, Words, WordsFault, read_words};
@@ -40,6 +41,8 @@ pub(crate) struct Prepared<'a, P> {
     pub lanes: u32,
     /// How many bytes of a stream are acknowledged at least before they are an item, 1 to 65536.
     pub flush: u32,
+    /// The form in which alerts are written.
+    pub form: Form,
     /// The counts of the run are told.
     pub counted: bool,
     pub setup: Setup<P>,
@@ -65,7 +68,19 @@ pub(crate) fn plan_for<'a, P>(prepared: &'a Prepared<'_, P>) -> Plan<'a, P>
         set: &prepared.setup.set,
         lanes: prepared.lanes,
         flush: prepared.flush,
+        form: prepared.form,
         counted: prepared.counted,
+    }
+}
+
+/// The form of alerts.
+fn form_of(unified2: bool) -> Form
+    ensures { result ≡ form_of unified2 }
+{
+    if unified2 {
+        Form::Unified2
+    } else {
+        Form::Lines
     }
 }
 
@@ -208,6 +223,7 @@ fn ready<'a, P: Pattern>(wanted: &Words<'a>, setup: Setup<P>) -> Result<Prepared
         checks: checks_for(wanted, setup.config.checks),
         lanes: wanted.lanes,
         flush: wanted.flush_point,
+        form: form_of(wanted.unified2),
         counted: wanted.stats,
         setup,
     })
@@ -279,6 +295,7 @@ pub(crate) fn prepare<'a, H: Host, M: PatternMaker>(
     match read_words(alloc, words) {
         Ok(Command::Help) => Err(Stop::Usage),
         Ok(Command::Version) => Err(Stop::Version),
+        Ok(Command::ReadUnified2(_file)) => Err(Stop::CommandLine),
         Ok(Command::Run(wanted)) => prepare_run(alloc, &wanted, host, maker, warnings),
         Err(WordsFault::CommandLine) => Err(Stop::CommandLine),
         Err(WordsFault::NoMemory) => Err(Stop::NoMemory),

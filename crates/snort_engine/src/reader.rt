@@ -4,10 +4,11 @@ ghost use Rattle.std.specs.FinMap.{get};
 ghost use Rattle.edge_io.specs.Told.{Rose};
 ghost use Rattle.edge_io.specs.Files.{Files, Lacks};
 ghost use Rattle.snort_engine.specs.declared.reader.RecordReader.TheVariants.{Savefile, Blocks};
+ghost use Rattle.snort_engine.specs.Trace.{no_record};
 ghost use Rattle.snort_engine.specs.Reader.{IsFresh, number_of, Gives, Opens, OpensSo};
 
 use crate::fault::ReadFault;
-use edge_io::{Host, Link, Text};
+use edge_io::{Host, Link, Moment, Text};
 use pcap_input::{CaptureFault, CaptureReader, Record};
 use pcapng_input::{NgReader, NgRecord};
 use std::alloc::Global;
@@ -29,6 +30,22 @@ impl Model for LinkedRecord {
 }
 
 impl LinkedRecord {
+    /// What stands for the last record where none was captured: no flow lives then that could end. Takes
+    /// no memory.
+    pub fn none(alloc: Global) -> LinkedRecord
+        ensures { result ≡ no_record }
+    {
+        LinkedRecord {
+            link: Link::Ethernet,
+            captured: Record {
+                number: 0,
+                moment: Moment { nanos: 0 },
+                original: 0,
+                bytes: Text::from_vec(Vec::new(alloc)),
+            },
+        }
+    }
+
     pub fn link(&self) -> Link
         ensures { result ≡ self.now.link }
     {

@@ -42,12 +42,13 @@ pub(crate) enum Left {
     Status,
     Alert,
     AlertPart,
+    AlertHex,
     Error,
     ErrorPart,
     Bytes,
 }
 
-const KEYS: [(&str, Key); 23] = [
+const KEYS: [(&str, Key); 24] = [
     ("words", Key::Given(Given::Words)),
     ("conf", Key::Given(Given::Conf)),
     ("conf-", Key::Given(Given::ConfPart)),
@@ -68,6 +69,7 @@ const KEYS: [(&str, Key); 23] = [
     ("status", Key::Left(Left::Status)),
     ("alert", Key::Left(Left::Alert)),
     ("alert-", Key::Left(Left::AlertPart)),
+    ("alerthex", Key::Left(Left::AlertHex)),
     ("error", Key::Left(Left::Error)),
     ("error-", Key::Left(Left::ErrorPart)),
     ("left", Key::Left(Left::Bytes)),

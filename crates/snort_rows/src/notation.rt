@@ -355,6 +355,7 @@ fn apply_left(row: &mut Row, key: Left, rest: &str) -> Result<bool, AllocError> 
         Left::Status => set_status(row, rest),
         Left::Alert => push_line(&mut row.alert_bytes, rest),
         Left::AlertPart => push_part(&mut row.alert_bytes, rest),
+        Left::AlertHex => push_hex(&mut row.alert_bytes, rest),
         Left::Error => push_line(&mut row.error_bytes, rest),
         Left::ErrorPart => push_part(&mut row.error_bytes, rest),
         Left::Bytes => set_left(row, rest),

@@ -15,6 +15,7 @@ use Rattle.edge_io.specs.declared.address.Addr.{Addr}
 use Rattle.edge_io.specs.declared.address.Addr.TheVariants.{V4, V6}
 use Rattle.unified2_out.specs.declared.record.U2Event.{U2Event}
 use Rattle.unified2_out.specs.declared.record.U2Packet.{U2Packet}
+use Rattle.unified2_out.specs.declared.record.LentPacket.{LentPacket}
 use Rattle.unified2_out.specs.declared.record.U2.{U2}
 use Rattle.unified2_out.specs.declared.record.U2.TheVariants.{Event, Packet, Other}
 
@@ -107,6 +108,18 @@ abbrev pub IsWritable : U2 → Type 0
 IsWritable (Event event) = AreOfOneVersion event.src event.dst
 IsWritable (Packet packet) = 28 + length packet.bytes ≤ most_body_bytes
 IsWritable (Other kind bytes) = IsOtherKind kind × (length bytes ≤ most_body_bytes)
+
+-- the packet that a lent one stands for
+abbrev pub packet_of : LentPacket → U2Packet
+packet_of packet = record {
+  sensor = packet.sensor;
+  id = packet.id;
+  event_second = packet.event_second;
+  second = packet.second;
+  micro = packet.micro;
+  link = packet.link;
+  bytes = packet.bytes.now;
+}
 
 -- each number fits so many bytes
 abbrev pub AllFit : ℕ → List ℕ → Type 0

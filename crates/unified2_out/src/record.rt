@@ -52,6 +52,22 @@ pub struct U2Packet {
     pub bytes: Text,
 }
 
+/// The packet of an event, whose bytes are lent: it is written as `U2Packet` is, and nothing is copied before.
+#[derive(Clone, Copy, Debug)]
+pub struct LentPacket<'a> {
+    /// The sensor, the number and the second of the event.
+    pub sensor: u32,
+    pub id: u32,
+    pub event_second: u32,
+    /// When the packet was captured: seconds since 1970-01-01 UTC, and microseconds.
+    pub second: u32,
+    pub micro: u32,
+    /// The number of the link type, as in a capture.
+    pub link: u32,
+    /// The captured bytes, at most 1,048,548.
+    pub bytes: &'a [u8],
+}
+
 /// A record.
 #[derive(Debug, Drop)]
 pub enum U2 {

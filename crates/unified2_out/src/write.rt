@@ -1,12 +1,12 @@
 //! Records written as bytes.
 ghost use Rattle.std.specs.Prelude.{◌≡◌, ◌+◌, ◌≤◌, ◌∷◌, ◌++◌, OnOk, OnErr, take, length};
-ghost use Rattle.unified2_out.specs.Records.{numbers, address_bytes, event_kind, event_size, event_words, event_ports, event_octets, frame_text, unified2_text, IsWritable, AreOfOneVersion, most_body_bytes};
+ghost use Rattle.unified2_out.specs.Records.{numbers, address_bytes, event_kind, event_size, event_words, event_ports, event_octets, frame_text, packet_of, unified2_text, IsWritable, AreOfOneVersion, most_body_bytes};
 
 use crate::kinds::{
     EVENT, EVENT_HEAD, EVENT_IP6, EVENT_IP6_LEN, EVENT_LEN, HEADER, PACKET, PACKET_HEAD,
     PACKET_NUMBERS,
 };
-use crate::record::{U2, U2Event, U2Packet};
+use crate::record::{LentPacket, U2, U2Event, U2Packet};
 use byteorder::{BigEndian, ByteOrder};
 use edge_io::{Addr, NoMemory};
 use std::alloc::AllocError;
@@ -32,6 +32,24 @@ pub fn write_record(entry: &U2, out: &mut Vec<u8>) -> Result<(), NoMemory>
     }
 }
 
+/// Appends the bytes of a packet whose own bytes are lent, as `write_record` does those of a packet. Where
+/// memory is lacking, nothing is appended.
+pub fn write_packet(packet: &LentPacket<'_>, out: &mut Vec<u8>) -> Result<(), NoMemory>
+    requires { IsWritable (U2.Packet (packet_of packet.now)) }
+    ensures appended { OnOk result
+        (out.new.items ≡ out.old.items ++ unified2_text (U2.Packet (packet_of packet.now))) }
+    ensures unchanged { OnErr result (out.new.items ≡ out.old.items) }
+{
+    let length = out.len();
+    match push_packet(packet, out) {
+        Ok(()) => Ok(()),
+        Err(AllocError) => {
+            out.truncate(length);
+            Err(NoMemory)
+        }
+    }
+}
+
 // Where memory is lacking, a part of the record may stand behind what stood there.
 fn push_record(entry: &U2, out: &mut Vec<u8>) -> Result<(), AllocError>
     requires { IsWritable entry.now }
@@ -40,7 +58,7 @@ fn push_record(entry: &U2, out: &mut Vec<u8>) -> Result<(), AllocError>
 {
     match entry {
         U2::Event(event) => push_event(event, out),
-        U2::Packet(packet) => push_packet(packet, out),
+        U2::Packet(packet) => push_packet(&lent(packet), out),
         U2::Other { kind, bytes } => push_other(*kind, bytes.bytes(), out),
     }
 }
@@ -116,14 +134,29 @@ fn push_address(address: Addr, out: &mut Vec<u8>) -> Result<(), AllocError>
     }
 }
 
+/// The packet, with its bytes lent.
+fn lent(packet: &U2Packet) -> LentPacket<'_>
+    ensures { packet_of result ≡ packet.entry.now }
+{
+    LentPacket {
+        sensor: packet.sensor,
+        id: packet.id,
+        event_second: packet.event_second,
+        second: packet.second,
+        micro: packet.micro,
+        link: packet.link,
+        bytes: packet.bytes.bytes(),
+    }
+}
+
 // Where memory is lacking, a part of the packet may stand behind what stood there.
-fn push_packet(packet: &U2Packet, out: &mut Vec<u8>) -> Result<(), AllocError>
-    requires { 28 + length packet.now.bytes ≤ most_body_bytes }
+fn push_packet(packet: &LentPacket<'_>, out: &mut Vec<u8>) -> Result<(), AllocError>
+    requires { 28 + length packet.now.bytes.now ≤ most_body_bytes }
     ensures appended { OnOk result
-        (out.new.items ≡ out.old.items ++ unified2_text (U2.Packet packet.now)) }
+        (out.new.items ≡ out.old.items ++ unified2_text (U2.Packet (packet_of packet.now))) }
     ensures kept { OnErr result (take (length out.old.items) out.new.items ≡ out.old.items) }
 {
-    let bytes = packet.bytes.bytes();
+    let bytes = packet.bytes;
     let count = bytes.len() as u32;
     let mut head = [0; PACKET_HEAD];
     BigEndian::write_u32_into(

@@ -35,7 +35,7 @@ pub returns-clause-shown : goal.returns-clause-shown
 returns-clause-shown g c = λ matches test.
     let runs = rw c.deref.ensures.value at (c.in_ok-run_jobs.ensures.shown matches test) in
     let run : Inspection = c.run_jobs.new.inspection in
-    let last : Inspection = record { lanes = run.lanes; groups = run.groups; events = record { filters = run.events.filters; tally = run.events.tally; kept = run.events.kept; block = c.offer.new.block }; tries = run.tries } in
+    let last : Inspection = record { lanes = run.lanes; groups = run.groups; events = record { filters = run.events.filters; tally = run.events.tally; kept = run.events.kept; block = c.offer.new.block }; tries = run.tries; last = run.last } in
     rw c.counts.ensures
     (closed_whole (plan_of matches c.args.plan.now) _ c.in_ok-jobs.jobs.items _ last _ c.counts-seen.result c.in_ok-jobs.ensures c.counts-seen.ensures.counts runs c.requires.known.none c.in_ok-offer.ensures.offered
     (λ before stands. stands_on (plan_of matches c.args.plan.now) before run last refl refl refl refl stands))

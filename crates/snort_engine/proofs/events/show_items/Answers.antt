@@ -5,16 +5,16 @@ use Rattle.snort_engine.proofs.Showing.{shows_none, items_step, items_part}
 use Rattle.snort_engine.proofs.events.show_items.Goals as goal
 
 pub loop-hits-init : goal.loop-hits-init
-loop-hits-init g c = record { came = shows_none c.args.config.now c.args.rules.now _; later = omega arith }
+loop-hits-init g c = record { came = shows_none c.args.form c.args.config.now c.args.rules.now _; later = omega arith }
 
 pub returns-in_err-show_item-clause-stopped : goal.returns-in_err-show_item-clause-stopped
 returns-in_err-show_item-clause-stopped g c =
     let p = err_from_is_err_and c.from_residual.result c.from_residual.ensures.1 in
-    rw p.1 (items_part c.args.config.now c.args.rules.now c.args.items.now c.loop-hits.hits-index c.hits-item.result _ _ _ c.loop-hits-test.true c.hits-item.is c.loop-hits.invariant.came c.in_err-show_item.ensures.stopped)
+    rw p.1 (items_part c.args.form c.args.config.now c.args.rules.now c.args.origin.now c.args.items.now c.loop-hits.hits-index c.hits-item.result _ _ _ c.loop-hits-test.true c.hits-item.is c.loop-hits.invariant.came c.in_err-show_item.ensures.stopped)
 
 pub loop-hits-preserved : goal.loop-hits-preserved
 loop-hits-preserved g c = record {
-  came = items_step c.args.config.now c.args.rules.now c.args.items.now c.loop-hits.hits-index c.hits-item.result _ _ _ c.loop-hits-test.true c.hits-item.is c.loop-hits.invariant.came c.in_ok-show_item.ensures.shown;
+  came = items_step c.args.form c.args.config.now c.args.rules.now c.args.origin.now c.args.items.now c.loop-hits.hits-index c.hits-item.result _ _ _ c.loop-hits-test.true c.hits-item.is c.loop-hits.invariant.came c.in_ok-show_item.ensures.shown;
   later = omega (arith, c.in_ok-show_item.ensures.later, c.loop-hits.invariant.later);
 }
 

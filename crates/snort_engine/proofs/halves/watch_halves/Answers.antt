@@ -8,8 +8,8 @@ use Rattle.snort_engine.proofs.halves.watch_halves.Goals as goal
 
 pub halves-init : goal.halves-init
 halves-init g c = record {
-  going = λ matches test stands. rw c.new.ensures.items (ahead-start (plan_of matches c.args.context.now.plan.now) _ _ _ (under_way-start (plan_of matches c.args.context.now.plan.now) _ _ _ _ c.requires.fresh refl stands));
-  known = rw c.new.ensures.items (known-start c.args.context.now.plan.now c.args.detector.now c.requires.known (let none = c.requires.none in omega (arith, none)));
+  going = λ matches test stands. rw (c.new.ensures.items, c.new-2.ensures.items, c.new-3.ensures.items) (ahead-start (plan_of matches c.args.context.now.plan.now) _ _ _ (under_way-start (plan_of matches c.args.context.now.plan.now) _ _ _ _ c.requires.fresh refl stands));
+  known = rw c.new-2.ensures.items (known-start c.args.context.now.plan.now c.args.detector.now c.requires.known (let none = c.requires.none in omega (arith, none)));
   can = λ more. (c.requires.fresh, c.requires.within, let none = c.requires.none in omega (arith, none));
   few = let none = c.requires.none in omega (arith, none);
   shown = c.new-records.ensures.items;

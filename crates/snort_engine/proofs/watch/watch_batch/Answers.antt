@@ -13,7 +13,7 @@ pub returns-in_err-show_records-clause-goes_on : goal.returns-in_err-show_record
 returns-in_err-show_records-clause-goes_on g c = λ matches test.
     let p = err_from_is_err_and c.from_residual.result c.from_residual.ensures.1 in
     let few : length c.read_batch-reached.new.records.items ≤ most_at c.args.room.now = omega (arith, c.read_batch-reached.ensures.few, c.most_at-most.ensures, c.read_batch-reached.new.records.ok.0) in
-    let stopped = rw c.deref.ensures.value at (c.in_err-show_records.ensures.stopped matches test) in
+    let stopped = c.in_err-show_records.ensures.stopped matches test in
     let old : Standing = record { reader = c.args.reader.now; room = c.args.room.now; detector = c.args.detector.now; streams = record { left = g.H.Host.left c.args.host.now; written = g.A.Sink.written c.args.alerts.now } } in
     let new : Standing = record { reader = c.read_batch-reached.new.reader; room = c.room_behind.result; detector = c.show_records.new.detector; streams = record { left = g.H.Host.left c.read_batch-reached.new.host; written = g.A.Sink.written c.show_records.new.alerts } } in
     rw (p.1, p.2) (batch_stops (plan_of matches c.args.plan.now) c.read_batch-reached.new.records.items old new c.read_batch-reached.result c.in_err-show_records.field-0.0
@@ -22,7 +22,7 @@ returns-in_err-show_records-clause-goes_on g c = λ matches test.
 pub returns-clause-goes_on : goal.returns-clause-goes_on
 returns-clause-goes_on g c = λ matches test.
     let few : length c.read_batch-reached.new.records.items ≤ most_at c.args.room.now = omega (arith, c.read_batch-reached.ensures.few, c.most_at-most.ensures, c.read_batch-reached.new.records.ok.0) in
-    let shown = rw c.deref.ensures.value at (c.in_ok-show_records.ensures.shown matches test) in
+    let shown = c.in_ok-show_records.ensures.shown matches test in
     let old : Standing = record { reader = c.args.reader.now; room = c.args.room.now; detector = c.args.detector.now; streams = record { left = g.H.Host.left c.args.host.now; written = g.A.Sink.written c.args.alerts.now } } in
     let new : Standing = record { reader = c.read_batch-reached.new.reader; room = c.room_behind.result; detector = c.show_records.new.detector; streams = record { left = g.H.Host.left c.read_batch-reached.new.host; written = g.A.Sink.written c.show_records.new.alerts } } in
     let count : c.len.result ≡ length c.read_batch-reached.new.records.items = omega (arith, c.len.ensures, c.read_batch-reached.new.records.ok.0) in

@@ -5,6 +5,7 @@ pub returns-clause-stands : goal.returns-clause-stands
 returns-clause-stands g c = λ matches. record {
   front = rw c.front_config.ensures.way at c.in_ok-front.ensures.stands;
   inspection = inspection_stands-new c.args.plan.now matches c.in_ok-inspection.inspection c.requires c.in_ok-inspection.ensures;
+  last = c.in_ok-inspection.ensures.last;
 }
 
 pub returns-clause-known : goal.returns-clause-known

@@ -1,0 +1,40 @@
+-- Which record each job of a batch was made of.
+--
+-- The records of a batch are kept until its alerts are written, and for each of its jobs the place of its
+-- record. The jobs of the flows that end with a capture have no place, and are of the last record of all.
+-- To try it on: of two records of which the first has two jobs and the second one, the places are 0, 0 and 1.
+use Rattle.std.specs.Prelude.{◌≡◌, ℕ, List, fold, map}
+use Rattle.std.specs.List.{flat_map}
+use Rattle.std.specs.Borrow.{Bor}
+use Rattle.flow_lanes.specs.declared.job.Job.{Job}
+use Rattle.flow_lanes.specs.declared.answer.JobHits.{JobHits}
+use Rattle.record_jobs.specs.Way.{LinkedRecord, Way}
+use Rattle.record_jobs.specs.Jobs.{jobs}
+use Rattle.record_jobs.specs.Fronts.{FrontState, StandsFor}
+use Rattle.snort_engine.specs.declared.sources.Sources.{Sources}
+use Rattle.snort_engine.specs.Beside.{Beside, beside, places_along, source_in}
+use Rattle.snort_engine.specs.Showing.{Told}
+
+abbrev pub lent_record : Bor LinkedRecord → LinkedRecord
+lent_record lent = lent.now
+
+-- the last of these records, or this one where there is none
+abbrev pub last_behind : LinkedRecord → List LinkedRecord → LinkedRecord
+last_behind last records = fold (λ _ r. r) last records
+
+-- the record of the job at a place of a batch, by the place of its record among these: this one where it has none
+abbrev pub source_by : Sources → LinkedRecord → ℕ → LinkedRecord
+source_by sources last job = source_in sources.records.now last sources.places.now job
+
+-- a job, beside its record
+abbrev pub Sourced : Type 0
+Sourced = Beside LinkedRecord Job
+
+-- the items of jobs, each beside the record of its job
+abbrev pub told_in : List (Beside LinkedRecord JobHits) → List Told
+told_in jobs = flat_map (λ (b : Beside LinkedRecord JobHits). map (beside b.source) b.what.items) jobs
+
+-- whatever records stood before, these are the places of the jobs of these records
+abbrev pub PlacesJobs : Way → List LinkedRecord → FrontState → List ℕ → Type 0
+PlacesJobs way records old places =
+    (before : List LinkedRecord) → StandsFor way old before → places ≡ places_along (jobs way) before 0 records

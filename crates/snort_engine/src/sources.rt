@@ -1,0 +1,53 @@
+//! The records that jobs were made of.
+ghost use Rattle.std.specs.Prelude.{◌≡◌, option_and_then, option_map, slice_get};
+ghost use Rattle.snort_engine.specs.Sourcing.{last_behind, lent_record, source_by};
+
+use crate::reader::LinkedRecord;
+use flow_lanes::Job;
+use std::mem::swap;
+
+/// The jobs of records, and for each the place of its record among these.
+#[derive(Drop)]
+pub(crate) struct Made {
+    pub jobs: Vec<Job>,
+    pub places: Vec<usize>,
+}
+
+/// The records that the jobs of a batch were made of.
+#[derive(Clone, Copy)]
+pub(crate) struct Sources<'a> {
+    pub records: &'a [LinkedRecord],
+    /// The place of each job's record among these. A job without one is of the last record before.
+    pub places: &'a [usize],
+}
+
+impl<'a> Sources<'a> {
+    /// The record of the job at this place of the batch, if it is one of these.
+    fn record(self, job: usize) -> Option<&'a LinkedRecord>
+        ensures { option_map lent_record result
+            ≡ option_and_then (slice_get self.entry.records.now) (slice_get self.entry.places.now job) }
+    {
+        let place = self.places.get(job)?;
+        self.records.get(*place)
+    }
+
+    /// The record of the job at this place of the batch, where this is the last record before it.
+    pub fn of(self, last: &'a LinkedRecord, job: usize) -> &'a LinkedRecord
+        ensures { result.now ≡ source_by self.entry last.now job }
+    {
+        match self.record(job) {
+            Some(found) => found,
+            None => last,
+        }
+    }
+}
+
+/// Keeps the last of these records, if there is one, in place of the one that was kept, which takes its
+/// place: nothing is copied.
+pub(crate) fn keep_last(records: &mut Vec<LinkedRecord>, last: &mut LinkedRecord)
+    ensures { last.new ≡ last_behind last.old records.old.items }
+{
+    if let Some(newest) = records.last_mut() {
+        swap(newest, last);
+    }
+}
