@@ -13,6 +13,7 @@ pub mod Marking
 pub mod Moving
 pub mod Needing
 pub mod Occurring
+pub mod Opening
 pub mod Ordering
 pub mod Ports
 pub mod Rowing

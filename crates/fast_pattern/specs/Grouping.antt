@@ -3,7 +3,7 @@
 --
 -- To try it on: of `alert udp ..` without a content and `alert ip ..` with one, the first stands in the
 -- indexes of UDP, and the automaton has the pattern of the second.
-use Rattle.std.specs.Prelude.{◌≡◌, ℕ, Bool, false, ◌&&◌, ◌||◌, List, [], ◌++◌, Option, Some, None, length, map, slice_get}
+use Rattle.std.specs.Prelude.{◌≡◌, ℕ, Bool, true, false, ◌&&◌, ◌||◌, List, [], ◌++◌, Option, Some, None, length, map, slice_get}
 use Rattle.packet_decode.specs.declared.item.ItemHead.{ItemHead}
 use Rattle.packet_decode.specs.declared.packet.Body.{Body}
 use Rattle.rule_types.specs.declared.rule.Rule.{Rule}
@@ -16,6 +16,8 @@ use Rattle.fast_pattern.specs.Finding.{Finds, numbers}
 use Rattle.fast_pattern.specs.Kinds.{kind_of, is_plain}
 use Rattle.fast_pattern.specs.Blocks.{has}
 use Rattle.fast_pattern.specs.Sides.{is_due, AreSides}
+use Rattle.fast_pattern.specs.Windows.{table_words}
+use Rattle.fast_pattern.specs.Doors.{lets_in}
 
 -- what is kept of a rule's header
 abbrev pub asked_of : Rule → Asked
@@ -41,9 +43,15 @@ text_of (Some pattern) = pattern
 abbrev pub texts_of : List Rule → List (List ℕ)
 texts_of rules = map (λ rule. text_of (pattern_of rule.opts)) rules
 
+-- each item that the header of one of these rules fits is let in
+pub record Guards (table : List ℕ) (rules : List Asked) : Type 0 where
+  pub sized : length table ≡ table_words
+  pub guards : (carried : Body) (place : ℕ) → fits_at rules carried place ≡ true → lets_in table carried ≡ true
+
 -- the groups are those of these rules
 pub record StandFor (groups : Groups) (rules : List Rule) : Type 0 where
   pub asked : groups.rules.items ≡ map asked_of rules
+  pub guards : Guards groups.doors.items groups.rules.items
   pub finds : Finds groups.automaton (texts_of rules)
   pub tcp : AreSides groups.rules.items (texts_of rules) kinds.Tcp groups.tcp
   pub udp : AreSides groups.rules.items (texts_of rules) kinds.Udp groups.udp

@@ -1,5 +1,6 @@
 pub mod Blocks
 pub mod Candidates
+pub mod Doors
 pub mod FastPattern
 pub mod Finding
 pub mod Grouping

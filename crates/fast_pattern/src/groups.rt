@@ -10,8 +10,10 @@ ghost use Rattle.fast_pattern.specs.Candidates.{occurs_if_any, has_port, Content
 
 use crate::automaton::Automaton;
 use crate::choice::chosen;
+use crate::doors::{door_table, lets_in};
 use crate::header::{Asked, Kind};
 use crate::sides::{Sides, is_plain};
+use crate::windows::TABLE_WORDS;
 use edge_io::{NoMemory, Text};
 use packet_decode::{Body, ItemHead};
 use rule_types::{Opt, Rule};
@@ -22,6 +24,7 @@ use std::alloc::{AllocError, Global};
 #[derive(Drop)]
 pub struct Groups {
     rules: Vec<Asked>,
+    doors: Vec<u32>,
     automaton: Automaton,
     tcp: Sides,
     udp: Sides,
@@ -120,6 +123,7 @@ impl Groups {
         let patterns = Groups::patterns(alloc, rules)?;
         let headers = Groups::headers(alloc, rules)?;
         Ok(Groups {
+            doors: door_table(alloc, &headers)?,
             automaton: Automaton::of(alloc, &patterns)?,
             tcp: Sides::of(alloc, &headers, &patterns, Kind::Tcp)?,
             udp: Sides::of(alloc, &headers, &patterns, Kind::Udp)?,
@@ -185,6 +189,10 @@ impl Groups {
         ensures appended { OnOk result (AppendCandidates self.now head.now payload.now out.old.items out.new.items) }
         ensures unchanged { OnErr result (out.new.items ≡ out.old.items) }
     {
+        // Where no header fits there is no candidate, and the payload isn't looked at.
+        if self.doors.len() == TABLE_WORDS && !lets_in(&self.doors, &head.body) {
+            return Ok(());
+        }
         let mut places = self.automaton.hits(alloc, payload)?;
         self.push_due(&head.body, &mut places)?;
         places.sort_unstable();

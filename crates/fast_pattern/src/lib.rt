@@ -17,6 +17,7 @@
 mod automaton;
 mod blocks;
 mod choice;
+mod doors;
 mod ends;
 mod groups;
 mod header;

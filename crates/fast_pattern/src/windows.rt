@@ -124,7 +124,7 @@ fn with_bit(number: u32, at: u32) -> u32
 }
 
 /// Sets a slot.
-fn set_slot(table: &mut [u32], slot: usize)
+pub fn set_slot(table: &mut [u32], slot: usize)
     requires table { length table.old ≡ table_words }
     requires slot { slot < slot_count }
     ensures { SetsSlot table.old slot table.new }

@@ -1,4 +1,7 @@
-use Rattle.std.proofs.Common.{◌≡◌, ℕ, List, ◌++◌, eqb, ap, ◌∙◌, arith}
+use Rattle.std.proofs.Common.{◌≡◌, ℕ, List, ◌++◌, eqb, sym, ap, ◌∙◌, arith}
+use Rattle.std.proofs.lemmas.List.{append-nil}
+use Rattle.fast_pattern.specs.Doors.{lets_in}
+use Rattle.fast_pattern.proofs.Opening.{none-let-in}
 use Rattle.std.specs.List.{filter, dedup}
 use Rattle.std.proofs.lemmas.List.{get_or_default}
 use Rattle.std.proofs.lemmas.List.Filters.{dedup_is}
@@ -16,7 +19,15 @@ returns-clause-appended c = record {
       let sorted = c.sort_unstable.new.self.items in
       let places = c.dedup.new.self.items in
       let once : places ≡ dedup eqb sorted = dedup_is eqb sorted places c.dedup.ensures.filtered in
-      let found = c.in_ok-found.ensures ∙ ap (λ rs. filter (fits_at rs carried) c.deref-2.result.now) c.deref.ensures.value ∙ ap (filter (fits_at groups.rules.items carried)) c.deref-2.ensures.value in
+      let found = c.in_ok-found.ensures ∙ ap (λ rs. filter (fits_at rs carried) c.deref-3.result.now) c.deref-2.ensures.value ∙ ap (filter (fits_at groups.rules.items carried)) c.deref-3.ensures.value in
       let are = candidates-are groups rules carried payload stand (λ k d h. omega (arith, c.type_inv.payload k, get_or_default payload k d 0 h)) hits c.push_due.new.places.items sorted places c.in_ok-places.ensures (c.in_ok-push_due.ensures.added rules stand) c.sort_unstable.ensures.permutation c.sort_unstable.ensures.sorted once in
-      c.in_ok-extend_from_slice.ensures.items ∙ ap (λ (xs : List ℕ). c.args.out.now.items ++ xs) (c.deref-3.ensures.value ∙ found ∙ are);
+      c.in_ok-extend_from_slice.ensures.items ∙ ap (λ (xs : List ℕ). c.args.out.now.items ++ xs) (c.deref-4.ensures.value ∙ found ∙ are);
+}
+
+pub returns-then-not-lets_in-clause-appended : goal.returns-then-not-lets_in-clause-appended
+returns-then-not-lets_in-clause-appended c = record {
+  appended = λ rules stand.
+      let groups = c.args.self.now in
+      let none = none-let-in groups rules c.args.head.now.body c.args.payload.now stand (ap (λ ts. lets_in ts c.args.head.now.body) (sym c.deref.ensures.value) ∙ sym c.if-not-lets_in.ensures) in
+      sym (ap (λ (xs : List ℕ). c.args.out.now.items ++ xs) none ∙ append-nil c.args.out.now.items);
 }
