@@ -1,8 +1,0 @@
-use Rattle.std.proofs.Common.{List, sym, subst}
-use Rattle.flow_lanes.specs.declared.job.Job.{Job}
-use Rattle.flow_lanes.specs.Course.{AreFrom}
-use Rattle.flow_lanes.proofs.Course.{AreFrom-none}
-use Rattle.flow_tests.proofs.batches.batch_of.Goals as goal
-
-pub loop-word-init : goal.loop-word-init
-loop-word-init g c = subst (λ (jobs : List Job). AreFrom c.args.first jobs) (sym c.new-jobs.ensures.items) (AreFrom-none c.args.first)

@@ -1,5 +1,0 @@
-use Rattle.flow_lanes.specs.Course.{AreFrom}
-use Rattle.flow_tests.proofs.batches.batch_of.Given as goal
-
-abbrev pub invariant-loop-word : goal.invariant-loop-word
-invariant-loop-word g l = AreFrom l.first l.jobs.items

@@ -1,0 +1,3 @@
+pub mod DialogueLaws
+pub mod Pushed
+pub mod Triable

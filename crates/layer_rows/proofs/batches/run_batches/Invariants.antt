@@ -1,0 +1,5 @@
+use Rattle.flow_lanes.specs.Course.{IsCourse}
+use Rattle.layer_rows.proofs.batches.run_batches.Given as goal
+
+abbrev pub invariant-loop-words : goal.invariant-loop-words
+invariant-loop-words g l = IsCourse l.lanes l.progress.jobs

@@ -1,0 +1,6 @@
+use Rattle.layer_rows.specs.Dialogue.{IsDialogue}
+use Rattle.layer_rows.proofs.dialogues.run_steps.Given as goal
+
+-- the dialogue so far
+abbrev pub invariant-loop-step : goal.invariant-loop-step
+invariant-loop-step l = IsDialogue l.manner.preference l.lane l.done

@@ -1,0 +1,259 @@
+//! Jobs in batches, in any number of lanes: the call of lanes.
+//!
+//! The jobs are packets of UDP. Their payloads are long, so that a batch of several is worth threads.
+
+ghost use Rattle.std.specs.Prelude.{◌≡◌, ◌+◌, ◌<◌, ◌≤◌, ◌^◌, All, IfSome, length};
+ghost use Rattle.conf_types.specs.Sound.{IsStreamConfig};
+ghost use Rattle.fast_pattern.specs.Grouping.{StandFor};
+ghost use Rattle.rule_types.specs.Sound.{IsTriable};
+ghost use Rattle.flow_lanes.specs.Course.{AreFrom, IsCourse, IsPlain};
+
+use crate::course::{Course, show_places, stream_of};
+use crate::page::Page;
+use crate::row::Row;
+use crate::setups::ready;
+use edge_io::{Addr, Literal, Moment, NoMemory, OpenGate, Preference, Text};
+use fast_pattern::Groups;
+use flow_lanes::{BatchOut, Job, Lanes, Toward, Work};
+use option_eval::RuleSet;
+use packet_decode::{Body, IpHead, ItemHead, ItemKind, SessionFacts};
+use std::thread::Threads;
+
+/// Bytes that no rule looks for, before the letters of a packet.
+const LEAD: &str = "20000";
+
+/// A packet of a flow from 0.0.0.1 to 0.0.0.2.
+fn packet(number: u64, flow: u64, payload: Text) -> Job
+    requires { length payload ≤ 65535 }
+    ensures plain { IsPlain result }
+    ensures number { result.number ≡ number }
+{
+    let toward = Toward {
+        engine: 0,
+        preference: Preference::First,
+        needed: false,
+    };
+    Job {
+        number,
+        moment: Moment { nanos: 0 },
+        work: Work::Packet {
+            flow,
+            head: ItemHead {
+                kind: ItemKind::Packet,
+                moment: Moment { nanos: 0 },
+                ip: IpHead {
+                    src: Addr::V4(1),
+                    dst: Addr::V4(2),
+                    protocol: 17,
+                    ttl: 64,
+                    tos: 0,
+                    id: 7,
+                    reserved: false,
+                    dont: false,
+                    more: false,
+                    offset: 0,
+                },
+                body: Body::Udp {
+                    sport: 1000,
+                    dport: 2000,
+                },
+                session: SessionFacts::UNTRACKED,
+            },
+            payload,
+            to_dst: toward,
+            to_src: toward,
+        },
+    }
+}
+
+/// The bytes of a packet: many that no rule looks for, and then these letters.
+fn payload_of(page: &mut Page, letters: &str) -> Text {
+    let mut bytes = page.repeated("x", LEAD);
+    if bytes.push_str(letters).is_err() {
+        page.lacks_memory = true;
+    }
+    Text::from_vec(bytes.into_bytes())
+}
+
+/// Adds the job of a word, a flow and its letters, to those that are numbered from here on; false where there is none.
+fn add_job(page: &mut Page, first: u64, word: &str, jobs: &mut Vec<Job>) -> bool
+    requires { first < 2 ^ 20 }
+    ensures { AreFrom first jobs.old.items → AreFrom first jobs.new.items }
+{
+    let (flow, letters) = word.split_once(':').unwrap_or(("", ""));
+    let Ok(flow) = flow.parse::<u64>() else {
+        return false;
+    };
+    let payload = payload_of(page, letters);
+    if payload.bytes().len() > 65_535 || jobs.len() >= 1000 {
+        return false;
+    }
+    let number = first + jobs.len() as u64;
+    let job = packet(number, flow, payload);
+    match jobs.push(job) {
+        Ok(()) => true,
+        Err(_) => false,
+    }
+}
+
+/// The jobs of a batch, numbered from here on.
+fn batch_of(page: &mut Page, first: u64, words: &str) -> Vec<Job>
+    requires { first < 2 ^ 20 }
+    ensures { AreFrom first result.items }
+{
+    let mut jobs = Vec::new(page.alloc);
+    for word in words.split_whitespace() {
+        if !add_job(page, first, word, &mut jobs) {
+            page.put("(no job) ");
+        }
+    }
+    jobs
+}
+
+/// Shows the answers of a batch.
+fn show_batch(page: &mut Page, out: &BatchOut) {
+    for entry in out.hits.as_slice() {
+        page.show(entry.number);
+        for hits in entry.items.as_slice() {
+            show_places(page, hits);
+        }
+        page.put(" ");
+    }
+}
+
+/// How far a course has come: how many jobs, and how many candidates they had.
+#[derive(Clone, Copy)]
+struct Progress {
+    jobs: u64,
+    tries: u128,
+}
+
+/// Runs a batch behind what was run before, and shows its answers; none where memory is lacking.
+fn run_batch<R: Threads + Sync>(
+    rt: &R,
+    page: &mut Page,
+    lanes: &mut Lanes,
+    progress: Progress,
+    jobs: &[Job],
+    course: Course<'_>,
+) -> Option<Progress>
+    requires course { IsCourse lanes.old progress.jobs }
+    requires jobs { AreFrom progress.jobs jobs.now }
+    requires begun { progress.jobs < 1000 }
+    requires engines { length course.stream.now.engines ≡ 0 }
+    requires config { IsStreamConfig course.stream.now }
+    requires groups { StandFor course.groups.now course.set.now.rules }
+    requires triable { All IsTriable course.set.now.rules }
+    ensures { IfSome result (λ progress. IsCourse lanes.new progress.jobs) }
+{
+    if jobs.len() > 1000 {
+        return None;
+    }
+    match lanes.batch(
+        rt,
+        page.alloc,
+        jobs,
+        course.stream,
+        course.set,
+        course.groups,
+        &OpenGate,
+    ) {
+        Ok(out) => {
+            show_batch(page, &out);
+            Some(Progress {
+                jobs: progress.jobs + jobs.len() as u64,
+                tries: progress.tries.saturating_add(out.tries),
+            })
+        }
+        Err(_) => None,
+    }
+}
+
+/// Runs the jobs of some words as a batch.
+fn run_words<R: Threads + Sync>(
+    rt: &R,
+    page: &mut Page,
+    lanes: &mut Lanes,
+    progress: Progress,
+    words: &str,
+    course: Course<'_>,
+) -> Option<Progress>
+    requires course { IsCourse lanes.old progress.jobs }
+    requires engines { length course.stream.now.engines ≡ 0 }
+    requires config { IsStreamConfig course.stream.now }
+    requires groups { StandFor course.groups.now course.set.now.rules }
+    requires triable { All IsTriable course.set.now.rules }
+    ensures { IfSome result (λ progress. IsCourse lanes.new progress.jobs) }
+{
+    if progress.jobs >= 1000 {
+        return None;
+    }
+    let jobs = batch_of(page, progress.jobs, words);
+    run_batch(rt, page, lanes, progress, jobs.as_slice(), course)
+}
+
+/// Runs batches with `|` between them, and shows how many candidates there were.
+fn run_batches<R: Threads + Sync>(
+    rt: &R,
+    page: &mut Page,
+    lanes: &mut Lanes,
+    batches: &str,
+    course: Course<'_>,
+)
+    requires course { IsCourse lanes.old 0 }
+    requires engines { length course.stream.now.engines ≡ 0 }
+    requires config { IsStreamConfig course.stream.now }
+    requires groups { StandFor course.groups.now course.set.now.rules }
+    requires triable { All IsTriable course.set.now.rules }
+{
+    let mut progress = Progress { jobs: 0, tries: 0 };
+    for words in batches.split('|') {
+        let Some(behind) = run_words(rt, page, lanes, progress, words, course) else {
+            return page.put("broken off");
+        };
+        progress = behind;
+    }
+    page.show(format_args!("tries {}", progress.tries));
+}
+
+/// Shows the answers to batches with these rules, in so many new lanes.
+#[tactic(auto, using(flow_lanes::proofs::Course::course_begins))]
+fn show_batches<R: Threads + Sync>(
+    rt: &R,
+    page: &mut Page,
+    set: &RuleSet<Literal>,
+    count: u32,
+    batches: &str,
+)
+    requires { All IsTriable set.now.rules }
+{
+    if set.rules().len() > 65_536 || count == 0 || count > 64 {
+        return page.put("out of bounds");
+    }
+    match Groups::build(page.alloc, set.rules()) {
+        Ok(groups) => {
+            let stream = stream_of(page.alloc, false);
+            let course = Course {
+                stream: &stream,
+                set,
+                groups: &groups,
+            };
+            match Lanes::new(page.alloc, count, 4, false) {
+                Ok(mut lanes) => run_batches(rt, page, &mut lanes, batches, course),
+                Err(NoMemory) => page.lacks_memory = true,
+            }
+        }
+        Err(NoMemory) => page.lacks_memory = true,
+    }
+}
+
+/// `batches LANES BATCHES`: of each job its number and the places of the rules that match its items, and how many
+/// candidates there were.
+pub(crate) fn batches<R: Threads + Sync>(rt: &R, page: &mut Page, row: &Row, given: &str) {
+    let (count, batches) = given.split_once(' ').unwrap_or((given, ""));
+    let count = count.parse::<u32>().unwrap_or(0);
+    match ready(page, row) {
+        Some(setup) => show_batches(rt, page, &setup.set, count, batches),
+        None => (),
+    }
+}

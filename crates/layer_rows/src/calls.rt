@@ -1,0 +1,45 @@
+//! The calls of rows, by their names.
+
+use crate::page::Page;
+use crate::row::Row;
+use crate::trial::Answer;
+use crate::{
+    alerts, batches, candidates, commands, configurations, dialogues, events, headers, hosts,
+    lists, payloads, rules, setups,
+};
+use std::thread::Threads;
+
+/// Makes the calls of the crates.
+#[derive(Clone, Copy)]
+pub(crate) struct Calls;
+
+impl Answer for Calls {
+    fn answer<R: Threads + Sync>(
+        &self,
+        rt: &R,
+        page: &mut Page,
+        row: &Row,
+        call: &str,
+        given: &str,
+    ) -> bool {
+        match call {
+            "command" => commands::command(page, given),
+            "hosts" => hosts::hosts(page, row),
+            "policies" => hosts::policies(page, row, given),
+            "setup" => setups::setup(page, row, given),
+            "events" => events::events(page, row),
+            "alert" => alerts::alert(page, row, given),
+            "dialogue" => dialogues::dialogue(page, row, given),
+            "batches" => batches::batches(rt, page, row, given),
+            _ => {
+                return lists::call(page, call, given)
+                    || configurations::call(page, row, call, given)
+                    || rules::call(page, row, call, given)
+                    || payloads::call(page, row, call, given)
+                    || candidates::call(page, row, call, given)
+                    || headers::call(page, row, call, given);
+            }
+        }
+        true
+    }
+}

@@ -1,0 +1,63 @@
+//! The words of a command: the call of command_words.
+
+use crate::page::Page;
+use command_words::{Command, Words, WordsFault, read_words};
+
+/// The letter of a flag that is there.
+fn mark(is_there: bool, letter: &'static str) -> &'static str {
+    if is_there { letter } else { "." }
+}
+
+/// The files, checks, limit and variable of a run.
+fn show_given(page: &mut Page, words: &Words) {
+    let capture = words.capture.unwrap_or("none");
+    let host_table = words.host_table.unwrap_or("none");
+    page.show(format_args!(
+        "{} {} {:?} {:?} {:?} {}",
+        words.conf, capture, words.checks, words.limit, words.defined, host_table
+    ));
+}
+
+/// The numbers of a run.
+fn show_numbers(page: &mut Page, words: &Words) {
+    page.show(format_args!(
+        " {} {} {:?} {} ",
+        words.lanes, words.flush_point, words.generate, words.seed
+    ));
+}
+
+/// The flags of a run.
+fn show_flags(page: &mut Page, words: &Words) {
+    page.put(mark(words.quiet, "q"));
+    page.put(mark(words.test, "T"));
+    page.put(mark(words.skip_refused, "r"));
+    page.put(mark(words.stats, "s"));
+}
+
+/// The words of a line.
+fn words_of(page: &mut Page, line: &str) -> Vec<String> {
+    let mut words = Vec::new(page.alloc);
+    for word in line.split(' ') {
+        let word = page.copied(word);
+        if words.push(word).is_err() {
+            page.lacks_memory = true;
+        }
+    }
+    words
+}
+
+/// `command WORDS`: what they ask for.
+pub(crate) fn command(page: &mut Page, line: &str) {
+    let words = words_of(page, line);
+    match read_words(page.alloc, words.as_slice()) {
+        Ok(Command::Run(words)) => {
+            show_given(page, &words);
+            show_numbers(page, &words);
+            show_flags(page, &words);
+        }
+        Ok(Command::Help) => page.put("help"),
+        Ok(Command::Version) => page.put("version"),
+        Err(WordsFault::CommandLine) => page.put("refused"),
+        Err(WordsFault::NoMemory) => page.lacks_memory = true,
+    }
+}

@@ -1,0 +1,91 @@
+//! The calls of the layers below a run as rows of data: each row has what calls are given, and what each must give.
+//!
+//! The files of rows are named by the program's words; docs/semantics/layer_rows.md has their notation. A call that
+//! gives something else is named, with what it gives, and the last line says how many gave what they must. The
+//! program's own rows lie in its data folder, in files that are named as the crates, and anybody can add one.
+#![tactic(auto)]
+
+mod addresses;
+mod alerts;
+mod batches;
+mod calls;
+mod candidates;
+mod commands;
+mod configurations;
+mod counted;
+mod course;
+mod crossing;
+mod dialogues;
+mod events;
+mod file;
+mod headers;
+mod hosts;
+mod items;
+mod lists;
+mod notation;
+mod page;
+mod payloads;
+mod row;
+mod rules;
+mod setups;
+mod trial;
+
+use crate::calls::Calls;
+use crate::trial::{Count, try_rows};
+use std::process::ExitCode;
+use std::rt::Env;
+use std::{env, fs, io};
+
+/// Which rows are tried.
+#[derive(Drop)]
+struct Words {
+    /// The names of the files of rows.
+    files: Vec<String>,
+    /// What the label or the line of a call must have.
+    only: String,
+}
+
+/// What the program's words say: the names of files, and behind `--only` a text.
+fn words_of(rt: &(impl Env + AllocGlobal)) -> io::Result<Words> {
+    let alloc = rt.alloc();
+    let all: Vec<String> = env::args(rt)?.collect(alloc)?;
+    let mut files = Vec::new(alloc);
+    let mut only = String::new(alloc);
+    let mut is_only = false;
+    for word in all.iter().skip(1) {
+        if is_only {
+            only = word.clone()?;
+            is_only = false;
+        } else if word.as_str() == "--only" {
+            is_only = true;
+        } else {
+            files.push(word.clone()?)?;
+        }
+    }
+    Ok(Words { files, only })
+}
+
+fn main(rt: HostRuntime) -> io::Result<ExitCode> {
+    crossing::types_cross_threads();
+    let words = words_of(&rt)?;
+    let mut count = Count {
+        passed: 0,
+        differed: 0,
+    };
+    for name in &words.files {
+        let text = fs::read_to_string(&rt, name.as_str())?;
+        try_rows(
+            &rt,
+            &Calls,
+            rt.alloc(),
+            &text,
+            words.only.as_str(),
+            &mut count,
+        )?;
+    }
+    println!(&rt;
+        "{} calls passed, {} differed",
+        count.passed, count.differed
+    )?;
+    Ok(ExitCode::from(u8::from(count.differed > 0)))
+}

@@ -1,0 +1,87 @@
+//! A row: what its calls are given.
+
+use crate::file::NamedFile;
+use crate::page::Page;
+use edge_io::{LiteralMaker, MemHost};
+use std::alloc::{AllocError, Global};
+
+/// What the calls of a row are given.
+#[derive(Drop)]
+pub(crate) struct Row {
+    pub label: String,
+    /// The files; the configuration is `r`, the host table `h`.
+    pub files: Vec<NamedFile>,
+    /// The words of the item that headers, alerts and candidates speak of.
+    pub item: String,
+    /// The calls of the host and of the maker of patterns that fail, counted from 0.
+    pub host: Vec<u32>,
+    pub maker: Vec<u32>,
+    /// What stands in front of what the next call is given.
+    pub front: String,
+    /// Lines for the next call, and the lines that it must give for them.
+    pub steps: String,
+    pub wanted: String,
+}
+
+impl Row {
+    /// A row without a label.
+    pub fn new(alloc: Global) -> Row {
+        Row {
+            label: String::new(alloc),
+            files: Vec::new(alloc),
+            item: String::new(alloc),
+            host: Vec::new(alloc),
+            maker: Vec::new(alloc),
+            front: String::new(alloc),
+            steps: String::new(alloc),
+            wanted: String::new(alloc),
+        }
+    }
+
+    /// A row with a label and nothing else.
+    pub fn labelled(alloc: Global, label: &str) -> Result<Row, AllocError> {
+        let mut row = Row::new(alloc);
+        row.label = String::from_str(alloc, label)?;
+        Ok(row)
+    }
+
+    /// Drops what was given to one call alone.
+    pub fn close_call(&mut self) {
+        self.front.clear();
+        self.steps.clear();
+        self.wanted.clear();
+    }
+
+    /// A host that has the row's files, with its failing calls.
+    pub fn host(&self, page: &mut Page) -> MemHost {
+        let mut host = MemHost::new(page.alloc);
+        for file in &self.files {
+            if host.put(&file.name, &file.bytes).is_err() {
+                page.lacks_memory = true;
+            }
+        }
+        if host.fail_calls(&self.host).is_err() {
+            page.lacks_memory = true;
+        }
+        host
+    }
+
+    /// A maker of patterns with its failing calls.
+    pub fn maker(&self, page: &mut Page) -> LiteralMaker {
+        let mut maker = LiteralMaker::new(page.alloc);
+        if maker.fail_calls(&self.maker).is_err() {
+            page.lacks_memory = true;
+        }
+        maker
+    }
+
+    /// The bytes of a file; none where it isn't there.
+    pub fn file(&self, name: &str) -> &[u8] {
+        for file in &self.files {
+            if file.name.as_str() == name {
+                return &file.bytes;
+            }
+        }
+        &[]
+    }
+}

@@ -1,0 +1,133 @@
+//! Rows, tried one by one.
+
+use crate::notation::{Applied, apply, written};
+use crate::page::Page;
+use crate::row::Row;
+use std::alloc::{AllocError, Global};
+use std::io;
+use std::thread::Threads;
+
+/// Who makes the calls of rows.
+pub(crate) trait Answer {
+    ghost use denote.Param.Send.{IsSync};
+
+    /// Writes what a call gives; false where there is no such call.
+    fn answer<R: Threads + Sync>(
+        &self,
+        rt: &R,
+        page: &mut Page,
+        row: &Row,
+        call: &str,
+        given: &str,
+    ) -> bool
+        requires { IsSync R.row };
+}
+
+/// How many calls gave what they must, and how many did not.
+#[derive(Clone, Copy)]
+pub(crate) struct Count {
+    pub passed: u32,
+    pub differed: u32,
+}
+
+/// What a call is given, and what it must give.
+#[derive(Clone, Copy)]
+struct Call<'a> {
+    name: &'a str,
+    given: &'a str,
+    wanted: &'a str,
+}
+
+/// What a line `CALL GIVEN@WANTED@WHAT` says; without an `@` the row's steps have what is wanted.
+fn call_of<'a>(line: &'a str, steps_wanted: &'a str) -> Call<'a> {
+    let (call, wanted) = match line.split_once('@') {
+        Some((call, rest)) => (call, rest.split_once('@').unwrap_or((rest, "")).0),
+        None => (line, steps_wanted),
+    };
+    let (name, given) = call.split_once(' ').unwrap_or((call, ""));
+    Call {
+        name,
+        given,
+        wanted,
+    }
+}
+
+/// A text without its last line feed.
+fn trimmed(text: &str) -> &str {
+    text.strip_suffix('\n').unwrap_or(text)
+}
+
+/// What stands in front of what a call is given, and that.
+fn whole(alloc: Global, front: &str, given: &str) -> Result<String, AllocError> {
+    let mut text = String::from_str(alloc, front)?;
+    text.push_str(given)?;
+    Ok(text)
+}
+
+/// Makes the call of a line, and prints what it gives where that is not what it must.
+fn try_call<R: Print + Threads + Sync, A: Answer>(
+    rt: &R,
+    calls: &A,
+    alloc: Global,
+    row: &Row,
+    line: &str,
+    count: &mut Count,
+) -> io::Result<()> {
+    let call = call_of(line, row.wanted.as_str());
+    let given = whole(alloc, row.front.as_str(), call.given)?;
+    let mut page = Page::new(alloc);
+    let is_known = calls.answer(rt, &mut page, row, call.name, given.as_str());
+    if is_known && !page.lacks_memory && trimmed(page.text.as_str()) == trimmed(call.wanted) {
+        count.passed = count.passed.saturating_add(1);
+        return Ok(());
+    }
+    count.differed = count.differed.saturating_add(1);
+    println!(rt; "{}: {}: {}", row.label, line, page.text)
+}
+
+/// Applies a line to its row, or makes its call.
+fn try_line<R: Print + Threads + Sync, A: Answer>(
+    rt: &R,
+    calls: &A,
+    alloc: Global,
+    row: &mut Row,
+    line: &str,
+    only: &str,
+    count: &mut Count,
+) -> io::Result<()> {
+    match apply(alloc, row, line)? {
+        Applied::Taken => Ok(()),
+        Applied::Wrong => {
+            count.differed = count.differed.saturating_add(1);
+            println!(rt; "{}: not understood: {}", row.label, line)
+        }
+        Applied::Call => {
+            if row.label.contains(only) || line.contains(only) {
+                try_call(rt, calls, alloc, row, line, count)?;
+            }
+            row.close_call();
+            Ok(())
+        }
+    }
+}
+
+/// Tries the rows of a text: the calls that have a text in their lines or their labels.
+pub(crate) fn try_rows<R: Print + Threads + Sync, A: Answer>(
+    rt: &R,
+    calls: &A,
+    alloc: Global,
+    text: &str,
+    only: &str,
+    count: &mut Count,
+) -> io::Result<()> {
+    let mut row = Row::new(alloc);
+    for line in text.lines() {
+        if let Some(label) = line.strip_prefix("row ") {
+            row = Row::labelled(alloc, label)?;
+        } else {
+            let line = written(alloc, line)?;
+            try_line(rt, calls, alloc, &mut row, line.as_str(), only, count)?;
+        }
+    }
+    Ok(())
+}
