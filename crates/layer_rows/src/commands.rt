@@ -32,6 +32,7 @@ fn show_flags(page: &mut Page, words: &Words) {
     page.put(mark(words.test, "T"));
     page.put(mark(words.skip_refused, "r"));
     page.put(mark(words.stats, "s"));
+    page.put(mark(words.unified2, "u"));
 }
 
 /// The words of a line.
@@ -57,6 +58,7 @@ pub(crate) fn command(page: &mut Page, line: &str) {
         }
         Ok(Command::Help) => page.put("help"),
         Ok(Command::Version) => page.put("version"),
+        Ok(Command::ReadUnified2(file)) => page.show(format_args!("records of {file}")),
         Err(WordsFault::CommandLine) => page.put("refused"),
         Err(WordsFault::NoMemory) => page.lacks_memory = true,
     }
