@@ -2,7 +2,7 @@
 -- The items of a packet, put together, are those of the definition.
 use Rattle.std.proofs.Common.{◌≡◌, ℕ, Bool, true, false, not, cond, List, [], ◌∷◌, ◌++◌, length, Option, Some, None, unwrap_or, refl, sym, ap, subst, ◌∙◌, ◌&&◌, append_assoc}
 use Rattle.std.proofs.lemmas.List.{append-nil}
-use Rattle.std.specs.Prelude.{IfSome, option_map}
+use Rattle.std.specs.Prelude.{IfSome}
 use Rattle.std.specs.Option.{option_map_or}
 use Rattle.edge_io.specs.declared.moment.Moment.{Moment}
 use Rattle.packet_decode.specs.declared.item.ItemHead.{ItemHead}

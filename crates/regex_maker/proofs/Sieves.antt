@@ -1,12 +1,12 @@
 -- What the tests of a sieve tell of the leftmost match.
-use Rattle.std.proofs.Common.{◌≡◌, ℕ, Bool, true, ◌+◌, ◌<◌, ◌≤◌, List, length, All, Option, Some, None, refl, sym, ap, subst, ◌∙◌, arith}
+use Rattle.std.proofs.Common.{◌≡◌, ℕ, Bool, true, ◌+◌, ◌<◌, ◌≤◌, List, length, All, Option, Some, None, sym, subst, ◌∙◌, arith}
 use Rattle.std.specs.Prelude.{IfSome, IsSomeAnd, MatchOption}
 use Rattle.std.specs.Option.{ForSome}
 use Rattle.std.proofs.lemmas.Option.{none-some, same_Some}
 use Rattle.std.proofs.Math.Logic.{∥∥₁_elim, ∥∥₁_prop}
 use Rattle.regex_hir.specs.Find.{find}
 use Rattle.regex_hir.specs.Re.{Re}
-use Rattle.regex_extract.specs.Needles.{ContainsNeedle, EndsWithNeedle, needles_of}
+use Rattle.regex_extract.specs.Needles.{ContainsNeedle, EndsWithNeedle}
 use Rattle.regex_literal.specs.Find.{Nowhere, NoneBefore, AnyOccursAt}
 use Rattle.regex_literal.specs.Ladders.{Admits}
 use Rattle.regex_literal.specs.declared.ladder.Ladder.{Ladder}

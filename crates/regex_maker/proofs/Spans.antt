@@ -1,5 +1,5 @@
 -- What a compiled expression finds is what its text means.
-use Rattle.std.proofs.Common.{◌≡◌, ℕ, ◌<◌, ◌≤◌, Bool, true, false, List, length, All, Option, Some, None, refl, sym, ap, subst, ◌∙◌, rules, arith, Fits, w8}
+use Rattle.std.proofs.Common.{◌≡◌, ℕ, ◌<◌, ◌≤◌, Bool, true, false, List, length, All, Option, Some, None, refl, sym, ap, ◌∙◌, rules, arith, Fits, w8}
 use Rattle.std.proofs.lemmas.List.{get_or_default}
 use Rattle.std.specs.Prelude.{IsSome, IsSomeAnd, nat_lt, slice_index, option_map, chars, if◌then◌else◌}
 use Rattle.std.specs.List.{list_all}
@@ -7,7 +7,7 @@ use Rattle.std.specs.Option.{option_and_then}
 use Rattle.std.proofs.lemmas.Bool.Decides.{Decides-by_and, Decides-ltb}
 use Rattle.edge_io.specs.declared.pattern.PatternFlags.{PatternFlags}
 use Rattle.edge_io.specs.declared.pattern.Span.{Span}
-use Rattle.regex.specs.Patterns.{Re, Match, Config, SameCaptures, Reads, find, span}
+use Rattle.regex.specs.Patterns.{Re, Match, SameCaptures, Reads, find, span}
 use Rattle.regex_hir.specs.Meaning.{meaning}
 use Rattle.regex_hir.specs.declared.hir.Hir.{Hir}
 use Rattle.regex_syntax.specs.Brackets.{Nested}

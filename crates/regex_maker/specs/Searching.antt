@@ -1,5 +1,5 @@
 -- What a search for an expression goes by: its working memory, and where a match can start.
-use Rattle.std.specs.Prelude.{◌≡◌, true, All, IfSome}
+use Rattle.std.specs.Prelude.{◌≡◌, true, All}
 use Rattle.std.specs.Option.{ForSome}
 use Rattle.regex_dfa.specs.Search.{IsForwardFor, IsReverseFor}
 use Rattle.regex_dfa.specs.declared.dfa.Dfa.{Dfa}
