@@ -7,6 +7,7 @@ pub enum Skip {
     OtherProtocol,
     /// A checksum that is checked is wrong.
     Checksum,
-    /// A header contradicts itself, or is longer than the datagram that holds it.
+    /// A header says what can't be: a version other than its link's, a length below its least one
+    /// (of UDP, below 8) or past the datagram's end, or more than eight extension headers.
     Malformed,
 }

@@ -20,7 +20,7 @@ pub struct Record {
     pub number: u32,
     /// When it was captured: its seconds and their fraction.
     pub moment: Moment,
-    /// The bytes that the packet had on the wire.
+    /// How many bytes the packet had on the wire, as its record says. They may be more than were captured.
     pub original: u32,
     /// The bytes that were captured, at most 262144.
     pub bytes: Text,

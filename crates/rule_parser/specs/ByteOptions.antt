@@ -1,13 +1,12 @@
--- Numbers in the payload: byte_test, byte_jump, byte_extract and isdataat (Snort Users Manual 2.9, sections
--- 3.5.13 and 3.5.31 to 3.5.33).
+-- Numbers in the payload: byte_test, byte_jump, byte_extract and isdataat (Snort Users Manual 2.9, section 3.5).
 --
 -- Parts stand between commas; the blanks around a part are dropped. The first parts have their places, then
 -- words follow in any order, each at most once. A number of 1 to 4 bytes is read, or of 1 to 10 with the
 -- word `string`; `dec`, `hex` and `oct` want `string`, at most one of them. Of `big` and `little` together
 -- `little` holds (own). The word `dce` and the operator `^` are outside the profile. What needs a later part
 -- is looked at last. A rule extracts at most two names.
--- To try it on: `byte_test:4,!>,1000,20,relative` is no number above 1000; `byte_jump:5,0` is a wrong value,
--- and `byte_jump:5,0,string` is none.
+-- To try it on: `byte_test:4,!>,1000,20,relative` holds of a number that isn't above 1000; `byte_jump:5,0` is a
+-- wrong value, and `byte_jump:5,0,string` is read.
 use Rattle.std.specs.Prelude.{ℕ, ◌+◌, ◌-◌, ◌==◌, ◌&&◌, ◌||◌, Bool, true, false, not, pos, negsuc, Option, Some, None, Result, Ok, Err, List, [], ◌∷◌, ◌++◌, length, take, drop, bytes_eq, codes, nat_le, is_some, option_copied, unwrap_or, position, if◌then◌else◌}
 use Rattle.std.specs.List.{prefix_len}
 use Rattle.edge_io.specs.Bytes.{is_blank, trimmed}

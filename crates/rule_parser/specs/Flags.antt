@@ -68,7 +68,7 @@ no_letters = record { mode = None; bits = 0; any = false }
 abbrev pub mode_of : ℕ → Option Mode
 mode_of byte = if byte == 33 then Some mode.NoneSet else if byte == 42 then Some mode.Any else if byte == 43 then Some mode.All else None
 
--- the bit of a letter of TCP flags: C U A P R S F, in any case of `1`, `2` and `0`
+-- the bit of a letter of TCP flags: F S R P A U E C are 1 to 128; `1` is C, `2` is E, and `0` is no bit
 abbrev pub flag_bit : ℕ → Option ℕ
 flag_bit byte =
     if byte == 70 then Some 1 else if byte == 83 then Some 2 else if byte == 82 then Some 4 else if byte == 80 then Some 8

@@ -1,4 +1,4 @@
--- Regular expressions (Snort Users Manual 2.9, section 3.5.30): `pcre:[!]"/re/flags"`.
+-- Regular expressions (Snort Users Manual 2.9, section 3.5): `pcre:[!]"/re/flags"`.
 --
 -- The expression stands between the first byte of the quoted text, a `/`, and the last `/` in it; a lone
 -- backslash in front of the last `/` stays (own). The flags

@@ -1,4 +1,4 @@
--- Detection filters (Snort Users Manual 2.9, section 3.7.10):
+-- Detection filters (`detection_filter`, Snort Users Manual 2.9, chapter 3):
 -- `detection_filter:track by_src|by_dst, count c, seconds s`, in this order, both numbers at least 1.
 --
 -- To try it on: `track by_src, count 2, seconds 60` is read; with a fourth part, or `count` first, it is not.

@@ -53,8 +53,8 @@ pub struct Rule {
     pub period: Option<Period>,
 }
 
-/// A detection filter (section 3.8.7): a match is kept where it is more than the `count`th of the
-/// same address within a stretch of `seconds`.
+/// A detection filter (`detection_filter`, Snort Users Manual 2.9, chapter 3): a match is kept where it is
+/// more than the `count`th of the same address within a stretch of `seconds`.
 #[derive(Clone, Copy, Debug, PartialEq, Eq)]
 pub struct Period {
     /// Matches are counted by their source address, else by their destination.
