@@ -1,21 +1,19 @@
 -- A dialogue goes on, and each of its turns is sound.
-use Rattle.std.proofs.Common.{◌≡◌, ℕ, ◌+◌, ◌^◌, ◌<◌, ◌≤◌, ◌==◌, Bool, true, false, cond, List, [], ◌∷◌, length, Option, Some, None, refl, sym, ap, subst, ◌∙◌, arith}
+use Rattle.std.proofs.Common.{◌≡◌, ℕ, ◌+◌, ◌^◌, ◌<◌, ◌≤◌, Bool, true, cond, [], ◌∷◌, Option, Some, None, refl, sym, ap, subst, ◌∙◌, arith}
 use Rattle.std.specs.Prelude.{IfSome, fold}
 use Rattle.std.specs.Option.{option_map_or}
 use Rattle.std.proofs.lemmas.Bool.Decides.{nat_tests}
 use Rattle.edge_io.specs.declared.moment.Moment.{Moment}
 use Rattle.edge_io.specs.declared.policy.Preference.{Preference}
-use Rattle.packet_decode.specs.declared.item.ItemHead.{ItemHead}
 use Rattle.stream5_sessions.specs.Keys.{key_of}
 use Rattle.flow_lanes.specs.declared.job.Job.{Job}
-use Rattle.flow_lanes.specs.declared.job.Toward.{Toward}
 use Rattle.flow_lanes.specs.declared.job.Work.{Work}
 use Rattle.flow_lanes.specs.declared.job.Work.TheVariants as work
-use Rattle.layer_rows.specs.Dialogue.{IsDialogue, IsFewTurns, IsTurn, IsTurnHead, IsTurnJob, IsTurnWork, dialogue_ends, tcp_head}
+use Rattle.layer_rows.specs.Dialogue.{IsDialogue, IsFewTurns, IsTurnHead, IsTurnJob, IsTurnWork, dialogue_ends, tcp_head}
 use Rattle.flow_lanes.specs.Flows.{flow_of_work, same_number}
 use Rattle.flow_lanes.specs.Sessions.{Packet}
 use Rattle.flow_lanes.specs.declared.facts.FlowFacts.{FlowFacts}
-use Rattle.flow_lanes.specs.Sound.{IsSoundFor, IsSoundPacket, IsSoundWork, ends_of, facts_behind, facts_behind_work}
+use Rattle.flow_lanes.specs.Sound.{IsSoundFor, ends_of, facts_behind, facts_behind_work}
 use Rattle.flow_lanes.specs.Standing.{LaneState, LearnsJob, facts_kept, kept_of, known_of}
 
 ends_same : (preference : Preference) (done : ℕ) (known : Option FlowFacts) (p : Packet) → ends_of p ≡ dialogue_ends preference → IfSome known (IsFewTurns preference done) → IfSome known (λ f. f.ends ≡ ends_of p)
