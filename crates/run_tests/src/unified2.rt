@@ -52,7 +52,11 @@ fn lanes_write_the_same_records(rt: HostRuntime) -> Result<(), Fail> {
         "{count} records"
     );
     let (_status, two) = alerts_of(&rt, alloc, "snort -c r --generate 600 --unified2 --lanes 2")?;
-    let (_status, many) = alerts_of(&rt, alloc, "snort -c r --generate 600 --unified2 --lanes 64")?;
+    let (_status, many) = alerts_of(
+        &rt,
+        alloc,
+        "snort -c r --generate 600 --unified2 --lanes 64",
+    )?;
     assert!(rt; two.bytes() == one.bytes() && many.bytes() == one.bytes());
     Ok(())
 }
