@@ -1,7 +1,7 @@
 """What a configuration says of its rules, for those who read alerts: messages, classes, and the rules as they stand there.
 
 Files, includes and variables are read as docs/manual/configuration.md says. Whether a rule is accepted isn't looked at.
-Used by alerts and report.
+Used by alerts and check_rules.
 """
 import os, re
 from collections import namedtuple
