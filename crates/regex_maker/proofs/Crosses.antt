@@ -25,6 +25,8 @@ use Rattle.regex_maker.specs.contracts.memory.Memory as Memory
 use Rattle.regex_maker.specs.contracts.shelf.Kept as Kept
 use Rattle.regex_maker.specs.contracts.shelf.Shelf as Shelf
 use Rattle.regex_maker.specs.contracts.sieve.Sieve as Sieve
+use Rattle.regex_maker.specs.contracts.tally.Part as Part
+use Rattle.regex_maker.specs.contracts.tally.Tally as Tally
 
 Hir-send : IsSend Hir.the_field.row
 Hir-send = search (sendable, heap.crosses, knot.crosses, class.the_field_send, look.the_field_send) depth 40
@@ -41,8 +43,17 @@ Signs-send = search (sendable, heap.crosses, Hir-send, caseless.the_send) depth 
 Program-send : IsSend Program.the_field.row
 Program-send = search (sendable, heap.crosses, Hir-send, dfa.the_field_send, Plans-send, Signs-send, byte_set.the_send) depth 40
 
+Tally-send : IsSend Tally.the_field.row
+Tally-send = search (sendable, heap.crosses) depth 40
+
+Tally-sync : IsSync Tally.the_field.row
+Tally-sync = search (sendable, heap.crosses) depth 40
+
+Part-send : IsSend Part.the_field.row
+Part-send = search (sendable, heap.crosses, Tally-send, Tally-sync) depth 40
+
 Memory-send : IsSend Memory.the_field.row
-Memory-send = search (sendable, forward.the_field_send, reverse.the_field_send) depth 40
+Memory-send = search (sendable, forward.the_field_send, reverse.the_field_send, Part-send) depth 40
 
 Kept-send : IsSend Kept.the_field.row
 Kept-send = search (sendable, heap.crosses, Memory-send) depth 40
@@ -54,7 +65,7 @@ Sieve-send : IsSend Sieve.the_field.row
 Sieve-send = search (sendable, prefilter.the_send, ladder.the_field_send) depth 40
 
 pub RegexPattern-send : IsSend RegexPattern.the_row
-RegexPattern-send = search (sendable, heap.crosses, Program-send, Sieve-send, Shelf-send) depth 40
+RegexPattern-send = search (sendable, heap.crosses, Program-send, Sieve-send, Shelf-send, Tally-send, Tally-sync) depth 40
 
 Hir-sync : IsSync Hir.the_field.row
 Hir-sync = search (sendable, heap.crosses, knot.crosses, class.the_field_sync, look.the_field_sync) depth 40
@@ -71,8 +82,11 @@ Signs-sync = search (sendable, heap.crosses, Hir-sync, caseless.the_sync) depth 
 Program-sync : IsSync Program.the_field.row
 Program-sync = search (sendable, heap.crosses, Hir-sync, dfa.the_field_sync, Plans-sync, Signs-sync, byte_set.the_sync) depth 40
 
+Part-sync : IsSync Part.the_field.row
+Part-sync = search (sendable, heap.crosses, Tally-send, Tally-sync) depth 40
+
 Memory-sync : IsSync Memory.the_field.row
-Memory-sync = search (sendable, forward.the_field_sync, reverse.the_field_sync) depth 40
+Memory-sync = search (sendable, forward.the_field_sync, reverse.the_field_sync, Part-sync) depth 40
 
 Kept-sync : IsSync Kept.the_field.row
 Kept-sync = search (sendable, heap.crosses, Memory-sync) depth 40
@@ -84,4 +98,4 @@ Sieve-sync : IsSync Sieve.the_field.row
 Sieve-sync = search (sendable, prefilter.the_sync, ladder.the_field_sync) depth 40
 
 pub RegexPattern-sync : IsSync RegexPattern.the_row
-RegexPattern-sync = search (sendable, heap.crosses, Program-sync, Sieve-sync, Shelf-sync) depth 40
+RegexPattern-sync = search (sendable, heap.crosses, Program-sync, Sieve-sync, Shelf-sync, Tally-send, Tally-sync) depth 40

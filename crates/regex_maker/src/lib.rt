@@ -12,6 +12,7 @@ mod maker;
 mod memory;
 mod shelf;
 mod sieve;
+mod tally;
 #[cfg(test)]
 mod tests;
 

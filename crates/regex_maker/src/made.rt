@@ -6,9 +6,11 @@ ghost use Rattle.regex_maker.specs.Searching.{IsSieveFor, IsShelfFor, IsMemoryFo
 use crate::memory::{GaveUp, Memory};
 use crate::shelf::Shelf;
 use crate::sieve::Sieve;
+use crate::tally::Tally;
 use edge_io::{NoMemory, Pattern, Span};
 use regex_meta::{Program, Searcher};
 use std::alloc::Global;
+use std::sync::Arc;
 
 /// A regular expression over bytes.
 #[derive(Drop)]
@@ -17,14 +19,20 @@ pub struct RegexPattern {
     pub(crate) program: Program,
     sieve: Sieve,
     /// The working memory of searches that have ended.
-    shelf: Shelf,
+    pub(crate) shelf: Shelf,
+    /// What the maker's patterns keep together.
+    tally: Arc<Tally>,
     ghost sifted: { IsSieveFor sieve program },
     ghost shelved: { IsShelfFor shelf program.dfa },
 }
 
 impl RegexPattern {
     /// The pattern of an expression, with nothing searched yet.
-    pub(crate) fn new(alloc: Global, program: Program) -> Result<RegexPattern, NoMemory>
+    pub(crate) fn new(
+        alloc: Global,
+        program: Program,
+        tally: Arc<Tally>,
+    ) -> Result<RegexPattern, NoMemory>
         ensures { IfOk result (λ pattern. pattern.program ≡ program) }
     {
         let sieve = Sieve::new(alloc, &program)?;
@@ -34,6 +42,7 @@ impl RegexPattern {
             program,
             sieve,
             shelf,
+            tally,
         })
     }
 
@@ -43,7 +52,10 @@ impl RegexPattern {
     {
         match self.shelf.take() {
             Some(memory) => Ok(memory),
-            None => Ok(Box::new(self.alloc, Memory::new(self.alloc, &self.program.dfa)?)?),
+            None => {
+                let memory = Memory::new(self.alloc, &self.program.dfa, &self.tally)?;
+                Ok(Box::new(self.alloc, memory)?)
+            }
         }
     }
 

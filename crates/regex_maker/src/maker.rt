@@ -5,20 +5,31 @@ ghost use Rattle.regex_maker.specs.Spelled.{IsSpelled};
 ghost use Rattle.regex_maker.specs.Meaning.{IsPattern, pattern_text, options_of, regex_span};
 
 use crate::made::RegexPattern;
+use crate::tally::Tally;
 use edge_io::{MakeFault, NoMemory, PatternFlags, PatternMaker, Refusal, Text};
 use regex_compile::Error;
 use regex_meta::Program;
 use regex_syntax::{Config, ErrorKind, Parsed};
 use std::alloc::Global;
 use std::marker::Model;
+use std::sync::Arc;
 
 /// How many bytes the states of one compiled expression may take.
 const SIZE_LIMIT: usize = 10 << 20;
+
+/// How many bytes of working memory the patterns of one maker keep at most, by their own account of
+/// it, which is an estimate. Of what traffic usually leaves, some tens of kilobytes a pattern, it
+/// holds that of thousands of patterns; of the most that one can be driven to, that of fifty.
+const KEPT: u64 = 256 << 20;
 
 /// Makes patterns by the library `regex`. Contracts see what it refused so far.
 #[derive(Debug, Drop)]
 pub struct RegexMaker {
     refused: Vec<Refusal>,
+    /// How many bytes of working memory its patterns keep at most.
+    most: u64,
+    /// What they keep. There is none before the first pattern.
+    pub(crate) tally: Option<Arc<Tally>>,
 }
 
 impl Model for RegexMaker {
@@ -78,9 +89,31 @@ impl RegexMaker {
     pub fn new(alloc: Global) -> RegexMaker
         ensures { result ≡ [] }
     {
+        RegexMaker::with_most(alloc, KEPT)
+    }
+
+    /// A maker whose patterns keep at most this many bytes of working memory together.
+    pub(crate) fn with_most(alloc: Global, most: u64) -> RegexMaker
+        ensures { result ≡ [] }
+    {
         RegexMaker {
             refused: Vec::new(alloc),
+            most,
+            tally: None,
         }
+    }
+
+    /// What its patterns count their memory on.
+    fn tally(&mut self, alloc: Global) -> Result<Arc<Tally>, NoMemory>
+        ensures { self.new ≡ self.old }
+    {
+        if let Some(tally) = &self.tally {
+            return Ok(Arc::try_clone(tally)?);
+        }
+        let tally = Arc::new(alloc, Tally::new(self.most))?;
+        let shared = Arc::try_clone(&tally)?;
+        self.tally = Some(tally);
+        Ok(shared)
     }
 
     /// Keeps a text that is refused.
@@ -117,7 +150,10 @@ impl PatternMaker for RegexMaker {
         ensures no_memory { IsErrOf result MakeFault.NoMemory → self.new ≡ self.old }
     {
         match program_of(alloc, text, flags) {
-            Ok(program) => Ok(RegexPattern::new(alloc, program)?),
+            Ok(program) => {
+                let tally = self.tally(alloc)?;
+                Ok(RegexPattern::new(alloc, program, tally)?)
+            }
             Err(MakeFault::NoMemory) => Err(MakeFault::NoMemory),
             Err(MakeFault::Refused) => {
                 self.refuse(alloc, text, flags)?;

@@ -89,11 +89,15 @@ impl Shelf {
         None
     }
 
-    /// Lays a memory down for the next search, or drops it where no slot is free.
-    pub(crate) fn lay(&self, dfa: &Dfa, memory: Box<Memory>)
+    /// Lays a memory down for the next search. It is dropped where no slot is free, and where the
+    /// maker's patterns keep too much.
+    pub(crate) fn lay(&self, dfa: &Dfa, mut memory: Box<Memory>)
         requires shelf { IsShelfFor self.now dfa.now }
         requires memory { IsMemoryFor memory.value dfa.now }
     {
+        if !memory.count(dfa) {
+            return;
+        }
         let mut kept = Kept { memory };
         for at in 0..self.slots.len() {
             match laid_in(&self.slots[at], kept) {

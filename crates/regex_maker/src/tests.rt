@@ -122,10 +122,10 @@ fn no_search_remembers_the_match_before(rt: HostRuntime) -> Result<(), Fail> {
 }
 
 /// Letters a and b without an order, and behind them an a and fourteen letters b.
-fn letters(alloc: Global) -> Result<Vec<u8>, NoMemory> {
+fn letters(alloc: Global, count: u32) -> Result<Vec<u8>, NoMemory> {
     let mut bytes = Vec::new(alloc);
     let mut seed: u32 = 1;
-    for _ in 0..100_000u32 {
+    for _ in 0..count {
         seed = seed.wrapping_mul(1_103_515_245).wrapping_add(12345);
         bytes.push(if seed < 0x8000_0000 { b'a' } else { b'b' })?;
     }
@@ -136,7 +136,7 @@ fn letters(alloc: Global) -> Result<Vec<u8>, NoMemory> {
 /// The automaton of this expression has more states than its memory holds.
 #[test]
 fn patterns_with_too_many_states_are_searched(rt: HostRuntime) -> Result<(), Fail> {
-    let mut bytes = letters(rt.alloc())?;
+    let mut bytes = letters(rt.alloc(), 100_000)?;
     let mut maker = RegexMaker::new(rt.alloc());
     let pattern = maker.make(rt.alloc(), "[ab]*a[ab]{14}c", PLAIN)?;
     assert_eq!(rt; ends_of(&pattern, bytes.as_slice())?, None);
@@ -145,6 +145,100 @@ fn patterns_with_too_many_states_are_searched(rt: HostRuntime) -> Result<(), Fai
         ends_of(&pattern, bytes.as_slice())?,
         Some((0, bytes.len()))
     );
+    Ok(())
+}
+
+/// How many patterns there are in the tests of what they keep.
+const PATTERNS: usize = 4;
+
+/// The bytes that the maker's patterns are counted for.
+fn counted(maker: &RegexMaker) -> Option<u64> {
+    maker.tally.as_ref().map(|tally| tally.counted())
+}
+
+/// One search in bytes all of which match. The count is never above what the patterns may keep.
+fn check_search(
+    rt: &impl Abort,
+    maker: &RegexMaker,
+    pattern: &RegexPattern,
+    bytes: &[u8],
+    most: u64,
+) -> Result<(), NoMemory> {
+    assert_eq!(rt; ends_of(pattern, bytes)?, Some((0, bytes.len())));
+    assert!(rt; counted(maker).is_some_and(|now| now <= most));
+    Ok(())
+}
+
+/// Patterns of one expression, each searched by twice in bytes that have it build a state for each
+/// letter: its literals stand there, so nothing dismisses them.
+fn searched(
+    rt: &impl Abort,
+    alloc: Global,
+    maker: &mut RegexMaker,
+    most: u64,
+) -> Result<Vec<RegexPattern>, Fail> {
+    let mut bytes = letters(alloc, 100)?;
+    bytes.push(b'c')?;
+    let mut patterns = Vec::new(alloc);
+    for _ in 0..PATTERNS {
+        patterns.push(maker.make(alloc, "[ab]*a[ab]{14}c", PLAIN)?)?;
+    }
+    for pattern in &patterns {
+        check_search(rt, maker, pattern, bytes.as_slice(), most)?;
+        check_search(rt, maker, pattern, bytes.as_slice(), most)?;
+    }
+    Ok(patterns)
+}
+
+/// Takes from the shelves of the patterns all that lies there. How many memories, and their sizes.
+fn emptied(patterns: &[RegexPattern]) -> (usize, u64) {
+    let mut all = (0usize, 0u64);
+    for pattern in patterns {
+        for _ in 0..16u32 {
+            if let Some(memory) = pattern.shelf.take() {
+                let size = memory.size(&pattern.program.dfa);
+                all = (all.0.saturating_add(1), all.1.saturating_add(size));
+            }
+        }
+    }
+    all
+}
+
+/// How many memories patterns keep that may keep so much, and what they are counted for. What comes
+/// off a shelf and is dropped counts no longer.
+fn kept(rt: &impl Abort, alloc: Global, most: u64) -> Result<(usize, u64), Fail> {
+    let mut maker = RegexMaker::with_most(alloc, most);
+    let patterns = searched(rt, alloc, &mut maker, most)?;
+    let before = counted(&maker);
+    let (memories, size) = emptied(&patterns);
+    assert_eq!(rt; before, Some(size));
+    assert_eq!(rt; counted(&maker), Some(0));
+    Ok((memories, size))
+}
+
+/// The patterns are alike, so what half of them take is room for half of them, and a byte less for one
+/// fewer.
+#[test]
+fn patterns_keep_no_more_than_they_may(rt: HostRuntime) -> Result<(), Fail> {
+    let (all, size) = kept(&rt, rt.alloc(), 1 << 30)?;
+    let half = size / 2;
+    assert_eq!(rt; all, PATTERNS);
+    assert_eq!(rt; kept(&rt, rt.alloc(), half)?, (PATTERNS / 2, half));
+    assert_eq!(rt;
+        kept(&rt, rt.alloc(), half.saturating_sub(1))?.0,
+        PATTERNS / 2 - 1
+    );
+    assert_eq!(rt; kept(&rt, rt.alloc(), 0)?, (0, 0));
+    Ok(())
+}
+
+#[test]
+fn patterns_that_are_dropped_keep_nothing(rt: HostRuntime) -> Result<(), Fail> {
+    let mut maker = RegexMaker::new(rt.alloc());
+    let patterns = searched(&rt, rt.alloc(), &mut maker, 1 << 30)?;
+    assert!(rt; counted(&maker).is_some_and(|now| now > 0));
+    drop(patterns);
+    assert_eq!(rt; counted(&maker), Some(0));
     Ok(())
 }
 
