@@ -9,9 +9,10 @@ use crate::pieces::push_pieces;
 use edge_io::{Addr, NoMemory};
 use std::net::Ipv6Addr;
 
-/// Appends an address.
+/// Appends an address: in dotted decimal, or by RFC 5952 in version 6. Where memory is lacking, nothing is
+/// appended.
 #[tactic(auto, unfolding(crate::specs::Line::address_text))]
-pub(crate) fn push_address(address: Addr, out: &mut Vec<u8>) -> Result<(), NoMemory>
+pub fn push_address(address: Addr, out: &mut Vec<u8>) -> Result<(), NoMemory>
     ensures appended { OnOk result (out.new.items ≡ out.old.items ++ address_text address) }
     ensures unchanged { OnErr result (out.new.items ≡ out.old.items) }
 {

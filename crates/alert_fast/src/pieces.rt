@@ -103,7 +103,7 @@ pub(crate) fn three_digits(number: u16) -> [u8; 3]
 }
 
 /// A number below 1,000,000 in six digits.
-pub(crate) fn six_digits(number: u32) -> [u8; 6]
+pub fn six_digits(number: u32) -> [u8; 6]
     requires { number < 1_000_000 }
     ensures { result ≡ digits 6 number }
 {

@@ -9,7 +9,7 @@ use Rattle.edge_io.specs.Told.{behind, Rose}
 use Rattle.edge_io.specs.Files.{Files}
 use Rattle.snort_engine.specs.declared.status.Status.{Status}
 use Rattle.snort_engine.specs.declared.status.Status.TheVariants as status
-use Rattle.snort_engine.specs.Course.{Plan, Way, Stops, Goes, Makes, Course}
+use Rattle.snort_engine.specs.Course.{Plan, Way, Stops, Goes, Makes, Lists, Course}
 use Rattle.snort_engine.specs.Answer.{answer_of}
 use Rattle.snort_engine.specs.Messages.{cannot_write_text, no_memory_text}
 use Rattle.snort_engine.specs.Outside.{Work, WritesPart}
@@ -149,6 +149,7 @@ ahead_lacking files course before after ended read = by_way course.way read
     by_way (Goes plan) (inl ahead) = inl ahead
     by_way (Goes plan) (inr cut) = inr (inr refl, cut.1)
     by_way (Makes plan seed count) apart = record { left = apart.left; opens = apart.opens; no_host_fault = λ is. cc }
+    by_way (Lists lines) apart = record { left = apart.left; opens = apart.opens; no_host_fault = λ is. cc }
 
 -- ---- the whole run
 
@@ -206,6 +207,7 @@ ends_counted files course before after faults ended message since ends = record 
     by_way (Goes plan) (inr (cut, inl u)) = inr (cut, inl (unopened_on u))
     by_way (Goes plan) (inr (cut, inr s)) = inr (cut, inr (record { left = s.left; alerts = s.alerts }))
     by_way (Makes plan seed count) apart = record { left = apart.left; opens = apart.opens; no_host_fault = apart.no_host_fault }
+    by_way (Lists lines) apart = record { left = apart.left; opens = apart.opens; no_host_fault = apart.no_host_fault }
 
 -- a run of a course, told from earlier on
 pub ends_since : (files : Files) (course : Course) (earlier before after : Work) (ended : Status) (message : List ℕ) → IsLater earlier before

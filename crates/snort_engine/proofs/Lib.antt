@@ -15,6 +15,8 @@ pub mod Batches
 pub mod Watched
 pub mod GoingAhead
 pub mod Finishing
+pub mod FileWays
+pub mod Loaded
 pub mod Captures
 pub mod MadeCaptures
 pub mod MadeRecords

@@ -8,6 +8,7 @@ use Rattle.conf_types.specs.Sound as conf
 use Rattle.rule_types.specs.Sound.{IsSound}
 use Rattle.std.specs.Option.{option_map, option_map_or}
 use Rattle.packet_decode.specs.declared.checks.Checks.{Checks}
+use Rattle.std.specs.FinMap.{get}
 use Rattle.edge_io.specs.Files.{Files}
 use Rattle.edge_io.specs.declared.pattern.Refusal.{Refusal}
 use Rattle.conf_parser.specs.Reading.{Ended, Whole, Refused as RefusedAt, Asks, told}
@@ -22,17 +23,19 @@ use Rattle.snort_setup.specs.Answers.{AreRefusedBy, Gives, HasCause as HasSetupC
 use Rattle.snort_setup.specs.Whole.{ready_of}
 use Rattle.snort_setup.proofs.One.{setup-one}
 use Rattle.snort_engine.specs.declared.prepare.Prepared.{Prepared}
+use Rattle.snort_engine.specs.declared.prepare.Task.TheVariants.{Watch, Tell}
 use Rattle.snort_engine.specs.declared.status.Status.TheVariants as status
 use Rattle.snort_engine.specs.declared.stop.Stop.{Stop}
 use Rattle.snort_engine.specs.declared.stop.Stop.TheVariants as stop
-use Rattle.snort_engine.specs.Course.{Way, Stops, Makes, Given, given, IsCourse, IsForMade, HasOneCourse, checks_of, plan_for, Reads, AreRefused, setup_words, told_warnings, way_ready, way_of, course_by, stopping}
+use Rattle.snort_engine.specs.Course.{Way, Stops, Makes, Lists, Course, Given, given, IsCourse, IsFileWay, IsForMade, HasOneCourse, checks_of, plan_for, Reads, AreRefused, setup_words, told_warnings, way_ready, way_of, course_by, stopping}
 use Rattle.snort_engine.specs.declared.plan.Source.{Source}
 use Rattle.snort_engine.specs.declared.plan.Source.TheVariants.{File, Made}
 use Rattle.snort_engine.specs.Sources.{IsMade, IsSourceFor, source_name, way_from}
 use Rattle.snort_engine.specs.Detecting.{IsRanged}
-use Rattle.snort_engine.specs.Messages.{usage_text, version_text, accepted_text, command_line_text}
+use Rattle.snort_engine.specs.Messages.{usage_text, version_text, accepted_text, command_line_text, cannot_read_text}
 use Rattle.snort_engine.specs.Stop.{stop_text, setup_stop}
-use Rattle.snort_engine.specs.Preparing.{HasWay, stops, way_by, Prepares, IsPrepared, IsSetUp, KeepsSetup, HasCause, way_for, told_of}
+use Rattle.snort_engine.specs.Preparing.{HasWay, stops, way_by, Prepares, IsPrepared, IsSetUp, KeepsSetup, HasCause, ListsFile, task_way, way_for, told_of}
+use Rattle.snort_engine.proofs.FileWays.{file_way-one}
 
 -- what maps to nothing is nothing
 pub none_by : {W O : Type 0} (f : W → O) (found : Option W) → ((w : W) → found ≡ Some w → ⊥) → option_map f found ≡ None
@@ -91,19 +94,53 @@ prepared_version view asked files rose grown warnings is none =
     subst (λ (a : Option Asked). IsPrepared view a files rose grown (Err stop.Version) warnings) (sym is)
     (stopped_at_once view (Some version) files rose grown stop.Version warnings none (λ matches. version_way (given files matches [])))
 
--- the records of a file are not shown
-file_way : (file : List ℕ) (here : Given) → HasWay (Some (records_of file)) here [] (stops stop.CommandLine)
-unfolding IsCourse stop_text
-file_way file here = record { course = stopping command_line_text status.Refused; is = refl; warnings_are = refl; way_is = refl }
-
-pub prepared_file : {A : Type 0} (view : Test → A → Way) (asked : Option Asked) (file : List ℕ) (files : Files) (rose : Type 0) (grown : List Refusal) (warnings : List (List ℕ)) → asked ≡ Some (records_of file) → warnings ≡ [] → IsPrepared view asked files rose grown (Err stop.CommandLine) warnings
-prepared_file view asked file files rose grown warnings is none =
-    subst (λ (a : Option Asked). IsPrepared view a files rose grown (Err stop.CommandLine) warnings) (sym is)
-    (stopped_at_once view (Some (records_of file)) files rose grown stop.CommandLine warnings none (λ matches. file_way file (given files matches [])))
-
 -- memory was lacking
 pub prepared_lacking : {A : Type 0} (view : Test → A → Way) (asked : Option Asked) (files : Files) (rose : Type 0) (grown : List Refusal) (warnings : List (List ℕ)) → warnings ≡ [] → IsPrepared view asked files rose grown (Err stop.NoMemory) warnings
 prepared_lacking view asked files rose grown warnings none = stopped_at_once view asked files rose grown stop.NoMemory warnings none (λ matches. refl)
+
+-- ---- words that name a Unified2 file
+
+-- the course of a file
+file_course : (file : List ℕ) (here : Given) (way : Way) → IsFileWay file (get here.files file) way → HasWay (Some (records_of file)) here [] way
+unfolding IsCourse
+file_course file here way is = record { course = record { warnings = []; way = way }; is = record { unwarned = refl; way = is }; warnings_are = refl; way_is = refl }
+
+-- its lines
+listed_file : {P : Type 0} (file : List ℕ) (files : Files) (rose : Type 0) (grown : List Refusal) (lines : List ℕ) → ListsFile file files rose (Ok lines)
+    → IsPrepared (task_way {P = P}) (Some (records_of file)) files rose grown (Ok (Tell lines)) []
+listed_file file files rose grown lines lists = record {
+  refused = [];
+  are_refused = none_refused (Some (records_of file)) files grown;
+  prepares = λ matches. file_course file (given files matches []) (Lists lines) lists;
+}
+
+pub prepared_listed : {P : Type 0} (asked : Option Asked) (file : List ℕ) (files : Files) (rose : Type 0) (grown : List Refusal) (lines : List ℕ) (warnings : List (List ℕ)) → asked ≡ Some (records_of file) → warnings ≡ []
+    → ListsFile file files rose (Ok lines) → IsPrepared (task_way {P = P}) asked files rose grown (Ok (Tell lines)) warnings
+prepared_listed {P} asked file files rose grown lines warnings is none lists =
+    subst (λ (a : Option Asked). IsPrepared (task_way {P = P}) a files rose grown (Ok (Tell lines)) warnings) (sym is)
+    (subst (λ (w : List (List ℕ)). IsPrepared (task_way {P = P}) (Some (records_of file)) files rose grown (Ok (Tell lines)) w) (sym none)
+    (listed_file {P = P} file files rose grown lines lists))
+
+-- or why there are none
+unlisted_way : {A : Type 0} (view : A → Way) (file : List ℕ) (here : Given) (rose : Type 0) (why : Stop) → ListsFile file here.files rose (Err why) → Prepares view (Some (records_of file)) here rose (Err why) []
+unfolding Reads stop_text
+unlisted_way view file here rose (stop.CannotReadFile name) lists =
+    ⊎_elim
+    (λ (risen : rose). inr (risen, (lists.0, refl)))
+    (λ (lacks : get here.files file ≡ None).
+    inl (file_course file here (stops (stop.CannotReadFile name))
+    (subst (λ (contents : Option (List ℕ)). IsFileWay file contents (stops (stop.CannotReadFile name))) (sym lacks) (ap (λ (n : List ℕ). Stops (cannot_read_text n) status.HostFault) lists.0))))
+    lists.1
+unlisted_way view file here rose (stop.Refused message) lists = file_course file here (stops (stop.Refused message)) lists
+unlisted_way view file here rose (stop.BadUnified2 place) lists = file_course file here (stops (stop.BadUnified2 place)) lists
+unlisted_way view file here rose stop.NoMemory lists = refl
+unlisted_way view file here rose why lists = absurd lists
+
+pub prepared_unlisted : {A : Type 0} (view : Test → A → Way) (asked : Option Asked) (file : List ℕ) (files : Files) (rose : Type 0) (grown : List Refusal) (why : Stop) (warnings : List (List ℕ)) → asked ≡ Some (records_of file) → warnings ≡ []
+    → ListsFile file files rose (Err why) → IsPrepared view asked files rose grown (Err why) warnings
+prepared_unlisted view asked file files rose grown why warnings is none lists =
+    subst (λ (a : Option Asked). IsPrepared view a files rose grown (Err why) warnings) (sym is)
+    (stopped_at_once view (Some (records_of file)) files rose grown why warnings none (λ matches. unlisted_way (view matches) file (given files matches []) rose why lists))
 
 -- ---- words that set a detector up
 
@@ -138,6 +175,24 @@ setup_stopped {A} {B} view ways wanted files rose grown why warnings set = recor
         gives
     by_stop matches halted.NoMemory gives told_are = told_are
 
+-- a detector that is ready is a task, and so a stop is a stop
+pub task_ready : {P : Type 0} (asked : Option Asked) (files : Files) (rose : Type 0) (grown : List Refusal) (prepared : Prepared P) (warnings : List (List ℕ)) → IsPrepared way_for asked files rose grown (Ok prepared) warnings
+    → IsPrepared task_way asked files rose grown (Ok (Watch prepared)) warnings
+task_ready asked files rose grown prepared warnings is = record { refused = is.refused; are_refused = is.are_refused; prepares = is.prepares }
+
+stopped_as : {A B : Type 0} (view : A → Way) (other : B → Way) (asked : Option Asked) (here : Given) (rose : Type 0) (why : Stop) (warnings : List (List ℕ)) → Prepares view asked here rose (Err why) warnings → Prepares other asked here rose (Err why) warnings
+stopped_as view other asked here rose (stop.CannotReadFile name) warnings has = has
+stopped_as view other asked here rose stop.NoMemory warnings has = has
+stopped_as view other asked here rose why warnings has = has
+
+pub task_stopped : {A B : Type 0} (view : Test → A → Way) (other : Test → B → Way) (asked : Option Asked) (files : Files) (rose : Type 0) (grown : List Refusal) (why : Stop) (warnings : List (List ℕ)) → IsPrepared view asked files rose grown (Err why) warnings
+    → IsPrepared other asked files rose grown (Err why) warnings
+task_stopped view other asked files rose grown why warnings is = record {
+  refused = is.refused;
+  are_refused = is.are_refused;
+  prepares = λ matches. stopped_as (view matches) (other matches) asked (given files matches is.refused) rose why warnings (is.prepares matches);
+}
+
 -- the detector was set up
 pub setup_ready : {P : Type 0} (wanted : Run) (files : Files) (rose : Type 0) (grown : List Refusal) (setup : Setup P) (answer : Result (Prepared P) Stop) (warnings : List (List ℕ))
     → IsSetUp ready_of wanted files rose grown (Ok setup) warnings
@@ -158,13 +213,17 @@ setup_ready {P} wanted files rose grown setup answer warnings set way keeps = re
     by_answer matches (Err stop.CommandLine) kept has = has
     by_answer matches (Err why) kept has = absurd kept
 
+same_course : (w v : List (List ℕ)) (x y : Way) → w ≡ v → x ≡ y → ◌≡◌ {A = Course} (record { warnings = w; way = x }) (record { warnings = v; way = y })
+same_course w v x y warnings way = cc
+
 -- words, files, a test and refused lines have at most one course
 pub one_course : HasOneCourse
 unfolding IsCourse
 one_course None here a b of_a of_b = of_a ∙ sym of_b
 one_course (Some help) here a b of_a of_b = of_a ∙ sym of_b
 one_course (Some version) here a b of_a of_b = of_a ∙ sym of_b
-one_course (Some (records_of file)) here a b of_a of_b = of_a ∙ sym of_b
+one_course (Some (records_of file)) here a b of_a of_b =
+    same_course a.warnings b.warnings a.way b.way (of_a.unwarned ∙ sym of_b.unwarned) (file_way-one file (get here.files file) a.way b.way of_a.way of_b.way)
 one_course (Some (run wanted)) here a b (setup_a, is_a, of_a) (setup_b, is_b, of_b) =
     of_a ∙ ap (λ (setup : Warned Ready). course_by here.matches wanted setup) (setup-one (setup_words wanted) here.files here.refused setup_a setup_b is_a is_b) ∙ sym of_b
 

@@ -16,7 +16,7 @@ use Rattle.snort_engine.specs.declared.status.Status.{Status}
 use Rattle.snort_engine.specs.declared.status.Status.TheVariants as status
 use Rattle.snort_engine.specs.declared.stop.Stop.{Stop}
 use Rattle.snort_engine.specs.declared.stop.Stop.TheVariants as stop
-use Rattle.snort_engine.specs.Course.{Plan, Way, Stops, Goes, Makes, Course, Given, given, IsCourse, IsForMade, AreRefused}
+use Rattle.snort_engine.specs.Course.{Plan, Way, Stops, Goes, Makes, Lists, Course, Given, given, IsCourse, IsForMade, AreRefused}
 use Rattle.snort_engine.specs.Answer.{Answer, answer_of, way_answer, capture_answer}
 use Rattle.snort_engine.specs.Messages.{no_memory_text}
 use Rattle.snort_engine.specs.Outside.{Outside, Work, work_of, NoFault, NoCountFell}
@@ -109,6 +109,7 @@ module _ {A : Type 0} (view : A → Way) (asked : Option Asked) (here : Given) (
       (λ lacks. inl (on_course asked here warnings _ _ before after lacks (inr refl) unopened))
       (λ read. inr (record { unopened = unopened; why = inl (refl, read.0, record { name = name; warnings = warnings; is = read.1; says = refl }) }))
       has
+  stop_ends host (stop.BadUnified2 place) cause has = inl (on_course asked here warnings _ _ before after has (inl tt) unopened)
   stop_ends host stop.NoMemory cause has = inr (record { unopened = unopened; why = inr (refl, record { warnings = warnings; before_one = inl has; says = refl }) })
   stop_ends host why cause has = absurd cause
 
@@ -125,6 +126,7 @@ module _ {A : Type 0} (view : A → Way) (asked : Option Asked) (here : Given) (
       (λ lacks. inl (on_course_untold asked here warnings _ _ before after lacks (inr refl) unopened))
       (λ read. inr (record { unopened = unopened; why = inr (refl, record { warnings = warnings; before_one = inr (name, read.1); says = refl }) }))
       has
+  stop_untold host (stop.BadUnified2 place) cause has = inl (on_course_untold asked here warnings _ _ before after has (inl tt) unopened)
   stop_untold host stop.NoMemory cause has = inr (record { unopened = unopened; why = inr (refl, record { warnings = warnings; before_one = inl has; says = refl }) })
   stop_untold host why cause has = absurd cause
 
@@ -303,6 +305,7 @@ stop_cut view asked here before after ended host stop.Version warnings text caus
 stop_cut view asked here before after ended host (stop.Accepted rules) warnings text cause has told other = absurd (same_other asked here warnings _ has other)
 stop_cut view asked here before after ended host stop.CommandLine warnings text cause has told other = absurd (same_other asked here warnings _ has other)
 stop_cut view asked here before after ended host (stop.Refused message) warnings text cause has told other = absurd (same_other asked here warnings _ has other)
+stop_cut view asked here before after ended host (stop.BadUnified2 place) warnings text cause has told other = absurd (same_other asked here warnings _ has other)
 stop_cut view asked here before after ended host (stop.CannotReadFile name) warnings text cause has told other =
     ⊎_elim
     (λ (way : HasWay asked here warnings (stops (stop.CannotReadFile name))). absurd (same_other asked here warnings (stops (stop.CannotReadFile name)) way other))
@@ -372,6 +375,7 @@ pub opens_most : (told : Option Files) (way : Way) (failed : Type 0) (old new : 
 opens_most told (Goes plan) failed old new opens = so_most told plan.source failed old new opens
 opens_most told (Stops message ended) failed old new opens = omega (arith, opens)
 opens_most told (Makes plan seed count) failed old new opens = omega (arith, opens)
+opens_most told (Lists lines) failed old new opens = omega (arith, opens)
 
 -- one that is made isn't opened
 pub opens_made : (told : Option Files) (source : Source) (plan : Plan) (failed : Type 0) (old new : ℕ) → IsMade source → OpensOn told (way_from source plan) failed old new → new ≡ old
@@ -383,6 +387,7 @@ opens_by : (asked : Option Asked) (here : Given) (warnings : List (List ℕ)) (b
     → OpensOn (Some here.files) way failed before.opens after.opens → OpensBy asked here before after ended
 opens_by asked here warnings before after ended failed (Stops message status_then) rises has opens = inl (omega (arith, opens), λ other. absurd (same_other asked here warnings (Stops message status_then) has other))
 opens_by asked here warnings before after ended failed (Makes plan seed count) rises has opens = inl (omega (arith, opens), λ other. absurd (same_other asked here warnings (Makes plan seed count) has other))
+opens_by asked here warnings before after ended failed (Lists lines) rises has opens = inl (omega (arith, opens), λ other. absurd (same_other asked here warnings (Lists lines) has other))
 opens_by asked here warnings before after ended failed (Goes plan) rises has opens =
     let most = one_more_most before.opens in
     ⊎_elim
@@ -425,6 +430,7 @@ lacking_capture : (asked : Option Asked) (here : Given) (way : Way) (warnings : 
 unfolding capture_answer
 lacking_capture asked here (Stops message ended) warnings has lacks = absurd lacks
 lacking_capture asked here (Makes plan seed count) warnings has lacks = absurd lacks
+lacking_capture asked here (Lists lines) warnings has lacks = absurd lacks
 lacking_capture asked here (Goes plan) warnings has lacks = record {
   course = has.course;
   is = has.is;
@@ -436,6 +442,7 @@ lacking_capture asked here (Goes plan) warnings has lacks = record {
 none_lacking : (way : Way) → LacksCapture None way → ⊥
 none_lacking (Stops message ended) lacks = lacks
 none_lacking (Makes plan seed count) lacks = lacks
+none_lacking (Lists lines) lacks = lacks
 none_lacking (Goes plan) lacks = lacks
 
 pub watched_run : {A : Type 0} (ways : Test → A → Way) (asked : Option Asked) (means : Means) (before after : Outside) (ready : A) (text : List ℕ) (outcome : Result (Unit {0}) Stop) (warnings : List (List ℕ)) (ended : Status) → (test : Test) × Tells means test

@@ -14,7 +14,7 @@ use Rattle.snort_engine.specs.declared.fault.ReadFault.{ReadFault}
 use Rattle.snort_engine.specs.declared.fault.ReadFault.TheVariants as fault
 use Rattle.snort_engine.specs.declared.status.Status.{Status}
 use Rattle.snort_engine.specs.declared.status.Status.TheVariants as status
-use Rattle.snort_engine.specs.Course.{Plan, Way, Stops, Goes, Makes, Course}
+use Rattle.snort_engine.specs.Course.{Plan, Way, Stops, Goes, Makes, Lists, Course}
 use Rattle.snort_engine.specs.Records.{Ending, Clean, Refused, Recording, records_of}
 use Rattle.snort_engine.specs.Trace.{Closed}
 use Rattle.snort_engine.specs.Lines.{lines}
@@ -78,6 +78,7 @@ abbrev pub way_answer : Files → List ℕ → Way → Answer
 way_answer files warnings (Stops message ended) = record { alerts = []; errors = warnings ++ message; status = ended }
 way_answer files warnings (Goes plan) = capture_answer plan warnings (get files plan.source)
 way_answer files warnings (Makes plan seed count) = capture_answer plan warnings (Some (generated seed count))
+way_answer files warnings (Lists lines) = record { alerts = lines; errors = warnings; status = status.Done }
 
 -- the answer for a course over these files
 abbrev pub answer_of : Files → Course → Answer

@@ -10,9 +10,10 @@
 -- To try it on: `snort -c r -r p` where `r` has one rule goes on with the capture `p` and that rule;
 -- where `r` is lacking it stops with `ERROR: cannot read r` and HostFault; `snort -c r -T` stops with
 -- `configuration accepted: 1 rules` and Done; `snort -c r --generate 5` goes on with the five packets of
--- the seed 1.
-use Rattle.std.specs.Prelude.{◌≡◌, ℕ, Bool, true, false, List, [], Option, Some, None, Result, Ok, Err, IsSome, length, if◌then◌else◌}
+-- the seed 1; `snort --read-unified2 u` writes a line for each record of `u`, and stops where it is lacking.
+use Rattle.std.specs.Prelude.{◌≡◌, ◌<◌, ◌≤◌, ◌⊎◌, ℕ, Bool, true, false, List, [], Option, Some, None, Result, Ok, Err, IsSome, length, if◌then◌else◌}
 use Rattle.std.specs.Option.{option_map, option_map_or}
+use Rattle.std.specs.FinMap.{get}
 use Rattle.edge_io.specs.Files.{Files}
 use Rattle.packet_decode.specs.declared.checks.Checks.{Checks}
 use Rattle.host_table.specs.declared.host_line.HostLine.{HostLine}
@@ -27,11 +28,14 @@ use Rattle.conf_parser.specs.Reading.{told}
 use Rattle.edge_io.specs.declared.pattern.Refusal.{Refusal}
 use Rattle.snort_setup.specs.Answers.{AreRefusedBy}
 use Rattle.snort_setup.specs.Setup.{Halt, Refused, Lacks, Ready, Warned, IsSetup, IsReading, conf_read}
+use Rattle.unified2_out.specs.declared.record.U2.{U2}
+use Rattle.unified2_out.specs.Reading.{AreRecordsOf, IsBadAt}
 use Rattle.snort_engine.specs.declared.form.Form.{Form}
 use Rattle.snort_engine.specs.declared.form.Form.TheVariants as form
 use Rattle.snort_engine.specs.declared.status.Status.{Status}
 use Rattle.snort_engine.specs.declared.status.Status.TheVariants as status
-use Rattle.snort_engine.specs.Messages.{usage_text, version_text, accepted_text, command_line_text, cannot_read_text}
+use Rattle.snort_engine.specs.Messages.{usage_text, version_text, accepted_text, command_line_text, cannot_read_text, bad_unified2_text, too_large_text}
+use Rattle.snort_engine.specs.RecordLines.{entry_lines}
 
 -- what is done with a capture: the name of its file, empty where it has none; how many records are read
 -- at most; which checksums are verified; the configuration of fragments, streams and events; the table of hosts; how many bytes of
@@ -51,11 +55,12 @@ pub record Plan : Type 0 where
   pub counted : Bool
 
 -- a run stops with a message and a status, or goes on with a plan: for the capture in the plan's file, or
--- for the one that is made of a seed, with so many packets
+-- for the one that is made of a seed, with so many packets; or it writes the lines of a Unified2 file
 pub data Way : Type 0 where
   Stops : (message : List ℕ) (ended : Status) → Way
   Goes : (plan : Plan) → Way
   Makes : (plan : Plan) (seed count : ℕ) → Way
+  Lists : (lines : List ℕ) → Way
 
 -- all warnings, each a line; and then
 pub record Course : Type 0 where
@@ -150,12 +155,40 @@ abbrev pub IsRunCourse : Run → Given → Course → Type 0
 IsRunCourse wanted given course =
     (setup : Warned Ready) × IsSetup (setup_words wanted) given.files given.refused setup × (course ≡ course_by given.matches wanted setup)
 
+-- bytes of a Unified2 file that are records give a line for each
+pub record AreListed (bytes : List ℕ) (way : Way) : Type 0 where
+  pub entries : List U2
+  pub are : AreRecordsOf bytes entries
+  pub is : way ≡ Lists (entry_lines entries)
+
+-- bytes that are none are bad behind the longest list of records that they begin with
+pub record AreBad (bytes : List ℕ) (way : Way) : Type 0 where
+  pub place : ℕ
+  pub bad : IsBadAt bytes place
+  pub is : way ≡ Stops (bad_unified2_text place) status.BadCapture
+
+-- the most bytes of a Unified2 file
+abbrev pub most_file_bytes : ℕ
+most_file_bytes = 16777216
+
+-- the way of a Unified2 file of this name with these contents, if it has any
+abbrev pub IsFileWay : List ℕ → Option (List ℕ) → Way → Type 0
+IsFileWay name None way = way ≡ Stops (cannot_read_text name) status.HostFault
+IsFileWay name (Some bytes) way =
+    ((most_file_bytes < length bytes) × (way ≡ Stops (too_large_text name) status.Refused))
+    ⊎ ((length bytes ≤ most_file_bytes) × (AreListed bytes way ⊎ AreBad bytes way))
+
+-- its course
+pub record IsFileCourse (name : List ℕ) (given : Given) (course : Course) : Type 0 where
+  pub unwarned : course.warnings ≡ []
+  pub way : IsFileWay name (get given.files name) course.way
+
 -- the course of words that may be a command
 unfoldable pub IsCourse : Option Asked → Given → Course → Type 0
 IsCourse None given course = course ≡ stopping command_line_text status.Refused
 IsCourse (Some help) given course = course ≡ stopping usage_text status.Done
 IsCourse (Some version) given course = course ≡ stopping version_text status.Done
-IsCourse (Some (records_of file)) given course = course ≡ stopping command_line_text status.Refused
+IsCourse (Some (records_of file)) given course = IsFileCourse file given course
 IsCourse (Some (run wanted)) given course = IsRunCourse wanted given course
 
 -- the words ask for a capture that is made
@@ -169,10 +202,11 @@ HasOneCourse = (asked : Option Asked) (here : Given) (a b : Course) → IsCourse
 
 -- ---- its readings
 
--- one of the files that are read before the capture, and the warnings that stand before it
+-- one of the files that are read before the capture, or in place of one, and the warnings that stand before it
 unfoldable pub Reads : Option Asked → Given → List ℕ → List (List ℕ) → Type 0
 Reads (Some (run wanted)) given name warnings =
     (earlier : List (List ℕ)) × IsReading (setup_words wanted) given.files given.refused name earlier × (warnings ≡ told_warnings wanted earlier)
+Reads (Some (records_of file)) given name warnings = (name ≡ file) × (warnings ≡ [])
 Reads asked given name warnings = ⊥
 
 -- ---- refused patterns

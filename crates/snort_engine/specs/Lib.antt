@@ -1,6 +1,7 @@
 pub mod Pieces
 pub mod Messages
 pub mod Status
+pub mod RecordLines
 pub mod Course
 pub mod Records
 pub mod Reader

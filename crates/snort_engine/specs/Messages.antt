@@ -54,6 +54,14 @@ unfoldable pub too_long_text : ℕ → ℕ → List ℕ
 too_long_text at len =
     codes "ERROR: capture has a record of " ++ decimal len ++ codes " bytes at byte " ++ decimal at ++ codes "\n"
 
+-- the Unified2 file has bytes from this one on that begin no record
+unfoldable pub bad_unified2_text : ℕ → List ℕ
+bad_unified2_text at = codes "ERROR: unified2 file is bad at byte " ++ decimal at ++ codes "\n"
+
+-- the file has more bytes than are read
+unfoldable pub too_large_text : List ℕ → List ℕ
+too_large_text name = codes "ERROR: " ++ (name ++ codes "(0) file is too large\n")
+
 -- the capture has more records than are read
 unfoldable pub too_many_text : List ℕ
 too_many_text = codes "ERROR: capture has too many records\n"

@@ -1,9 +1,13 @@
 -- What is known before a capture is opened: the plan, or why there is none.
 --
 -- To try it on: where `r` has one rule, `snort -c r -r p` is prepared with the plan for `p` and that rule,
--- and no warning; `snort -c r -T` stops as Accepted.
-use Rattle.std.specs.Prelude.{◌≡◌, ℕ, ⊤, List, [], Option, Result, Ok, Err, ◌⊎◌}
+-- and no warning; `snort -c r -T` stops as Accepted; `snort --read-unified2 u` is to tell the lines of `u`.
+use Rattle.std.specs.Prelude.{◌≡◌, ℕ, ⊤, List, [], Option, None, Result, Ok, Err, ◌⊎◌}
+use Rattle.std.specs.FinMap.{get}
 use Rattle.edge_io.specs.Files.{Files, Lacks}
+use Rattle.edge_io.specs.declared.host.LoadFault.{LoadFault}
+use Rattle.edge_io.specs.declared.host.LoadFault.TheVariants as load
+use Rattle.unified2_out.specs.Reading.{IsBadAt}
 use Rattle.edge_io.specs.declared.pattern.Refusal.{Refusal}
 use Rattle.command_words.specs.CommandLine.{Asked, Run}
 use Rattle.flow_lanes.specs.Hits.{Test}
@@ -13,9 +17,12 @@ use Rattle.snort_setup.specs.declared.stop.SetupStop.TheVariants as halted
 use Rattle.snort_setup.specs.Answers.{SetsUp}
 use Rattle.snort_setup.specs.Setup.{Ready}
 use Rattle.snort_engine.specs.declared.prepare.Prepared.{Prepared}
+use Rattle.snort_engine.specs.declared.prepare.Task.{Task}
+use Rattle.snort_engine.specs.declared.prepare.Task.TheVariants.{Watch, Tell}
 use Rattle.snort_engine.specs.declared.stop.Stop.{Stop}
 use Rattle.snort_engine.specs.declared.stop.Stop.TheVariants as stop
-use Rattle.snort_engine.specs.Course.{Plan, Way, Stops, Course, Given, given, IsCourse, Reads, AreRefused, setup_words, told_warnings}
+use Rattle.snort_engine.specs.Course.{Plan, Way, Stops, Lists, Course, Given, given, IsCourse, AreListed, IsFileWay, Reads, AreRefused, setup_words, told_warnings}
+use Rattle.snort_engine.specs.Messages.{too_large_text}
 use Rattle.snort_engine.specs.Sources.{source_name, way_from}
 use Rattle.snort_engine.specs.Stop.{stop_status, stop_text}
 
@@ -44,6 +51,16 @@ plan_by matches prepared = record {
 -- its way
 abbrev pub way_for : {P : Type 0} → Test → Prepared P → Way
 way_for matches prepared = way_from prepared.source (plan_by matches prepared)
+
+-- the way of a task
+abbrev pub task_way : {P : Type 0} → Test → Task P → Way
+task_way matches (Watch prepared) = way_for matches prepared
+task_way matches (Tell lines) = Lists lines
+
+-- this holds of the detector, if the task has one
+abbrev pub OfWatch : {P : Type 0} → (Prepared P → Type 0) → Task P → Type 0
+OfWatch Holds (Watch prepared) = Holds prepared
+OfWatch Holds (Tell lines) = ⊤
 
 -- the way of a stop; no stop before a capture is opened tells its name
 abbrev pub stops : Stop → Way
@@ -101,8 +118,35 @@ HasCause rose host (stop.Accepted rules) = ⊤
 HasCause rose host stop.CommandLine = ⊤
 HasCause rose host (stop.Refused message) = ⊤
 HasCause rose host (stop.CannotReadFile name) = rose ⊎ Lacks host name
+HasCause rose host (stop.BadUnified2 place) = ⊤
 HasCause rose host stop.NoMemory = ⊤
 HasCause rose host why = ⊥
+
+-- ---- a Unified2 file
+
+-- how a file of this name that was not loaded stops a run; want of memory is for any
+abbrev pub StopsAtFile : List ℕ → LoadFault → Stop → Type 0
+StopsAtFile name load.Failed (stop.CannotReadFile file) = file ≡ name
+StopsAtFile name load.TooLarge (stop.Refused message) = message ≡ too_large_text name
+StopsAtFile name fault stop.NoMemory = ⊤
+StopsAtFile name fault why = ⊥
+
+-- bytes were told as the lines of records, or are bad
+abbrev pub ListsBytes : List ℕ → Result (List ℕ) Stop → Type 0
+ListsBytes bytes (Ok lines) = AreListed bytes (Lists lines)
+ListsBytes bytes (Err (stop.BadUnified2 place)) = IsBadAt bytes place
+ListsBytes bytes (Err stop.NoMemory) = ⊤
+ListsBytes bytes (Err why) = ⊥
+
+-- the file of this name was told as the lines of its records, or gives this stop; but it may be one that
+-- couldn't be read where the host's count rose
+abbrev pub ListsFile : List ℕ → Files → Type 0 → Result (List ℕ) Stop → Type 0
+ListsFile name files rose (Ok lines) = IsFileWay name (get files name) (Lists lines)
+ListsFile name files rose (Err (stop.CannotReadFile file)) = (file ≡ name) × (rose ⊎ (get files name ≡ None))
+ListsFile name files rose (Err (stop.Refused message)) = IsFileWay name (get files name) (stops (stop.Refused message))
+ListsFile name files rose (Err (stop.BadUnified2 place)) = IsFileWay name (get files name) (stops (stop.BadUnified2 place))
+ListsFile name files rose (Err stop.NoMemory) = ⊤
+ListsFile name files rose (Err why) = ⊥
 
 -- faulty words are refused, unless memory is lacking
 abbrev pub IsForFaultyWords : {A : Type 0} → Result A Stop → Type 0

@@ -4,7 +4,8 @@
 -- goes on with a plan for a file, that capture is open at the end and has lost some bytes: of the records
 -- that are whole within these the lines of all but the last batch were written, and maybe more. A run
 -- that is cut off before has opened nothing, or has nothing open, and has written no line. Where the
--- capture is made, nothing is opened or read, and so no fault of reading ends the run.
+-- capture is made, nothing is opened or read, and so no fault of reading ends the run; so it is where the
+-- lines of a Unified2 file are written, which was read before.
 -- To try it on: where 600 records with a line each were taken, at least the lines of the first 344
 -- stand in the alerts.
 use Rattle.std.specs.Prelude.{◌≡◌, ℕ, ◌-◌, List, [], ◌++◌, length, take, Option, Some, None, ◌⊎◌}
@@ -14,7 +15,7 @@ use Rattle.edge_io.specs.Files.{Files}
 use Rattle.snort_engine.specs.declared.status.Status.{Status}
 use Rattle.snort_engine.specs.declared.status.Status.TheVariants as status
 use Rattle.record_jobs.specs.Way.{LinkedRecord}
-use Rattle.snort_engine.specs.Course.{Plan, Way, Stops, Goes, Makes, Course}
+use Rattle.snort_engine.specs.Course.{Plan, Way, Stops, Goes, Makes, Lists, Course}
 use Rattle.snort_engine.specs.Records.{records_of}
 use Rattle.snort_engine.specs.Trace.{Open}
 use Rattle.snort_engine.specs.Lines.{lines}
@@ -70,6 +71,7 @@ ReadsAheadOn files (Goes plan) before after ended =
     IsReadAhead plan (get files plan.source) before after
     ⊎ (IsCutOff ended × (IsUnopened before after ⊎ IsShut before after))
 ReadsAheadOn files (Makes plan seed count) before after ended = IsApart before after ended
+ReadsAheadOn files (Lists lines) before after ended = IsApart before after ended
 
 -- how far was read ahead on a course
 unfoldable pub ReadsAhead : Files → Course → Work → Work → Status → Type 0

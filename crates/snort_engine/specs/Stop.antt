@@ -11,7 +11,7 @@ use Rattle.snort_engine.specs.declared.status.Status.{Status}
 use Rattle.snort_engine.specs.declared.status.Status.TheVariants as status
 use Rattle.snort_engine.specs.declared.stop.Stop.{Stop}
 use Rattle.snort_engine.specs.declared.stop.Stop.TheVariants as stop
-use Rattle.snort_engine.specs.Messages.{usage_text, version_text, accepted_text, command_line_text, cannot_read_text, cannot_write_text, no_memory_text, not_pcap_text, link_type_text, truncated_text, bad_block_text, too_long_text, too_many_text}
+use Rattle.snort_engine.specs.Messages.{usage_text, version_text, accepted_text, command_line_text, cannot_read_text, cannot_write_text, no_memory_text, not_pcap_text, link_type_text, truncated_text, bad_block_text, too_long_text, too_many_text, bad_unified2_text}
 
 -- the status of a stop
 abbrev pub stop_status : Stop → Status
@@ -30,6 +30,7 @@ stop_status (stop.Truncated at) = status.BadCapture
 stop_status (stop.BadBlock at) = status.BadCapture
 stop_status (stop.TooLong at len) = status.BadCapture
 stop_status stop.TooMany = status.BadCapture
+stop_status (stop.BadUnified2 at) = status.BadCapture
 
 -- the message of a stop, where the capture has this name
 unfoldable pub stop_text : List ℕ → Stop → List ℕ
@@ -48,6 +49,7 @@ stop_text source (stop.Truncated at) = truncated_text at
 stop_text source (stop.BadBlock at) = bad_block_text at
 stop_text source (stop.TooLong at len) = too_long_text at len
 stop_text source stop.TooMany = too_many_text
+stop_text source (stop.BadUnified2 at) = bad_unified2_text at
 
 -- how a fault of the capture stops a run
 abbrev pub capture_stop : ReadFault → Stop

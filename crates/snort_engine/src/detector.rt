@@ -6,7 +6,8 @@ ghost use Rattle.snort_engine.specs.Headline.{Headline};
 use crate::Status;
 use crate::capture::watch_capture;
 use crate::counts::Counts;
-use crate::prepare::{plan_for, prepare};
+use crate::lines::offer;
+use crate::prepare::{Task, plan_for, prepare};
 use crate::report::{counts_due, report, tell_all};
 use edge_io::{Gate, Host, Items, PatternMaker, Sink};
 use flow_lanes::matching_is_decided;
@@ -15,7 +16,8 @@ use std::thread::Threads;
 
 /// Runs the detector: reads the words, and the configuration, the rules and the host table that they
 /// name, and writes a line to `alerts` for each item and each rule that alerts on it, of the capture
-/// that they name, or of the one that is made of the seed that they say; to `errors` the warnings, and a message where the run ends otherwise than well.
+/// that they name, or of the one that is made of the seed that they say, or for each record of the Unified2 file
+/// that they name; to `errors` the warnings, and a message where the run ends otherwise than well.
 ///
 /// The order is words, configuration, rules, host table, warnings, capture header, records; the lines of
 /// a batch of records are written before the next is read. `maker` makes the patterns of rules. The flows
@@ -66,12 +68,17 @@ pub fn run<H: Host, M: PatternMaker, A: Sink, E: Sink, G: Gate, R: Threads + Syn
     let prepared = prepare(alloc, words, host, maker, &mut warnings);
     let well = tell_all(errors, warnings.as_slice());
     match prepared {
-        Ok(ready) => {
+        Ok(Task::Watch(ready)) => {
             let plan = plan_for(&ready);
             let mut counts = Counts::NONE;
             let outcome = watch_capture(rt, alloc, host, &plan, gate, alerts, &mut counts);
             let told = counts_due(plan.counted, &outcome, counts);
             report(alloc, errors, well, plan.source.name(), &outcome, told)
+        }
+        Ok(Task::Tell(lines)) => {
+            let mut block = lines.into_vec();
+            let outcome = offer(&mut block, alerts);
+            report(alloc, errors, well, "", &outcome, None)
         }
         Err(stop) => report(alloc, errors, well, "", &Err(stop), None),
     }

@@ -27,6 +27,7 @@ mod form;
 mod halves;
 mod laws;
 mod lines;
+mod listing;
 mod made;
 mod pieces;
 mod plan;

@@ -14,12 +14,13 @@ ghost use Rattle.snort_setup.specs.Answers as setup_specs;
 ghost use Rattle.snort_setup.specs.Steps.{grown_by, Grows};
 ghost use Rattle.snort_setup.specs.Whole.{ready_of};
 ghost use Rattle.snort_engine.specs.Course.{IsForMade, setup_words, checks_of, form_of, way_of};
-ghost use Rattle.snort_engine.specs.Preparing.{IsPrepared, IsSetUp, KeepsSetup, HasCause, IsForFaultyWords, way_for, told_of, way_by};
+ghost use Rattle.snort_engine.specs.Preparing.{IsPrepared, IsSetUp, KeepsSetup, HasCause, IsForFaultyWords, OfWatch, task_way, way_for, told_of, way_by};
 ghost use Rattle.snort_engine.specs.Sources.{source_name, IsMade, IsSourceFor, way_from};
 ghost use Rattle.snort_engine.specs.Watching.{plan_of};
 ghost use Rattle.snort_engine.specs.Detecting.{IsRanged};
 
 use crate::form::Form;
+use crate::listing::list_records;
 use crate::plan::{Plan, Source};
 use crate::stop::Stop;
 use command_words::{ChecksumMode, Command, Words, WordsFault, read_words};
@@ -46,6 +47,15 @@ pub(crate) struct Prepared<'a, P> {
     /// The counts of the run are told.
     pub counted: bool,
     pub setup: Setup<P>,
+}
+
+/// What a run is to do.
+#[derive(Drop)]
+pub(crate) enum Task<'a, P> {
+    /// To watch a capture.
+    Watch(Prepared<'a, P>),
+    /// To tell the records of a Unified2 file, by these lines.
+    Tell(Text),
 }
 
 /// What is done with the capture.
@@ -260,29 +270,29 @@ fn prepare_run<'a, H: Host, M: PatternMaker>(
 }
 
 /// Prepares what the words ask for: reads them, and the configuration, the rules and the host table
-/// that they name, each pattern made by `maker`.
+/// that they name, each pattern made by `maker`; or the Unified2 file that they name.
 ///
-/// Ok is a detector that is ready for a capture; Err is why there is none: the words ask for a text or
-/// for the test of a configuration, or are no command; a line is refused; a file couldn't be read; or
-/// memory is lacking. `warnings` are those that are told, each a line; none after want of memory.
+/// Ok is a detector that is ready for a capture, or the lines of that file; Err is why there is none: the words
+/// ask for a text or for the test of a configuration, or are no command; a line or a file is refused; a file
+/// couldn't be read; or memory is lacking. `warnings` are those that are told, each a line; none after want of memory.
 pub(crate) fn prepare<'a, H: Host, M: PatternMaker>(
     alloc: Global,
     words: &'a [String],
     host: &mut H,
     maker: &mut M,
     warnings: &mut Items<Text>,
-) -> Result<Prepared<'a, M::Made>, Stop>
+) -> Result<Task<'a, M::Made>, Stop>
     requires { warnings.old ≡ [] }
     ensures prepared { (files : Files) → H.contents host.old ≡ Some files
-        → IsPrepared way_for (command_line (map string_bytes words.entry.now)) files (Rose (H.faults host.old) (H.faults host.new))
+        → IsPrepared task_way (command_line (map string_bytes words.entry.now)) files (Rose (H.faults host.old) (H.faults host.new))
         (grown_by (M.refusals maker.old) (M.refusals maker.new)) result warnings.new }
     ensures faulty_words { command_line (map string_bytes words.entry.now) ≡ None → IsForFaultyWords result }
-    ensures made { IfOk result (λ ready. IsForMade (command_line (map string_bytes words.entry.now)) → IsMade ready.source) }
+    ensures made { IfOk result (λ task. IsForMade (command_line (map string_bytes words.entry.now)) → OfWatch (λ ready. IsMade ready.source) task) }
     ensures cause { IfErr result (HasCause (Rose (H.faults host.old) (H.faults host.new)) (H.contents host.old)) }
-    ensures config { IfOk result (λ ready. conf.IsSound ready.setup.config) }
-    ensures rules { IfOk result (λ ready. All (IsSound ready.setup.config.classes) ready.setup.set.rules) }
-    ensures ranges { IfOk result (λ ready. IsRanged ready.lanes ready.flush) }
-    ensures meant { IfOk result (λ ready. FindWhatIsMeant M.Made.finds (M.means maker.old) ready.setup.set) }
+    ensures config { IfOk result (OfWatch (λ ready. conf.IsSound ready.setup.config)) }
+    ensures rules { IfOk result (OfWatch (λ ready. All (IsSound ready.setup.config.classes) ready.setup.set.rules)) }
+    ensures ranges { IfOk result (OfWatch (λ ready. IsRanged ready.lanes ready.flush)) }
+    ensures meant { IfOk result (OfWatch (λ ready. FindWhatIsMeant M.Made.finds (M.means maker.old) ready.setup.set)) }
 
     // The host is as before, but for its count, and the maker but for what it refused.
     ensures same_contents { H.contents host.new ≡ H.contents host.old }
@@ -295,8 +305,10 @@ pub(crate) fn prepare<'a, H: Host, M: PatternMaker>(
     match read_words(alloc, words) {
         Ok(Command::Help) => Err(Stop::Usage),
         Ok(Command::Version) => Err(Stop::Version),
-        Ok(Command::ReadUnified2(_file)) => Err(Stop::CommandLine),
-        Ok(Command::Run(wanted)) => prepare_run(alloc, &wanted, host, maker, warnings),
+        Ok(Command::ReadUnified2(file)) => Ok(Task::Tell(list_records(alloc, file, host)?)),
+        Ok(Command::Run(wanted)) => Ok(Task::Watch(prepare_run(
+            alloc, &wanted, host, maker, warnings,
+        )?)),
         Err(WordsFault::CommandLine) => Err(Stop::CommandLine),
         Err(WordsFault::NoMemory) => Err(Stop::NoMemory),
     }

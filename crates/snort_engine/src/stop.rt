@@ -45,6 +45,8 @@ pub(crate) enum Stop {
     TooLong { at: u64, len: u32 },
     /// The capture has more records than are read.
     TooMany,
+    /// The bytes of a Unified2 file from this one on begin no record.
+    BadUnified2 { at: u64 },
 }
 
 const NOTHING: Piece<'static> = Bytes(b"");
@@ -76,12 +78,13 @@ impl Stop {
             | Stop::Truncated { .. }
             | Stop::BadBlock { .. }
             | Stop::TooLong { .. }
-            | Stop::TooMany => Status::BadCapture,
+            | Stop::TooMany
+            | Stop::BadUnified2 { .. } => Status::BadCapture,
         }
     }
 
     /// Its message, with a line feed at its end, where the capture has this name.
-    #[tactic(auto, unfolding(crate::specs::Stop::stop_text, crate::specs::Messages::cannot_read_text, crate::specs::Messages::accepted_text, crate::specs::Messages::link_type_text, crate::specs::Messages::truncated_text, crate::specs::Messages::bad_block_text))]
+    #[tactic(auto, unfolding(crate::specs::Stop::stop_text, crate::specs::Messages::cannot_read_text, crate::specs::Messages::accepted_text, crate::specs::Messages::link_type_text, crate::specs::Messages::truncated_text, crate::specs::Messages::bad_block_text, crate::specs::Messages::bad_unified2_text))]
     pub fn pieces<'a>(&'a self, source: &'a str) -> [Piece<'a>; 5]
         ensures { pieces_text result ≡ stop_text source.now self.now }
     {
@@ -112,6 +115,13 @@ impl Stop {
             ],
             Stop::BadBlock { at } => [
                 Bytes(b"ERROR: capture has a bad block at byte "),
+                Number(*at),
+                Bytes(b"\n"),
+                NOTHING,
+                NOTHING,
+            ],
+            Stop::BadUnified2 { at } => [
+                Bytes(b"ERROR: unified2 file is bad at byte "),
                 Number(*at),
                 Bytes(b"\n"),
                 NOTHING,

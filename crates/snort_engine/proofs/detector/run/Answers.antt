@@ -1,22 +1,24 @@
 use Rattle.std.proofs.Common.{refl, sym, ◌∙◌, arith}
-use Rattle.snort_engine.specs.Preparing.{way_for}
+use Rattle.snort_engine.specs.Preparing.{task_way}
+use Rattle.snort_engine.specs.declared.prepare.Task.TheVariants.{Watch, Tell}
+use Rattle.snort_engine.proofs.FileWays.{listed_ends, no_host_stop, write_stop}
 use Rattle.snort_engine.proofs.Runs.{headline, stopped_run, watched_run, opens_made}
 use Rattle.snort_engine.proofs.detector.run.Goals as goal
 
 pub watch_capture-outcome-requires-clause-plan : goal.watch_capture-outcome-requires-clause-plan
 watch_capture-outcome-requires-clause-plan g c κs within =
-    let rules = c.in-Ok.ensures.rules in
-    let config = c.in-Ok.ensures.config in
+    let rules = (rw c.in-Ok-Watch.field-0-is at c.in-Ok-Watch.ensures.rules) in
+    let config = (rw c.in-Ok-Watch.field-0-is at c.in-Ok-Watch.ensures.config) in
     record {
       config = rw c.plan_for-plan.ensures.config config;
       rules = rw (c.plan_for-plan.ensures.set, c.plan_for-plan.ensures.config) rules;
-      ranges = rw (c.plan_for-plan.ensures.lanes, c.plan_for-plan.ensures.flush) c.in-Ok.ensures.ranges;
+      ranges = rw (c.plan_for-plan.ensures.lanes, c.plan_for-plan.ensures.flush) (rw c.in-Ok-Watch.field-0-is at c.in-Ok-Watch.ensures.ranges);
     }
 
-pub returns-in-Ok-clause-headline : goal.returns-in-Ok-clause-headline
-returns-in-Ok-clause-headline g c =
+pub returns-in-Ok-Watch-clause-headline : goal.returns-in-Ok-Watch-clause-headline
+returns-in-Ok-Watch-clause-headline g c =
     headline _ _ _ _ _
-    (watched_run (way_for {P = g.row.M-Made.Denot}) _ _ _ _ c.in-Ok.ready _ c.watch_capture-outcome.result c.prepare-prepared.new.warnings _ (c.matching_is_decided.ensures _)
+    (watched_run (task_way {P = g.row.M-Made.Denot}) _ _ _ _ (Watch c.in-Ok-Watch.ready) _ c.watch_capture-outcome.result c.prepare-prepared.new.warnings _ (c.matching_is_decided.ensures _)
     (record {
       middle = record {
         left = g.H.Host.left c.prepare-prepared.new.host;
@@ -24,12 +26,12 @@ returns-in-Ok-clause-headline g c =
         host_faults = g.H.Host.faults c.prepare-prepared.new.host;
         alerts = g.A.Sink.written c.args.alerts.now;
       };
-      prepared = λ files is. c.in-Ok.ensures.prepared files is;
-      faulty_words = λ none. c.in-Ok.ensures.faulty_words none;
+      prepared = λ files is. (rw c.in-Ok-Watch.field-0-is at c.in-Ok-Watch.ensures.prepared) files is;
+      faulty_words = λ none. c.in-Ok-Watch.ensures.faulty_words none;
       since = record { left = c.prepare-prepared.ensures.same_left; opens = c.prepare-prepared.ensures.same_opens; alerts = refl; later = c.prepare-prepared.ensures.later };
       ends = λ matches tells files course is goes.
           c.watch_capture-outcome.ensures.ends matches
-          (record { means = g.M.PatternMaker.means c.args.maker.now; find = rw c.plan_for-plan.ensures.set c.in-Ok.ensures.meant; tells = tells })
+          (record { means = g.M.PatternMaker.means c.args.maker.now; find = rw c.plan_for-plan.ensures.set (rw c.in-Ok-Watch.field-0-is at c.in-Ok-Watch.ensures.meant); tells = tells })
           files course (c.prepare-prepared.ensures.same_contents ∙ is) (goes ∙ sym (c.plan_for-plan.ensures.way matches));
       write_fault = c.watch_capture-outcome.ensures.write_fault;
       read_fault = λ matches failed.
@@ -37,7 +39,7 @@ returns-in-Ok-clause-headline g c =
       opened = λ matches.
           rw (c.prepare-prepared.ensures.same_contents, c.prepare-prepared.ensures.same_opens, c.plan_for-plan.ensures.way matches) at (c.watch_capture-outcome.ensures.opened matches);
       made_unopened = λ for_made.
-          let made = c.plan_for-plan.ensures.made (c.in-Ok.ensures.made for_made) in (
+          let made = c.plan_for-plan.ensures.made ((rw c.in-Ok-Watch.field-0-is at c.in-Ok-Watch.ensures.made) for_made) in (
             opens_made _ c.plan_for-plan.result.source _ _ _ _ made (c.watch_capture-outcome.ensures.opened (c.matching_is_decided.ensures (g.M.PatternMaker.means c.args.maker.now)).0) ∙ c.prepare-prepared.ensures.same_opens,
             c.watch_capture-outcome.ensures.made_unopened made ∙ c.prepare-prepared.ensures.same_left,
           );
@@ -58,10 +60,48 @@ returns-in-Ok-clause-headline g c =
       reports = rw (c.counts_due-told.ensures, c.name.ensures) at c.report.ensures.reports;
     }))
 
+pub returns-in-Ok-Tell-clause-headline : goal.returns-in-Ok-Tell-clause-headline
+returns-in-Ok-Tell-clause-headline g c =
+    headline _ _ _ _ _
+    (watched_run (task_way {P = g.row.M-Made.Denot}) _ _ _ _ (Tell c.in-Ok-Tell.lines) _ c.offer-outcome.result c.prepare-prepared.new.warnings _ (c.matching_is_decided.ensures _)
+    (record {
+      middle = record {
+        left = g.H.Host.left c.prepare-prepared.new.host;
+        opens = g.H.Host.opens c.prepare-prepared.new.host;
+        host_faults = g.H.Host.faults c.prepare-prepared.new.host;
+        alerts = g.A.Sink.written c.args.alerts.now;
+      };
+      prepared = λ files is. (rw c.in-Ok-Tell.field-0-is at c.in-Ok-Tell.ensures.prepared) files is;
+      faulty_words = λ none. c.in-Ok-Tell.ensures.faulty_words none;
+      since = record { left = c.prepare-prepared.ensures.same_left; opens = c.prepare-prepared.ensures.same_opens; alerts = refl; later = c.prepare-prepared.ensures.later };
+      ends = λ matches tells files course is lists.
+          listed_ends files course c.in-Ok-Tell.lines _ _ c.offer-outcome.result lists refl refl
+          (rw c.into_vec-block.ensures at c.offer-outcome.ensures.offered) (rw c.into_vec-block.ensures at c.offer-outcome.ensures.stopped) c.offer-outcome.ensures.kind;
+      write_fault = λ failed. write_stop c.offer-outcome.result c.offer-outcome.ensures.kind c.offer-outcome.ensures.fault failed;
+      read_fault = λ matches failed. absurd (no_host_stop c.offer-outcome.result c.offer-outcome.ensures.kind failed);
+      opened = λ matches. c.prepare-prepared.ensures.same_opens;
+      made_unopened = λ for_made. (c.prepare-prepared.ensures.same_opens, c.prepare-prepared.ensures.same_left);
+      same_files = c.prepare-prepared.ensures.same_contents;
+      counts = record {
+        host = c.prepare-prepared.ensures.later;
+        alerts = c.offer-outcome.ensures.later;
+        errors = omega (arith, c.tell_all-well.ensures.later, c.report-in-Ok-Tell.ensures.later);
+      };
+    })
+    (record {
+      middle = g.E.Sink.written c.tell_all-well.new.errors;
+      at_middle = g.E.Sink.faults c.tell_all-well.new.errors;
+      well = c.tell_all-well.result;
+      later = c.tell_all-well.ensures.later;
+      on = c.report-in-Ok-Tell.ensures.later;
+      warned = rw c.as_slice.ensures at c.tell_all-well.ensures.tells;
+      reports = c.report-in-Ok-Tell.ensures.reports;
+    }))
+
 pub returns-clause-headline : goal.returns-clause-headline
 returns-clause-headline g c =
     headline _ _ _ _ _
-    (stopped_run (way_for {P = g.row.M-Made.Denot}) _ _ _ _ c.in-Err.stop c.prepare-prepared.new.warnings _ (c.matching_is_decided.ensures _)
+    (stopped_run (task_way {P = g.row.M-Made.Denot}) _ _ _ _ c.in-Err.stop c.prepare-prepared.new.warnings _ (c.matching_is_decided.ensures _)
     (record {
       prepared = λ files is. c.in-Err.ensures.prepared files is;
       cause = c.in-Err.ensures.cause;

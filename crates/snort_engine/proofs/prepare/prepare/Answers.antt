@@ -1,7 +1,8 @@
+use Rattle.std.proofs.lemmas.Result.{err_from_is_err_and}
 use Rattle.command_words.specs.Told.{run_of}
-use Rattle.snort_engine.specs.Preparing.{way_for}
+use Rattle.snort_engine.specs.Preparing.{task_way, way_for}
 use Rattle.snort_engine.proofs.Named.{command_named, command_ranged}
-use Rattle.snort_engine.proofs.Prepared.{prepared_faulty, prepared_file, prepared_help, prepared_version, prepared_lacking}
+use Rattle.snort_engine.proofs.Prepared.{prepared_faulty, prepared_listed, prepared_unlisted, prepared_help, prepared_version, prepared_lacking, task_ready, task_stopped}
 use Rattle.snort_engine.proofs.prepare.prepare.Goals as goal
 
 pub prepare_run-requires-clause-named : goal.prepare_run-requires-clause-named
@@ -11,16 +12,38 @@ pub prepare_run-requires-clause-ranged : goal.prepare_run-requires-clause-ranged
 prepare_run-requires-clause-ranged g c κs within = command_ranged _ (run_of c.in-Ok-Run.wanted) (rw c.in-Ok-Run.field-0-is at c.in-Ok-Run.ensures)
 
 pub returns-in-Ok-Help-clause-prepared : goal.returns-in-Ok-Help-clause-prepared
-returns-in-Ok-Help-clause-prepared g c = λ files told. prepared_help way_for _ files _ _ _ (rw c.in-Ok-Help.field-0-is at c.in-Ok-Help.ensures) c.requires
+returns-in-Ok-Help-clause-prepared g c = λ files told. prepared_help task_way _ files _ _ _ (rw c.in-Ok-Help.field-0-is at c.in-Ok-Help.ensures) c.requires
 
 pub returns-in-Ok-Version-clause-prepared : goal.returns-in-Ok-Version-clause-prepared
-returns-in-Ok-Version-clause-prepared g c = λ files told. prepared_version way_for _ files _ _ _ (rw c.in-Ok-Version.field-0-is at c.in-Ok-Version.ensures) c.requires
-
-pub returns-in-Ok-ReadUnified2-clause-prepared : goal.returns-in-Ok-ReadUnified2-clause-prepared
-returns-in-Ok-ReadUnified2-clause-prepared g c = λ files told. prepared_file way_for _ c.in-Ok-ReadUnified2._file.now files _ _ _ (rw c.in-Ok-ReadUnified2.field-0-is at c.in-Ok-ReadUnified2.ensures) c.requires
+returns-in-Ok-Version-clause-prepared g c = λ files told. prepared_version task_way _ files _ _ _ (rw c.in-Ok-Version.field-0-is at c.in-Ok-Version.ensures) c.requires
 
 pub returns-in-Err-CommandLine-clause-prepared : goal.returns-in-Err-CommandLine-clause-prepared
-returns-in-Err-CommandLine-clause-prepared g c = λ files told. prepared_faulty way_for _ files _ _ _ (rw c.in-Err-CommandLine.field-0-is at c.in-Err-CommandLine.ensures) c.requires
+returns-in-Err-CommandLine-clause-prepared g c = λ files told. prepared_faulty task_way _ files _ _ _ (rw c.in-Err-CommandLine.field-0-is at c.in-Err-CommandLine.ensures) c.requires
 
 pub returns-in-Err-NoMemory-clause-prepared : goal.returns-in-Err-NoMemory-clause-prepared
-returns-in-Err-NoMemory-clause-prepared g c = λ files told. prepared_lacking way_for _ files _ _ _ c.requires
+returns-in-Err-NoMemory-clause-prepared g c = λ files told. prepared_lacking task_way _ files _ _ _ c.requires
+
+pub returns-in_ok-list_records-in-Ok-ReadUnified2-clause-prepared : goal.returns-in_ok-list_records-in-Ok-ReadUnified2-clause-prepared
+returns-in_ok-list_records-in-Ok-ReadUnified2-clause-prepared g c = λ files told.
+    prepared_listed {P = g.row.M-Made.Denot} _ c.in-Ok-ReadUnified2.file.now files _ _ c.in_ok-list_records-in-Ok-ReadUnified2.field-0 _
+    (rw c.in-Ok-ReadUnified2.field-0-is at c.in-Ok-ReadUnified2.ensures) c.requires
+    (c.in_ok-list_records-in-Ok-ReadUnified2.ensures.lists files told)
+
+pub returns-in_err-list_records-in-Ok-ReadUnified2-clause-prepared : goal.returns-in_err-list_records-in-Ok-ReadUnified2-clause-prepared
+returns-in_err-list_records-in-Ok-ReadUnified2-clause-prepared g c = λ files told.
+    let p = err_from_is_err_and c.from_residual.result c.from_residual.ensures.1 in
+    rw (p.1, p.2) (prepared_unlisted (task_way {P = g.row.M-Made.Denot}) _ c.in-Ok-ReadUnified2.file.now files _ _ c.in_err-list_records-in-Ok-ReadUnified2.field-0.0 c.args.warnings.now
+    (rw c.in-Ok-ReadUnified2.field-0-is at c.in-Ok-ReadUnified2.ensures) c.requires
+    (c.in_err-list_records-in-Ok-ReadUnified2.ensures.lists files told))
+
+pub returns-in_ok-prepare_run-in-Ok-Run-clause-prepared : goal.returns-in_ok-prepare_run-in-Ok-Run-clause-prepared
+returns-in_ok-prepare_run-in-Ok-Run-clause-prepared g c = λ files told.
+    let asked = rw c.in-Ok-Run.field-0-is at c.in-Ok-Run.ensures in
+    rw asked (task_ready _ files _ _ c.in_ok-prepare_run-in-Ok-Run.field-0 _ (c.in_ok-prepare_run-in-Ok-Run.ensures.prepared files told))
+
+pub returns-in_err-prepare_run-in-Ok-Run-clause-prepared : goal.returns-in_err-prepare_run-in-Ok-Run-clause-prepared
+returns-in_err-prepare_run-in-Ok-Run-clause-prepared g c = λ files told.
+    let asked = rw c.in-Ok-Run.field-0-is at c.in-Ok-Run.ensures in
+    let p = err_from_is_err_and c.from_residual-in_err-prepare_run-in-Ok-Run.result c.from_residual-in_err-prepare_run-in-Ok-Run.ensures.1 in
+    rw (p.1, p.2, asked) (task_stopped (way_for {P = g.row.M-Made.Denot}) (task_way {P = g.row.M-Made.Denot}) _ files _ _ c.in_err-prepare_run-in-Ok-Run.field-0.0 _
+    (c.in_err-prepare_run-in-Ok-Run.ensures.prepared files told))
