@@ -4,12 +4,14 @@
     tools/faults.py [--program PATH] [--cases WORD,..] [--faults WORD,..] [--lanes N,..] [--stacks] > table.md
     tools/faults.py --test PATH NAME
 
-A case is a command with its files, and with the records at which it writes lines, worked out by hand. It is run without
-a fault, and then with the fault at the call 1, 2, 3 and so on, one number a run, until a run makes fewer such calls:
+A case is a command with its files, and with its lines and the records at which they come, worked out by hand: see
+tools/fault_cases.py. It is run without a fault, which must write these lines, byte by byte, and then with the fault at the
+call 1, 2, 3 and so on, one number a run, until a run makes fewer such calls:
 
     memory     the Nth call for memory is refused (malloc, calloc, realloc and their kin)
                memory-on: so is each later one
     files      open, state: the Nth file can't be opened, or not be asked whether it is a folder
+               close: it is closed, and the call fails
     reads      read: the Nth call for input fails. read-interrupted: it is interrupted by a signal
                read-byte, read-byte-on: it moves one byte, it and each later one
     writes     the same of output
@@ -30,11 +32,14 @@ function of the file that `rt test` leaves in a crate's `out`, each call for mem
 """
 import argparse, collections, os, resource, signal, struct, subprocess, sys, tempfile
 
+sys.dont_write_bytecode = True
+from fault_cases import CASES, record_ends
+
 TOP = os.path.dirname(os.path.dirname(os.path.abspath(__file__)))
 SECONDS = 20
 FAULTS = {
     "memory": ["memory", "memory-on"],
-    "files": ["open", "state"],
+    "files": ["open", "state", "close"],
     "reads": ["read", "read-interrupted", "read-byte", "read-byte-on"],
     "writes": ["write", "write-interrupted", "write-byte", "write-byte-on"],
     "threads": ["thread", "thread-on"],
@@ -43,137 +48,6 @@ FAULTS = {
 SEEN = struct.Struct("<5Q24s256s")  # struct seen of refuse.c
 Seen = collections.namedtuple("Seen", "calls met size descriptor moved function file")
 End = collections.namedtuple("End", "status alerts errors")
-
-# Packets: C is 10.0.0.1, S is 10.0.0.2; moments are whole seconds.
-C, S = bytes([10, 0, 0, 1]), bytes([10, 0, 0, 2])
-C6, S6 = bytes.fromhex("20010db8000000000000000000000001"), bytes.fromhex("20010db8000000000000000000000002")
-FLAGS = {"F": 1, "S": 2, "R": 4, "A": 16}
-
-def summed(data):  # RFC 1071: a sum in ones' complement is a remainder by 65535
-    return (-int.from_bytes(data + b"\0" * (len(data) % 2), "big") % 65535).to_bytes(2, "big")
-
-def ethernet(kind, packet):
-    return bytes.fromhex("020000000002020000000001") + struct.pack(">H", kind) + packet
-
-def ipv4(source, target, protocol, body, ident=1, fragment=0):
-    head = struct.pack(">BBHHHBBH", 69, 0, 20 + len(body), ident, fragment, 64, protocol, 0) + source + target
-    return ethernet(0x0800, head[:10] + summed(head) + head[12:] + body)
-
-def ipv6(source, target, following, body):
-    return ethernet(0x86DD, struct.pack(">IHBB", 6 << 28, len(body), following, 64) + source + target + body)
-
-def datagram(source, target, ports, data):  # RFC 768, and RFC 8200 section 8.1: either sum has these numbers
-    body = struct.pack(">HHHH", *ports, 8 + len(data), 0) + data
-    return body[:6] + summed(source + target + struct.pack(">HH", 17, len(body)) + body) + body[8:]
-
-def U(data, source=C, ports=(1000, 2000)):
-    return ipv4(source, S, 17, datagram(source, S, ports, data))
-
-def T(way, flags, seq, ack, data=b"", client=1000):
-    source, target, ports = (C, S, (client, 80)) if way == ">" else (S, C, (80, client))
-    head = struct.pack(">HHIIBBHHH", *ports, seq, ack, 80, sum(FLAGS[it] for it in flags), 65535, 0, 0) + data
-    sum_of = summed(source + target + struct.pack(">HH", 6, len(head)) + head)
-    return ipv4(source, target, 6, head[:16] + sum_of + head[18:])
-
-def F(offset, more, data):
-    return ipv4(C, S, 253, data, 7, more << 13 | offset // 8)
-
-def pcap(packets, moments=None):
-    records = [struct.pack("<IIII", moment, 0, len(packet), len(packet)) + packet
-               for moment, packet in zip(moments or range(len(packets)), packets)]
-    return struct.pack("<IHHIIII", 0xA1B2C3D4, 2, 4, 0, 0, 65535, 1) + b"".join(records)
-
-HANDSHAKE = [T(">", "S", 0, 0), T("<", "SA", 100, 1), T(">", "A", 1, 101)]
-STREAM = b"preprocessor stream5_global: track_tcp yes\npreprocessor stream5_tcp: policy first, ports both all\n"
-
-def rules(*options, head="alert udp any any -> any any"):
-    return b"".join(f'{head} (msg:"t"; {it})\n'.encode() for it in options)
-
-FRAGMENTED = {
-    "p": pcap([F(0, 1, b"C" * 8), F(8, 1, b"A" * 16), F(8, 0, b"B" * 24)]),
-    "r": b"preprocessor frag3_engine: policy first\n" + rules(
-        'content:"AAAAAAAAAAAAAAAABBBBBBBB"; flow:only_frag; sid:1;',
-        'content:"BBBBBBBBBBBBBBBBBBBBBBBB"; flow:only_frag; sid:2;', head="alert ip any any -> any any")}
-INCLUDE = {"r": STREAM + b"include a\n", "p": pcap([*HANDSHAKE, T(">", "A", 1, 101, b"evil")]),
-           "a": rules('content:"evil"; flow:only_stream; pcre:"/vil/"; sid:1;', head="alert tcp any any -> any any")}
-LONG6 = datagram(C6, S6, (1000, 2000), b"x" * 8 + b"abc")
-SITE = {"snort.conf": rb"""ipvar HOME_NET 10.0.0.0/8
-ipvar EXTERNAL_NET any
-portvar HTTP_PORTS [80,8080]
-var RULE_PATH rules
-config disable_decode_alerts
-config checksum_mode: all
-config detection: search-method ac-split search-optimize max-pattern-len 20
-config event_queue: max_queue 8 log 5 order_events content_length
-preprocessor normalize_ip4
-preprocessor frag3_global: max_frags 65536
-preprocessor frag3_engine: policy windows detect_anomalies overlap_limit 10 min_fragment_length 100 timeout 180
-preprocessor stream5_global: track_tcp yes, \
-   track_udp yes, track_icmp no, max_tcp 262144, max_udp 131072, \
-   max_active_responses 2, min_response_seconds 5
-preprocessor stream5_tcp: policy windows, detect_anomalies, require_3whs 180, \
-   overlap_limit 10, small_segments 3 bytes 150, timeout 180, \
-   ports client 21 25, ports both 80 8080
-preprocessor stream5_udp: timeout 180
-output unified2: filename merged.log, limit 128
-include classification.config
-include $RULE_PATH/local.rules
-""", "classification.config": b"config classification: web-application-attack,Web Application Attack,1\n",
-    "rules/local.rules": b'alert tcp $EXTERNAL_NET any -> $HOME_NET $HTTP_PORTS (msg:"LOCAL attack word"; flow:'
-    b'to_server,established; content:"attack"; fast_pattern; nocase; classtype:web-application-attack; sid:1000001; '
-    b'rev:2;)\n'}
-
-# A case: its name, its words, its files, the record from 0 on at which each line comes (None: not worked out), how many
-# lines come at the capture's end, the status, and whether it is run with several lanes.
-Case = collections.namedtuple("Case", "name words files lines closing status spread", defaults=([], 0, 0, True))
-CASES = [
-    Case("fragments", "-c r -r p", FRAGMENTED, [2]),
-    Case("hosts", "-c r -r p --host-table h", {**FRAGMENTED, "h": b"10.0.0.2 last linux\n"}, [2]),
-    Case("stream", "-c r -r p --flush-point 4", {
-        "r": STREAM + rules('content:"attk"; sid:1;', head="alert tcp any any -> any 80"),
-        "p": pcap([T(">", "S", 4294967293, 0), T("<", "SA", 100, 4294967294), T(">", "A", 4294967294, 101),
-                   T(">", "A", 4294967294, 101, b"at"), T(">", "A", 0, 101, b"tk"), T("<", "A", 101, 2)])}, [5]),
-    Case("overlaps", "-c r -r p --flush-point 4", {
-        "r": STREAM.replace(b"first", b"last") + rules('content:"ZWgh"; flow:only_stream; sid:1;',
-             'content:"efgh"; flow:only_stream; sid:2;', head="alert tcp any any -> any any"),
-        "p": pcap([*HANDSHAKE, T(">", "A", 1, 101, b"abcd"), T("<", "A", 101, 5), T(">", "A", 3, 101, b"XYZW"),
-                   T(">", "A", 5, 101, b"efgh"), T("<", "A", 101, 9)])}, [7]),
-    Case("full-table", "-c r -r p", {
-        "r": STREAM.replace(b"yes", b"yes, max_tcp 1") + rules(
-            'content:"evil"; flow:only_stream; sid:1;', "flags:S; sid:2;", head="alert tcp any any -> any any"),
-        "p": pcap([*HANDSHAKE, T(">", "A", 1, 101, b"evil"), T(">", "S", 0, 0, client=1001)])}, [0, 4, 4]),
-    Case("site", "-c snort.conf --generate 20", SITE, None),
-    Case("site-test", "-T -c snort.conf", SITE, spread=False),
-    Case("include", "-c r -r p", INCLUDE, closing=1),
-    Case("truncated", "-c r -r p", {**INCLUDE, "p": INCLUDE["p"] + pcap(HANDSHAKE)[24:44]}, closing=1, status=2),
-    Case("ipv6", "-c r -r p", {
-        "r": b"preprocessor frag3_engine: policy linux\n" + rules('content:"abc"; sid:1;'),
-        "p": pcap([ipv6(C6, S6, 0, bytes([17, 0, 1, 4, 0, 0, 0, 0]) + datagram(C6, S6, (1000, 2000), b"abc")),
-                   ipv6(C6, S6, 44, struct.pack(">BBHI", 17, 0, 0 | 1, 7) + LONG6[:16]),
-                   ipv6(C6, S6, 44, struct.pack(">BBHI", 17, 0, 16, 7) + LONG6[16:])])}, [0, 2]),
-    Case("pcre", "-c r -r p", {
-        "r": rules('pcre:"/AB/i"; content:"c"; distance:0; sid:1;', 'pcre:"/^x[a-z]{2,4}c$/"; sid:2;'),
-        "p": pcap([U(b"xabc"), U(b"xyz")])}, [0, 0]),
-    Case("bits", "-c r -r p", {"r": b"preprocessor stream5_udp: timeout 30\n" + rules(
-        'content:"a"; flowbits:set,x; flowbits:noalert; sid:1;', 'content:"b"; flowbits:isset,x; sid:2;'),
-        "p": pcap([U(b"ab")])}, [0]),
-    Case("filters", "-c r -r p", {
-        "r": b"event_filter gen_id 1, sig_id 1, type limit, track by_src, count 1, seconds 60\n"
-        b"suppress gen_id 1, sig_id 3, track by_src, ip 10.0.0.1\n" + rules('content:"a"; sid:1;',
-        'content:"a"; detection_filter:track by_src, count 2, seconds 60; sid:2;', 'content:"a"; sid:3;'),
-        "p": pcap([U(b"a")] * 4, [0, 1, 59, 60])}, [0, 2, 3]),
-    Case("counts", "-c r -r p --stats", {"r": rules('content:"xABC"; nocase; sid:1;', 'content:"bc"; nocase; sid:2;'),
-         "p": pcap([U(b"zabc"), U(b"XaBc")])}, [0, 1, 1]),
-    Case("skipped", "-c r -r p --skip-refused", {
-        "r": rules('content:"x"; http_uri; sid:1;', 'pcre:"/a(?=b)/"; sid:2;', 'content:"abc"; sid:3;'),
-        "p": pcap([U(b"abc")])}, [0]),
-    Case("refused", "-c r -r p", {"r": rules('pcre:"/a(?=b)/"; sid:2;')}, status=1, spread=False),
-    Case("batches", "-c r -r p", {
-        "r": b"preprocessor stream5_udp: timeout 30\n" + rules('content:"abc"; sid:1;'),
-        "p": pcap([U(b"abc" + b"x" * 247, ports=(1000 + it % 16, 2000)) for it in range(300)])}, range(300)),
-    Case("words", "-c r", {}, status=1, spread=False),
-    Case("version", "-V", {}, spread=False),
-]
 
 class Program:
     def __init__(self, path, work):
@@ -219,12 +93,10 @@ def is_told(errors, clean, message, least=0):
     first = warnings(clean)
     return any(errors == b"".join(first[:count]) + message for count in range(least, len(first) + 1))
 
-def lines_before(case, clean, moved):
+def lines_before(case, moved):
     """The lines of the whole records among so many bytes of the capture."""
-    capture, at, records = case.files["p"], 24, 0
-    while at + 16 <= moved and (end := at + 16 + int.from_bytes(capture[at + 8:at + 12], "little")) <= moved:
-        at, records = end, records + 1
-    return b"".join(clean.alerts.splitlines(True)[:sum(it < records for it in case.lines)])
+    records = sum(it <= moved for it in record_ends(case.files["p"]))
+    return b"".join(text for record, text in case.lines if record < records)
 
 def wrong_end(case, fault, clean, end, seen):
     """What is wrong with how a run ended, or None."""
@@ -245,7 +117,7 @@ def wrong_end(case, fault, clean, end, seen):
         status, alerts, message = 4, clean.alerts[:seen.moved], "cannot write"
     elif fault in ("open", "state", "read") and seen.file in case.files:
         status, message = 3, f"cannot read {seen.file}"
-        alerts = lines_before(case, clean, seen.moved) if fault == "read" and seen.file == "p" else b""
+        alerts = lines_before(case, seen.moved) if fault == "read" and seen.file == "p" else b""
     else:
         return None if end == clean else "not as without a fault"
     if end.status != status:
@@ -343,9 +215,9 @@ def system_faults(program, case, words, clean):
 
 def wrong_clean(case, clean):
     """What is wrong with a run without a fault, or None."""
-    lines = None if case.lines is None else len(case.lines) + case.closing
-    if clean.status != case.status or lines not in (None, clean.alerts.count(b"\n")):
-        return f"not status {case.status} and {lines} lines: lines {clean.alerts[-300:]!r}"
+    lines = b"".join(text for _, text in case.lines)
+    if clean[:2] != (case.status, lines):
+        return f"not status {case.status} and lines {lines[-300:]!r}: {clean.alerts[-300:]!r}"
 
 def run_cases(program, given):
     print("".join(f"| {it} " for it in ["Case", "Lanes", *given.faults, "Wrong"]) + "|")
@@ -395,7 +267,7 @@ def main():
     words.add_argument("--program", default=f"{TOP}/crates/snort_main/out/snort_main", metavar="PATH")
     words.add_argument("--cases", type=listed, metavar="WORD,..", help=" ".join(it.name for it in CASES))
     words.add_argument("--faults", type=listed, default=[*FAULTS], metavar="WORD,..", help=" ".join(FAULTS))
-    words.add_argument("--lanes", type=listed, default=["1", "4"], metavar="N,..")
+    words.add_argument("--lanes", type=listed, default=["1", "4", "64"], metavar="N,..")
     words.add_argument("--stacks", action="store_true")
     words.add_argument("--test", nargs=2, metavar=("PATH", "NAME"))
     given = words.parse_args()

@@ -26,7 +26,7 @@
 #include <sys/uio.h>
 #include <unistd.h>
 
-enum object { MEMORY, READ, WRITE, OPEN, STATE, THREAD };
+enum object { MEMORY, READ, WRITE, OPEN, STATE, CLOSE, THREAD };
 enum action { FAILS, INTERRUPTED, ONE_BYTE };
 
 static const struct kind {
@@ -39,6 +39,7 @@ static const struct kind {
     {"memory-on", MEMORY, FAILS, 1},
     {"open", OPEN, FAILS, 0},
     {"state", STATE, FAILS, 0},
+    {"close", CLOSE, FAILS, 0},
     {"read", READ, FAILS, 0},
     {"read-interrupted", READ, INTERRUPTED, 0},
     {"read-byte", READ, ONE_BYTE, 0},
@@ -242,6 +243,14 @@ int statx(int folder, const char *restrict file, int flags, unsigned mask, struc
         return -1;
     }
     return syscall(SYS_statx, folder, file, flags, mask, state);
+}
+
+/* The descriptor is closed, as Linux closes it, whatever the call says. */
+int close(int descriptor) {
+    int has = meets(CLOSE, "close", 0, descriptor, NULL), result = syscall(SYS_close, descriptor);
+    if (!has) return result;
+    errno = EIO;
+    return -1;
 }
 
 int pthread_create(pthread_t *thread, const pthread_attr_t *attributes, void *(*routine)(void *), void *value) {
