@@ -1,0 +1,137 @@
+"""The command words of snort in one table, and what completes them in bash and zsh. Used by package.
+
+A word is an option, which takes a value, or a flag, which takes none; each may stand once. What a word is about is said
+on the manual's page, docs/manual/command-words.md; the ranges and the order are those of the crate command_words.
+"""
+from collections import namedtuple
+
+FILES = "files"
+# `value` is what the manual calls the value of an option, None for a flag; `values` are FILES, or the values that there
+# are, or a text that says which there are.
+Word = namedtuple("Word", "word about value values", defaults=(None, None))
+
+WORDS = (
+    Word("-c", "configuration with the rules", "CONF", FILES),
+    Word("-r", "capture to inspect", "FILE", FILES),
+    Word("-A", "no effect, alerts go to standard output", "console", ("console",)),
+    Word("-k", "checksums to verify", "MODE", ("all", "none", "noip", "notcp", "noudp", "noicmp")),
+    Word("-n", "records after which the capture ends", "N", "1 to 4294967295"),
+    Word("-S", "variable for the configuration", "NAME=VALUE", "a name and a text"),
+    Word("--host-table", "how each host reassembles", "FILE", FILES),
+    Word("--lanes", "lanes in which flows are inspected", "N", "1 to 64"),
+    Word("--flush-point", "bytes of a stream that are tried together", "N", "1 to 65536"),
+    Word("--generate", "packets of a generated capture", "N", "1 to 100000"),
+    Word("--seed", "seed of a generated capture", "N", "0 to 2147483647"),
+    Word("--read-unified2", "Unified2 records to show", "FILE", FILES),
+    Word("-q", "no warnings"),
+    Word("-U", "no effect, times are in UTC"),
+    Word("-T", "check configuration, rules and host table"),
+    Word("-V", "show the version"),
+    Word("--skip-refused", "skip rules outside the profile"),
+    Word("--stats", "write counts at the end"),
+    Word("--unified2", "write Unified2 records instead of lines"),
+    Word("--help", "show the usage"),
+)
+# Words that stand beside no other, and pairs that are refused together.
+ALONE = ("--read-unified2", "-V", "--help")
+APART = (("-r", "--generate"),)
+
+def is_letter(word):
+    return not word.startswith("--")
+
+def is_told(option):
+    """Whether a text says which values there are, so that none can be offered."""
+    return isinstance(option.values, str) and option.values != FILES
+
+BASH = r"""# bash completion of snort's command words. It needs no other file.
+
+# Sets `waits` to the option that waits for its value behind a word, and adds the word's options and flags to `given`.
+_snort_read() {
+    local letters=${1#-} letter
+    waits=
+    case $1 in
+        --*)
+            given+=("${1%%=*}")
+            case $1 in @names@) waits=$1 ;; esac ;;
+        -?*)
+            while [ -n "$letters" ]; do
+                letter=${letters:0:1} letters=${letters:1}
+                given+=("-$letter")
+                case $letter in @letters@)
+                    [ -n "$letters" ] || waits=-$letter
+                    return ;;
+                esac
+            done ;;
+    esac
+}
+
+# The options and flags that may stand beside those that are given.
+_snort_offered() {
+    local word offered=" @words@ "
+    [ ${#given[@]} -eq 0 ] || offered=" @beside@ "
+    for word in "${given[@]}"; do
+        offered=${offered/ "$word" / }
+        case $word in
+@excluded@
+        esac
+    done
+    printf '%s' "$offered"
+}
+
+_snort() {
+    local word=${COMP_WORDS[COMP_CWORD]} waits= given=() at
+    COMPREPLY=()
+    for ((at = 1; at < COMP_CWORD; at++)); do
+        # Between an option and its value `=` may stand, a word of its own here.
+        if [ "${COMP_WORDS[at]}" = = ]; then continue; fi
+        if [ -n "$waits" ]; then waits=; else _snort_read "${COMP_WORDS[at]}"; fi
+    done
+    if [ "$word" = = ]; then word=; fi
+    case $waits in
+@values@
+        *) mapfile -t COMPREPLY < <(compgen -W "$(_snort_offered)" -- "$word") ;;
+    esac
+    # Only names of files are looked up where nothing is offered.
+    compopt +o default
+}
+complete -o default -F _snort snort
+"""
+
+def bash():
+    """A script for bash that completes the words."""
+    def cases(indent, rows):
+        return "\n".join(f"{indent * ' '}{'|'.join(words)}) {what} ;;" for words, what in rows)
+    options = [it for it in WORDS if it.value]
+    excluded = [(ALONE, "offered=")]
+    excluded += [((one,), f"offered=${{offered/ {other} / }}") for pair in APART for one, other in (pair, pair[::-1])]
+    values = [([it.word for it in options if it.values == FILES], "return")]
+    values += [((it.word,), f"mapfile -t COMPREPLY < <(compgen -W '{' '.join(it.values)}' -- \"$word\")")
+               for it in options if isinstance(it.values, tuple)]
+    values.append(([it.word for it in options if is_told(it)], ":"))
+    return filled(BASH, {
+        "names": "|".join(it.word for it in options if not is_letter(it.word)),
+        "letters": "|".join(it.word[1] for it in options if is_letter(it.word)),
+        "words": " ".join(it.word for it in WORDS), "beside": " ".join(it.word for it in WORDS if it.word not in ALONE),
+        "excluded": cases(12, excluded), "values": cases(8, values)})
+
+ZSH = r"""#compdef snort
+# zsh completion of snort's command words.
+_arguments -s : \
+@lines@
+"""
+
+def zsh():
+    """A function for zsh that completes the words."""
+    def line(it):
+        apart = [other for pair in APART for one, other in (pair, pair[::-1]) if one == it.word]
+        beside = "- *" if it.word in ALONE else " ".join((it.word, *ALONE, *apart))
+        joined = "" if not it.value else "+" if is_letter(it.word) else "="
+        values = "_files" if it.values == FILES else " " if is_told(it) else f"({' '.join(it.values or ())})"
+        name = f"{it.value}, {it.values}" if is_told(it) else it.value
+        return f"    '({beside}){it.word}{joined}[{it.about}]" + (f":{name}:{values}'" if it.value else "'")
+    return filled(ZSH, {"lines": " \\\n".join(map(line, WORDS))})
+
+def filled(text, parts):
+    for name, part in parts.items():
+        text = text.replace(f"@{name}@", part)
+    return text

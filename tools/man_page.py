@@ -1,0 +1,152 @@
+"""The man page snort(8), made of pages of the manual. Used by package.
+
+What the pages say stays as it is: headings, paragraphs, lists, tables and examples become their requests of man(7), and a
+link becomes its text, in italics. A table's first column becomes the tags of a list. ./snort is called snort here, and rows
+of tables that are about the launcher of that name, or about what no package has, are left out.
+"""
+import re, textwrap
+
+# The heads of the page, each with the sections below it: a page, and a heading there, "" for what stands in front of the
+# first one. A section has all that is below it.
+WORDS, START = "docs/manual/command-words.md", "docs/manual/getting-started.md"
+PARTS = (
+    ("DESCRIPTION", (("README.md", ""), (WORDS, ""), (START, "2. First alerts"), (START, "3. A rule of your own"))),
+    ("OPTIONS", ((WORDS, "What to read"), (WORDS, "How to work"), (WORDS, "What to write"), (WORDS, "How words are written"))),
+    ("EXIT STATUS", (("docs/manual/messages.md", "Exit statuses"),)),
+    ("NO ALERTS", ((START, "5. No line?"),)),
+    ("EXAMPLES", ((WORDS, "Examples"), (WORDS, "A generated capture"))))
+NOT_HERE = ("the launcher `./snort`", "`tools/first_look`")
+
+HEADING = re.compile(r"(#+) (.*)")
+USAGE = re.compile(r"(snort(?: (?:-\S+|[A-Z]+|\[options\]))*)(?: +(.*))?")
+INLINE = re.compile(r"`([^`]+)`|\*\*([^*]+)\*\*|\[((?:`[^`]*`|[^]])+)\]\([^)]*\)")
+WITH_VALUE = re.compile(r"(-\S+) ([A-Z][A-Z=]*)")
+
+class NoSection(Exception):
+    """A section that the manual doesn't have."""
+
+def plain(text):
+    """Text as roff shows it."""
+    return text.replace("\\", r"\e").replace("-", r"\-").replace("'", r"\(aq").replace("`", r"\(ga").replace("~", r"\(ti") \
+        .replace("^", r"\(ha")
+
+def line(text):
+    """A line that roff doesn't take for a request."""
+    return r"\&" + text if text.startswith((".", "'")) else text
+
+def wrapped(text):
+    """A sentence in lines, as roff sources are written."""
+    return [line(it) for it in textwrap.wrap(text, 79, break_long_words=False, break_on_hyphens=False)]
+
+def called(text):
+    return text.replace("./snort", "snort")
+
+def code(text):
+    """Words of code: in bold, and what stands for a value in italics."""
+    with_value = WITH_VALUE.fullmatch(text)
+    if with_value:
+        return rf"\fB{plain(with_value[1])}\fR \fI{plain(with_value[2])}\fR"
+    return rf"\fB{plain(called(text))}\fR"
+
+def inline(text):
+    """A sentence, with its code, what is bold, and the texts of its links."""
+    out, at = "", 0
+    for found in INLINE.finditer(text):
+        out += plain(text[at:found.start()])
+        if found[1] is not None:
+            out += code(found[1])
+        elif found[2] is not None:
+            out += rf"\fB{plain(found[2].replace('`', ''))}\fR"
+        else:
+            out += inline(found[3]) if "`" in found[3] else rf"\fI{plain(found[3])}\fR"
+        at = found.end()
+    return out + plain(text[at:])
+
+def paragraph(text):
+    return [".PP", *wrapped(inline(text))]
+
+def example(lines):
+    return [".PP", ".RS 4", ".EX", *(line(plain(called(it))) for it in lines), ".EE", ".RE"]
+
+def cells(row):
+    return [it.strip().replace(r"\|", "|") for it in re.split(r"(?<!\\)\|", row)[1:-1]]
+
+def table(rows):
+    """A list whose tags are the first column. What a column of a value or a message has comes behind the rest."""
+    head, *rows = [cells(it) for it in rows if not re.fullmatch(r"\|[-|]+", it) and not any(part in it for part in NOT_HERE)]
+    out = []
+    for row in rows:
+        told = [it for name, it in zip(head[1:], row[1:]) if it and name not in ("Value", "Message")]
+        told += [f"{name}: {it}." for name, it in zip(head[1:], row[1:]) if it and name in ("Value", "Message")]
+        text = " ".join(it if it.endswith(".") else it + "." for it in told)
+        out += [".TP", line(inline(row[0]))] if row[0] else [".IP"]
+        out += wrapped(inline(text))
+    return out
+
+def blocks(lines):
+    """Lines of a page in groups: what a group is, and its lines."""
+    at = 0
+    while at < len(lines):
+        kind, end = "paragraph", at + 1
+        if lines[at].startswith("```"):
+            end = lines.index("```", end) + 1
+            yield "example", lines[at + 1:end - 1]
+        elif lines[at]:
+            kind = "table" if lines[at].startswith("|") else "list" if lines[at].startswith("- ") else \
+                "heading" if HEADING.match(lines[at]) else "paragraph"
+            while kind != "heading" and end < len(lines) and lines[end] and not lines[end].startswith("```"):
+                end += 1
+            yield kind, lines[at:end]
+        at = end
+
+def section(top, name, heading):
+    """The lines of a section, and below its own heading those of smaller ones."""
+    with open(f"{top}/{name}", encoding="utf-8") as file:
+        lines = file.read().splitlines()
+    depth, first, is_code = 0, None, False
+    for number, text in enumerate(lines):
+        is_code ^= text.startswith("```")
+        here = None if is_code else HEADING.fullmatch(text)
+        if here and first is not None and len(here[1]) <= depth:
+            return lines[first:number]
+        if here and first is None and (here[2] == heading or not heading):
+            depth, first = len(here[1]) + (not heading), number + 1
+    if first is None:
+        raise NoSection(f"{name} has no section {heading}")
+    return lines[first:]
+
+def requests(kind, lines):
+    if kind == "example":
+        return example(lines)
+    if kind == "table":
+        return table(lines)
+    if kind == "list":
+        return [it for text in lines for it in (r".IP \(bu 2", *wrapped(inline(text[2:])))]
+    if kind == "heading":
+        return [f".SS {plain(HEADING.fullmatch(lines[0])[2])}"]
+    return paragraph(" ".join(lines))
+
+def synopsis(lines):
+    """The commands of an example that shows them, without what stands behind each."""
+    out = []
+    for text in lines:
+        words = USAGE.fullmatch(text)[1].replace("[options]", r"[\fIoptions\fR]").split(" ")
+        out += [" ".join(rf"\fI{it}\fR" if it.isupper() and it.isalpha() else it if it.startswith("[") else rf"\fB{plain(it)}\fR"
+                         for it in words), ".br"]
+    return out[:-1]
+
+def page(top, about, version, date, behind):
+    """The man page of the manual below a folder: what the program is about, and heads with paragraphs behind the manual's."""
+    usage = next(lines for kind, lines in blocks(section(top, WORDS, "")) if kind == "example")
+    out = [rf'.TH SNORT 8 {date} "{plain(version)}" "System administration"', ".SH NAME", rf"snort \- {plain(about)}",
+           ".SH SYNOPSIS", *synopsis(usage)]
+    for head, parts in PARTS:
+        out.append(f".SH {head}")
+        for name, heading in parts:
+            if heading and len(parts) > 1 and heading.upper() != head:
+                out.append(f".SS {plain(re.sub(r'^[0-9]+[.] ', '', heading))}")
+            out += [it for kind, lines in blocks(section(top, name, heading)) if lines != usage for it in requests(kind, lines)]
+    for head, texts in behind:
+        out += [f".SH {head}", *(it for text in texts for it in paragraph(text))]
+    # A paragraph begins behind a heading by itself.
+    return "\n".join(it for before, it in zip(["", *out], out) if not (it == ".PP" and before.startswith((".SH", ".SS")))) + "\n"
