@@ -1,6 +1,6 @@
 //! The calls of the layers below a run as rows of data: each row has what calls are given, and what each must give.
 //!
-//! The files of rows are named by the program's words; docs/semantics/layer_rows.md has their notation. A call that
+//! The files of rows are named by the program's words; the README.md of this crate has their notation. A call that
 //! gives something else is named, with what it gives, and the last line says how many gave what they must. The
 //! program's own rows lie in its data folder, in files that are named as the crates, and anybody can add one.
 #![tactic(auto)]

@@ -1,7 +1,7 @@
 //! Whole runs as rows of data: each row of a file has the words, the files and the capture of a run
 //! over memory, the calls of the outside that fail, and what the run must leave.
 //!
-//! The files are named by the program's words; docs/semantics/snort_rows.md has their notation. A row that
+//! The files are named by the program's words; the README.md of this crate has their notation. A row that
 //! differs is named, with what differs, and the last line says how many rows passed. The program's own rows
 //! lie in its data folder, by what they are about, and anybody can add one.
 #![tactic(auto)]
