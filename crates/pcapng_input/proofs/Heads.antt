@@ -1,6 +1,8 @@
 -- What the first block of a file may be, and what its bytes say of the file.
-use Rattle.std.proofs.Common.{◌≡◌, ℕ, ◌+◌, Bool, true, false, List, ◌++◌, Option, Some, None, Result, Ok, Err, [], length, take, drop, refl, sym, ap, subst, ◌∙◌}
+use Rattle.std.proofs.Common.{◌≡◌, ℕ, ◌+◌, ◌≤◌, Bool, true, false, List, ◌++◌, Option, Some, None, Result, Ok, Err, [], length, take, drop, refl, sym, ap, subst, ◌∙◌, arith}
 use Rattle.std.specs.Prelude.{if◌then◌else◌, nat_lt, ◌==◌, ⊤}
+use Rattle.std.proofs.lemmas.List.{append-nil, length-take-le, length-drop, take-append-drop}
+use Rattle.std.proofs.lemmas.Bool.Decides.{nat_tests}
 use Rattle.edge_io.specs.Files.{Files, IsOpened}
 use Rattle.pcap_input.specs.Savefile.{number_at}
 use Rattle.pcap_input.proofs.Told.{split_told}
@@ -8,16 +10,17 @@ use Rattle.pcapng_input.specs.declared.capture.NgFault.{NgFault}
 use Rattle.pcapng_input.specs.declared.capture.NgFault.TheVariants as fault
 use Rattle.pcapng_input.specs.declared.content.Content.{Content}
 use Rattle.pcapng_input.specs.declared.content.Content.TheVariants as content
-use Rattle.pcapng_input.proofs.Begins.{fronted-err, fronted-ok}
+use Rattle.pcapng_input.proofs.Begins.{fronted-err, fronted-ok, number_front}
+use Rattle.pcapng_input.proofs.Openings.{opening_short, opening_other, opening_cut, magic_none, magic_known}
 use Rattle.pcapng_input.specs.declared.walk.Walk.{Walk}
 use Rattle.pcapng_input.specs.declared.step.BlockRead.{BlockRead}
 use Rattle.pcapng_input.specs.declared.step.BlockRead.TheVariants as read
-use Rattle.pcapng_input.specs.Blocks.{Clean, Refused, Step, Stops, Skips, Gives, refused, truncated, bad_block, is_sized, inner_length, section_of, content_of, given_by, closing, fronted, known, section_block, opening}
+use Rattle.pcapng_input.specs.Blocks.{section_type, Clean, Refused, Step, Stops, Skips, Gives, refused, truncated, bad_block, is_sized, inner_length, order_of, first_walk, new_section, section_of, content_of, given_by, closing, fronted, known, section_block, opening}
 use Rattle.pcapng_input.specs.Steps.{TakesLess, EndsBy, Shows}
 use Rattle.pcapng_input.specs.Reader.{reader_at, Opens, Tells, ShowsHead, TakesHead, IsOfHead, IsHeadAnswer}
 
 -- what a section header at the beginning gives: it is skipped, cut off or bad
-abbrev IsHeadStep : Step → Type 0
+abbrev pub IsHeadStep : Step → Type 0
 IsHeadStep (Stops Clean) = ⊥
 IsHeadStep (Stops (Refused why)) = IsOfHead why
 IsHeadStep (Skips walk more) = ⊤
@@ -59,6 +62,36 @@ known_head walk swapped first body start =
     (fronted_by walk swapped first (take 12 body) (drop 12 body) _ refl start))
     start
 
+-- what the first block of a file gives: no record, and no ending but a refusal
+opening_by : (bytes : List ℕ) (short section cut : Bool) (order : Option Bool) → nat_lt (length bytes) 4 ≡ short → (number_at false 0 4 bytes == section_type) ≡ section
+    → nat_lt (length bytes) 12 ≡ cut → order_of (take 4 (drop 8 bytes)) ≡ order → IsHeadStep (opening bytes)
+opening_by bytes true section cut order short_is section_is cut_is order_is = subst IsHeadStep (sym (opening_short bytes (grind (arith, nat_tests, short_is)))) tt
+opening_by bytes false false cut order short_is section_is cut_is order_is =
+    let other = opening_other bytes (grind (arith, nat_tests, short_is)) (grind (arith, nat_tests, section_is)) [] in
+    subst IsHeadStep (sym (ap opening (sym (append-nil bytes)) ∙ other)) tt
+opening_by bytes false true true order short_is section_is cut_is order_is =
+    let cut_off = opening_cut bytes (grind (arith, nat_tests, short_is)) (grind (arith, nat_tests, section_is)) (grind (arith, nat_tests, cut_is)) in
+    subst IsHeadStep (sym cut_off) refl
+opening_by bytes false true false order short_is section_is cut_is order_is =
+    let long : 12 ≤ length bytes = grind (arith, nat_tests, cut_is) in
+    let first = take 8 bytes in
+    let eight : length first ≡ 8 = length-take-le 8 bytes (omega arith) in
+    let begins : number_at false 0 4 first ≡ section_type = number_front 8 bytes (omega arith) ∙ grind (arith, nat_tests, section_is) in
+    let behind = drop 8 bytes in
+    let four : length (take 4 behind) ≡ 4 = length-take-le 4 behind (omega (arith, length-drop 8 bytes)) in
+    let joined : bytes ≡ first ++ (take 4 behind ++ drop 4 behind) =
+    sym (take-append-drop 8 bytes) ∙ ap (λ xs. first ++ xs) (sym (take-append-drop 4 behind)) in
+    subst (λ xs. IsHeadStep (opening xs)) (sym joined) (magic_by first (take 4 behind) (drop 4 behind) order eight begins four order_is)
+  where
+    magic_by : (front magic more : List ℕ) (told : Option Bool) → length front ≡ 8 → number_at false 0 4 front ≡ section_type → length magic ≡ 4 → order_of magic ≡ told
+        → IsHeadStep (opening (front ++ (magic ++ more)))
+    magic_by front magic more None size is four none = subst IsHeadStep (sym (magic_none front magic size is four none more)) tt
+    magic_by front magic more (Some swapped) size is four some =
+        subst IsHeadStep (sym (magic_known front magic swapped size is four some more)) (known_head (new_section first_walk swapped) swapped front more refl)
+
+pub opening_head : (bytes : List ℕ) → IsHeadStep (opening bytes)
+opening_head bytes = opening_by bytes _ _ _ _ refl refl refl refl
+
 -- what a step shows of a stage that gives no other
 shown_kind : (stage : List ℕ → Step) (walk : Walk) (answer : Result BlockRead NgFault) (old new : Option (List ℕ))
     → ((bytes : List ℕ) → IsHeadStep (stage bytes)) → Shows stage walk answer old new → IsHeadAnswer answer
@@ -91,7 +124,7 @@ less_kind len fault.Failed old new less = tt
 less_kind len fault.NoMemory old new less = tt
 
 -- where contents are told, what was opened is what the name holds
-tells_opened : (contents : Option Files) (name bytes : List ℕ) (left : Option (List ℕ)) → Tells contents name bytes → IsOpened contents name left → left ≡ Some bytes
+pub tells_opened : (contents : Option Files) (name bytes : List ℕ) (left : Option (List ℕ)) → Tells contents name bytes → IsOpened contents name left → left ≡ Some bytes
 tells_opened None name bytes left tells opened = absurd tells
 tells_opened (Some files) name bytes left tells opened = opened.0 ∙ tells
 

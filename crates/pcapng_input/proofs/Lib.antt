@@ -14,3 +14,5 @@ pub mod Reading
 pub mod Records
 pub mod Numbers
 pub mod Beginnings
+pub mod Endings
+pub mod Calls

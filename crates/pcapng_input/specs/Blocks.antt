@@ -376,12 +376,11 @@ first_records None cut = cut
 first_records (Some limit) cut =
     if nat_le limit (length cut.records) then record { records = take limit cut.records; ending = Clean } else cut
 
--- the capture that these bytes are, up to the limit where there is one, or why its first block is refused
+-- the capture that these bytes are: why its first block is refused, or the records and the ending of all its
+-- blocks, up to the limit where there is one
 unfoldable pub ng_records : List ℕ → Option ℕ → Result Cut NgFault
 ng_records bytes limit =
     elim (opening bytes) [
-      | Stops Clean ↦ Ok (no_more Clean)
       | Stops (Refused why) ↦ Err why
-      | Skips behind more ↦ Ok (first_records limit (records_left behind more))
-      | Gives first behind more ↦ Ok (no_more Clean)
+      | _ ↦ Ok (first_records limit (records_left first_walk bytes))
     ]

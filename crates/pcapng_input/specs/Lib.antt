@@ -3,3 +3,4 @@ pub mod Options
 pub mod Blocks
 pub mod Steps
 pub mod Reader
+pub mod Calls

@@ -13,6 +13,7 @@ mod capture;
 mod content;
 mod fill;
 mod last;
+mod laws;
 mod number;
 mod options;
 mod piece;
@@ -23,4 +24,5 @@ mod step;
 mod walk;
 
 pub use capture::{NgFault, NgRecord};
+pub use laws::calls_give_the_records;
 pub use reader::NgReader;

@@ -18,7 +18,6 @@ use Rattle.pcap_input.proofs.Heads.{head_of_truncated}
 use Rattle.pcap_input.proofs.Laws.{head_of-append, next_of_nothing}
 use Rattle.pcap_input.proofs.Records as classic_records
 use Rattle.pcap_input.proofs.Told.{split_told}
-use Rattle.pcapng_input.specs.declared.capture.NgRecord.{NgRecord}
 use Rattle.pcapng_input.specs.declared.capture.NgFault.{NgFault}
 use Rattle.pcapng_input.specs.declared.capture.NgFault.TheVariants as blocks_fault
 use Rattle.pcapng_input.specs.declared.walk.Walk.{Walk}
@@ -27,6 +26,8 @@ use Rattle.pcapng_input.specs.Blocks.{section_type, opening, ng_records}
 use Rattle.pcapng_input.specs.Steps.{HoldsNone}
 use Rattle.pcapng_input.specs.Reader as blocks_reader
 use Rattle.pcapng_input.proofs.Begins.{step_nothing}
+use Rattle.pcapng_input.proofs.Endings.{ng_records-skips, ng_records-refused}
+use Rattle.pcapng_input.proofs.Heads.{IsHeadStep, opening_head}
 use Rattle.pcapng_input.proofs.Nexts.{next_of-stops}
 use Rattle.pcapng_input.proofs.Openings.{opening_other}
 use Rattle.pcapng_input.proofs.Records as blocks_records
@@ -115,30 +116,13 @@ savefile_begins front head is few = λ limit more.
 section_is : (bytes : List ℕ) → number_at false 0 4 bytes ≡ section_type → 24 ≤ length bytes → is_of_blocks bytes ≡ true
 section_is bytes begins long = grind (arith, nat_tests, begins, long)
 
--- a first block that is skipped
-skipped_first : (limit : Option ℕ) (bytes : List ℕ) (walk : Walk) (more : List ℕ) → opening bytes ≡ blocks.Skips walk more → ng_records bytes limit ≡ Ok (blocks.first_records limit (blocks.records_left walk more))
-unfolding ng_records
-skipped_first limit bytes walk more is = rw (is, ng_records) refl
-
-refused_first : (limit : Option ℕ) (bytes : List ℕ) (why : NgFault) → opening bytes ≡ blocks.refused why → ng_records bytes limit ≡ Err why
-unfolding ng_records
-refused_first limit bytes why is = rw (is, ng_records) refl
-
-clean_first : (limit : Option ℕ) (bytes : List ℕ) → opening bytes ≡ blocks.Stops blocks.Clean → ng_records bytes limit ≡ Ok (blocks.no_more blocks.Clean)
-unfolding ng_records
-clean_first limit bytes is = rw (is, ng_records) refl
-
-given_first : (limit : Option ℕ) (bytes : List ℕ) (given : NgRecord) (walk : Walk) (more : List ℕ) → opening bytes ≡ blocks.Gives given walk more → ng_records bytes limit ≡ Ok (blocks.no_more blocks.Clean)
-unfolding ng_records
-given_first limit bytes given walk more is = rw (is, ng_records) refl
-
 -- a reader begins behind the first block
 pub blocks_begin : (front : List ℕ) (reader : blocks_reader.Reading) → ((more : List ℕ) → opening (front ++ more) ≡ blocks.Skips reader.walk more) → BeginsBehind front (Blocks reader)
 unfolding recording_for
 blocks_begin front reader opens = λ limit more.
     let section = opening_section (front ++ more) reader.walk more (opens more) in
     as_blocks limit (front ++ more) (section_is (front ++ more) section.begins (omega (arith, section.long)))
-    ∙ ap recording_in_blocks (skipped_first limit (front ++ more) reader.walk more (opens more))
+    ∙ ap recording_in_blocks (ng_records-skips (front ++ more) limit reader.walk more (opens more))
     ∙ recording_of_blocks-first limit (blocks.records_left reader.walk more)
 
 -- ---- no record
@@ -157,13 +141,15 @@ none_first (Some limit) recording none = by_test (nat_le limit (length recording
     by_test true is = rw (is, none) (take_none limit)
     by_test false is = rw is none
 
--- bytes whose first block isn't skipped, or is skipped before nothing, hold no record as blocks
-none_of_blocks : (limit : Option ℕ) (bytes : List ℕ) (step : blocks.Step) → opening bytes ≡ step → ((walk : Walk) (more : List ℕ) → step ≡ blocks.Skips walk more → more ≡ []) → (recording_in_blocks (ng_records bytes limit)).records ≡ []
-none_of_blocks limit bytes (blocks.Stops blocks.Clean) is none = ap (λ (r : Result blocks.Cut NgFault). (recording_in_blocks r).records) (clean_first limit bytes is)
-none_of_blocks limit bytes (blocks.Stops (blocks.Refused why)) is none = ap (λ (r : Result blocks.Cut NgFault). (recording_in_blocks r).records) (refused_first limit bytes why is)
-none_of_blocks limit bytes (blocks.Gives given walk more) is none = ap (λ (r : Result blocks.Cut NgFault). (recording_in_blocks r).records) (given_first limit bytes given walk more is)
-none_of_blocks limit bytes (blocks.Skips walk more) is none =
-    ap (λ (r : Result blocks.Cut NgFault). (recording_in_blocks r).records) (skipped_first limit bytes walk more is)
+-- bytes whose first block is refused, or is skipped before nothing, hold no record as blocks
+none_of_blocks : (limit : Option ℕ) (bytes : List ℕ) (step : blocks.Step) → opening bytes ≡ step → IsHeadStep step
+    → ((walk : Walk) (more : List ℕ) → step ≡ blocks.Skips walk more → more ≡ []) → (recording_in_blocks (ng_records bytes limit)).records ≡ []
+none_of_blocks limit bytes (blocks.Stops blocks.Clean) is head none = absurd head
+none_of_blocks limit bytes (blocks.Stops (blocks.Refused why)) is head none =
+    ap (λ (r : Result blocks.Cut NgFault). (recording_in_blocks r).records) (ng_records-refused bytes limit why is)
+none_of_blocks limit bytes (blocks.Gives given walk more) is head none = absurd head
+none_of_blocks limit bytes (blocks.Skips walk more) is head none =
+    ap (λ (r : Result blocks.Cut NgFault). (recording_in_blocks r).records) (ng_records-skips bytes limit walk more is)
     ∙ ap (λ (r : Recording). r.records) (recording_of_blocks-first limit (blocks.records_left walk more))
     ∙ none_first limit (recording_of_blocks (blocks.records_left walk more))
     (ap (λ (rest : List ℕ). (recording_of_blocks (blocks.records_left walk rest)).records) (none walk more refl)
@@ -181,7 +167,7 @@ none_of_savefile limit bytes (Ok head) is none =
 
 none_by : (limit : Option ℕ) (bytes : List ℕ) (test : Bool) → is_of_blocks bytes ≡ test → ((walk : Walk) (more : List ℕ) → opening bytes ≡ blocks.Skips walk more → more ≡ [])
     → ((head : CaptureHead) → head_of bytes ≡ Ok head → drop 24 bytes ≡ []) → (records_in limit bytes).records ≡ []
-none_by limit bytes true is one other = ap (λ (r : Recording). r.records) (as_blocks limit bytes is) ∙ none_of_blocks limit bytes (opening bytes) refl one
+none_by limit bytes true is one other = ap (λ (r : Recording). r.records) (as_blocks limit bytes is) ∙ none_of_blocks limit bytes (opening bytes) refl (opening_head bytes) one
 none_by limit bytes false is one other = ap (λ (r : Recording). r.records) (as_savefile limit bytes is) ∙ none_of_savefile limit bytes (head_of bytes) refl other
 
 -- at most 24 bytes hold no record
@@ -311,7 +297,7 @@ neither bytes why other no_section opens =
 
 blocks_by : (limit : Option ℕ) (bytes : List ℕ) (why : NgFault) (test : Bool) → is_of_blocks bytes ≡ test → head_of bytes ≡ Err savefile_fault.NotPcap → opening bytes ≡ blocks.refused why
     → records_in limit bytes ≡ none_before (Refused (of_blocks why))
-blocks_by limit bytes why true is other opens = as_blocks limit bytes is ∙ ap recording_in_blocks (refused_first limit bytes why opens)
+blocks_by limit bytes why true is other opens = as_blocks limit bytes is ∙ ap recording_in_blocks (ng_records-refused bytes limit why opens)
 blocks_by limit bytes why false is other opens =
     records_in-err limit bytes savefile_fault.NotPcap other is ∙ ap (λ (f : ReadFault). none_before (Refused f)) (sym (neither bytes why other is opens))
 

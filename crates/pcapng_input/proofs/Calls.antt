@@ -1,0 +1,144 @@
+-- What the calls of a reader give, one after another, is what the capture's bytes hold.
+use Rattle.std.proofs.Common.{◌≡◌, ℕ, List, [], ◌∷◌, ◌++◌, Option, Some, None, Result, Ok, Err, length, refl, sym, ap, subst, append_assoc, ◌∙◌, ◌⊎◌, ⊎_elim}
+use Rattle.std.specs.Prelude.{IsErrOf}
+use Rattle.std.proofs.lemmas.List.{append-nil}
+use Rattle.edge_io.specs.Files.{Files, IsOpened}
+use Rattle.pcap_input.proofs.Told.{split_told}
+use Rattle.pcapng_input.specs.declared.capture.NgRecord.{NgRecord}
+use Rattle.pcapng_input.specs.declared.capture.NgFault.{NgFault}
+use Rattle.pcapng_input.specs.declared.capture.NgFault.TheVariants as fault
+use Rattle.pcapng_input.specs.Blocks.{Ending, Clean, Refused, Skips, refused, opening, Next, Ends, Stands, next_of, Cut, with_first, no_more, records_left, first_records, ng_records}
+use Rattle.pcapng_input.specs.Reader.{Reading, Opens, Tells, TakesHead, Answers}
+use Rattle.pcapng_input.specs.Calls.{IsOpenCall, IsNextCall, IsOfBytes, IsEnding, HasGiven, none, one_more, EndsBy, ReadsCut, Reads, ReadsAll, ReadsFirst}
+use Rattle.pcapng_input.proofs.Heads.{tells_opened}
+use Rattle.pcapng_input.proofs.Records.{records_left-ends, records_left-stands}
+use Rattle.pcapng_input.proofs.Endings.{with_front, first_records-none, first_records-reached, first_records-below, ng_records-skips, ng_records-refused}
+
+-- ---- a call of `open`
+
+-- it gave a reader: some bytes are left, and the capture's records are those that they hold for it
+record IsBehind (bytes : List ℕ) (first : Reading) (left : Option (List ℕ)) : Type 0 where
+  fresh : first.refused ≡ None
+  rest : List ℕ
+  still : left ≡ Some rest
+  all : (limit : Option ℕ) → ng_records bytes limit ≡ Ok (first_records limit (records_left first.walk rest))
+
+behind_head : (contents : Option Files) (name bytes : List ℕ) (first : Reading) (left : Option (List ℕ)) → Tells contents name bytes
+    → first.refused ≡ None → TakesHead contents name (Ok first) left → IsBehind bytes first left
+behind_head contents name bytes first left tells fresh takes =
+    let split = split_told takes.whole left takes.taken bytes takes.took (tells_opened contents name bytes takes.whole tells takes.opened) in
+    record {
+      fresh = fresh;
+      rest = split.rest;
+      still = split.still;
+      all = λ limit. ng_records-skips bytes limit first.walk split.rest (ap opening split.joined ∙ takes.shows split.rest);
+    }
+
+behind_open : (contents : Option Files) (name bytes : List ℕ) (first : Reading) (left : Option (List ℕ)) → Tells contents name bytes
+    → IsOpenCall contents name (Ok first) left → IsBehind bytes first left
+behind_open contents name bytes first left tells call =
+    let opens = call.gives bytes tells in
+    ⊎_elim
+    (λ (takes : TakesHead contents name (Ok first) left). behind_head contents name bytes first left tells opens.2 takes)
+    (λ (failed : IsErrOf (Ok first) fault.Failed × (left ≡ None)). let no : Ok first ≡ Err fault.Failed = failed.0 in cc)
+    call.takes
+
+-- it was refused
+refused_open : (contents : Option Files) (name bytes : List ℕ) (limit : Option ℕ) (why : NgFault) → IsOfBytes why → Opens (Err why) (opening bytes) → ng_records bytes limit ≡ Err why
+refused_open contents name bytes limit fault.NotPcapng shown opens = ng_records-refused bytes limit _ opens
+refused_open contents name bytes limit (fault.Truncated at) shown opens = ng_records-refused bytes limit _ opens
+refused_open contents name bytes limit (fault.BadBlock at) shown opens = ng_records-refused bytes limit _ opens
+refused_open contents name bytes limit (fault.LinkType at link) shown opens = ng_records-refused bytes limit _ opens
+refused_open contents name bytes limit (fault.TooLong at len) shown opens = ng_records-refused bytes limit _ opens
+refused_open contents name bytes limit fault.TooMany shown opens = ng_records-refused bytes limit _ opens
+refused_open contents name bytes limit fault.Failed shown opens = absurd shown
+refused_open contents name bytes limit fault.NoMemory shown opens = absurd shown
+
+-- ---- calls of `next`
+
+-- they gave these records: some bytes are left, and behind these records stand those that they hold for the reader
+record GoesOn (first : Reading) (whole : List ℕ) (given : List NgRecord) (last : Reading) (left : Option (List ℕ)) : Type 0 where
+  fresh : last.refused ≡ None
+  rest : List ℕ
+  still : left ≡ Some rest
+  cut : records_left first.walk whole ≡ with_front given (records_left last.walk rest)
+
+goes_on : (first : Reading) (left_first : Option (List ℕ)) (whole : List ℕ) → first.refused ≡ None → left_first ≡ Some whole
+    → (given : List NgRecord) (last : Reading) (left : Option (List ℕ)) → HasGiven first left_first given last left
+    → GoesOn first whole given last left
+goes_on first left_first whole fresh told given last left none = record { fresh = fresh; rest = whole; still = told; cut = refl }
+goes_on first left_first whole fresh told given last left (one_more {given = front} {old = old} {left_old = left_old} {last = newest} gave call) =
+    let before = goes_on first left_first whole fresh told front old left_old gave in
+    let split = split_told left_old left call.takes.taken before.rest call.takes.took before.still in
+    let stands : next_of old.walk before.rest ≡ Stands newest last.walk split.rest = ap (next_of old.walk) split.joined ∙ call.takes.goes split.rest in
+    let behind = records_left last.walk split.rest in
+    record {
+      fresh = call.takes.fresh;
+      rest = split.rest;
+      still = split.still;
+      cut = before.cut
+          ∙ ap (with_front front) (records_left-stands old.walk before.rest newest last.walk split.rest stands)
+          ∙ ap (λ (records : List NgRecord). let c : Cut = record { records = records; ending = behind.ending } in c) (sym (append_assoc front (newest ∷ []) behind.records));
+    }
+
+-- ---- the end
+
+-- an answer that is an ending
+next_ends : (answer : Result (Option NgRecord) NgFault) (next : Next) (ending : Ending) → IsEnding answer ending → Answers answer next → next ≡ Ends ending
+next_ends (Ok None) next ending is answers = answers ∙ ap Ends (sym is)
+next_ends (Ok (Some given)) next ending is answers = absurd is
+next_ends (Err fault.NotPcapng) next ending is answers = answers ∙ ap Ends (sym is.1)
+next_ends (Err (fault.Truncated at)) next ending is answers = answers ∙ ap Ends (sym is.1)
+next_ends (Err (fault.BadBlock at)) next ending is answers = answers ∙ ap Ends (sym is.1)
+next_ends (Err (fault.LinkType at link)) next ending is answers = answers ∙ ap Ends (sym is.1)
+next_ends (Err (fault.TooLong at len)) next ending is answers = answers ∙ ap Ends (sym is.1)
+next_ends (Err fault.TooMany) next ending is answers = answers ∙ ap Ends (sym is.1)
+next_ends (Err fault.Failed) next ending is answers = absurd is.0
+next_ends (Err fault.NoMemory) next ending is answers = absurd is.0
+
+-- the limit was reached behind these records
+reached : (first : Reading) (whole : List ℕ) (cut : Cut) (last : Reading) (left : Option (List ℕ)) (limit : Option ℕ) → GoesOn first whole cut.records last left
+    → limit ≡ Some (length cut.records) → cut.ending ≡ Clean → first_records limit (records_left first.walk whole) ≡ cut
+reached first whole cut last left limit on is clean =
+    ap (λ (l : Option ℕ). first_records l (records_left first.walk whole)) is
+    ∙ ap (first_records (Some (length cut.records))) on.cut
+    ∙ first_records-reached cut.records (records_left last.walk on.rest)
+    ∙ ap (λ (ending : Ending). let c : Cut = record { records = cut.records; ending = ending } in c) (sym clean)
+
+-- one more call gave the ending
+ended : (first : Reading) (whole : List ℕ) (cut : Cut) (last : Reading) (left : Option (List ℕ)) (limit : Option ℕ) → GoesOn first whole cut.records last left
+    → EndsBy limit (length cut.records) last left cut.ending → first_records limit (records_left first.walk whole) ≡ cut
+ended first whole cut last left limit on ends =
+    let none_next = next_ends ends.answer (next_of last.walk on.rest) cut.ending ends.ends (ends.call.gives on.fresh on.rest on.still) in
+    let all : records_left first.walk whole ≡ cut =
+    on.cut ∙ ap (with_front cut.records) (records_left-ends last.walk on.rest cut.ending none_next)
+    ∙ ap (λ (records : List NgRecord). let c : Cut = record { records = records; ending = cut.ending } in c) (append-nil cut.records) in
+    ap (first_records limit) all ∙ first_records-below limit cut ends.below
+
+-- ---- the laws
+
+all_cut : (contents : Option Files) (name bytes : List ℕ) (limit : Option ℕ) (cut : Cut) → Tells contents name bytes → ReadsCut contents name limit cut → ng_records bytes limit ≡ Ok cut
+all_cut contents name bytes limit cut tells reads =
+    let behind = behind_open contents name bytes reads.first reads.left_first tells reads.opened in
+    let on = goes_on reads.first reads.left_first behind.rest behind.fresh behind.still cut.records reads.last reads.left_last reads.gave in
+    behind.all limit
+    ∙ ap Ok (
+      ⊎_elim
+      (λ (at : (limit ≡ Some (length cut.records)) × (cut.ending ≡ Clean)). reached reads.first behind.rest cut reads.last reads.left_last limit on at.0 at.1)
+      (λ (ends : EndsBy limit (length cut.records) reads.last reads.left_last cut.ending). ended reads.first behind.rest cut reads.last reads.left_last limit on ends)
+      reads.ended
+    )
+
+pub reads_all : ReadsAll
+reads_all contents name bytes limit (Ok cut) tells reads = all_cut contents name bytes limit cut tells reads
+reads_all contents name bytes limit (Err why) tells reads = refused_open contents name bytes limit why reads.2 (reads.1.gives bytes tells)
+
+pub reads_first : ReadsFirst
+reads_first contents name bytes first last given left_first left_last tells opened gave =
+    let behind = behind_open contents name bytes first left_first tells opened in
+    let on = goes_on first left_first behind.rest behind.fresh behind.still given last left_last gave in (
+      records_left first.walk behind.rest,
+      (records_left last.walk on.rest).records,
+      behind.all None ∙ ap Ok (first_records-none (records_left first.walk behind.rest)),
+      ap (λ (cut : Cut). cut.records) on.cut,
+    )
