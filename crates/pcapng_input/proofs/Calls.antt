@@ -1,15 +1,15 @@
 -- What the calls of a reader give, one after another, is what the capture's bytes hold.
-use Rattle.std.proofs.Common.{◌≡◌, ℕ, List, [], ◌∷◌, ◌++◌, Option, Some, None, Result, Ok, Err, length, refl, sym, ap, subst, append_assoc, ◌∙◌, ◌⊎◌, ⊎_elim}
+use Rattle.std.proofs.Common.{◌≡◌, ℕ, List, [], ◌∷◌, ◌++◌, Option, Some, None, Result, Ok, Err, length, refl, sym, ap, append_assoc, ◌∙◌, ◌⊎◌, ⊎_elim}
 use Rattle.std.specs.Prelude.{IsErrOf}
 use Rattle.std.proofs.lemmas.List.{append-nil}
-use Rattle.edge_io.specs.Files.{Files, IsOpened}
+use Rattle.edge_io.specs.Files.{Files}
 use Rattle.pcap_input.proofs.Told.{split_told}
 use Rattle.pcapng_input.specs.declared.capture.NgRecord.{NgRecord}
 use Rattle.pcapng_input.specs.declared.capture.NgFault.{NgFault}
 use Rattle.pcapng_input.specs.declared.capture.NgFault.TheVariants as fault
-use Rattle.pcapng_input.specs.Blocks.{Ending, Clean, Refused, Skips, refused, opening, Next, Ends, Stands, next_of, Cut, with_first, no_more, records_left, first_records, ng_records}
+use Rattle.pcapng_input.specs.Blocks.{Ending, Clean, opening, Next, Ends, Stands, next_of, Cut, records_left, first_records, ng_records}
 use Rattle.pcapng_input.specs.Reader.{Reading, Opens, Tells, TakesHead, Answers}
-use Rattle.pcapng_input.specs.Calls.{IsOpenCall, IsNextCall, IsOfBytes, IsEnding, HasGiven, none, one_more, EndsBy, ReadsCut, Reads, ReadsAll, ReadsFirst}
+use Rattle.pcapng_input.specs.Calls.{IsOpenCall, IsNextCall, IsOfBytes, IsEnding, HasGiven, none, one_more, HasRead, IsBelow, EndsBy, ReadsCut, ReadsAll, ReadsFirst}
 use Rattle.pcapng_input.proofs.Heads.{tells_opened}
 use Rattle.pcapng_input.proofs.Records.{records_left-ends, records_left-stands}
 use Rattle.pcapng_input.proofs.Endings.{with_front, first_records-none, first_records-reached, first_records-below, ng_records-skips, ng_records-refused}
@@ -107,26 +107,41 @@ reached first whole cut last left limit on is clean =
 
 -- one more call gave the ending
 ended : (first : Reading) (whole : List ℕ) (cut : Cut) (last : Reading) (left : Option (List ℕ)) (limit : Option ℕ) → GoesOn first whole cut.records last left
-    → EndsBy limit (length cut.records) last left cut.ending → first_records limit (records_left first.walk whole) ≡ cut
-ended first whole cut last left limit on ends =
+    → IsBelow limit (length cut.records) → EndsBy last left cut.ending → first_records limit (records_left first.walk whole) ≡ cut
+ended first whole cut last left limit on below ends =
     let none_next = next_ends ends.answer (next_of last.walk on.rest) cut.ending ends.ends (ends.call.gives on.fresh on.rest on.still) in
     let all : records_left first.walk whole ≡ cut =
     on.cut ∙ ap (with_front cut.records) (records_left-ends last.walk on.rest cut.ending none_next)
     ∙ ap (λ (records : List NgRecord). let c : Cut = record { records = records; ending = cut.ending } in c) (append-nil cut.records) in
-    ap (first_records limit) all ∙ first_records-below limit cut ends.below
+    ap (first_records limit) all ∙ first_records-below limit cut below
+
+-- ---- a capture that was opened and read
+
+-- it was opened
+pub read-none : (contents : Option Files) (name : List ℕ) (reader : Reading) (left : Option (List ℕ)) → IsOpenCall contents name (Ok reader) left
+    → HasRead contents name [] reader left
+read-none contents name reader left call = record { first = reader; left_first = left; opened = call; gave = none }
+
+-- one more record was given
+pub read-more : (contents : Option Files) (name : List ℕ) (given : List NgRecord) (old new : Reading) (last : NgRecord) (left_old left_new : Option (List ℕ))
+    → HasRead contents name given old left_old → IsNextCall old new (Ok (Some last)) left_old left_new → HasRead contents name (given ++ last ∷ []) new left_new
+read-more contents name given old new last left_old left_new read call =
+    record { first = read.first; left_first = read.left_first; opened = read.opened; gave = one_more read.gave call }
 
 -- ---- the laws
 
 all_cut : (contents : Option Files) (name bytes : List ℕ) (limit : Option ℕ) (cut : Cut) → Tells contents name bytes → ReadsCut contents name limit cut → ng_records bytes limit ≡ Ok cut
 all_cut contents name bytes limit cut tells reads =
-    let behind = behind_open contents name bytes reads.first reads.left_first tells reads.opened in
-    let on = goes_on reads.first reads.left_first behind.rest behind.fresh behind.still cut.records reads.last reads.left_last reads.gave in
+    let first = reads.read.first in
+    let behind = behind_open contents name bytes first reads.read.left_first tells reads.read.opened in
+    let on = goes_on first reads.read.left_first behind.rest behind.fresh behind.still cut.records reads.reader reads.left reads.read.gave in
     behind.all limit
     ∙ ap Ok (
-      ⊎_elim
-      (λ (at : (limit ≡ Some (length cut.records)) × (cut.ending ≡ Clean)). reached reads.first behind.rest cut reads.last reads.left_last limit on at.0 at.1)
-      (λ (ends : EndsBy limit (length cut.records) reads.last reads.left_last cut.ending). ended reads.first behind.rest cut reads.last reads.left_last limit on ends)
-      reads.ended
+    ⊎_elim
+    (λ (at : (limit ≡ Some (length cut.records)) × (cut.ending ≡ Clean)). reached first behind.rest cut reads.reader reads.left limit on at.0 at.1)
+    (λ (ends : IsBelow limit (length cut.records) × EndsBy reads.reader reads.left cut.ending).
+    ended first behind.rest cut reads.reader reads.left limit on ends.0 ends.1)
+    reads.ended
     )
 
 pub reads_all : ReadsAll
@@ -134,11 +149,12 @@ reads_all contents name bytes limit (Ok cut) tells reads = all_cut contents name
 reads_all contents name bytes limit (Err why) tells reads = refused_open contents name bytes limit why reads.2 (reads.1.gives bytes tells)
 
 pub reads_first : ReadsFirst
-reads_first contents name bytes first last given left_first left_last tells opened gave =
-    let behind = behind_open contents name bytes first left_first tells opened in
-    let on = goes_on first left_first behind.rest behind.fresh behind.still given last left_last gave in (
+reads_first contents name bytes given reader left tells read =
+    let first = read.first in
+    let behind = behind_open contents name bytes first read.left_first tells read.opened in
+    let on = goes_on first read.left_first behind.rest behind.fresh behind.still given reader left read.gave in (
       records_left first.walk behind.rest,
-      (records_left last.walk on.rest).records,
+      (records_left reader.walk on.rest).records,
       behind.all None ∙ ap Ok (first_records-none (records_left first.walk behind.rest)),
       ap (λ (cut : Cut). cut.records) on.cut,
     )

@@ -1,12 +1,12 @@
 -- What a limit leaves of a capture's records, and what its first block makes of it.
-use Rattle.std.proofs.Common.{◌≡◌, ℕ, ◌+◌, ◌<◌, Bool, true, false, List, [], ◌∷◌, ◌++◌, Option, Some, None, Ok, Err, length, take, refl, sym, ap, ◌∙◌, arith}
-use Rattle.std.specs.Prelude.{nat_le, ⊤}
+use Rattle.std.proofs.Common.{◌≡◌, ℕ, ◌+◌, true, false, List, ◌++◌, Option, Some, None, Ok, Err, length, refl, ap, arith}
+use Rattle.std.specs.Prelude.{nat_le}
 use Rattle.std.proofs.lemmas.List.{length-append, take_at}
 use Rattle.std.proofs.lemmas.Bool.Decides.{nat_tests}
 use Rattle.pcapng_input.specs.declared.capture.NgRecord.{NgRecord}
 use Rattle.pcapng_input.specs.declared.capture.NgFault.{NgFault}
 use Rattle.pcapng_input.specs.declared.walk.Walk.{Walk}
-use Rattle.pcapng_input.specs.Blocks.{Ending, Clean, Skips, refused, first_walk, opening, Cut, records_left, first_records, ng_records}
+use Rattle.pcapng_input.specs.Blocks.{Clean, Skips, refused, first_walk, opening, Cut, records_left, first_records, ng_records}
 use Rattle.pcapng_input.specs.Calls.{IsBelow}
 use Rattle.pcapng_input.proofs.Nexts.{next_of-skips}
 use Rattle.pcapng_input.proofs.Records.{records_left-same}

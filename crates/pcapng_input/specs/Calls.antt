@@ -48,30 +48,36 @@ pub data HasGiven (first : Reading) (left_first : Option (List ℕ)) : List NgRe
   one_more : {given : List NgRecord} {old new : Reading} {left_old left_new : Option (List ℕ)} {last : NgRecord} → HasGiven first left_first given old left_old
       → IsNextCall old new (Ok (Some last)) left_old left_new → HasGiven first left_first (given ++ last ∷ []) new left_new
 
+-- A capture was opened, and calls of `next` gave these records: where the reader and what is left stand then.
+pub record HasRead (contents : Option Files) (name : List ℕ) (given : List NgRecord) (reader : Reading) (left : Option (List ℕ)) : Type 0 where
+  pub first : Reading
+  pub left_first : Option (List ℕ)
+  pub opened : IsOpenCall contents name (Ok first) left_first
+  pub gave : HasGiven first left_first given reader left
+
+-- ---- the end
+
 -- one more record may be asked for behind so many, where there is a limit
 abbrev pub IsBelow : Option ℕ → ℕ → Type 0
 IsBelow None count = ⊤
 IsBelow (Some limit) count = count < limit
 
--- one more call of `next` gave this ending
-pub record EndsBy (limit : Option ℕ) (count : ℕ) (reader : Reading) (left : Option (List ℕ)) (ending : Ending) : Type 0 where
-  pub below : IsBelow limit count
+-- a call of `next` gave this ending
+pub record EndsBy (reader : Reading) (left : Option (List ℕ)) (ending : Ending) : Type 0 where
   pub new : Reading
   pub left_new : Option (List ℕ)
   pub answer : Result (Option NgRecord) NgFault
   pub call : IsNextCall reader new answer left left_new
   pub ends : IsEnding answer ending
 
--- a capture was opened, and these records were read, and this ending: as many as the limit says were given,
--- which is a clean ending, or one more call gave it
+-- a capture was read up to this: as many records as the limit says were given, which is a clean ending, or
+-- one more call gave the ending
 pub record ReadsCut (contents : Option Files) (name : List ℕ) (limit : Option ℕ) (cut : Cut) : Type 0 where
-  pub first : Reading
-  pub left_first : Option (List ℕ)
-  pub opened : IsOpenCall contents name (Ok first) left_first
-  pub last : Reading
-  pub left_last : Option (List ℕ)
-  pub gave : HasGiven first left_first cut.records last left_last
-  pub ended : ((limit ≡ Some (length cut.records)) × (cut.ending ≡ Clean)) ⊎ EndsBy limit (length cut.records) last left_last cut.ending
+  pub reader : Reading
+  pub left : Option (List ℕ)
+  pub read : HasRead contents name cut.records reader left
+  pub ended : ((limit ≡ Some (length cut.records)) × (cut.ending ≡ Clean))
+      ⊎ (IsBelow limit (length cut.records) × EndsBy reader left cut.ending)
 
 -- what came of reading a capture: the refusal of its first block, or its records and its ending
 abbrev pub Reads : Option Files → List ℕ → Option ℕ → Result Cut NgFault → Type 0
@@ -88,6 +94,6 @@ ReadsAll = (contents : Option Files) (name bytes : List ℕ) (limit : Option ℕ
 -- whatever comes of it, also where the host fails or memory lacks: the records that were given are the first
 -- of those that the bytes hold
 abbrev pub ReadsFirst : Type 0
-ReadsFirst = (contents : Option Files) (name bytes : List ℕ) (first last : Reading) (given : List NgRecord) (left_first left_last : Option (List ℕ)) → Tells contents name bytes
-    → IsOpenCall contents name (Ok first) left_first → HasGiven first left_first given last left_last
+ReadsFirst = (contents : Option Files) (name bytes : List ℕ) (given : List NgRecord) (reader : Reading) (left : Option (List ℕ)) → Tells contents name bytes
+    → HasRead contents name given reader left
     → (cut : Cut) × (more : List NgRecord) × (ng_records bytes None ≡ Ok cut) × (cut.records ≡ given ++ more)
