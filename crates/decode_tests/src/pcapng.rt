@@ -2,6 +2,7 @@
 //! another one costs nothing to prove.
 
 use crate::digits::bytes_of;
+use crate::whole::read_up_to;
 use edge_io::MemHost;
 use edge_io::crossing::{sendable, shareable};
 use pcapng_input::{NgFault, NgReader, NgRecord};
@@ -89,6 +90,9 @@ a simple packet that does not fit/S I 030000001400000005000000 6162000014000000/
 a packet within a skipped block/S I 0500000030000000 P 30000000/end
 ";
 
+/// More records than any of the files has.
+const ENOUGH: usize = 5;
+
 /// The bytes that a word of a row stands for.
 fn word_bytes(alloc: Global, word: &str) -> Result<Vec<u8>, Fail> {
     for block in BLOCKS.lines() {
@@ -127,25 +131,19 @@ fn record_text(alloc: Global, given: &NgRecord) -> Result<String, Fail> {
     Ok(format!(in alloc; "{:?} {number} {nanos} {original} {bytes:?}; ", given.link)?)
 }
 
-/// What the reader of a file answers, up to its end.
-fn answers(alloc: Global, host: &mut MemHost) -> Result<String, Fail> {
-    let mut reader = match NgReader::open(alloc, host, "p") {
-        Ok(reader) => reader,
+/// What the reader of a file answers, up to its end or to so many records.
+fn answers(alloc: Global, host: &mut MemHost, limit: usize) -> Result<String, Fail> {
+    let found = match read_up_to(alloc, host, "p", limit) {
+        Ok(found) => found,
         Err(why) => return Ok(format!(in alloc; "{why:?}")?),
     };
     let mut text = String::new(alloc);
-    for _ in 0..5 {
-        match reader.next(alloc, host) {
-            Ok(Some(given)) => text.push_str(record_text(alloc, &given)?.as_str())?,
-            Ok(None) => {
-                text.push_str("end")?;
-                return Ok(text);
-            }
-            Err(why) => {
-                text.push_str(format!(in alloc; "{why:?}")?.as_str())?;
-                return Ok(text);
-            }
-        }
+    for given in found.records.as_slice() {
+        text.push_str(record_text(alloc, given)?.as_str())?;
+    }
+    match found.refused {
+        Some(why) => text.push_str(format!(in alloc; "{why:?}")?.as_str())?,
+        None => text.push_str("end")?,
     }
     Ok(text)
 }
@@ -156,7 +154,11 @@ fn blocks_are_read(rt: HostRuntime) -> Result<(), Fail> {
         let (label, rest) = row.split_once('/').ok_or("a label")?;
         let (words, want) = rest.split_once('/').ok_or("a file")?;
         let file = file_bytes(rt.alloc(), words)?;
-        let got = answers(rt.alloc(), &mut host_of(rt.alloc(), file.as_slice())?)?;
+        let got = answers(
+            rt.alloc(),
+            &mut host_of(rt.alloc(), file.as_slice())?,
+            ENOUGH,
+        )?;
         assert_eq!(rt; got.as_str(), want, "{label}");
     }
     Ok(())
@@ -181,7 +183,7 @@ fn every_cut_ends_at_its_block(rt: HostRuntime) -> Result<(), Fail> {
         let (first, last) = range.split_once("..=").ok_or("an end")?;
         for len in first.parse::<usize>()?..=last.parse::<usize>()? {
             let front = file.get(..len).ok_or("a length")?;
-            let got = answers(rt.alloc(), &mut host_of(rt.alloc(), front)?)?;
+            let got = answers(rt.alloc(), &mut host_of(rt.alloc(), front)?, ENOUGH)?;
             assert!(rt; got.as_str() == want, "{row}, at {len}: {got}");
         }
     }
@@ -203,7 +205,30 @@ fn a_section_has_at_most_4096_interfaces(rt: HostRuntime) -> Result<(), Fail> {
             file.extend_from_slice(interface.as_slice())?;
         }
         file.extend_from_slice(file_bytes(rt.alloc(), "P")?.as_slice())?;
-        let got = answers(rt.alloc(), &mut host_of(rt.alloc(), file.as_slice())?)?;
+        let got = answers(
+            rt.alloc(),
+            &mut host_of(rt.alloc(), file.as_slice())?,
+            ENOUGH,
+        )?;
+        assert_eq!(rt; got.as_str(), want);
+    }
+    Ok(())
+}
+
+/// How many records are read at most of two packets and a byte more, and what is answered then.
+const LIMITS: &str = "0: end
+1: Ethernet 0 1000 4 [97, 98, 99, 100]; end
+2: Ethernet 0 1000 4 [97, 98, 99, 100]; Ethernet 1 1000 4 [97, 98, 99, 100]; end
+3: Ethernet 0 1000 4 [97, 98, 99, 100]; Ethernet 1 1000 4 [97, 98, 99, 100]; Truncated { at: 120 }
+";
+
+#[test]
+fn a_limit_is_a_clean_ending(rt: HostRuntime) -> Result<(), Fail> {
+    let file = file_bytes(rt.alloc(), "S I P P 06")?;
+    for row in LIMITS.lines() {
+        let (limit, want) = row.split_once(": ").ok_or("a limit")?;
+        let mut host = host_of(rt.alloc(), file.as_slice())?;
+        let got = answers(rt.alloc(), &mut host, limit.parse::<usize>()?)?;
         assert_eq!(rt; got.as_str(), want);
     }
     Ok(())
