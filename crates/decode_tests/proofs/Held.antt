@@ -12,25 +12,29 @@ use Rattle.decode_tests.specs.Whole.{IsHeld}
 -- ---- reading
 
 -- the capture was opened
-pub held-begun : (contents : Option Files) (name : List ℕ) (records : List NgRecord) (reader : Reading) (left : Option (List ℕ)) → records ≡ []
+pub held-begun : (contents : Option Files) (name : List ℕ) (records : List NgRecord) (reader : Reading) (left : Option (List ℕ))
+    → records ≡ []
     → IsOpenCall contents name (Ok reader) left → HasRead contents name records reader left
 held-begun contents name records reader left is call =
     subst (λ (xs : List NgRecord). HasRead contents name xs reader left) (sym is) (read-none contents name reader left call)
 
 -- a record was given, and added to the others
 pub held-more : (contents : Option Files) (name : List ℕ) (given records : List NgRecord) (old new : Reading) (last : NgRecord) (left_old left_new : Option (List ℕ))
-    → records ≡ given ++ last ∷ [] → HasRead contents name given old left_old → IsNextCall old new (Ok (Some last)) left_old left_new
+    → records ≡ given ++ last ∷ [] → HasRead contents name given old left_old
+    → IsNextCall old new (Ok (Some last)) left_old left_new
     → HasRead contents name records new left_new
 held-more contents name given records old new last left_old left_new is read call =
     subst (λ (xs : List NgRecord). HasRead contents name xs new left_new) (sym is) (read-more contents name given old new last left_old left_new read call)
 
-pub one-longer : (given records : List NgRecord) (last : NgRecord) → records ≡ given ++ last ∷ [] → length records ≡ length given + 1
+pub one-longer : (given records : List NgRecord) (last : NgRecord) → records ≡ given ++ last ∷ []
+    → length records ≡ length given + 1
 one-longer given records last is = ap length is ∙ length-append given (last ∷ [])
 
 -- ---- what is returned
 
 -- the capture wasn't opened
-pub held-unopened : (contents : Option Files) (name : List ℕ) (limit : ℕ) (why : NgFault) (left : Option (List ℕ)) → IsOpenCall contents name (Err why) left
+pub held-unopened : (contents : Option Files) (name : List ℕ) (limit : ℕ) (why : NgFault) (left : Option (List ℕ))
+    → IsOpenCall contents name (Err why) left
     → (bytes : List ℕ) → Tells contents name bytes → IsHeld (Err why) limit bytes
 held-unopened contents name limit why left call bytes tells shown = reads_all contents name bytes (Some limit) (Err why) tells (left, call, shown)
 

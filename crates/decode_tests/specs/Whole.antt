@@ -16,5 +16,6 @@ IsEndingOf (Some why) ending = IsOfBytes why × (ending ≡ Refused why)
 -- what was read up to a limit is what these bytes hold, unless memory lacked or the host failed
 abbrev pub IsHeld : Result Found NgFault → ℕ → List ℕ → Type 0
 IsHeld (Ok found) limit bytes =
-    (ending : Ending) → IsEndingOf found.refused ending → ng_records bytes (Some limit) ≡ Ok (record { records = found.records; ending = ending })
+    (ending : Ending) → IsEndingOf found.refused ending
+    → ng_records bytes (Some limit) ≡ Ok (record { records = found.records; ending = ending })
 IsHeld (Err why) limit bytes = IsOfBytes why → ng_records bytes (Some limit) ≡ Err why

@@ -9,7 +9,7 @@ use Rattle.pcapng_input.specs.declared.capture.NgFault.{NgFault}
 use Rattle.pcapng_input.specs.declared.capture.NgFault.TheVariants as fault
 use Rattle.pcapng_input.specs.Blocks.{Ending, Clean, opening, Next, Ends, Stands, next_of, Cut, records_left, first_records, ng_records}
 use Rattle.pcapng_input.specs.Reader.{Reading, Opens, Tells, TakesHead, Answers}
-use Rattle.pcapng_input.specs.Calls.{IsOpenCall, IsNextCall, IsOfBytes, IsEnding, HasGiven, none, one_more, HasRead, IsBelow, EndsBy, ReadsCut, ReadsAll, ReadsFirst}
+use Rattle.pcapng_input.specs.Calls.{IsOpenCall, IsNextCall, IsOfBytes, IsEnding, HasGiven, none, one_more, HasRead, IsBelow, IsLastCall, ReadsCut, ReadsAll, ReadsFirst}
 use Rattle.pcapng_input.proofs.Heads.{tells_opened}
 use Rattle.pcapng_input.proofs.Records.{records_left-ends, records_left-stands}
 use Rattle.pcapng_input.proofs.Endings.{with_front, first_records-none, first_records-reached, first_records-below, ng_records-skips, ng_records-refused}
@@ -23,7 +23,8 @@ record IsBehind (bytes : List ℕ) (first : Reading) (left : Option (List ℕ)) 
   still : left ≡ Some rest
   all : (limit : Option ℕ) → ng_records bytes limit ≡ Ok (first_records limit (records_left first.walk rest))
 
-behind_head : (contents : Option Files) (name bytes : List ℕ) (first : Reading) (left : Option (List ℕ)) → Tells contents name bytes
+behind_head : (contents : Option Files) (name bytes : List ℕ) (first : Reading) (left : Option (List ℕ))
+    → Tells contents name bytes
     → first.refused ≡ None → TakesHead contents name (Ok first) left → IsBehind bytes first left
 behind_head contents name bytes first left tells fresh takes =
     let split = split_told takes.whole left takes.taken bytes takes.took (tells_opened contents name bytes takes.whole tells takes.opened) in
@@ -34,7 +35,8 @@ behind_head contents name bytes first left tells fresh takes =
       all = λ limit. ng_records-skips bytes limit first.walk split.rest (ap opening split.joined ∙ takes.shows split.rest);
     }
 
-behind_open : (contents : Option Files) (name bytes : List ℕ) (first : Reading) (left : Option (List ℕ)) → Tells contents name bytes
+behind_open : (contents : Option Files) (name bytes : List ℕ) (first : Reading) (left : Option (List ℕ))
+    → Tells contents name bytes
     → IsOpenCall contents name (Ok first) left → IsBehind bytes first left
 behind_open contents name bytes first left tells call =
     let opens = call.gives bytes tells in
@@ -44,7 +46,8 @@ behind_open contents name bytes first left tells call =
     call.takes
 
 -- it was refused
-refused_open : (contents : Option Files) (name bytes : List ℕ) (limit : Option ℕ) (why : NgFault) → IsOfBytes why → Opens (Err why) (opening bytes) → ng_records bytes limit ≡ Err why
+refused_open : (contents : Option Files) (name bytes : List ℕ) (limit : Option ℕ) (why : NgFault) → IsOfBytes why
+    → Opens (Err why) (opening bytes) → ng_records bytes limit ≡ Err why
 refused_open contents name bytes limit fault.NotPcapng shown opens = ng_records-refused bytes limit _ opens
 refused_open contents name bytes limit (fault.Truncated at) shown opens = ng_records-refused bytes limit _ opens
 refused_open contents name bytes limit (fault.BadBlock at) shown opens = ng_records-refused bytes limit _ opens
@@ -84,7 +87,8 @@ goes_on first left_first whole fresh told given last left (one_more {given = fro
 -- ---- the end
 
 -- an answer that is an ending
-next_ends : (answer : Result (Option NgRecord) NgFault) (next : Next) (ending : Ending) → IsEnding answer ending → Answers answer next → next ≡ Ends ending
+next_ends : (answer : Result (Option NgRecord) NgFault) (next : Next) (ending : Ending) → IsEnding answer ending
+    → Answers answer next → next ≡ Ends ending
 next_ends (Ok None) next ending is answers = answers ∙ ap Ends (sym is)
 next_ends (Ok (Some given)) next ending is answers = absurd is
 next_ends (Err fault.NotPcapng) next ending is answers = answers ∙ ap Ends (sym is.1)
@@ -97,7 +101,8 @@ next_ends (Err fault.Failed) next ending is answers = absurd is.0
 next_ends (Err fault.NoMemory) next ending is answers = absurd is.0
 
 -- the limit was reached behind these records
-reached : (first : Reading) (whole : List ℕ) (cut : Cut) (last : Reading) (left : Option (List ℕ)) (limit : Option ℕ) → GoesOn first whole cut.records last left
+reached : (first : Reading) (whole : List ℕ) (cut : Cut) (last : Reading) (left : Option (List ℕ)) (limit : Option ℕ)
+    → GoesOn first whole cut.records last left
     → limit ≡ Some (length cut.records) → cut.ending ≡ Clean → first_records limit (records_left first.walk whole) ≡ cut
 reached first whole cut last left limit on is clean =
     ap (λ (l : Option ℕ). first_records l (records_left first.walk whole)) is
@@ -106,8 +111,10 @@ reached first whole cut last left limit on is clean =
     ∙ ap (λ (ending : Ending). let c : Cut = record { records = cut.records; ending = ending } in c) (sym clean)
 
 -- one more call gave the ending
-ended : (first : Reading) (whole : List ℕ) (cut : Cut) (last : Reading) (left : Option (List ℕ)) (limit : Option ℕ) → GoesOn first whole cut.records last left
-    → IsBelow limit (length cut.records) → EndsBy last left cut.ending → first_records limit (records_left first.walk whole) ≡ cut
+ended : (first : Reading) (whole : List ℕ) (cut : Cut) (last : Reading) (left : Option (List ℕ)) (limit : Option ℕ)
+    → GoesOn first whole cut.records last left
+    → IsBelow limit (length cut.records) → IsLastCall last left cut.ending
+    → first_records limit (records_left first.walk whole) ≡ cut
 ended first whole cut last left limit on below ends =
     let none_next = next_ends ends.answer (next_of last.walk on.rest) cut.ending ends.ends (ends.call.gives on.fresh on.rest on.still) in
     let all : records_left first.walk whole ≡ cut =
@@ -118,19 +125,22 @@ ended first whole cut last left limit on below ends =
 -- ---- a capture that was opened and read
 
 -- it was opened
-pub read-none : (contents : Option Files) (name : List ℕ) (reader : Reading) (left : Option (List ℕ)) → IsOpenCall contents name (Ok reader) left
+pub read-none : (contents : Option Files) (name : List ℕ) (reader : Reading) (left : Option (List ℕ))
+    → IsOpenCall contents name (Ok reader) left
     → HasRead contents name [] reader left
 read-none contents name reader left call = record { first = reader; left_first = left; opened = call; gave = none }
 
 -- one more record was given
 pub read-more : (contents : Option Files) (name : List ℕ) (given : List NgRecord) (old new : Reading) (last : NgRecord) (left_old left_new : Option (List ℕ))
-    → HasRead contents name given old left_old → IsNextCall old new (Ok (Some last)) left_old left_new → HasRead contents name (given ++ last ∷ []) new left_new
+    → HasRead contents name given old left_old → IsNextCall old new (Ok (Some last)) left_old left_new
+    → HasRead contents name (given ++ last ∷ []) new left_new
 read-more contents name given old new last left_old left_new read call =
     record { first = read.first; left_first = read.left_first; opened = read.opened; gave = one_more read.gave call }
 
 -- ---- the laws
 
-all_cut : (contents : Option Files) (name bytes : List ℕ) (limit : Option ℕ) (cut : Cut) → Tells contents name bytes → ReadsCut contents name limit cut → ng_records bytes limit ≡ Ok cut
+all_cut : (contents : Option Files) (name bytes : List ℕ) (limit : Option ℕ) (cut : Cut) → Tells contents name bytes
+    → ReadsCut contents name limit cut → ng_records bytes limit ≡ Ok cut
 all_cut contents name bytes limit cut tells reads =
     let first = reads.read.first in
     let behind = behind_open contents name bytes first reads.read.left_first tells reads.read.opened in
@@ -139,7 +149,7 @@ all_cut contents name bytes limit cut tells reads =
     ∙ ap Ok (
     ⊎_elim
     (λ (at : (limit ≡ Some (length cut.records)) × (cut.ending ≡ Clean)). reached first behind.rest cut reads.reader reads.left limit on at.0 at.1)
-    (λ (ends : IsBelow limit (length cut.records) × EndsBy reads.reader reads.left cut.ending).
+    (λ (ends : IsBelow limit (length cut.records) × IsLastCall reads.reader reads.left cut.ending).
     ended first behind.rest cut reads.reader reads.left limit on ends.0 ends.1)
     reads.ended
     )

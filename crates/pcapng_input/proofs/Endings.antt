@@ -22,7 +22,8 @@ unfolding first_records
 first_records-none cut = refl
 
 -- as many records as the limit says are given, and a clean ending, whatever is left behind them
-pub first_records-reached : (given : List NgRecord) (cut : Cut) → first_records (Some (length given)) (with_front given cut) ≡ record { records = given; ending = Clean }
+pub first_records-reached : (given : List NgRecord) (cut : Cut)
+    → first_records (Some (length given)) (with_front given cut) ≡ record { records = given; ending = Clean }
 unfolding first_records
 first_records-reached given cut =
     let enough : nat_le (length given) (length (given ++ cut.records)) ≡ true = grind (arith, nat_tests, length-append given cut.records) in
@@ -37,13 +38,15 @@ first_records-below (Some limit) cut below =
     rw fewer refl
 
 -- a first block that is skipped: the records are those behind it
-pub ng_records-skips : (bytes : List ℕ) (limit : Option ℕ) (walk : Walk) (more : List ℕ) → opening bytes ≡ Skips walk more → ng_records bytes limit ≡ Ok (first_records limit (records_left walk more))
+pub ng_records-skips : (bytes : List ℕ) (limit : Option ℕ) (walk : Walk) (more : List ℕ) → opening bytes ≡ Skips walk more
+    → ng_records bytes limit ≡ Ok (first_records limit (records_left walk more))
 unfolding ng_records
 ng_records-skips bytes limit walk more is =
     let same = records_left-same first_walk walk bytes more (next_of-skips first_walk bytes walk more (opening_section bytes walk more is).step) in
     rw (is, ng_records) (ap (λ (cut : Cut). Ok (first_records limit cut)) same)
 
 -- one that is refused
-pub ng_records-refused : (bytes : List ℕ) (limit : Option ℕ) (why : NgFault) → opening bytes ≡ refused why → ng_records bytes limit ≡ Err why
+pub ng_records-refused : (bytes : List ℕ) (limit : Option ℕ) (why : NgFault) → opening bytes ≡ refused why
+    → ng_records bytes limit ≡ Err why
 unfolding ng_records
 ng_records-refused bytes limit why is = rw (is, ng_records) refl

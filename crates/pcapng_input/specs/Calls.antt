@@ -17,12 +17,14 @@ use Rattle.pcapng_input.specs.Reader.{Reading, Opens, Tells, TakesHead, Answers,
 -- ---- one call
 
 -- a call of `open` for this name: its answer, and what is left of the capture then
-pub record IsOpenCall (contents : Option Files) (name : List ℕ) (answer : Result Reading NgFault) (left : Option (List ℕ)) : Type 0 where
+pub record IsOpenCall (contents : Option Files) (name : List ℕ) (answer : Result Reading NgFault)
+    (left : Option (List ℕ)) : Type 0 where
   pub gives : (bytes : List ℕ) → Tells contents name bytes → Opens answer (opening bytes)
   pub takes : TakesHead contents name answer left ⊎ (IsErrOf answer fault.Failed × (left ≡ None))
 
 -- a call of `next`: the reader before and behind it, its answer, and what was left of the capture and is left
-pub record IsNextCall (old new : Reading) (answer : Result (Option NgRecord) NgFault) (left_old left_new : Option (List ℕ)) : Type 0 where
+pub record IsNextCall (old new : Reading) (answer : Result (Option NgRecord) NgFault)
+    (left_old left_new : Option (List ℕ)) : Type 0 where
   pub gives : old.refused ≡ None → (rest : List ℕ) → left_old ≡ Some rest → Answers answer (next_of old.walk rest)
   pub takes : IfOk answer (λ given. IfSome given (λ r. TakesRecord old new r left_old left_new))
 
@@ -45,11 +47,13 @@ pub data HasGiven (first : Reading) (left_first : Option (List ℕ)) : List NgRe
   -- there was no call,
   none : HasGiven first left_first [] first left_first
   -- or behind the others one that gave a record
-  one_more : {given : List NgRecord} {old new : Reading} {left_old left_new : Option (List ℕ)} {last : NgRecord} → HasGiven first left_first given old left_old
-      → IsNextCall old new (Ok (Some last)) left_old left_new → HasGiven first left_first (given ++ last ∷ []) new left_new
+  one_more : {given : List NgRecord} {old new : Reading} {left_old left_new : Option (List ℕ)} {last : NgRecord}
+      → HasGiven first left_first given old left_old → IsNextCall old new (Ok (Some last)) left_old left_new
+      → HasGiven first left_first (given ++ last ∷ []) new left_new
 
 -- A capture was opened, and calls of `next` gave these records: where the reader and what is left stand then.
-pub record HasRead (contents : Option Files) (name : List ℕ) (given : List NgRecord) (reader : Reading) (left : Option (List ℕ)) : Type 0 where
+pub record HasRead (contents : Option Files) (name : List ℕ) (given : List NgRecord) (reader : Reading)
+    (left : Option (List ℕ)) : Type 0 where
   pub first : Reading
   pub left_first : Option (List ℕ)
   pub opened : IsOpenCall contents name (Ok first) left_first
@@ -63,7 +67,7 @@ IsBelow None count = ⊤
 IsBelow (Some limit) count = count < limit
 
 -- a call of `next` gave this ending
-pub record EndsBy (reader : Reading) (left : Option (List ℕ)) (ending : Ending) : Type 0 where
+pub record IsLastCall (reader : Reading) (left : Option (List ℕ)) (ending : Ending) : Type 0 where
   pub new : Reading
   pub left_new : Option (List ℕ)
   pub answer : Result (Option NgRecord) NgFault
@@ -77,7 +81,7 @@ pub record ReadsCut (contents : Option Files) (name : List ℕ) (limit : Option 
   pub left : Option (List ℕ)
   pub read : HasRead contents name cut.records reader left
   pub ended : ((limit ≡ Some (length cut.records)) × (cut.ending ≡ Clean))
-      ⊎ (IsBelow limit (length cut.records) × EndsBy reader left cut.ending)
+      ⊎ (IsBelow limit (length cut.records) × IsLastCall reader left cut.ending)
 
 -- what came of reading a capture: the refusal of its first block, or its records and its ending
 abbrev pub Reads : Option Files → List ℕ → Option ℕ → Result Cut NgFault → Type 0
@@ -88,12 +92,12 @@ Reads contents name limit (Ok cut) = ReadsCut contents name limit cut
 
 -- what came of reading a capture whose bytes are told is what they hold, for every limit
 abbrev pub ReadsAll : Type 0
-ReadsAll = (contents : Option Files) (name bytes : List ℕ) (limit : Option ℕ) (outcome : Result Cut NgFault) → Tells contents name bytes
-    → Reads contents name limit outcome → ng_records bytes limit ≡ outcome
+ReadsAll = (contents : Option Files) (name bytes : List ℕ) (limit : Option ℕ) (outcome : Result Cut NgFault)
+    → Tells contents name bytes → Reads contents name limit outcome → ng_records bytes limit ≡ outcome
 
 -- whatever comes of it, also where the host fails or memory lacks: the records that were given are the first
 -- of those that the bytes hold
 abbrev pub ReadsFirst : Type 0
-ReadsFirst = (contents : Option Files) (name bytes : List ℕ) (given : List NgRecord) (reader : Reading) (left : Option (List ℕ)) → Tells contents name bytes
-    → HasRead contents name given reader left
+ReadsFirst = (contents : Option Files) (name bytes : List ℕ) (given : List NgRecord) (reader : Reading) (left : Option (List ℕ))
+    → Tells contents name bytes → HasRead contents name given reader left
     → (cut : Cut) × (more : List NgRecord) × (ng_records bytes None ≡ Ok cut) × (cut.records ≡ given ++ more)
