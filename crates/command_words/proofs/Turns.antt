@@ -5,7 +5,7 @@ use Rattle.std.specs.Str.{bytes_eq}
 use Rattle.clap.specs.Lexer.{long_of, short_of}
 use Rattle.clap.specs.Walk.{Held, Row, Rule, Step, Text, Waiting, Walk, after_step, arg_by_long, idle, long_or_other, long_word, option, short_or_plain, trailing, walked}
 use Rattle.clap.specs.Simple.{Shape, new_shape}
-use Rattle.clap.specs.Faults.{bundle_fault, flag_word_fault, flags_fault, long_fault, settle_fault, step_fault, turn_fault, walk_fault}
+use Rattle.clap.specs.Faults.{bundle_fault, flag_word_fault, long_fault, step_fault, turn_fault, walk_fault}
 use Rattle.clap.specs.Kinds.{Kinds, or_else}
 use Rattle.edge_io.specs.OnOption.{◌>>=◌}
 use Rattle.command_words.specs.Table.{Choice}
