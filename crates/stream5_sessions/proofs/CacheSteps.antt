@@ -1,12 +1,12 @@
--- What the cache's calls leave, by whether the key is kept.
-use Rattle.std.proofs.Common.{◌≡◌, ℕ, ◌-◌, Bool, true, false, cond, List, [], ◌∷◌, Option, Some, None, take, slice_get, refl, sym, ap, ◌∙◌}
+-- What a touch leaves, by whether the key is kept.
+use Rattle.std.proofs.Common.{◌≡◌, ℕ, Bool, true, false, cond, List, [], ◌∷◌, Option, Some, None, refl, sym, ap, ◌∙◌}
 use Rattle.std.specs.Option.{option_map_or}
 use Rattle.std.specs.Map.{lookup, lookup_entry, remove_entry}
-use Rattle.lru.specs.LruCache.{LruCache, lru_cache, put_entries, displaced, promoted}
+use Rattle.lru.specs.LruCache.{promoted}
 use Rattle.stream5_sessions.specs.declared.key.Key.{Key}
-use Rattle.stream5_sessions.specs.contracts.key.KeyPartialEq.TheImpl.{eq-value}
+use Rattle.stream5_sessions.specs.Indexed.{LivesState, lives_with}
 use Rattle.stream5_sessions.specs.Keys.{same_key}
-use Rattle.stream5_sessions.proofs.KeyLaws.{test_is, same_key-is}
+use Rattle.stream5_sessions.proofs.KeyLaws.{same_key-is}
 
 lookup_entry-none : (test : Key → Bool) (es : List (Key × ℕ)) → lookup test es ≡ None → lookup_entry test es ≡ None
 lookup_entry-none test [] h = refl
@@ -14,18 +14,6 @@ lookup_entry-none test (e ∷ es) h = (elim (test e.0) as (λ x. test e.0 ≡ x 
   | true ↦ λ t h. cc
   | false ↦ λ t h. lookup_entry-none test es h
 ]) refl h
-
-missing : (lives : LruCache Key ℕ) (key : Key) → lookup (same_key key) lives.entries ≡ None → lookup (eq-value.it key) lives.entries ≡ None
-missing lives key h = ap (λ (test : Key → Bool). lookup test lives.entries) (test_is key) ∙ h
-
--- a new pair pushes out the last one of a full cache
-pub put_entries-none : (lives : LruCache Key ℕ) (key : Key) (next : ℕ) → lookup (same_key key) lives.entries ≡ None → put_entries eq-value.it lives key next ≡ (key, next) ∷ take (lives.cap - 1) lives.entries
-put_entries-none lives key next h =
-    ap (λ (o : Option (Key × ℕ)). option_map_or (λ e. (e.0, next) ∷ remove_entry (eq-value.it key) lives.entries) o ((key, next) ∷ take (lives.cap - 1) lives.entries)) (lookup_entry-none (eq-value.it key) lives.entries (missing lives key h))
-
-pub displaced-none : (lives : LruCache Key ℕ) (key : Key) (next : ℕ) → lookup (same_key key) lives.entries ≡ None → displaced eq-value.it lives key next ≡ slice_get lives.entries (lives.cap - 1)
-displaced-none lives key next h =
-    ap (λ (o : Option ℕ). option_map_or (λ old. Some (key, old)) o (slice_get lives.entries (lives.cap - 1))) (missing lives key h)
 
 -- a key that is kept goes first
 pub promoted-some : (key : Key) (flow : ℕ) (es : List (Key × ℕ)) → lookup (same_key key) es ≡ Some flow → promoted (same_key key) es ≡ (key, flow) ∷ remove_entry (same_key key) es
@@ -38,10 +26,10 @@ promoted-some key flow es h = ap (λ (o : Option (Key × ℕ)). option_map_or (�
       | false ↦ λ t h. entry es h
     ]) refl h
 
--- one that isn't leaves the cache as it is
+-- one that isn't leaves what is kept as it is
 pub promoted-none : (key : Key) (es : List (Key × ℕ)) → lookup (same_key key) es ≡ None → promoted (same_key key) es ≡ es
 promoted-none key es h = ap (λ (o : Option (Key × ℕ)). option_map_or (λ e. e ∷ remove_entry (same_key key) es) o es) (lookup_entry-none (same_key key) es h)
 
--- a look-up that finds nothing leaves the cache as it was
-pub unpromoted : (lives left : LruCache Key ℕ) (key : Key) → left ≡ lru_cache (promoted (same_key key) lives.entries) lives.cap → lookup (same_key key) lives.entries ≡ None → left ≡ lives
-unpromoted lives left key after h = after ∙ ap (λ (es : List (Key × ℕ)). lru_cache es lives.cap) (promoted-none key lives.entries h)
+-- a look-up that finds nothing leaves them as they were
+pub unpromoted : (lives left : LivesState) (key : Key) → left ≡ lives_with (promoted (same_key key) lives.entries) lives.cap → lookup (same_key key) lives.entries ≡ None → left ≡ lives
+unpromoted lives left key after h = after ∙ ap (λ (es : List (Key × ℕ)). lives_with es lives.cap) (promoted-none key lives.entries h)

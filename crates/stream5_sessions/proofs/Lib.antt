@@ -9,3 +9,5 @@ pub mod Standing
 pub mod Rising
 pub mod Numbers
 pub mod CacheSteps
+pub mod Numbered
+pub mod Living

@@ -2,4 +2,5 @@ pub mod Hashing
 pub mod Keys
 pub mod Liveness
 pub mod Caches
+pub mod Indexed
 pub mod Phases

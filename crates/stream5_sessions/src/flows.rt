@@ -1,17 +1,16 @@
 ghost use Rattle.std.specs.Prelude.{◌≡◌, ◌≤◌, ◌<◌, ◌+◌, ◌-◌, ◌^◌, ◌∷◌, ◌++◌, [], List, Bool, IfOk, IsOk, IsSome, OnOk, OnErr, Some, None, slice_get, take, option_map};
 ghost use Rattle.std.specs.Map.{lookup, remove_entry, values_of};
-ghost use Rattle.lru.specs.LruCache.{lru_cache, promoted};
+ghost use Rattle.stream5_sessions.specs.Indexed.{lives_with};
 ghost use Rattle.stream5_sessions.specs.Keys.{same_key};
 ghost use Rattle.stream5_sessions.specs.Caches.{found_by, kept_by, found_in, touched_state, HasSeen, IsFound, SeesTouch, KeepsBounds, AppendsLive, IsKnown, looked_up};
 ghost use Rattle.std.specs.List.Sorted.{IsPermutation, IsSorted};
 ghost use Rattle.std.specs.Ordering.{nat_cmp};
 
 use crate::Key;
+use crate::lives::Lives;
 use edge_io::NoMemory;
-use lru::LruCache;
 use std::alloc::Global;
 use std::marker::Model;
-use std::num::NonZeroUsize;
 
 /// What a touch of a key found.
 #[derive(Clone, Copy, Debug, PartialEq, Eq)]
@@ -24,49 +23,34 @@ pub struct Touch {
     pub evicted: Option<u64>,
 }
 
-/// The keys of one protocol that live, and their flows' numbers, the latest touched first.
-type Lives = LruCache<Key, u64>;
-
-/// The flow of a key that lives, which becomes the latest touched.
-fn again(lives: &mut Lives, key: Key) -> Option<u64>
-    ensures value { result ≡ lookup (same_key key) lives.old.entries }
-    ensures after { lives.new ≡ lru_cache (promoted (same_key key) lives.old.entries) lives.old.cap }
-{
-    lives.get(&key).copied()
-}
-
 /// Begins the flow with the number `next` of a key that doesn't live.
-fn begin(lives: &mut Lives, key: Key, next: u64) -> Result<Touch, NoMemory>
+fn begun(lives: &mut Lives, key: Key, next: u64) -> Result<Touch, NoMemory>
     requires { lookup (same_key key) lives.old.entries ≡ None }
     ensures value { IfOk result (λ touch. touch ≡ found_by lives.old.entries lives.old.cap next None) }
-    ensures after { OnOk result (lives.new ≡ lru_cache (kept_by lives.old.entries lives.old.cap next key None) lives.old.cap) }
+    ensures after { OnOk result (lives.new ≡ lives_with (kept_by lives.old.entries lives.old.cap next key None) lives.old.cap) }
     ensures err { OnErr result (lives.new ≡ lives.old) }
 {
-    let evicted = match lives.push(key, next)? {
-        Some((_, flow)) => Some(flow),
-        None => None,
-    };
     Ok(Touch {
         flow: next,
         fresh: true,
-        evicted,
+        evicted: lives.begin(key, next)?,
     })
 }
 
 /// Touches a key, whose flow has the number `next` if it begins.
 fn touched(lives: &mut Lives, key: Key, next: u64) -> Result<Touch, NoMemory>
     ensures value { IfOk result (λ touch. touch ≡ found_by lives.old.entries lives.old.cap next (lookup (same_key key) lives.old.entries)) }
-    ensures after { OnOk result (lives.new ≡ lru_cache (kept_by lives.old.entries lives.old.cap next key (lookup (same_key key) lives.old.entries)) lives.old.cap) }
+    ensures after { OnOk result (lives.new ≡ lives_with (kept_by lives.old.entries lives.old.cap next key (lookup (same_key key) lives.old.entries)) lives.old.cap) }
     ensures err { OnErr result (lives.new ≡ lives.old) }
     ensures known { IsSome (lookup (same_key key) lives.old.entries) → IsOk result }
 {
-    match again(lives, key) {
+    match lives.again(key) {
         Some(flow) => Ok(Touch {
             flow,
             fresh: false,
             evicted: None,
         }),
-        None => begin(lives, key, next),
+        None => begun(lives, key, next),
     }
 }
 
@@ -98,8 +82,8 @@ impl Flows {
         ensures most { IfOk result (λ flows. flows.max ≡ record { tcp = max_tcp; udp = max_udp }) }
     {
         Ok(Flows {
-            tcp: lives_of(alloc, max_tcp)?,
-            udp: lives_of(alloc, max_udp)?,
+            tcp: Lives::new(alloc, max_tcp)?,
+            udp: Lives::new(alloc, max_udp)?,
             next: 0,
         })
     }
@@ -134,8 +118,8 @@ impl Flows {
         ensures permutation { IfOk result (λ flows. IsPermutation (values_of self.now.tcp ++ values_of self.now.udp) flows.items) }
         ensures sorted { IfOk result (λ flows. IsSorted nat_cmp flows.items) }
     {
-        let mut flows = flows_of(alloc, &self.tcp)?;
-        let others = flows_of(alloc, &self.udp)?;
+        let mut flows = self.tcp.flows(alloc)?;
+        let others = self.udp.flows(alloc)?;
         flows.extend_from_slice(&others)?;
         flows.sort_unstable();
         Ok(flows)
@@ -159,20 +143,4 @@ impl Flows {
         }
         Ok(touch)
     }
-}
-
-/// No key, and room for so many. Memory is taken as keys come.
-fn lives_of(alloc: Global, most: u32) -> Result<Lives, NoMemory>
-    requires { 1 ≤ most }
-    ensures { IfOk result (λ lives. lives ≡ lru_cache [] most) }
-{
-    let most = NonZeroUsize::new(most as usize).unwrap();
-    Ok(LruCache::sparse(alloc, most)?)
-}
-
-/// Adds the numbers of the flows of one protocol.
-fn flows_of(alloc: Global, lives: &Lives) -> Result<Vec<u64>, NoMemory>
-    ensures { IfOk result (λ flows. flows.items ≡ values_of lives.now.entries) }
-{
-    Ok(lives.iter().map(|(_, flow)| *flow).collect(alloc)?)
 }

@@ -41,7 +41,7 @@ impl Hash for End {
 }
 
 /// What names a flow: the protocol, TCP or UDP, and the two ends, the lower one first.
-#[derive(Clone, Copy, Debug, PartialEq, Eq, Hash)]
+#[derive(Clone, Copy, Debug, PartialEq, Eq, PartialOrd, Ord, Hash)]
 pub struct Key {
     pub tcp: bool,
     pub low: End,

@@ -10,6 +10,7 @@
 
 mod flows;
 mod key;
+mod lives;
 mod rows;
 mod segment;
 mod session;

@@ -1,10 +1,12 @@
 //! Touches and sessions worked out by hand.
 ghost use Rattle.std.specs.Prelude.{◌+◌, ◌<◌, ◌≤◌};
 
+use crate::lives::Numbered;
 use crate::{End, Flows, Key, Session, SessionRules, Step, Touch};
 use edge_io::crossing::{sendable, shareable};
 use edge_io::{Addr, Moment};
 use packet_decode::{Body, IpHead, TcpHead};
+use std::hash::{BuildHasher, BuildHasherDefault, FoldHasher};
 use std::process::Abort;
 use std::test::Fail;
 
@@ -390,5 +392,37 @@ fn touch(
         },
         "flow {flow}"
     );
+    Ok(())
+}
+
+/// The key of datagrams from a host of 9e37:79b9:7f4a:7c15::/64. By std's default hasher all have one hash.
+fn chosen_key(host: u128) -> Key {
+    let low = End {
+        addr: Addr::V6(0x9e37_79b9_7f4a_7c15_0000_0000_0000_0000 | host),
+        port: 1000,
+    };
+    let high = End {
+        addr: Addr::V6(0xfd00_0000_0000_0000_0000_0000_0000_0001),
+        port: 2000,
+    };
+    Key::of(false, low, high)
+}
+
+/// Keys that are chosen to have one hash: what the cache hashes of them are the numbers of their flows.
+#[test]
+fn chosen_keys_spread(rt: HostRuntime) -> Result<(), Fail> {
+    let hasher: BuildHasherDefault<FoldHasher> = BuildHasherDefault::new();
+    let first = Numbered {
+        key: chosen_key(0),
+        number: 0,
+    };
+    for number in 1..64u64 {
+        let other = Numbered {
+            key: chosen_key(u128::from(number)),
+            number,
+        };
+        assert_eq!(rt; hasher.hash_one(other.key), hasher.hash_one(first.key));
+        assert!(rt; hasher.hash_one(other) != hasher.hash_one(first));
+    }
     Ok(())
 }

@@ -1,0 +1,194 @@
+-- A tree of numbers and a cache that hashes them: what the tree says of the cache's entries, and what both are
+-- behind a step.
+use Rattle.std.proofs.Common.{◌≡◌, ℕ, zero, suc, ◌-◌, Bool, true, false, cond, ◌&&◌, eqb, List, [], ◌∷◌, map, take, slice_get, Option, Some, None, refl, sym, ap, subst, ◌∙◌, eq-eqb}
+use Rattle.std.specs.BTreeMap.{BTreeMap, get, is_at}
+use Rattle.std.specs.List.{AllByRecursion, IsDistinct}
+use Rattle.std.specs.Map.{keys_of, values_of, lookup, lookup_entry, remove_entry}
+use Rattle.std.specs.Option.{option_map, option_map_or}
+use Rattle.std.proofs.lemmas.Option.{slice_get-map}
+use Rattle.lru.specs.LruCache.{LruCache, lru_cache, promoted, put_entries, displaced}
+use Rattle.stream5_sessions.specs.contracts.key.KeyOrd.TheImpl.Laws.{matches_eq-law}
+use Rattle.stream5_sessions.specs.contracts.lives.NumberedPartialEq.TheImpl.{eq-value}
+use Rattle.stream5_sessions.specs.declared.key.Key.{Key}
+use Rattle.stream5_sessions.specs.declared.lives.Numbered.{Numbered}
+use Rattle.stream5_sessions.specs.Indexed.{key_cmp, entries_of, is_gone, IsIndexed}
+use Rattle.stream5_sessions.specs.Keys.{same_key}
+use Rattle.stream5_sessions.proofs.KeyLaws.{eq-same_key, same_key-is, same_key-self, same_key-flips}
+use Rattle.stream5_sessions.proofs.Numbered.{Alike, plain_entry, promoted-plain, all-take, all-get, all-promoted, distinct-take, distinct-promoted, apart-from}
+
+abbrev pub numbered : Key → ℕ → Numbered
+numbered key number = record { key = key; number = number }
+
+-- the key alone
+abbrev pub named : Numbered → Key
+named n = n.key
+
+-- the derived test of a key with its number
+test_parts : (a b : Numbered) → eq-value.it a b ≡ (same_key a.key b.key && eqb a.number b.number)
+test_parts a b = ap (λ (x : Bool). x && eqb a.number b.number) (eq-same_key a.key b.key)
+
+-- keys compare equal where they are one
+pub cmp_is : (a b : Key) → is_at (key_cmp a) b ≡ same_key a b
+cmp_is a b = sym (matches_eq-law a b) ∙ eq-same_key a b
+
+abbrev pub HasNumber : BTreeMap Key ℕ → Numbered × ℕ → Type 0
+HasNumber numbers e = get key_cmp numbers e.0.key ≡ Some e.0.number
+
+module _ (numbers : BTreeMap Key ℕ) (key : Key) where
+  -- with the number that the tree has, the cache's test is that of the key
+  pub alike : (number : ℕ) → get key_cmp numbers key ≡ Some number → (es : List (Numbered × ℕ)) → AllByRecursion (HasNumber numbers) es
+      → Alike named (eq-value.it (numbered key number)) (same_key key) es
+  alike number is [] all = tt
+  alike number is (e ∷ es) all = (test_parts (numbered key number) e.0 ∙ by (same_key key e.0.key) refl, alike number is es all.1)
+    where
+      by : (b : Bool) → same_key key e.0.key ≡ b → (b && eqb number e.0.number) ≡ b
+      by true t =
+          let here : get key_cmp numbers key ≡ Some e.0.number = ap (get key_cmp numbers) (same_key-is key e.0.key t) ∙ all.0 in
+          let one : number ≡ e.0.number = cc in eq-eqb number e.0.number one
+      by false t = refl
+
+  -- a key without a number isn't there
+  pub missing : get key_cmp numbers key ≡ None → (es : List (Numbered × ℕ)) → AllByRecursion (HasNumber numbers) es → lookup (same_key key) (entries_of es) ≡ None
+  missing is [] all = refl
+  missing is (e ∷ es) all = (elim (same_key key e.0.key) as (λ b. same_key key e.0.key ≡ b → cond b (Some e.1) (lookup (same_key key) (entries_of es)) ≡ None) [
+    | true ↦ λ t. let here : get key_cmp numbers key ≡ Some e.0.number = ap (get key_cmp numbers) (same_key-is key e.0.key t) ∙ all.0 in cc
+    | false ↦ λ t. missing is es all.1
+  ]) refl
+
+-- ---- a key that isn't there
+abbrev IsOther : Key → Numbered × ℕ → Type 0
+IsOther key e = same_key key e.0.key ≡ false
+
+pub others : (key : Key) (es : List (Numbered × ℕ)) → lookup (same_key key) (entries_of es) ≡ None → AllByRecursion (IsOther key) es
+others key [] none = tt
+others key (e ∷ es) none = (elim (same_key key e.0.key) as (λ b. same_key key e.0.key ≡ b → cond b (Some e.1) (lookup (same_key key) (entries_of es)) ≡ None → IsOther key e × AllByRecursion (IsOther key) es) [
+  | true ↦ λ t h. cc
+  | false ↦ λ t h. (t, others key es h)
+]) refl none
+
+fails : (key : Key) (number : ℕ) (e : Numbered × ℕ) → IsOther key e → eq-value.it (numbered key number) e.0 ≡ false
+fails key number e is = test_parts (numbered key number) e.0 ∙ ap (λ (b : Bool). b && eqb number e.0.number) is
+
+unmatched : (key : Key) (number : ℕ) (es : List (Numbered × ℕ)) → AllByRecursion (IsOther key) es → lookup_entry (eq-value.it (numbered key number)) es ≡ None
+unmatched key number [] all = refl
+unmatched key number (e ∷ es) all =
+    ap (λ (b : Bool). cond b (Some e) (lookup_entry (eq-value.it (numbered key number)) es)) (fails key number e all.0) ∙ unmatched key number es all.1
+
+unfound : (key : Key) (number : ℕ) (es : List (Numbered × ℕ)) → AllByRecursion (IsOther key) es → lookup (eq-value.it (numbered key number)) es ≡ None
+unfound key number [] all = refl
+unfound key number (e ∷ es) all =
+    ap (λ (b : Bool). cond b (Some e.1) (lookup (eq-value.it (numbered key number)) es)) (fails key number e all.0) ∙ unfound key number es all.1
+
+module _ (cache : LruCache Numbered ℕ) (key : Key) (number : ℕ) (apart : AllByRecursion (IsOther key) cache.entries) where
+  -- pushes out the last one of a full cache
+  pub put_is : put_entries eq-value.it cache (numbered key number) number ≡ (numbered key number, number) ∷ take (cache.cap - 1) cache.entries
+  put_is =
+      ap (λ (o : Option (Numbered × ℕ)). option_map_or (λ e. (e.0, number) ∷ remove_entry (eq-value.it (numbered key number)) cache.entries) o ((numbered key number, number) ∷ take (cache.cap - 1) cache.entries))
+      (unmatched key number cache.entries apart)
+
+  pub displaced_is : displaced eq-value.it cache (numbered key number) number ≡ slice_get cache.entries (cache.cap - 1)
+  displaced_is =
+      ap (λ (o : Option ℕ). option_map_or (λ old. Some (numbered key number, old)) o (slice_get cache.entries (cache.cap - 1))) (unfound key number cache.entries apart)
+
+pub entries-take : (n : ℕ) (es : List (Numbered × ℕ)) → entries_of (take n es) ≡ take n (entries_of es)
+entries-take zero es = refl
+entries-take (suc n) [] = refl
+entries-take (suc n) (e ∷ es) = ap (λ (l : List (Key × ℕ)). (e.0.key, e.1) ∷ l) (entries-take n es)
+
+pub values-entries : (es : List (Numbered × ℕ)) → values_of (entries_of es) ≡ values_of es
+values-entries [] = refl
+values-entries (e ∷ es) = ap (λ (l : List ℕ). e.1 ∷ l) (values-entries es)
+
+-- the flow of the entry at a place
+pub evicted-flow : (es : List (Numbered × ℕ)) (i : ℕ) → option_map (λ (e : Numbered × ℕ). e.1) (slice_get es i) ≡ option_map (λ (e : Key × ℕ). e.1) (slice_get (entries_of es) i)
+evicted-flow [] i = refl
+evicted-flow (e ∷ es) zero = refl
+evicted-flow (e ∷ es) (suc i) = evicted-flow es i
+
+-- ---- the index behind a step
+keys-all : (P : Key → Type 0) (es : List (Numbered × ℕ)) → AllByRecursion (λ (e : Numbered × ℕ). P e.0.key) es → AllByRecursion P (keys_of (entries_of es))
+keys-all P [] all = tt
+keys-all P (e ∷ es) all = (all.0, keys-all P es all.1)
+
+by_numbers : (P : Key → Type 0) (es : List (Numbered × ℕ)) → AllByRecursion (λ (e : Key × ℕ). P e.0) (entries_of es) → AllByRecursion (λ (e : Numbered × ℕ). P e.0.key) es
+by_numbers P [] all = tt
+by_numbers P (e ∷ es) all = (all.0, by_numbers P es all.1)
+
+-- numbers that stay at keys of which P and Q hold
+still : (numbers after : BTreeMap Key ℕ) (P Q : Key → Type 0) → ((q : Key) → P q → Q q → get key_cmp after q ≡ get key_cmp numbers q) → (es : List (Numbered × ℕ))
+    → AllByRecursion (λ (e : Numbered × ℕ). P e.0.key) es → AllByRecursion (λ (e : Numbered × ℕ). Q e.0.key) es → AllByRecursion (HasNumber numbers) es → AllByRecursion (HasNumber after) es
+still numbers after P Q same [] ps qs all = tt
+still numbers after P Q same (e ∷ es) ps qs all = (same e.0.key ps.0 qs.0 ∙ all.0, still numbers after P Q same es ps.1 qs.1 all.1)
+
+pub indexed-none : (numbers : BTreeMap Key ℕ) (es : List (Numbered × ℕ)) → es ≡ [] → IsIndexed numbers es
+unfolding IsDistinct
+indexed-none numbers es none = subst (IsIndexed numbers) (sym none) (record { found = tt; apart = tt })
+
+pub indexed-promoted : (numbers : BTreeMap Key ℕ) (key : Key) (number : ℕ) (es : List (Numbered × ℕ)) → get key_cmp numbers key ≡ Some number → IsIndexed numbers es
+    → IsIndexed numbers (promoted (eq-value.it (numbered key number)) es)
+indexed-promoted numbers key number es is indexed = record {
+  found = all-promoted (eq-value.it (numbered key number)) (HasNumber numbers) es indexed.found;
+  apart = subst (λ (l : List (Key × ℕ)). IsDistinct same_key (keys_of l))
+      (sym (promoted-plain named (eq-value.it (numbered key number)) (same_key key) es (alike numbers key number is es indexed.found)))
+      (distinct-promoted same_key same_key-flips (same_key key) (entries_of es) indexed.apart);
+}
+
+-- a tree with the same entries
+pub indexed-same : (numbers after : BTreeMap Key ℕ) (es : List (Numbered × ℕ)) → after.entries ≡ numbers.entries → IsIndexed numbers es → IsIndexed after es
+indexed-same numbers after es same indexed = record {
+  found = subst (λ (l : List (Key × ℕ)). AllByRecursion (λ (e : Numbered × ℕ). lookup (is_at (key_cmp e.0.key)) l ≡ Some e.0.number) es) (sym same) indexed.found;
+  apart = indexed.apart;
+}
+
+-- a number for the key
+abbrev pub Puts : BTreeMap Key ℕ → BTreeMap Key ℕ → Key → Option ℕ → Type 0
+Puts numbers after key number = (q : Key) → get key_cmp after q ≡ cond (is_at (key_cmp key) q) number (get key_cmp numbers q)
+
+puts_at : (numbers after : BTreeMap Key ℕ) (key q : Key) (number : Option ℕ) (b : Bool) → Puts numbers after key number → same_key key q ≡ b → get key_cmp after q ≡ cond b number (get key_cmp numbers q)
+puts_at numbers after key q number b put is = put q ∙ ap (λ (x : Bool). cond x number (get key_cmp numbers q)) (cmp_is key q ∙ is)
+
+module _ (numbers put : BTreeMap Key ℕ) (es : List (Numbered × ℕ)) (key : Key) (number : ℕ) (indexed : IsIndexed numbers es) (apart : AllByRecursion (IsOther key) es) (puts : Puts numbers put key (Some number)) where
+  abbrev Free : Key → Type 0
+  Free q = same_key key q ≡ false
+
+  -- the key has a number, and isn't there yet
+  pub indexed-put : IsIndexed put es
+  indexed-put = record {
+    found = still numbers put Free Free (λ q p r. puts_at numbers put key q (Some number) false puts p) es apart apart indexed.found;
+    apart = indexed.apart;
+  }
+
+  -- the keys behind the new one
+  distinct : (i : ℕ) → IsDistinct same_key (keys_of (entries_of ((numbered key number, number) ∷ take i es)))
+  unfolding IsDistinct
+  distinct i = (
+    keys-all Free (take i es) (all-take (IsOther key) i es apart),
+    subst (λ (l : List (Key × ℕ)). IsDistinct same_key (keys_of l)) (sym (entries-take i es)) (distinct-take same_key same_key-flips i (entries_of es) indexed.apart),
+  )
+
+  -- the new key goes first, and what was at this place leaves
+  pub indexed-begun : (after : BTreeMap Key ℕ) (i : ℕ) (evicted : Option (Numbered × ℕ)) → slice_get es i ≡ evicted
+      → ((q : Key) → get key_cmp after q ≡ cond (is_gone evicted q) None (get key_cmp put q)) → IsIndexed after ((numbered key number, number) ∷ take i es)
+  indexed-begun after i None at gone = record {
+    found = (
+      gone key ∙ puts_at numbers put key key (Some number) true puts (same_key-self key),
+      still numbers after Free Free (λ q p r. gone q ∙ puts_at numbers put key q (Some number) false puts p) (take i es)
+          (all-take (IsOther key) i es apart) (all-take (IsOther key) i es apart) (all-take (HasNumber numbers) i es indexed.found),
+    );
+    apart = distinct i;
+  }
+  indexed-begun after i (Some last) at gone =
+      let Gone : Key → Type 0 = λ q. same_key last.0.key q ≡ false in
+      let there : slice_get (entries_of es) i ≡ Some (last.0.key, last.1) = slice_get-map (plain_entry named) es i ∙ ap (option_map (plain_entry named)) at in
+      let left : AllByRecursion (λ (e : Numbered × ℕ). Gone e.0.key) (take i es) =
+      by_numbers Gone (take i es) (subst (AllByRecursion (λ (e : Key × ℕ). Gone e.0)) (sym (entries-take i es)) (apart-from same_key same_key-flips i (entries_of es) (last.0.key, last.1) indexed.apart there)) in
+      let stays : (q : Key) → Gone q → get key_cmp after q ≡ get key_cmp put q =
+      λ q r. gone q ∙ ap (λ (b : Bool). cond b None (get key_cmp put q)) (cmp_is last.0.key q ∙ r) in
+      record {
+        found = (
+          stays key (same_key-flips key last.0.key (all-get (IsOther key) es i last at apart)) ∙ puts_at numbers put key key (Some number) true puts (same_key-self key),
+          still numbers after Free Gone (λ q p r. stays q r ∙ puts_at numbers put key q (Some number) false puts p) (take i es)
+              (all-take (IsOther key) i es apart) left (all-take (HasNumber numbers) i es indexed.found),
+        );
+        apart = distinct i;
+      }

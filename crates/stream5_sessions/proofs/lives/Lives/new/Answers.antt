@@ -1,0 +1,8 @@
+use Rattle.std.proofs.Common.{ap}
+use Rattle.lru.specs.LruCache.{LruCache}
+use Rattle.stream5_sessions.specs.declared.lives.Numbered.{Numbered}
+use Rattle.stream5_sessions.proofs.Living.{indexed-none}
+use Rattle.stream5_sessions.proofs.lives.Lives.new.Goals as goal
+
+pub invariant_of-result : goal.invariant_of-result
+invariant_of-result c = indexed-none c.new-2.result _ (ap (λ (x : LruCache Numbered _). x.entries) c.in_ok-sparse.ensures)

@@ -1,0 +1,129 @@
+//! The keys of one protocol that live, with their flows' numbers, by their last touches.
+//!
+//! A sender chooses the keys, and could choose many that one hash table keeps in one place. So no key is
+//! hashed: a tree has the number of each key's flow, and the cache hashes that number alone, which counts up.
+ghost use Rattle.std.specs.Prelude.{◌≡◌, ◌≤◌, ◌-◌, [], None, slice_get, IfOk, OnOk, OnErr, option_map, if◌then◌else◌};
+ghost use Rattle.std.specs.BTreeMap.{get};
+ghost use Rattle.std.specs.Map.{lookup, values_of};
+ghost use Rattle.lru.specs.LruCache.{promoted};
+ghost use Rattle.stream5_sessions.specs.Keys.{same_key};
+ghost use Rattle.stream5_sessions.specs.Caches.{kept_by};
+ghost use Rattle.stream5_sessions.specs.Indexed.{lives_with, key_cmp, is_gone};
+ghost use Rattle.stream5_sessions.specs.declared.key.Key.{Key};
+
+use crate::Key;
+use edge_io::NoMemory;
+use lru::LruCache;
+use std::alloc::Global;
+use std::collections::BTreeMap;
+use std::hash::{Hash, Hasher};
+use std::marker::Model;
+use std::num::NonZeroUsize;
+
+/// A key, and the number of its flow.
+#[derive(Clone, Copy, Debug, PartialEq, Eq)]
+pub(crate) struct Numbered {
+    pub key: Key,
+    pub number: u64,
+}
+
+impl Hash for Numbered {
+    ghost use Rattle.std.specs.Hash as fed;
+    ghost use Rattle.std.proofs.Common.{rules};
+    ghost use Rattle.std.specs.Cmp.Rules.{hashing};
+
+    ghost hash_input = { λ numbered. fed.u64 numbered.number };
+
+    ghost respects_eq = { Prim.search (hashing, rules) };
+
+    fn hash<H: Hasher>(&self, state: &mut H) {
+        self.number.hash(state);
+    }
+}
+
+/// The keys that live. Contracts see them with their flows' numbers, the latest touched first, and how many
+/// there may be.
+#[derive(Drop)]
+pub(crate) struct Lives {
+    /// The number of each key's flow.
+    numbers: BTreeMap<Key, u64>,
+    cache: LruCache<Numbered, u64>,
+}
+
+impl Model for Lives {
+    ghost use Rattle.stream5_sessions.specs.Indexed.{LivesState, lives_with, entries_of, IsIndexed};
+
+    ghost Value = { LivesState };
+
+    ghost view = { λ lives. lives_with (entries_of lives.cache.entries) lives.cache.cap };
+
+    ghost invariant = { λ lives. IsIndexed lives.numbers lives.cache.entries };
+}
+
+impl Lives {
+    /// No key, and room for so many. Memory is taken as keys come.
+    pub fn new(alloc: Global, most: u32) -> Result<Lives, NoMemory>
+        requires { 1 ≤ most }
+        ensures { IfOk result (λ lives. lives ≡ lives_with [] most) }
+    {
+        let most = NonZeroUsize::new(most as usize).unwrap();
+        Ok(Lives {
+            numbers: BTreeMap::new(alloc),
+            cache: LruCache::sparse(alloc, most)?,
+        })
+    }
+
+    /// The flow of a key that lives, which becomes the latest touched.
+    pub fn again(&mut self, key: Key) -> Option<u64>
+        ensures value { result ≡ lookup (same_key key) self.old.entries }
+        ensures after { self.new ≡ lives_with (promoted (same_key key) self.old.entries) self.old.cap }
+    {
+        match self.numbers.get(&key) {
+            Some(number) => {
+                let number = *number;
+                self.cache.get(&Numbered { key, number }).copied()
+            }
+            None => None,
+        }
+    }
+
+    /// Begins the flow with the number `next` of a key that doesn't live; gives the flow whose life that ends.
+    pub fn begin(&mut self, key: Key, next: u64) -> Result<Option<u64>, NoMemory>
+        requires { lookup (same_key key) self.old.entries ≡ None }
+        ensures value { IfOk result (λ evicted.
+            evicted ≡ option_map (λ entry. entry.1) (slice_get self.old.entries (self.old.cap - 1))) }
+        ensures after { OnOk result
+            (self.new ≡ lives_with (kept_by self.old.entries self.old.cap next key None) self.old.cap) }
+        ensures err { OnErr result (self.new ≡ self.old) }
+    {
+        // Where memory lacks for the cache, the key keeps a number that the next begin replaces.
+        self.numbers.insert(key, next)?;
+        let evicted = self.cache.push(Numbered { key, number: next }, next)?;
+        Ok(forget(&mut self.numbers, evicted))
+    }
+
+    /// The numbers of the flows.
+    pub fn flows(&self, alloc: Global) -> Result<Vec<u64>, NoMemory>
+        ensures { IfOk result (λ flows. flows.items ≡ values_of self.now.entries) }
+    {
+        flows_of(alloc, &self.cache)
+    }
+}
+
+/// The flows of these keys.
+fn flows_of(alloc: Global, cache: &LruCache<Numbered, u64>) -> Result<Vec<u64>, NoMemory>
+    ensures { IfOk result (λ flows. flows.items ≡ values_of cache.now.entries) }
+{
+    Ok(cache.iter().map(|(_, flow)| *flow).collect(alloc)?)
+}
+
+/// Takes the number of the evicted key out of the tree, and gives its flow.
+fn forget(numbers: &mut BTreeMap<Key, u64>, evicted: Option<(Numbered, u64)>) -> Option<u64>
+    ensures flow { result ≡ option_map (λ e. e.1) evicted }
+    ensures gone { (q : Key) → get key_cmp numbers.new q
+        ≡ (if is_gone evicted q then None else get key_cmp numbers.old q) }
+{
+    let (last, flow) = evicted?;
+    numbers.remove(&last.key);
+    Some(flow)
+}
