@@ -2,6 +2,7 @@
 ghost use Rattle.std.specs.Prelude.{◌≡◌, ◌<◌, ◌≤◌, [], None, unwrap_or, IfOk, OnOk, OnErr};
 ghost use Rattle.frag3_core.specs.Trackers.{after, answer_of, fragment, held_count, ignored, taken};
 
+use crate::seed::Seed;
 use crate::trackers::TrackerCache;
 use crate::{Datagram, FragRules, Ignored, Taken};
 use edge_io::{Moment, NoMemory, Text};
@@ -75,21 +76,27 @@ impl Frag3 {
         if let Some(reason) = ignored_for(ip, part, rules) {
             return Ok(Taken::Ignored(reason));
         }
-        let mut trackers = made(self.alloc, self.trackers.take())?;
+        let mut trackers = made(self.alloc, self.trackers.take(), ip, part, moment)?;
         let bytes = trackers.accept(most, alloc, ip, part, moment, rules);
         self.trackers = Some(trackers);
         Ok(answer(ip, bytes?))
     }
 }
 
-/// The trackers, made where there are none yet.
-fn made(alloc: Global, trackers: Option<TrackerCache>) -> Result<TrackerCache, NoMemory>
+/// The trackers, made where there are none yet: then this is the first fragment.
+fn made(
+    alloc: Global,
+    trackers: Option<TrackerCache>,
+    ip: &IpHead,
+    part: &[u8],
+    moment: Moment,
+) -> Result<TrackerCache, NoMemory>
     ensures ok { IfOk result (λ made. made ≡ unwrap_or trackers []) }
     ensures err { OnErr result (trackers ≡ None) }
 {
     match trackers {
         Some(trackers) => Ok(trackers),
-        None => TrackerCache::new(alloc),
+        None => TrackerCache::new(alloc, Seed::of(ip, part, moment)),
     }
 }
 

@@ -11,6 +11,7 @@
 mod answer;
 mod frag3;
 mod key;
+mod seed;
 #[cfg(test)]
 mod tests;
 mod tracker;

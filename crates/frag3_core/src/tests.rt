@@ -1,10 +1,12 @@
 //! Calls of `accept`, with the answers that the overlap table and the limits give by hand.
 
+use crate::seed::Seed;
 use crate::{Datagram, DatagramKey, Frag3, FragRules, Ignored, Taken};
 use edge_io::crossing::{sendable, shareable};
 use edge_io::{Addr, Moment, NoMemory, Preference};
 use packet_decode::IpHead;
 use std::alloc::Global;
+use std::hash::{BuildHasher, BuildHasherDefault, FoldHasher};
 use std::process::Abort;
 use std::test::Fail;
 
@@ -243,6 +245,34 @@ fn rules_of_the_first_fragment(rt: HostRuntime) -> Result<(), Fail> {
         let ip = head(ttl, offset, more);
         let taken = frag3.accept(alloc, &ip, part.as_bytes(), moment, rules(preference, 60))?;
         assert_eq!(rt; shown(&taken), answer.as_bytes(), "{part} at {offset}");
+    }
+    Ok(())
+}
+
+/// The key of fragments from a host of 9e37:79b9:7f4a:7c15::/64. By std's default hasher all have one hash.
+fn chosen_key(host: u128) -> DatagramKey {
+    DatagramKey {
+        src: Addr::V6(0x9e37_79b9_7f4a_7c15_0000_0000_0000_0000 | host),
+        dst: Addr::V6(0xfd00_0000_0000_0000_0000_0000_0000_0001),
+        id: 7,
+        protocol: 17,
+    }
+}
+
+/// Keys that are chosen to have one hash have others behind the first fragment, and behind another one others
+/// again.
+#[test]
+fn chosen_keys_spread(rt: HostRuntime) -> Result<(), Fail> {
+    let hasher: BuildHasherDefault<FoldHasher> = BuildHasherDefault::new();
+    let ip = head(64, 0, true);
+    let seed = Seed::of(&ip, b"abcdefgh", Moment { nanos: 1 });
+    let later = Seed::of(&ip, b"abcdefgh", Moment { nanos: 2 });
+    let first = chosen_key(0);
+    for host in 1..64u128 {
+        let key = chosen_key(host);
+        assert_eq!(rt; hasher.hash_one(key), hasher.hash_one(first));
+        assert!(rt; seed.hash_one(key) != seed.hash_one(first));
+        assert!(rt; seed.hash_one(key) != later.hash_one(key));
     }
     Ok(())
 }

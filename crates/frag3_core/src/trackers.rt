@@ -7,6 +7,7 @@ ghost use Rattle.frag3_core.specs.Trackers.{end_of, fragment, held_count, same_k
 ghost use Rattle.frag3_core.specs.Sound.{AreTrackers};
 ghost use Rattle.frag3_core.specs.Parts.{Adds, Begins, Grows, Takes, frags_in, is_first, is_kept, placed, roomy, settled};
 
+use crate::seed::Seed;
 use crate::tracker::Tracker;
 use crate::{DatagramKey, FragRules};
 use edge_io::{Moment, NoMemory, Text};
@@ -21,7 +22,7 @@ use std::marker::Model;
 /// goes to the end. So an eviction, and a fragment of a known datagram, walk over none of them.
 #[derive(Drop)]
 pub(crate) struct TrackerCache {
-    cache: LruCache<DatagramKey, Tracker>,
+    cache: LruCache<DatagramKey, Tracker, Seed>,
     /// How many fragments the trackers hold.
     held: u64,
 }
@@ -39,12 +40,12 @@ impl Model for TrackerCache {
 }
 
 impl TrackerCache {
-    /// No tracker.
-    pub fn new(alloc: Global) -> Result<TrackerCache, NoMemory>
+    /// No tracker. Keys will be hashed with this seed.
+    pub fn new(alloc: Global, seed: Seed) -> Result<TrackerCache, NoMemory>
         ensures { IfOk result (λ trackers. trackers ≡ []) }
     {
         Ok(TrackerCache {
-            cache: LruCache::unbounded(alloc)?,
+            cache: LruCache::unbounded_with_hasher(alloc, seed)?,
             held: 0,
         })
     }
@@ -257,7 +258,7 @@ impl TrackerCache {
 }
 
 /// Takes the first tracker out of the cache.
-fn pop_first(cache: &mut LruCache<DatagramKey, Tracker>) -> Option<Tracker>
+fn pop_first(cache: &mut LruCache<DatagramKey, Tracker, Seed>) -> Option<Tracker>
     ensures value { result ≡ option_map (λ (e : _ × _). e.1) (slice_get cache.old.entries 0) }
     ensures entries { cache.new ≡ lru_cache (drop 1 cache.old.entries) cache.old.cap }
 {

@@ -3,4 +3,4 @@ use Rattle.frag3_core.proofs.Entries.{is_cache, AreTrackers-nil}
 use Rattle.frag3_core.proofs.trackers.TrackerCache.new.Goals as goal
 
 pub invariant_of-result : goal.invariant_of-result
-invariant_of-result c = is_cache c.in_ok-unbounded.field-0 0 _ _ c.in_ok-unbounded.ensures refl refl AreTrackers-nil
+invariant_of-result c = is_cache c.in_ok-unbounded_with_hasher.field-0 0 _ _ c.in_ok-unbounded_with_hasher.ensures refl refl AreTrackers-nil

@@ -1,0 +1,36 @@
+//! What the keys of trackers are hashed with.
+
+use edge_io::Moment;
+use packet_decode::IpHead;
+use std::hash::{BuildHasher, DefaultHasher, Hash, Hasher};
+
+/// What every hash begins with: a hasher (SipHash-1-3) that has taken the first fragment and its moment, which
+/// another sender can't tell. So who sends fragments can't choose keys that have one hash. No contract speaks
+/// of it, since no answer depends on a hash.
+#[derive(Clone, Copy)]
+pub(crate) struct Seed {
+    initial: DefaultHasher,
+}
+
+impl Seed {
+    /// The seed of a fragment: its moment, its key and its part of the datagram.
+    pub fn of(ip: &IpHead, part: &[u8], moment: Moment) -> Seed {
+        let mut initial = DefaultHasher::new();
+        moment.nanos.hash(&mut initial);
+        ip.src.hash(&mut initial);
+        ip.dst.hash(&mut initial);
+        ip.id.hash(&mut initial);
+        initial.write(part);
+        Seed { initial }
+    }
+}
+
+impl BuildHasher for Seed {
+    type Hasher = DefaultHasher;
+
+    ghost build_hasher = { λ seed. seed.initial };
+
+    fn build_hasher(&self) -> DefaultHasher {
+        self.initial
+    }
+}
