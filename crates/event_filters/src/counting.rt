@@ -5,6 +5,7 @@ ghost use Rattle.event_filters.specs.Keys.{tracked, same_key};
 ghost use Rattle.event_filters.specs.declared.counting.Key.{Key};
 ghost use Rattle.event_filters.specs.Windows.{answer_of, next_number, next_window, shows, window_at, windows_after};
 
+use crate::seed::Seed;
 use edge_io::{Addr, Moment, NoMemory};
 use packet_decode::ItemHead;
 use std::collections::HashMap;
@@ -66,7 +67,7 @@ pub(crate) fn reserve(windows: &mut Windows, keys: usize) -> Result<(), NoMemory
 }
 
 /// The windows of all keys.
-pub(crate) type Windows = HashMap<Key, Window>;
+pub(crate) type Windows = HashMap<Key, Window, Seed>;
 
 /// The tracked address of an item.
 pub(crate) fn tracked(by_src: bool, head: &ItemHead) -> Addr

@@ -7,6 +7,7 @@ use crate::detection::stay_all;
 use crate::filtering::{Lines, keep_all};
 use crate::lines::{global_places, own_places, sizes_of};
 use crate::queue::{Order, gather};
+use crate::seed::Seed;
 use conf_types::Config;
 use edge_io::NoMemory;
 use packet_decode::ItemHead;
@@ -49,13 +50,14 @@ impl Filters {
         ensures { IfOk result (IsMade config.now rules.now) }
     {
         let filters = config.filters.as_slice();
+        let seed = Seed::of(rules);
         Ok(Filters {
             sizes: sizes_of(alloc, rules)?,
             own_places: own_places(alloc, filters, rules)?,
             global_places: global_places(alloc, filters, rules)?,
-            matches: HashMap::new(alloc),
-            own: HashMap::new(alloc),
-            global: HashMap::new(alloc),
+            matches: HashMap::with_hasher(alloc, seed),
+            own: HashMap::with_hasher(alloc, seed),
+            global: HashMap::with_hasher(alloc, seed),
             staying: Vec::new(alloc),
             queue: Vec::new(alloc),
         })

@@ -14,6 +14,9 @@ mod filtering;
 mod filters;
 mod lines;
 mod queue;
+mod seed;
 mod suppress;
+#[cfg(test)]
+mod tests;
 
 pub use filters::Filters;
