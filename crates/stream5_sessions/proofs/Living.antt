@@ -1,12 +1,12 @@
 -- A tree of numbers and a cache that hashes them: what the tree says of the cache's entries, and what both are
 -- behind a step.
-use Rattle.std.proofs.Common.{◌≡◌, ℕ, zero, suc, ◌-◌, Bool, true, false, cond, ◌&&◌, eqb, List, [], ◌∷◌, map, take, slice_get, Option, Some, None, refl, sym, ap, subst, ◌∙◌, eq-eqb}
+use Rattle.std.proofs.Common.{◌≡◌, ℕ, zero, suc, ◌-◌, Bool, true, false, cond, ◌&&◌, eqb, List, [], ◌∷◌, take, slice_get, Option, Some, None, refl, sym, ap, subst, ◌∙◌, eq-eqb}
 use Rattle.std.specs.BTreeMap.{BTreeMap, get, is_at}
 use Rattle.std.specs.List.{AllByRecursion, IsDistinct}
 use Rattle.std.specs.Map.{keys_of, values_of, lookup, lookup_entry, remove_entry}
 use Rattle.std.specs.Option.{option_map, option_map_or}
 use Rattle.std.proofs.lemmas.Option.{slice_get-map}
-use Rattle.lru.specs.LruCache.{LruCache, lru_cache, promoted, put_entries, displaced}
+use Rattle.lru.specs.LruCache.{LruCache, promoted, put_entries, displaced}
 use Rattle.stream5_sessions.specs.contracts.key.KeyOrd.TheImpl.Laws.{matches_eq-law}
 use Rattle.stream5_sessions.specs.contracts.lives.NumberedPartialEq.TheImpl.{eq-value}
 use Rattle.stream5_sessions.specs.declared.key.Key.{Key}

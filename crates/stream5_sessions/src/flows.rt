@@ -1,5 +1,5 @@
-ghost use Rattle.std.specs.Prelude.{◌≡◌, ◌≤◌, ◌<◌, ◌+◌, ◌-◌, ◌^◌, ◌∷◌, ◌++◌, [], List, Bool, IfOk, IsOk, IsSome, OnOk, OnErr, Some, None, slice_get, take, option_map};
-ghost use Rattle.std.specs.Map.{lookup, remove_entry, values_of};
+ghost use Rattle.std.specs.Prelude.{◌≡◌, ◌≤◌, ◌<◌, ◌+◌, ◌-◌, ◌^◌, ◌++◌, [], List, IfOk, IsOk, IsSome, OnOk, OnErr, Some, None};
+ghost use Rattle.std.specs.Map.{lookup, values_of};
 ghost use Rattle.stream5_sessions.specs.Indexed.{lives_with};
 ghost use Rattle.stream5_sessions.specs.Keys.{same_key};
 ghost use Rattle.stream5_sessions.specs.Caches.{found_by, kept_by, found_in, touched_state, HasSeen, IsFound, SeesTouch, KeepsBounds, AppendsLive, IsKnown, looked_up};

@@ -1,13 +1,12 @@
-use Rattle.std.proofs.Common.{◌≡◌, ℕ, ◌-◌, ◌∷◌, Some, None, List, Option, take, slice_get, option_map, sym, ap, subst, ◌∙◌}
+use Rattle.std.proofs.Common.{ℕ, ◌-◌, ◌∷◌, None, List, Option, slice_get, option_map, sym, ap, subst, ◌∙◌}
 use Rattle.std.specs.Map.{lookup}
-use Rattle.std.proofs.lemmas.Option.{slice_get-map}
 use Rattle.lru.specs.LruCache.{LruCache, lru_cache}
 use Rattle.stream5_sessions.specs.declared.key.Key.{Key}
 use Rattle.stream5_sessions.specs.declared.lives.Numbered.{Numbered}
 use Rattle.stream5_sessions.specs.Caches.{kept_by}
 use Rattle.stream5_sessions.specs.Indexed.{LivesState, lives_with, entries_of, IsIndexed}
 use Rattle.stream5_sessions.specs.Keys.{same_key}
-use Rattle.stream5_sessions.proofs.Living.{numbered, others, put_is, displaced_is, entries-take, evicted-flow, indexed-same, indexed-put, indexed-begun}
+use Rattle.stream5_sessions.proofs.Living.{others, put_is, displaced_is, entries-take, evicted-flow, indexed-same, indexed-put, indexed-begun}
 use Rattle.stream5_sessions.proofs.lives.Lives.begin.Goals as goal
 
 pub invariant_of-self : goal.invariant_of-self
@@ -28,7 +27,7 @@ invariant_of-self-2 c =
     let now = c.in_ok-evicted.ensures.entries ∙ ap (λ es. lru_cache es cache.cap) (put_is cache c.args.key c.args.next apart) in
     subst (λ (x : LruCache Numbered ℕ). IsIndexed c.forget.new.numbers x.entries) (sym now)
     (indexed-begun c.self.inside.numbers c.insert.new.self cache.entries c.args.key c.args.next c.self.invariant apart c.in_ok-insert.ensures.updates.0
-        c.forget.new.numbers (cache.cap - 1) c.in_ok-evicted.evicted (sym was) c.forget.ensures.gone)
+    c.forget.new.numbers (cache.cap - 1) c.in_ok-evicted.evicted (sym was) c.forget.ensures.gone)
 
 pub returns-clause-value : goal.returns-clause-value
 returns-clause-value c =
