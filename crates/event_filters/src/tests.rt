@@ -22,8 +22,8 @@ fn chosen_keys_spread(rt: HostRuntime) -> Result<(), Fail> {
     let hasher: BuildHasherDefault<FoldHasher> = BuildHasherDefault::new();
     let seed = Seed::of(&[]);
     let first = chosen_key(0);
-    for host in 1..64u128 {
-        let key = chosen_key(host);
+    for host in 1..64u64 {
+        let key = chosen_key(u128::from(host));
         assert_eq!(rt; hasher.hash_one(key), hasher.hash_one(first));
         assert!(rt; seed.hash_one(key) != seed.hash_one(first));
     }

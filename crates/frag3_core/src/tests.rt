@@ -268,8 +268,8 @@ fn chosen_keys_spread(rt: HostRuntime) -> Result<(), Fail> {
     let seed = Seed::of(&ip, b"abcdefgh", Moment { nanos: 1 });
     let later = Seed::of(&ip, b"abcdefgh", Moment { nanos: 2 });
     let first = chosen_key(0);
-    for host in 1..64u128 {
-        let key = chosen_key(host);
+    for host in 1..64u64 {
+        let key = chosen_key(u128::from(host));
         assert_eq!(rt; hasher.hash_one(key), hasher.hash_one(first));
         assert!(rt; seed.hash_one(key) != seed.hash_one(first));
         assert!(rt; seed.hash_one(key) != later.hash_one(key));
