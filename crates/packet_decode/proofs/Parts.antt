@@ -1,17 +1,17 @@
 -- A part of a record reads as the record does: a place in the part is a place further on in the
 -- record. So the transport header, which the code reads in a slice, is the one that the definition
 -- names by places in the whole record.
-use Rattle.std.proofs.Common.{◌≡◌, ℕ, ◌+◌, ◌-◌, ◌*◌, ◌/◌, ◌<◌, ◌≤◌, List, length, take, drop, get_or, Bool, true, false, not, ◌&&◌, nat_lt, refl, sym, ap, ◌∙◌, arith, ⊎_elim, length-drop, length-take-le}
+use Rattle.std.proofs.Common.{◌≡◌, ℕ, ◌+◌, ◌-◌, ◌*◌, ◌/◌, ◌<◌, ◌≤◌, List, length, take, drop, get_or, Bool, true, false, None, Result, Ok, nat_lt, refl, sym, ap, ◌∙◌, arith, ⊎_elim, length-drop, length-take-le}
 use Rattle.std.proofs.lemmas.List.{get_or-take, get_or-drop, drop-take, take-take, drop-drop}
-use Rattle.std.proofs.lemmas.Bool.{cases_lt, lt-ltb, le-ltb, or_right, cond-false}
+use Rattle.std.proofs.lemmas.Bool.{cases_lt, lt-ltb, le-ltb, or_right}
 use Rattle.std.proofs.lemmas.Bool.Decides.{nat_tests}
 use Rattle.packet_decode.specs.declared.checks.Checks.{Checks}
 use Rattle.packet_decode.specs.declared.packet.IpHead.{IpHead}
 use Rattle.edge_io.proofs.Bytes.{be16-bytes, be32-halves}
 use Rattle.edge_io.specs.Bytes.{byte_at, be16, be32, slice}
-use Rattle.packet_decode.specs.declared.ipv4.Bounds.{Bounds}
-use Rattle.packet_decode.specs.Checksum.{word_sum, is_all_ones}
-use Rattle.packet_decode.specs.Decoding.{ip_head_at, is_fragment, tcp_head_at, tcp_at, udp_at, icmp_at, transport_at, datagram_at, datagram_decoded}
+use Rattle.packet_decode.specs.declared.placed.Placed.{Placed}
+use Rattle.packet_decode.specs.declared.skip.Skip.{Skip}
+use Rattle.packet_decode.specs.Decoding.{Fields, tcp_head_at, tcp_at, udp_at, icmp_at, transport_at, datagram_decoded, placed}
 
 -- the part of a record from one place to another
 pub record IsPart (bytes part : List ℕ) (start stop : ℕ) : Type 0 where
@@ -157,9 +157,24 @@ transport_part {bytes = bytes} {part = part} {start = start} {stop = stop} p ip 
     let whole : slice part 0 (length part) ≡ slice bytes start stop = part_slice p 0 (length part) start stop (omega arith) (omega (arith, p.in_order, part_length p)) (omega arith) in
     rw (tcp_part p ip checks.tcp, udp_part p ip checks.udp, icmp_part p ip checks.icmp, whole) refl
 
--- a datagram that isn't skipped at its header's checksum and is no fragment is what its data are
-pub datagram_whole : (bytes : List ℕ) (start : ℕ) (bounds : Bounds) (checks : Checks) (ip : IpHead) → ip ≡ ip_head_at bytes start → (checks.ip && not (is_all_ones (word_sum (slice bytes start bounds.start)))) ≡ false → is_fragment ip ≡ false → datagram_at bytes start bounds checks ≡ transport_at ip bytes bounds.start bounds.stop checks
-unfolding datagram_at
-datagram_whole bytes start bounds checks ip is passed whole =
-    let there : is_fragment (ip_head_at bytes start) ≡ false = ap (λ (head : IpHead). is_fragment head) (sym is) ∙ whole in
-    cond-false _ _ _ passed ∙ cond-false _ _ _ there ∙ ap (λ (head : IpHead). transport_at head bytes bounds.start bounds.stop checks) (sym is)
+-- a packet that was read from a part lies so much further on in the record
+pub placed_part : {bytes part : List ℕ} {start stop : ℕ} → IsPart bytes part start stop → (packet : Placed) → packet.start + packet.len ≤ length part → placed part None packet ≡ placed bytes None (record packet { start = packet.start + start })
+placed_part {bytes = bytes} {part = part} {start = start} {stop = stop} p packet within = ap carrying same
+  where
+    carrying : List ℕ → Result Fields Skip
+    carrying payload = Ok (record { ip = packet.ip; body = packet.body; payload = payload })
+
+    here : packet.start + packet.len - packet.start ≡ packet.len
+    here = omega arith
+
+    there : packet.start + start + packet.len - (packet.start + start) ≡ packet.len
+    there = omega arith
+
+    captured : packet.start + start + packet.len ≤ stop
+    captured = omega (arith, part_length p, p.in_order, within)
+
+    same : take packet.len (drop packet.start part) ≡ take packet.len (drop (packet.start + start) bytes)
+    same =
+        ap (λ (n : ℕ). take n (drop packet.start part)) (sym here)
+        ∙ part_slice p packet.start (packet.start + packet.len) (packet.start + start) (packet.start + start + packet.len) (omega arith) (omega arith) captured
+        ∙ ap (λ (n : ℕ). take n (drop (packet.start + start) bytes)) there

@@ -9,7 +9,7 @@
 -- To try it on: 02 00 00 00 00 02 02 00 00 00 00 01 08 00, 45 00 00 1f 00 01 00 00 40 11 66 cb 0a 00
 -- 00 01 0a 00 00 02, 03 e8 07 d0 00 0b 00 00, 61 62 63 over Ethernet is a UDP packet from 10.0.0.1
 -- port 1000 to 10.0.0.2 port 2000, whose payload is the last three bytes.
-use Rattle.std.specs.Prelude.{ℕ, ◌+◌, ◌*◌, ◌/◌, ◌%◌, List, length, Bool, not, ◌&&◌, ◌||◌, Result, Ok, Err, nat_lt, ◌==◌, if◌then◌else◌}
+use Rattle.std.specs.Prelude.{ℕ, ◌+◌, ◌*◌, ◌/◌, ◌%◌, List, length, take, drop, Bool, not, ◌&&◌, ◌||◌, Option, Some, None, Result, Ok, Err, nat_lt, ◌==◌, if◌then◌else◌}
 use Rattle.edge_io.specs.declared.address.Addr.TheVariants.{V4}
 use Rattle.edge_io.specs.declared.link.Link.{Link}
 use Rattle.edge_io.specs.declared.link.Link.TheVariants.{Ethernet, RawIp, Cooked}
@@ -24,6 +24,7 @@ use Rattle.packet_decode.specs.declared.packet.TcpHead.{TcpHead}
 use Rattle.packet_decode.specs.declared.packet.Body.{Body}
 use Rattle.packet_decode.specs.declared.packet.Body.TheVariants.{Tcp, Udp, Icmp, Other, Fragment}
 use Rattle.packet_decode.specs.declared.packet.Packet.{Packet}
+use Rattle.packet_decode.specs.declared.placed.Placed.{Placed}
 use Rattle.edge_io.specs.OnResult.{◌>>=◌}
 use Rattle.edge_io.specs.Bytes.{byte_at, be16, be32, slice}
 use Rattle.packet_decode.specs.Checksum.{word_sum, is_all_ones, pseudo_sum}
@@ -43,6 +44,19 @@ fields_of packet = record { ip = packet.ip; body = packet.body; payload = packet
 abbrev pub seen : Result Packet Skip → Result Fields Skip
 seen (Ok packet) = Ok (fields_of packet)
 seen (Err skip) = Err skip
+
+-- the payload of a packet that was read from these bytes
+abbrev pub payload_at : List ℕ → Placed → List ℕ
+payload_at bytes packet = take packet.len (drop packet.start bytes)
+
+-- the fields of a packet that was read from these bytes
+abbrev pub fields_at : List ℕ → Placed → Fields
+fields_at bytes packet = record { ip = packet.ip; body = packet.body; payload = payload_at bytes packet }
+
+-- an answer of the decoder that writes a packet in place: the packet, where no reason to skip it is given
+abbrev pub placed : List ℕ → Option Skip → Placed → Result Fields Skip
+placed bytes None packet = Ok (fields_at bytes packet)
+placed bytes (Some skip) packet = Err skip
 
 -- The place of the type field behind a tag whose own type, 8100, stands at `place`: a tag has 4
 -- bytes, and the type of what it holds follows it (IEEE 802.1Q). Without a tag it is the place itself.

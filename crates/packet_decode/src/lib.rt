@@ -3,7 +3,8 @@
 //! `decode` walks the link header, the IPv4 header and the transport header of a record, and
 //! `decode_datagram` the transport header alone, of a datagram that was put together from
 //! fragments; `link_start` is the first step by itself, for either version of the protocol. Each
-//! gives a packet whose payload is lent from the bytes, or the reason why the record is skipped.
+//! gives a packet whose payload is lent from the bytes, or the reason why the record is skipped;
+//! `decode_at` writes the packet in place, its payload by its place in the bytes.
 //! They meet the definitions of `specs/Decoding`, which name every field by its place in the whole
 //! record, for every link and all bytes; the checksums are those of `specs/Checksum`. None takes
 //! memory. Reassembly, sessions, rule headers and alert lines stand on the types of this crate:
@@ -16,6 +17,7 @@ mod ipv4;
 mod item;
 mod numbers;
 mod packet;
+mod placed;
 mod records;
 mod skip;
 mod start;
@@ -27,7 +29,8 @@ mod version;
 pub use checks::Checks;
 pub use item::{ItemHead, ItemKind, SessionFacts};
 pub use packet::{Body, IpHead, Packet, TcpHead};
-pub use records::decode;
+pub use placed::Placed;
+pub use records::{decode, decode_at};
 pub use skip::Skip;
 pub use start::link_start;
 pub use transport::decode_datagram;

@@ -1,10 +1,11 @@
-ghost use Rattle.std.specs.Prelude.{◌≡◌, ◌≤◌, length, IfOk};
-ghost use Rattle.packet_decode.specs.Decoding.{seen, tcp_head_at, tcp_at, udp_at, icmp_at, datagram_decoded};
+ghost use Rattle.std.specs.Prelude.{◌≡◌, ◌+◌, ◌≤◌, length, IfOk, OnOk};
+ghost use Rattle.std.specs.Result.{result_err};
+ghost use Rattle.packet_decode.specs.Decoding.{seen, placed, tcp_head_at, tcp_at, udp_at, icmp_at, datagram_decoded};
 
 use crate::checksum::{is_message_right, is_segment_right};
 use crate::numbers::{be16, be32};
 use crate::version::{icmp_protocol, version_of};
-use crate::{Body, Checks, IpHead, Packet, Skip, TcpHead};
+use crate::{Body, Checks, IpHead, Packet, Placed, Skip, TcpHead};
 
 const TCP: u8 = 6;
 
@@ -35,9 +36,10 @@ fn tcp_head(segment: &[u8]) -> TcpHead
 
 /// A TCP segment, with its checksum if `check` holds.
 #[tactic(auto, unfolding(crate::specs::Decoding::tcp_at))]
-fn tcp<'a>(ip: &IpHead, segment: &'a [u8], check: bool) -> Result<Packet<'a>, Skip>
-    ensures exact { seen result ≡ tcp_at ip.now segment.now 0 (length segment.now) check }
-    ensures within { IfOk result (λ packet. length packet.payload.now ≤ length segment.now) }
+fn tcp(segment: &[u8], check: bool, out: &mut Placed) -> Result<(), Skip>
+    ensures told { placed segment.now (result_err result) out.new
+        ≡ tcp_at out.old.ip segment.now 0 (length segment.now) check }
+    ensures within { OnOk result (out.new.start + out.new.len ≤ length segment.now) }
 {
     if segment.len() < TCP_LEN {
         return Err(Skip::Malformed);
@@ -46,21 +48,20 @@ fn tcp<'a>(ip: &IpHead, segment: &'a [u8], check: bool) -> Result<Packet<'a>, Sk
     if header_len < TCP_LEN || segment.len() < header_len {
         return Err(Skip::Malformed);
     }
-    if check && !is_segment_right(ip, segment) {
+    if check && !is_segment_right(&out.ip, segment) {
         return Err(Skip::Checksum);
     }
-    Ok(Packet {
-        ip: *ip,
-        body: Body::Tcp(tcp_head(segment)),
-        payload: &segment[header_len..],
-    })
+    let body = Body::Tcp(tcp_head(segment));
+    out.put(body, header_len, segment.len() - header_len);
+    Ok(())
 }
 
 /// A UDP datagram, which ends by its own length, with its checksum if `check` holds and it has one.
 #[tactic(auto, unfolding(crate::specs::Decoding::udp_at))]
-fn udp<'a>(ip: &IpHead, bytes: &'a [u8], check: bool) -> Result<Packet<'a>, Skip>
-    ensures exact { seen result ≡ udp_at ip.now bytes.now 0 (length bytes.now) check }
-    ensures within { IfOk result (λ packet. length packet.payload.now ≤ length bytes.now) }
+fn udp(bytes: &[u8], check: bool, out: &mut Placed) -> Result<(), Skip>
+    ensures told { placed bytes.now (result_err result) out.new
+        ≡ udp_at out.old.ip bytes.now 0 (length bytes.now) check }
+    ensures within { OnOk result (out.new.start + out.new.len ≤ length bytes.now) }
 {
     if bytes.len() < UDP_LEN {
         return Err(Skip::Malformed);
@@ -70,66 +71,57 @@ fn udp<'a>(ip: &IpHead, bytes: &'a [u8], check: bool) -> Result<Packet<'a>, Skip
         return Err(Skip::Malformed);
     }
     let has_checksum = be16(bytes, 6) != 0;
-    let segment = &bytes[..len];
-    if check && has_checksum && !is_segment_right(ip, segment) {
+    if check && has_checksum && !is_segment_right(&out.ip, &bytes[..len]) {
         return Err(Skip::Checksum);
     }
-    Ok(Packet {
-        ip: *ip,
-        body: Body::Udp {
-            sport: be16(bytes, 0),
-            dport: be16(bytes, 2),
-        },
-        payload: &bytes[UDP_LEN..len],
-    })
+    let body = Body::Udp {
+        sport: be16(bytes, 0),
+        dport: be16(bytes, 2),
+    };
+    out.put(body, UDP_LEN, len - UDP_LEN);
+    Ok(())
 }
 
 /// An ICMP message, with its checksum if `check` holds.
 #[tactic(auto, unfolding(crate::specs::Decoding::icmp_at))]
-fn icmp<'a>(ip: &IpHead, message: &'a [u8], check: bool) -> Result<Packet<'a>, Skip>
-    ensures exact { seen result ≡ icmp_at ip.now message.now 0 (length message.now) check }
-    ensures within { IfOk result (λ packet. length packet.payload.now ≤ length message.now) }
+fn icmp(message: &[u8], check: bool, out: &mut Placed) -> Result<(), Skip>
+    ensures told { placed message.now (result_err result) out.new
+        ≡ icmp_at out.old.ip message.now 0 (length message.now) check }
+    ensures within { OnOk result (out.new.start + out.new.len ≤ length message.now) }
 {
     if message.len() < ICMP_LEN {
         return Err(Skip::Malformed);
     }
-    if check && !is_message_right(version_of(ip.src), ip, message) {
+    if check && !is_message_right(version_of(out.ip.src), &out.ip, message) {
         return Err(Skip::Checksum);
     }
-    Ok(Packet {
-        ip: *ip,
-        body: Body::Icmp {
-            kind: message[0],
-            code: message[1],
-            id: be16(message, 4),
-            seq: be16(message, 6),
-        },
-        payload: &message[ICMP_LEN..],
-    })
+    let body = Body::Icmp {
+        kind: message[0],
+        code: message[1],
+        id: be16(message, 4),
+        seq: be16(message, 6),
+    };
+    out.put(body, ICMP_LEN, message.len() - ICMP_LEN);
+    Ok(())
 }
 
-/// The data of a datagram, by the protocol of its head.
+/// The data of a datagram, by the protocol of its head, which stands in `out`.
 #[tactic(auto, unfolding(crate::specs::Decoding::datagram_decoded, crate::specs::Decoding::transport_at))]
-pub(crate) fn transport<'a>(
-    ip: &IpHead,
-    bytes: &'a [u8],
-    checks: Checks,
-) -> Result<Packet<'a>, Skip>
-    ensures exact { seen result ≡ datagram_decoded ip.now bytes.now checks }
-    ensures within { IfOk result (λ packet. length packet.payload.now ≤ length bytes.now) }
+pub(crate) fn transport(bytes: &[u8], checks: Checks, out: &mut Placed) -> Result<(), Skip>
+    ensures told { placed bytes.now (result_err result) out.new
+        ≡ datagram_decoded out.old.ip bytes.now checks }
+    ensures within { OnOk result (out.new.start + out.new.len ≤ length bytes.now) }
 {
-    if ip.protocol == TCP {
-        tcp(ip, bytes, checks.tcp)
-    } else if ip.protocol == UDP {
-        udp(ip, bytes, checks.udp)
-    } else if ip.protocol == icmp_protocol(version_of(ip.src)) {
-        icmp(ip, bytes, checks.icmp)
+    let protocol = out.ip.protocol;
+    if protocol == TCP {
+        tcp(bytes, checks.tcp, out)
+    } else if protocol == UDP {
+        udp(bytes, checks.udp, out)
+    } else if protocol == icmp_protocol(version_of(out.ip.src)) {
+        icmp(bytes, checks.icmp, out)
     } else {
-        Ok(Packet {
-            ip: *ip,
-            body: Body::Other,
-            payload: bytes,
-        })
+        out.put(Body::Other, 0, bytes.len());
+        Ok(())
     }
 }
 
@@ -144,5 +136,10 @@ pub fn decode_datagram<'a>(ip: IpHead, bytes: &'a [u8], checks: Checks) -> Resul
     ensures exact { seen result ≡ datagram_decoded ip bytes.now checks }
     ensures within { IfOk result (λ packet. length packet.payload.now ≤ length bytes.now) }
 {
-    transport(&ip, bytes, checks)
+    let mut read = Placed {
+        ip,
+        ..Placed::EMPTY
+    };
+    transport(bytes, checks, &mut read)?;
+    Ok(read.packet(bytes))
 }
