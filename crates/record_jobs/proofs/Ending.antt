@@ -1,6 +1,6 @@
 -- A front that begins, and one that ends.
-use Rattle.std.proofs.Common.{◌≡◌, ℕ, ◌+◌, ◌<◌, ◌≤◌, List, [], ◌∷◌, ◌++◌, length, map, take, get_or, suc, Option, Some, None, refl, sym, ap, ◌∙◌, append_assoc, arith}
-use Rattle.std.specs.Option.{option_map, option_to_list}
+use Rattle.std.proofs.Common.{◌≡◌, ℕ, ◌+◌, ◌<◌, ◌≤◌, List, [], ◌∷◌, ◌++◌, length, map, take, get_or, suc, Option, None, refl, sym, ap, ◌∙◌, append_assoc, arith}
+use Rattle.std.specs.Option.{option_map}
 use Rattle.std.proofs.lemmas.List.{length-take, map-append, take_more}
 use Rattle.std.proofs.lemmas.List.Elements.{All-from_recursion}
 use Rattle.edge_io.specs.declared.moment.Moment.{Moment}
@@ -59,12 +59,11 @@ counted [] = refl
 counted (flow ∷ flows) = ap suc (counted flows)
 
 -- one end more
-pub finishes_more : (old now new : List Job) (first number : ℕ) (moment : Moment) (flows : List ℕ) (i : ℕ) (todo : Option Work)
-    → i < length flows → number ≡ first + i → now ≡ old ++ numbered first moment (map (λ flow. work.Finish flow) (take i flows)) → todo ≡ Some (work.Finish (get_or flows i 0))
-    → new ≡ now ++ numbered number moment (option_to_list todo) → new ≡ old ++ numbered first moment (map (λ flow. work.Finish flow) (take (i + 1) flows))
-finishes_more old now new first number moment flows i todo below number_is now_is todo_is new_is =
+pub finishes_more : (old now new : List Job) (first number : ℕ) (moment : Moment) (flows : List ℕ) (i : ℕ)
+    → i < length flows → number ≡ first + i → now ≡ old ++ numbered first moment (map (λ flow. work.Finish flow) (take i flows))
+    → new ≡ now ++ numbered number moment (work.Finish (get_or flows i 0) ∷ []) → new ≡ old ++ numbered first moment (map (λ flow. work.Finish flow) (take (i + 1) flows))
+finishes_more old now new first number moment flows i below number_is now_is new_is =
     new_is
-    ∙ ap (λ (o : Option Work). now ++ numbered number moment (option_to_list o)) todo_is
     ∙ ap (λ (js : List Job). js ++ numbered number moment (work.Finish (get_or flows i 0) ∷ [])) now_is
     ∙ append_assoc old (numbered first moment todos) (numbered number moment (work.Finish (get_or flows i 0) ∷ []))
     ∙ ap (λ (n : ℕ). old ++ (numbered first moment todos ++ numbered n moment (work.Finish (get_or flows i 0) ∷ []))) (number_is ∙ ap (λ (n : ℕ). first + n) (sym so_many))
@@ -76,7 +75,3 @@ finishes_more old now new first number moment flows i todo below number_is now_i
 
     so_many : length todos ≡ i
     so_many = counted (take i flows) ∙ (let within : i ≤ length flows = omega arith in omega (arith, length-take i flows))
-
-pub number_more : (first number next i : ℕ) (todo : Option Work) (flow : ℕ) → number ≡ first + i → todo ≡ Some (work.Finish flow) → next ≡ number + length (option_to_list todo) → next ≡ first + (i + 1)
-number_more first number next i todo flow number_is todo_is next_is =
-    let one : length (option_to_list todo) ≡ 1 = ap (λ (o : Option Work). length (option_to_list o)) todo_is in omega (arith, one)

@@ -3,6 +3,7 @@ pub mod Growth
 pub mod Counting
 pub mod Catching
 pub mod Sizes
+pub mod Straight
 pub mod Taking
 pub mod Ending
 pub mod Knowing

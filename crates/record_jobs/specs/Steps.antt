@@ -1,13 +1,16 @@
 -- The parts of a record's step, in the terms of the code's functions.
-use Rattle.std.specs.Prelude.{◌≡◌, ℕ, ◌+◌, ◌≤◌, Bool, false, List, ◌++◌, length, Option, Some, None, IfSome, Result, Ok, Err, is_some, option_and_then, if◌then◌else◌}
+use Rattle.std.specs.Prelude.{◌≡◌, ℕ, ◌+◌, ◌≤◌, Bool, false, List, ◌++◌, length, Option, Some, None, IfSome, Result, Ok, Err, IfOk, is_some, option_and_then, if◌then◌else◌}
+use Rattle.std.specs.Borrow.{Bor}
 use Rattle.std.specs.Option.{option_map, option_map_or, option_to_list}
+use Rattle.edge_io.specs.declared.link.Link.{Link}
 use Rattle.edge_io.specs.declared.moment.Moment.{Moment}
 use Rattle.packet_decode.specs.declared.checks.Checks.{Checks}
 use Rattle.packet_decode.specs.declared.item.ItemKind.{ItemKind}
 use Rattle.packet_decode.specs.declared.item.ItemKind.TheVariants as kind
+use Rattle.packet_decode.specs.declared.placed.Placed.{Placed}
 use Rattle.packet_decode.specs.declared.skip.Skip.{Skip}
 use Rattle.packet_decode.specs.declared.skip.Skip.TheVariants as skip
-use Rattle.packet_decode.specs.Decoding.{Fields}
+use Rattle.packet_decode.specs.Decoding.{Fields, decoded, fields_at}
 use Rattle.conf_types.specs.declared.config.FragConfig.{FragConfig}
 use Rattle.frag3_core.specs.declared.answer.Datagram.{Datagram}
 use Rattle.frag3_core.specs.Trackers.{Frag3State, after}
@@ -19,6 +22,7 @@ use Rattle.flow_lanes.specs.declared.job.Job.{Job}
 use Rattle.flow_lanes.specs.declared.job.Work.{Work}
 use Rattle.record_jobs.specs.declared.counts.RecordCounts.{RecordCounts}
 use Rattle.record_jobs.specs.declared.item.Caught.{Caught}
+use Rattle.record_jobs.specs.declared.item.Item.{Item}
 use Rattle.record_jobs.specs.declared.item.Whole.{Whole}
 use Rattle.record_jobs.specs.Fronts.{FrontState}
 use Rattle.record_jobs.specs.Jobs.{numbered, time_by, works_by}
@@ -27,6 +31,22 @@ use Rattle.record_jobs.specs.Touches.{item_key}
 use Rattle.record_jobs.specs.Way.{LinkedRecord, Way}
 
 -- ---- what a record brings
+
+-- what was read of a record as version 4: a packet whose payload lies at a place of the record's bytes, or why
+-- there is none
+abbrev pub four_said : List ℕ → Result (Bor Placed) Skip → Result Fields Skip
+four_said bytes (Ok read) = Ok (fields_at bytes read.now)
+four_said bytes (Err reason) = Err reason
+
+-- the record was read so as version 4
+pub record IsReadAsFour (link : Link) (bytes : List ℕ) (checks : Checks) (four : Result (Bor Placed) Skip) : Type 0 where
+  pub said : four_said bytes four ≡ decoded link bytes checks
+  pub within : IfOk four (λ read. read.now.start + read.now.len ≤ length bytes)
+  pub small : IfOk four (λ read. read.now.len ≤ 65535)
+
+-- what is inspected of a packet that was read so, with this payload
+abbrev pub read_item : Moment → Placed → List ℕ → Item
+read_item moment read payload = item_of kind.Packet moment (record { ip = read.ip; body = read.body; payload = payload })
 
 -- a packet that was read, or why it is skipped
 abbrev pub whole_by : ItemKind → Moment → Result Fields Skip → Whole

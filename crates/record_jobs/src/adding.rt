@@ -1,18 +1,18 @@
 //! What is done for a record, as jobs behind a list.
-ghost use Rattle.std.specs.Prelude.{◌≡◌, ◌+◌, ◌≤◌, ◌<◌, ◌^◌, ◌++◌, length, map, take, IfOk, OnOk, OnErr};
+ghost use Rattle.std.specs.Prelude.{◌≡◌, ◌+◌, ◌≤◌, ◌<◌, ◌^◌, [], ◌∷◌, ◌++◌, Some, None, length, map, take, IfOk, OnOk, OnErr};
 ghost use Rattle.std.specs.Option.{option_map, option_to_list};
 ghost use Rattle.flow_lanes.specs.Sessions.{is_tcp};
 ghost use Rattle.record_jobs.specs.Jobs.{alone, evicted_by, flow_packet, numbered, packet_work, works_by};
-ghost use Rattle.record_jobs.specs.Steps.{Adds};
+ghost use Rattle.record_jobs.specs.Steps.{read_item, Adds};
 ghost use Rattle.record_jobs.specs.Way.{way_of};
 
 use crate::config::FrontConfig;
-use crate::engines::toward;
-use crate::item::{Caught, Item};
+use crate::engines::towards;
+use crate::item::{Caught, Item, head_of};
 use crate::time::Time;
-use edge_io::{Moment, NoMemory};
+use edge_io::{Moment, NoMemory, Text};
 use flow_lanes::{Job, Work};
-use packet_decode::Body;
+use packet_decode::{Body, ItemKind, Placed};
 use stream5_sessions::Touch;
 
 /// An item by itself.
@@ -30,9 +30,7 @@ fn flow_packet(by: &FrontConfig<'_>, time: Time, item: Item, flow: u64) -> Work
     ensures { result ≡ flow_packet (way_of by.now) time item flow }
 {
     let Item { head, payload } = item;
-    let tcp = is_tcp(head.body);
-    let to_dst = toward(by, tcp, time, head.ip.dst);
-    let to_src = toward(by, tcp, time, head.ip.src);
+    let (to_dst, to_src) = towards(by, is_tcp(head.body), time, &head.ip);
     Work::Packet {
         flow,
         head,
@@ -70,32 +68,6 @@ fn evicted(touch: Option<Touch>) -> Option<u64>
     touch?.evicted
 }
 
-/// The end of a flow, if one ends.
-fn finish_of(flow: Option<u64>) -> Option<Work>
-    ensures { result ≡ option_map (λ flow. Work.Finish flow) flow }
-{
-    match flow {
-        Some(flow) => Some(Work::Finish { flow }),
-        None => None,
-    }
-}
-
-/// A packet, if there is one.
-fn packet_of(
-    by: &FrontConfig<'_>,
-    time: Time,
-    touch: Option<Touch>,
-    packet: Option<Item>,
-) -> Option<Work>
-    requires { length by.now.config.now.stream.engines ≤ 1024 }
-    ensures { result ≡ option_map (packet_work (way_of by.now) time touch) packet }
-{
-    match packet {
-        Some(item) => Some(packet_work(by, time, touch, item)),
-        None => None,
-    }
-}
-
 /// How many jobs there is room for at least, once there is room for any: growing from one on would move the jobs of a
 /// batch again and again.
 const FIRST_ROOM: usize = 256;
@@ -111,18 +83,15 @@ fn make_room(out: &mut Vec<Job>) -> Result<(), NoMemory>
     Ok(())
 }
 
-/// Adds a job, if there is one, and gives the number of the next.
+/// Adds a job, and gives the number of the next.
 // Called, it would have its job moved twice more.
 #[inline(always)]
-fn add(out: &mut Vec<Job>, number: u64, moment: Moment, work: Option<Work>) -> Result<u64, NoMemory>
+fn add(out: &mut Vec<Job>, number: u64, moment: Moment, work: Work) -> Result<u64, NoMemory>
     requires { number + 1 < 2 ^ 64 }
-    ensures next { IfOk result (λ next. next ≡ number + length (option_to_list work)) }
-    ensures added { OnOk result (out.new.items ≡ out.old.items ++ numbered number moment (option_to_list work)) }
+    ensures next { IfOk result (λ next. next ≡ number + 1) }
+    ensures added { OnOk result (out.new.items ≡ out.old.items ++ numbered number moment (work ∷ [])) }
     ensures err { OnErr result (out.new.items ≡ out.old.items) }
 {
-    let Some(work) = work else {
-        return Ok(number);
-    };
     make_room(out)?;
     out.push(Job {
         number,
@@ -132,25 +101,20 @@ fn add(out: &mut Vec<Job>, number: u64, moment: Moment, work: Option<Work>) -> R
     Ok(number + 1)
 }
 
-/// Adds a job that few records have.
-// Kept out of the line of the others, which otherwise pay for its moves.
+/// Adds the end of a flow, and gives the number of the next job.
+// Few records end a flow: kept out of the line of the others, which otherwise pay for its moves.
 #[inline(never)]
-fn add_seldom(
-    out: &mut Vec<Job>,
-    number: u64,
-    moment: Moment,
-    work: Option<Work>,
-) -> Result<u64, NoMemory>
+fn add_finish(out: &mut Vec<Job>, number: u64, moment: Moment, flow: u64) -> Result<u64, NoMemory>
     requires { number + 1 < 2 ^ 64 }
-    ensures next { IfOk result (λ next. next ≡ number + length (option_to_list work)) }
-    ensures added { OnOk result (out.new.items ≡ out.old.items ++ numbered number moment (option_to_list work)) }
+    ensures next { IfOk result (λ next. next ≡ number + 1) }
+    ensures added { OnOk result (out.new.items ≡ out.old.items ++ numbered number moment (Work.Finish flow ∷ [])) }
     ensures err { OnErr result (out.new.items ≡ out.old.items) }
 {
-    add(out, number, moment, work)
+    add(out, number, moment, Work::Finish { flow })
 }
 
 /// Adds the end of a flow, if one ends, and gives the number of the next job.
-fn add_finish(
+fn add_evicted(
     out: &mut Vec<Job>,
     number: u64,
     moment: Moment,
@@ -165,7 +129,7 @@ fn add_finish(
 {
     match flow {
         None => Ok(number),
-        Some(flow) => add_seldom(out, number, moment, Some(Work::Finish { flow })),
+        Some(flow) => add_finish(out, number, moment, flow),
     }
 }
 
@@ -184,7 +148,30 @@ fn add_fragment(
 {
     match fragment {
         None => Ok(number),
-        Some(item) => add_seldom(out, number, moment, Some(alone(item))),
+        Some(item) => add(out, number, moment, alone(item)),
+    }
+}
+
+/// Adds a packet, if there is one, and gives the number of the next job.
+fn add_whole(
+    out: &mut Vec<Job>,
+    by: &FrontConfig<'_>,
+    time: Time,
+    touch: Option<Touch>,
+    packet: Option<Item>,
+    number: u64,
+) -> Result<u64, NoMemory>
+    requires engines { length by.now.config.now.stream.engines ≤ 1024 }
+    requires room { number + 1 < 2 ^ 64 }
+    ensures next { IfOk result
+        (λ next. next ≡ number + length (option_to_list (option_map (packet_work (way_of by.now) time touch) packet))) }
+    ensures added { OnOk result (out.new.items ≡ out.old.items
+        ++ numbered number time.now (option_to_list (option_map (packet_work (way_of by.now) time touch) packet))) }
+    ensures err { OnErr result (out.new.items ≡ out.old.items) }
+{
+    match packet {
+        None => Ok(number),
+        Some(item) => add(out, number, time.now, packet_work(by, time, touch, item)),
     }
 }
 
@@ -209,14 +196,91 @@ pub(crate) fn add_works(
         whole,
         ..
     } = caught;
-    let number = add_finish(out, number, time.now, evicted(touch))?;
+    let number = add_evicted(out, number, time.now, evicted(touch))?;
     let number = add_fragment(out, number, time.now, fragment)?;
-    let next = add(
+    let next = add_whole(out, by, time, touch, whole.packet, number)?;
+    Ok(next)
+}
+
+/// Adds a packet that has no flow, by itself, and gives the number of the next job.
+// Kept out of the line of packets that have one, which otherwise pay for its moves.
+#[inline(never)]
+fn add_alone(
+    out: &mut Vec<Job>,
+    number: u64,
+    moment: Moment,
+    read: &Placed,
+    payload: Text,
+) -> Result<u64, NoMemory>
+    requires { number + 1 < 2 ^ 64 }
+    ensures next { IfOk result (λ next. next ≡ number + 1) }
+    ensures added { OnOk result
+        (out.new.items ≡ out.old.items ++ numbered number moment (alone (read_item moment read.now payload) ∷ [])) }
+    ensures err { OnErr result (out.new.items ≡ out.old.items) }
+{
+    let head = head_of(ItemKind::Packet, moment, read.ip, read.body);
+    add(out, number, moment, Work::Alone { head, payload })
+}
+
+/// Adds a packet of the flow that its touch found, and gives the number of the next job.
+// Called, it would have its job moved twice more.
+#[inline(always)]
+#[tactic(auto, unfolding(crate::specs::Jobs::flow_packet))]
+fn add_flow_packet(
+    out: &mut Vec<Job>,
+    by: &FrontConfig<'_>,
+    time: Time,
+    flow: u64,
+    read: &Placed,
+    payload: Text,
+    number: u64,
+) -> Result<u64, NoMemory>
+    requires engines { length by.now.config.now.stream.engines ≤ 1024 }
+    requires room { number + 1 < 2 ^ 64 }
+    ensures next { IfOk result (λ next. next ≡ number + 1) }
+    ensures added { OnOk result (out.new.items ≡ out.old.items
+        ++ numbered number time.now (flow_packet (way_of by.now) time (read_item time.now read.now payload) flow ∷ [])) }
+    ensures err { OnErr result (out.new.items ≡ out.old.items) }
+{
+    let (to_dst, to_src) = towards(by, is_tcp(read.body), time, &read.ip);
+    add(
         out,
         number,
         time.now,
-        packet_of(by, time, touch, whole.packet),
-    )?;
+        Work::Packet {
+            flow,
+            head: head_of(ItemKind::Packet, time.now, read.ip, read.body),
+            payload,
+            to_dst,
+            to_src,
+        },
+    )
+}
+
+/// Adds what is done for a packet that is no fragment, where its touch found this, and gives the number of the next job.
+/// The job is made of the fields where they were read.
+pub(crate) fn add_packet(
+    out: &mut Vec<Job>,
+    by: &FrontConfig<'_>,
+    time: Time,
+    touch: Option<Touch>,
+    read: &Placed,
+    payload: Text,
+    number: u64,
+) -> Result<u64, NoMemory>
+    requires engines { length by.now.config.now.stream.engines ≤ 1024 }
+    requires room { number + 2 < 2 ^ 64 }
+    ensures added { IfOk result (λ next. Adds number time.now
+        (works_by (way_of by.now) time touch None (Some (read_item time.now read.now payload))) out.old.items next out.new.items) }
+    ensures few { IfOk result (λ next. next ≤ number + 2) }
+    ensures err { OnErr result (take (length out.old.items) out.new.items ≡ out.old.items) }
+{
+    let Some(touch) = touch else {
+        let next = add_alone(out, number, time.now, read, payload)?;
+        return Ok(next);
+    };
+    let number = add_evicted(out, number, time.now, touch.evicted)?;
+    let next = add_flow_packet(out, by, time, touch.flow, read, payload, number)?;
     Ok(next)
 }
 
@@ -233,7 +297,7 @@ pub(crate) fn add_finishes(
 {
     let mut number = number;
     for flow in flows {
-        number = add(out, number, moment, finish_of(Some(*flow)))?;
+        number = add_finish(out, number, moment, *flow)?;
     }
     Ok(())
 }

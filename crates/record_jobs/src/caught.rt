@@ -2,21 +2,21 @@
 ghost use Rattle.std.specs.Prelude.{◌≡◌, ◌≤◌, length, IfOk, IfSome, OnOk, Ok};
 ghost use Rattle.packet_decode.specs.Decoding.{fields_of};
 ghost use Rattle.record_jobs.specs.Packets.{datagram_from, datagram_of_part, is_part, item_of, said_by, whole_of};
-ghost use Rattle.record_jobs.specs.Steps.{caught_by, datagram_whole, part_caught, said_caught, waiting_after, waiting_after_part, waiting_from, whole_by, IsShortDatagram, IsShortWhole};
+ghost use Rattle.record_jobs.specs.Steps.{caught_by, datagram_whole, part_caught, said_caught, waiting_after, waiting_after_part, waiting_from, whole_by, IsReadAsFour, IsShortDatagram, IsShortWhole};
 ghost use Rattle.record_jobs.specs.Way.{linked, way_of};
 
 use crate::config::FrontConfig;
 use crate::engines::frag_rules;
-use crate::item::{Caught, Item, Whole};
+use crate::item::{Caught, Item, Whole, head_of};
 use crate::reading::{rebuilt_packet, record_packet};
 use edge_io::{Link, Moment, NoMemory, Text};
 use frag3_core::{Datagram, Frag3, Taken};
-use packet_decode::{Body, Checks, ItemHead, ItemKind, Packet, SessionFacts};
+use packet_decode::{Body, Checks, ItemKind, Packet, Placed, Skip};
 use pcap_input::Record;
 use std::alloc::Global;
 
 /// Whether a packet is a part of a datagram.
-fn is_part(body: Body) -> bool
+pub(crate) fn is_part(body: Body) -> bool
     ensures { result ≡ is_part body }
 {
     match body {
@@ -35,13 +35,7 @@ fn item_of(
     ensures { IfOk result (λ item. item ≡ item_of kind moment (fields_of packet.now)) }
 {
     Ok(Item {
-        head: ItemHead {
-            kind,
-            moment,
-            ip: packet.ip,
-            body: packet.body,
-            session: SessionFacts::UNTRACKED,
-        },
+        head: head_of(kind, moment, packet.ip, packet.body),
         payload: Text::copy(alloc, packet.payload)?,
     })
 }
@@ -174,7 +168,7 @@ fn of_packet(
     })
 }
 
-/// What a record brings, whose bytes begin with this link layer.
+/// What a record brings, whose bytes begin with this link layer; `four` is what was read of it as version 4.
 #[tactic(auto, unfolding(crate::specs::Steps::caught_by, crate::specs::Steps::waiting_after, crate::specs::Packets::said_by))]
 pub(crate) fn caught(
     alloc: Global,
@@ -182,13 +176,15 @@ pub(crate) fn caught(
     frag3: &mut Option<Frag3>,
     link: Link,
     captured: &Record,
+    four: Result<&Placed, Skip>,
 ) -> Result<Caught, NoMemory>
+    requires { IsReadAsFour link captured.now.bytes by.now.checks four }
     ensures caught { IfOk result (λ caught. caught ≡ caught_by (way_of by.now) frag3.old (linked link captured.now)) }
     ensures after { OnOk result (frag3.new ≡ waiting_after (way_of by.now) frag3.old (linked link captured.now)) }
     ensures short { IfSome (datagram_from (way_of by.now) frag3.old captured.now.moment (said_by (way_of by.now) (linked link captured.now))) IsShortDatagram
         → IfOk result (λ caught. IsShortWhole caught.whole) }
 {
-    match record_packet(link, captured.bytes.bytes(), by.checks) {
+    match record_packet(four, link, captured.bytes.bytes(), by.checks) {
         Ok(packet) => of_packet(alloc, by, frag3, captured.moment, &packet),
         Err(skip) => Ok(Caught {
             fragment: None,

@@ -100,7 +100,7 @@ impl RecordCounts {
 }
 
 /// Whether a touch begins a flow.
-fn is_fresh(touch: Option<Touch>) -> bool
+pub(crate) fn is_fresh(touch: Option<Touch>) -> bool
     ensures { result ≡ is_fresh touch }
 {
     match touch {

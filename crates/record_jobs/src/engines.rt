@@ -13,6 +13,7 @@ use flow_lanes::Toward;
 use frag3_core::FragRules;
 use host_table::Hosts;
 use net_lists::AddrList;
+use packet_decode::IpHead;
 
 /// Whether a line's `bind_to` has the address.
 fn is_bound(addr: Addr, bind: &Option<AddrList>) -> bool
@@ -116,7 +117,7 @@ fn is_due(time: Time, handshake: Option<u32>) -> bool
 
 /// What a packet's data go by, sent to this address.
 #[tactic(auto, unfolding(crate::specs::Way::toward_address, crate::specs::Way::stream_preference_at))]
-pub(crate) fn toward(by: &FrontConfig<'_>, tcp: bool, time: Time, addr: Addr) -> Toward
+fn toward(by: &FrontConfig<'_>, tcp: bool, time: Time, addr: Addr) -> Toward
     requires { length by.now.config.now.stream.engines ≤ 1024 }
     ensures { result ≡ toward_address (way_of by.now) tcp time addr }
 {
@@ -129,4 +130,15 @@ pub(crate) fn toward(by: &FrontConfig<'_>, tcp: bool, time: Time, addr: Addr) ->
         preference: host.unwrap_or(settings.policy).preference(),
         needed: tcp && is_due(time, settings.handshake),
     }
+}
+
+/// What a packet's data go by: sent to its destination, and to its source.
+pub(crate) fn towards(by: &FrontConfig<'_>, tcp: bool, time: Time, ip: &IpHead) -> (Toward, Toward)
+    requires { length by.now.config.now.stream.engines ≤ 1024 }
+    ensures dst { result.0 ≡ toward_address (way_of by.now) tcp time ip.now.dst }
+    ensures src { result.1 ≡ toward_address (way_of by.now) tcp time ip.now.src }
+{
+    let to_dst = toward(by, tcp, time, ip.dst);
+    let to_src = toward(by, tcp, time, ip.src);
+    (to_dst, to_src)
 }

@@ -2,19 +2,20 @@
 ghost use Rattle.std.specs.Prelude.{◌≡◌, ◌+◌, ◌^◌, ◌<◌, ◌≤◌, [], length, option_map, take, IfOk, IfSome, OnOk, OnErr};
 ghost use Rattle.conf_types.specs.Sound.{IsFragConfig, IsSound};
 ghost use Rattle.record_jobs.specs.Fronts.{GivesFinishes, StandsFor, TakesRecord, TellsCounts};
-ghost use Rattle.record_jobs.specs.Steps.{Steps};
+ghost use Rattle.record_jobs.specs.Steps.{IsReadAsFour, Steps};
 ghost use Rattle.record_jobs.specs.Way.{linked, way_of};
 
-use crate::adding::{add_finishes, add_works};
-use crate::caught::caught;
+use crate::adding::{add_finishes, add_packet, add_works};
+use crate::caught::{caught, is_part};
 use crate::config::FrontConfig;
-use crate::counts::RecordCounts;
+use crate::counts::{RecordCounts, is_fresh};
 use crate::time::Time;
-use crate::touches::{touched, whole_key};
+use crate::touches::{touched, tracked_key, whole_key};
 use conf_types::FragConfig;
-use edge_io::{Link, Moment, NoMemory};
+use edge_io::{Link, Moment, NoMemory, Text};
 use flow_lanes::Job;
 use frag3_core::Frag3;
+use packet_decode::{Placed, Skip, decode_at};
 use pcap_input::Record;
 use std::alloc::Global;
 use std::marker::Model;
@@ -113,6 +114,8 @@ impl Front {
     }
 
     /// Takes the next record, and gives what its touch found. Without memory, jobs may stand behind `out`.
+    ///
+    /// A packet of version 4 that is no fragment is read in place, and goes from there into its job.
     fn step(
         &mut self,
         alloc: Global,
@@ -128,15 +131,53 @@ impl Front {
         ensures records { OnOk result (self.new.counts.records ≡ self.old.counts.records + 1) }
         ensures err { OnErr result (take (length out.old.items) out.new.items ≡ out.old.items) }
     {
-        let time = Time {
-            first: self.begin.unwrap_or(captured.moment),
-            now: captured.moment,
-        };
+        let bytes = captured.bytes.bytes();
+        let mut read = Placed::EMPTY;
+        let skip = decode_at(link, bytes, by.checks, &mut read);
+        if let Some(skip) = skip {
+            return self.step_seldom(alloc, by, link, captured, Err(skip), out);
+        }
+        if is_part(read.body) {
+            return self.step_seldom(alloc, by, link, captured, Ok(&read), out);
+        }
+        let time = Time::of(self.begin, captured.moment);
+        self.begin = Some(time.first);
+        self.last = time.now;
+        self.counts.records += 1;
+        let key = tracked_key(&by.config.stream, &read.ip, read.body);
+        let touch = touched(&mut self.flows, key)?;
+        self.counts.flows += u64::from(is_fresh(touch));
+        let payload = Text::copy(alloc, read.payload(bytes))?;
+        self.next = add_packet(out, by, time, touch, &read, payload, self.next)?;
+        Ok(touch)
+    }
+
+    /// Takes the next record as `step` does, where `four`, which was read of it as version 4, is no packet or a fragment.
+    // Kept out of the line of the other records, which otherwise pay for its moves.
+    #[inline(never)]
+    fn step_seldom(
+        &mut self,
+        alloc: Global,
+        by: &FrontConfig<'_>,
+        link: Link,
+        captured: &Record,
+        four: Result<&Placed, Skip>,
+        out: &mut Vec<Job>,
+    ) -> Result<Option<Touch>, NoMemory>
+        requires engines { length by.now.config.now.stream.engines ≤ 1024 }
+        requires room { self.old.counts.records < 2 ^ 32 }
+        requires four { IsReadAsFour link captured.now.bytes by.now.checks four }
+        ensures steps { IfOk result (λ touch.
+            Steps (way_of by.now) self.old (linked link captured.now) touch self.new out.old.items out.new.items) }
+        ensures records { OnOk result (self.new.counts.records ≡ self.old.counts.records + 1) }
+        ensures err { OnErr result (take (length out.old.items) out.new.items ≡ out.old.items) }
+    {
+        let time = Time::of(self.begin, captured.moment);
         let counts = self.counts;
         self.counts.records += 1;
         self.begin = Some(time.first);
         self.last = time.now;
-        let caught = caught(alloc, by, &mut self.frag3, link, captured)?;
+        let caught = caught(alloc, by, &mut self.frag3, link, captured, four)?;
         let touch = touched(&mut self.flows, whole_key(by, &caught.whole))?;
         self.counts = counts.with_record(&caught, touch);
         self.next = add_works(out, by, time, touch, caught, self.next)?;

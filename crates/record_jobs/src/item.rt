@@ -1,5 +1,23 @@
-use edge_io::Text;
-use packet_decode::{ItemHead, Skip};
+ghost use Rattle.std.specs.Prelude.{◌≡◌};
+ghost use Rattle.record_jobs.specs.Packets.{untracked};
+
+use edge_io::{Moment, Text};
+use packet_decode::{Body, IpHead, ItemHead, ItemKind, SessionFacts, Skip};
+
+/// What rules see of what was read at this moment; nothing is known of its session.
+// Called, it would have its head moved.
+#[inline(always)]
+pub(crate) fn head_of(kind: ItemKind, moment: Moment, ip: IpHead, body: Body) -> ItemHead
+    ensures { result ≡ record { kind = kind; moment = moment; ip = ip; body = body; session = untracked } }
+{
+    ItemHead {
+        kind,
+        moment,
+        ip,
+        body,
+        session: SessionFacts::UNTRACKED,
+    }
+}
 
 /// What is inspected: what rules see of it beside its payload, and the payload.
 #[derive(Debug, Drop)]

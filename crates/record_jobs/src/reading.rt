@@ -1,36 +1,30 @@
 //! What a record says, and a datagram out of fragments, in either version of the internet protocol.
 ghost use Rattle.std.specs.Prelude.{◌≡◌, ◌≤◌, length, IfOk};
 ghost use Rattle.packet_decode.specs.Decoding.{seen};
-ghost use Rattle.ipv6_decode.specs.Decoding6.{decoded6};
+ghost use Rattle.record_jobs.specs.Steps.{IsReadAsFour};
 ghost use Rattle.record_jobs.specs.Versions.{rebuilt_decoded, record_decoded};
 
 use edge_io::{Addr, Link};
 use ipv6_decode::{decode6, decode6_datagram};
-use packet_decode::{Checks, IpHead, Packet, Skip, decode, decode_datagram};
+use packet_decode::{Checks, IpHead, Packet, Placed, Skip, decode_datagram};
 
-/// The packet of a captured record of version 6.
-// Kept out of the line of version 4, which otherwise pays for its moves.
-#[inline(never)]
-fn record_packet6<'a>(link: Link, bytes: &'a [u8], checks: Checks) -> Result<Packet<'a>, Skip>
-    ensures exact { seen result ≡ decoded6 link bytes.now checks }
-    ensures small { IfOk result (λ packet. length packet.payload.now ≤ 65535) }
-{
-    decode6(link, bytes, checks)
-}
-
-/// The packet of a captured record: one of version 6 where it is no packet of version 4.
+/// The packet of a captured record, of which `four` was read as version 4: one of version 6 where it carries another
+/// protocol.
 #[tactic(auto, unfolding(crate::specs::Versions::record_decoded))]
 pub(crate) fn record_packet<'a>(
+    four: Result<&Placed, Skip>,
     link: Link,
     bytes: &'a [u8],
     checks: Checks,
 ) -> Result<Packet<'a>, Skip>
+    requires { IsReadAsFour link bytes.now checks four }
     ensures exact { seen result ≡ record_decoded link bytes.now checks }
     ensures small { IfOk result (λ packet. length packet.payload.now ≤ 65535) }
 {
-    match decode(link, bytes, checks) {
-        Err(Skip::OtherProtocol) => record_packet6(link, bytes, checks),
-        said => said,
+    match four {
+        Ok(read) => Ok(read.packet(bytes)),
+        Err(Skip::OtherProtocol) => decode6(link, bytes, checks),
+        Err(skip) => Err(skip),
     }
 }
 

@@ -28,7 +28,7 @@ fn key_between(tcp: bool, ip: &IpHead, sport: u16, dport: u16) -> Key
 
 /// The key of a packet, where its protocol is tracked.
 #[tactic(auto, unfolding(crate::specs::Touches::tracked_key))]
-fn tracked_key(stream: &StreamConfig, ip: &IpHead, body: Body) -> Option<Key>
+pub(crate) fn tracked_key(stream: &StreamConfig, ip: &IpHead, body: Body) -> Option<Key>
     ensures { result ≡ tracked_key stream.now ip.now body }
 {
     match body {
