@@ -7,3 +7,4 @@ pub mod Running
 pub mod Queues
 pub mod Dropping
 pub mod Given
+pub mod Unmatched

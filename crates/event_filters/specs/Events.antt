@@ -47,6 +47,14 @@ pub record Item : Type 0 where
   pub head : ItemHead
   pub hits : List ℕ
 
+-- a rule matches the item
+abbrev pub is_matched : Item → Bool
+is_matched item = not (length item.hits == 0)
+
+-- the items that a rule matches
+abbrev pub matched : List Item → List Item
+matched items = filter is_matched items
+
 -- the events of an item by the rules at these places
 abbrev pub event_of : ItemHead → ℕ → Event
 event_of head place = record { head = head; rule = place }

@@ -12,6 +12,7 @@ mod counting;
 mod detection;
 mod filtering;
 mod filters;
+mod laws;
 mod lines;
 mod queue;
 mod seed;
@@ -20,3 +21,4 @@ mod suppress;
 mod tests;
 
 pub use filters::Filters;
+pub use laws::nothing_matches;
