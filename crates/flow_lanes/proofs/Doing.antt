@@ -1,6 +1,6 @@
 -- A job that is done by what is kept of flows is answered, whatever jobs the lane stood for.
-use Rattle.std.proofs.Common.{◌≡◌, ℕ, ◌==◌, Bool, true, false, cond, List, [], ◌∷◌, Option, Some, None, refl, sym, ap, subst, ◌∙◌, arith}
-use Rattle.std.specs.Prelude.{fold, option_and_then}
+use Rattle.std.proofs.Common.{◌≡◌, ℕ, ◌==◌, Bool, true, false, cond, List, [], ◌∷◌, Option, Some, None, refl, sym, ap, subst, ◌∙◌, arith, ◌+◌, ◌++◌, length-append}
+use Rattle.std.specs.Prelude.{fold, length, option_and_then}
 use Rattle.std.specs.List.{filter}
 use Rattle.std.proofs.lemmas.Bool.Decides.{nat_tests}
 use Rattle.edge_io.specs.declared.moment.Moment.{Moment}
@@ -10,6 +10,7 @@ use Rattle.option_eval.specs.Places.{Means}
 use Rattle.option_eval.specs.RuleSet.{Rules}
 use Rattle.packet_decode.specs.declared.item.ItemHead.{ItemHead}
 use Rattle.flow_lanes.specs.declared.answer.Hits.{Hits}
+use Rattle.flow_lanes.specs.declared.answer.JobFound.{JobFound}
 use Rattle.flow_lanes.specs.declared.answer.JobHits.{JobHits}
 use Rattle.flow_lanes.specs.declared.job.Job.{Job}
 use Rattle.flow_lanes.specs.declared.job.Toward.{Toward}
@@ -18,17 +19,19 @@ use Rattle.flow_lanes.specs.declared.job.Work.TheVariants as work
 use Rattle.flow_lanes.specs.declared.tally.Tally.{Tally}
 use Rattle.flow_lanes.specs.Detecting.{DetectsOn}
 use Rattle.flow_lanes.specs.Engines.{Making}
-use Rattle.flow_lanes.specs.Flows.{Detection, FlowState, all_items, flow_of, flow_state, hits, hits_in, items, same_flow, same_number, session_at_hand, state_behind, tries, work_items}
-use Rattle.flow_lanes.specs.Items.{alone_items, finish_items, packet_items}
-use Rattle.flow_lanes.specs.ItemHits.{Trying}
+use Rattle.flow_lanes.specs.Flows.{Detection, FlowState, all_items, flow_of, flow_state, hits, hits_in, items, same_flow, same_number, session_at_hand, state_behind, tries, work_items, bits_at_hand, bits_found}
+use Rattle.flow_lanes.specs.Items.{JobItems, alone_items, finish_items, packet_items}
+use Rattle.flow_lanes.specs.ItemHits.{Trying, hits_of, told}
 use Rattle.flow_lanes.specs.Kept.{Sets, facts_after_packet, kept_in}
 use Rattle.flow_lanes.specs.Sessions.{Packet}
 use Rattle.flow_lanes.specs.Sound.{FlowFacts, IsSoundFor, facts_behind, facts_behind_work}
 use Rattle.flow_lanes.specs.Standing.{AnswersJob, CountsTries, DetectsBy, HasDone, KeptFlow, LaneState, LearnsJob, Stands, facts_kept, kept_of, state_kept}
 use Rattle.flow_lanes.specs.Tried.{TriesBy, candidates_of}
+use Rattle.flow_lanes.specs.Batching.{SearchesJob}
 use Rattle.flow_lanes.specs.Whole.{IsDone, IsDoneBy, found_for, items_for, kept_by}
 use Rattle.flow_lanes.proofs.LaneJobs.{HasDone-stands, Stands-finds}
 use Rattle.flow_lanes.proofs.Short.{job_short}
+use Rattle.flow_lanes.proofs.TryingLaws.{length-hits_of}
 
 cond_then : {A : Type 0} (b : Bool) (x y z : A) → (b ≡ true → x ≡ y) → cond b x z ≡ cond b y z
 cond_then true x y z same = same refl
@@ -51,12 +54,12 @@ sets_facts flow kept by old new sets is other =
     apart false x y = refl
 
 -- a packet of a flow is done
-pub packet-done : (making : Making) (trying : Trying) (moment : Moment) (flow : ℕ) (head : ItemHead) (payload : List ℕ) (to_dst to_src : Toward) (old new : List (ℕ × KeptFlow)) (kept : KeptFlow) (tally : Tally)
+pub packet-done : (all : Bool) (making : Making) (trying : Trying) (moment : Moment) (flow : ℕ) (head : ItemHead) (payload : List ℕ) (to_dst to_src : Toward) (old new : List (ℕ × KeptFlow)) (kept : KeptFlow) (tally : Tally)
     → Sets flow (Some kept) old new
-    → DetectsOn trying (packet_items making (record { head = head; payload = payload; moment = moment; to_dst = to_dst; to_src = to_src }) (session_at_hand (state_kept (kept_in old flow)))) (state_kept (kept_in old flow)) tally.hits.items kept.found
+    → DetectsOn all trying (packet_items making (record { head = head; payload = payload; moment = moment; to_dst = to_dst; to_src = to_src }) (session_at_hand (state_kept (kept_in old flow)))) (state_kept (kept_in old flow)) tally.hits.items kept.found
     → kept.facts ≡ facts_after_packet (record { head = head; payload = payload; moment = moment; to_dst = to_dst; to_src = to_src }) (facts_kept (kept_in old flow))
-    → IsDoneBy making trying moment (work.Packet flow head payload to_dst to_src) old new tally.hits.items
-packet-done making trying moment flow head payload to_dst to_src old new kept tally sets detects facts = record {
+    → IsDoneBy all making trying moment (work.Packet flow head payload to_dst to_src) old new tally.hits.items
+packet-done all making trying moment flow head payload to_dst to_src old new kept tally sets detects facts = record {
   hits = detects.hits_are;
   flows = sets_flows flow (Some kept) (kept_by making trying moment (work.Packet flow head payload to_dst to_src)) old new sets (λ i. Some (record { facts = facts i; found = detects.state_is i }));
 }
@@ -69,10 +72,10 @@ packet-facts moment flow head payload to_dst to_src old new kept sets facts =
     sets_facts flow (Some kept) (λ f. facts_behind_work f moment (work.Packet flow head payload to_dst to_src)) old new sets (ap Some facts)
 
 -- the end of a flow is done
-pub finish-done : (making : Making) (trying : Trying) (moment : Moment) (flow : ℕ) (old new : List (ℕ × KeptFlow)) (hits : List Hits)
-    → Sets flow None old new → hits ≡ hits_in trying (items_for making moment (work.Finish flow) old) (state_kept (kept_in old flow))
-    → IsDoneBy making trying moment (work.Finish flow) old new hits
-finish-done making trying moment flow old new hits sets are = record {
+pub finish-done : (all : Bool) (making : Making) (trying : Trying) (moment : Moment) (flow : ℕ) (old new : List (ℕ × KeptFlow)) (hits : List Hits)
+    → Sets flow None old new → hits ≡ told all (hits_in trying (items_for making moment (work.Finish flow) old) (state_kept (kept_in old flow)))
+    → IsDoneBy all making trying moment (work.Finish flow) old new hits
+finish-done all making trying moment flow old new hits sets are = record {
   hits = are;
   flows = sets_flows flow None (kept_by making trying moment (work.Finish flow)) old new sets refl;
 }
@@ -82,43 +85,49 @@ pub finish-facts : (moment : Moment) (flow : ℕ) (old new : List (ℕ × KeptFl
 finish-facts moment flow old new sets = sets_facts flow None (λ f. facts_behind_work f moment (work.Finish flow)) old new sets refl
 
 -- the parts of what is done are those of the definition
-module _ {P : Type 0} (finds : P → List ℕ → Option Span) (set : Rules P) (making : Making) (moment : Moment) where
+module _ {P : Type 0} (finds : P → List ℕ → Option Span) (set : Rules P) (all : Bool) (making : Making) (moment : Moment) where
   pub do-packet : (flow : ℕ) (head : ItemHead) (payload : List ℕ) (to_dst to_src : Toward) (old new : List (ℕ × KeptFlow)) (found : Option KeptFlow) (kept : KeptFlow) (tally : Tally)
       → found ≡ kept_in old flow → Sets flow (Some kept) old new
       → ((means : Means) (trying : Trying) → TriesBy finds means set trying
-      → DetectsOn trying (packet_items making (record { head = head; payload = payload; moment = moment; to_dst = to_dst; to_src = to_src }) (session_at_hand (state_kept found))) (state_kept found) tally.hits.items kept.found)
+      → DetectsOn all trying (packet_items making (record { head = head; payload = payload; moment = moment; to_dst = to_dst; to_src = to_src }) (session_at_hand (state_kept found))) (state_kept found) tally.hits.items kept.found)
+      → tally.items ≡ length (all_items (packet_items making (record { head = head; payload = payload; moment = moment; to_dst = to_dst; to_src = to_src }) (session_at_hand (state_kept found))))
       → tally.tries ≡ candidates_of set.rules (all_items (packet_items making (record { head = head; payload = payload; moment = moment; to_dst = to_dst; to_src = to_src }) (session_at_hand (state_kept found))))
       → kept.facts ≡ facts_after_packet (record { head = head; payload = payload; moment = moment; to_dst = to_dst; to_src = to_src }) (facts_kept found)
-      → IsDone finds set making moment (work.Packet flow head payload to_dst to_src) old new tally
-  do-packet flow head payload to_dst to_src old new found kept tally is sets detects tries facts =
+      → IsDone finds set all making moment (work.Packet flow head payload to_dst to_src) old new tally
+  do-packet flow head payload to_dst to_src old new found kept tally is sets detects counted tries facts =
       let p : Packet = record { head = head; payload = payload; moment = moment; to_dst = to_dst; to_src = to_src } in
       let facts_are : kept.facts ≡ facts_after_packet p (facts_kept (kept_in old flow)) = facts ∙ ap (λ (f : Option KeptFlow). facts_after_packet p (facts_kept f)) is in
       record {
         done = λ means trying by.
-            packet-done making trying moment flow head payload to_dst to_src old new kept tally sets
-            (subst (λ (f : Option KeptFlow). DetectsOn trying (packet_items making p (session_at_hand (state_kept f))) (state_kept f) tally.hits.items kept.found) is (detects means trying by)) facts_are;
+            packet-done all making trying moment flow head payload to_dst to_src old new kept tally sets
+            (subst (λ (f : Option KeptFlow). DetectsOn all trying (packet_items making p (session_at_hand (state_kept f))) (state_kept f) tally.hits.items kept.found) is (detects means trying by)) facts_are;
+        items = counted ∙ ap (λ (f : Option KeptFlow). length (all_items (packet_items making p (session_at_hand (state_kept f))))) is;
         tries = tries ∙ ap (λ (f : Option KeptFlow). candidates_of set.rules (all_items (packet_items making p (session_at_hand (state_kept f))))) is;
         facts = packet-facts moment flow head payload to_dst to_src old new kept sets facts_are;
       }
 
   pub do-finish : (flow : ℕ) (old new : List (ℕ × KeptFlow)) (found : Option KeptFlow) (tally : Tally) → found ≡ kept_in old flow → Sets flow None old new
-      → ((means : Means) (trying : Trying) → TriesBy finds means set trying → tally.hits.items ≡ hits_in trying (finish_items moment (session_at_hand (state_kept found))) (state_kept found))
+      → ((means : Means) (trying : Trying) → TriesBy finds means set trying → tally.hits.items ≡ told all (hits_in trying (finish_items moment (session_at_hand (state_kept found))) (state_kept found)))
+      → tally.items ≡ length (all_items (finish_items moment (session_at_hand (state_kept found))))
       → tally.tries ≡ candidates_of set.rules (all_items (finish_items moment (session_at_hand (state_kept found))))
-      → IsDone finds set making moment (work.Finish flow) old new tally
-  do-finish flow old new found tally is sets hits_are tries = record {
+      → IsDone finds set all making moment (work.Finish flow) old new tally
+  do-finish flow old new found tally is sets hits_are counted tries = record {
     done = λ means trying by.
-        finish-done making trying moment flow old new tally.hits.items sets
-        (hits_are means trying by ∙ ap (λ (f : Option KeptFlow). hits_in trying (finish_items moment (session_at_hand (state_kept f))) (state_kept f)) is);
+        finish-done all making trying moment flow old new tally.hits.items sets
+        (hits_are means trying by ∙ ap (λ (f : Option KeptFlow). told all (hits_in trying (finish_items moment (session_at_hand (state_kept f))) (state_kept f))) is);
+    items = counted ∙ ap (λ (f : Option KeptFlow). length (all_items (finish_items moment (session_at_hand (state_kept f))))) is;
     tries = tries ∙ ap (λ (f : Option KeptFlow). candidates_of set.rules (all_items (finish_items moment (session_at_hand (state_kept f))))) is;
     facts = finish-facts moment flow old new sets;
   }
 
   pub do-alone : (head : ItemHead) (payload : List ℕ) (flows : List (ℕ × KeptFlow)) (tally : Tally)
-      → ((means : Means) (trying : Trying) → TriesBy finds means set trying → tally.hits.items ≡ hits_in trying (alone_items head payload) None)
+      → ((means : Means) (trying : Trying) → TriesBy finds means set trying → tally.hits.items ≡ told all (hits_in trying (alone_items head payload) None))
+      → tally.items ≡ length (all_items (alone_items head payload))
       → tally.tries ≡ candidates_of set.rules (all_items (alone_items head payload))
-      → IsDone finds set making moment (work.Alone head payload) flows flows tally
-  do-alone head payload flows tally hits_are tries = record {
+      → IsDone finds set all making moment (work.Alone head payload) flows flows tally
+  do-alone head payload flows tally hits_are counted tries = record {
     done = λ means trying by. record { hits = hits_are means trying by; flows = λ flow. refl };
+    items = counted;
     tries = tries;
     facts = λ flow. refl;
   }
@@ -138,8 +147,27 @@ found-is d old before number moment (work.Packet flow head payload to_dst to_src
 found-is d old before number moment (work.Finish flow) stands =
     Stands-finds d old before (record { number = number; moment = moment; work = work.Finish flow }) flow refl stands
 
-module _ {P : Type 0} (finds : P → List ℕ → Option Span) (stream : StreamConfig) (set : Rules P) (old new : LaneState) (job : Job) (tally : Tally)
-    (done : IsDone finds set (record { flush = old.flush; inserts = old.inserts; stream = stream }) job.moment job.work old.flows new.flows tally) where
+-- each item of a job has its rules
+length-hits_in : (trying : Trying) (given : JobItems) (state : Option FlowState) → length (hits_in trying given state) ≡ length (all_items given)
+unfolding hits_in
+length-hits_in trying given state =
+    length-append (hits_of trying (bits_at_hand state) given.ended) (hits_of trying (bits_found given state) given.current)
+    ∙ (λ i. length-hits_of trying (bits_at_hand state) given.ended i + length-hits_of trying (bits_found given state) given.current i)
+    ∙ sym (length-append given.ended given.current)
+
+-- a search that tells all items answers the job, and counts its candidates
+pub answers-job : {P : Type 0} (finds : P → List ℕ → Option Span) (stream : StreamConfig) (set : Rules P) (old new : LaneState) (job : Job) (found : JobFound)
+    → SearchesJob finds stream set true old job found new → AnswersJob finds stream set old job found.hits new
+answers-job finds stream set old new job found searches means d before by stands =
+    let is = searches means d before by stands in
+    record { right = ap (λ (f : JobFound). f.hits) is.right; short = is.short; stands = is.stands }
+
+pub counts-tries : {P : Type 0} (finds : P → List ℕ → Option Span) (stream : StreamConfig) (set : Rules P) (old new : LaneState) (job : Job) (found : JobFound)
+    → SearchesJob finds stream set true old job found new → CountsTries finds stream set old job found.tries
+counts-tries finds stream set old new job found searches means d before by stands = ap (λ (f : JobFound). f.tries) (searches means d before by stands).right
+
+module _ {P : Type 0} (finds : P → List ℕ → Option Span) (stream : StreamConfig) (set : Rules P) (all : Bool) (old new : LaneState) (job : Job) (tally : Tally)
+    (done : IsDone finds set all (record { flush = old.flush; inserts = old.inserts; stream = stream }) job.moment job.work old.flows new.flows tally) where
   -- the lane makes items by what the definition makes them by
   abbrev making : Making
   making = record { flush = old.flush; inserts = old.inserts; stream = stream }
@@ -147,32 +175,34 @@ module _ {P : Type 0} (finds : P → List ℕ → Option Span) (stream : StreamC
   one_making : (means : Means) (d : Detection) (before : List Job) → DetectsBy finds means stream set d → Stands d old before → making ≡ d.making
   one_making means d before by stands = λ i. record { flush = stands.flush i; inserts = stands.inserts i; stream = sym by.config i }
 
-  pub answers-job : (engines : ℕ) (facts : Option FlowFacts) (entry : JobHits) → IsSoundFor engines facts job → new.flush ≡ old.flush → new.inserts ≡ old.inserts
-      → entry.number ≡ job.number → entry.items ≡ tally.hits.items → AnswersJob finds stream set old job entry new
-  unfolding hits state_behind
-  answers-job engines facts entry sound flush inserts number items_are = λ means d before by stands.
+  pub searches-job : (engines : ℕ) (facts : Option FlowFacts) (found : JobFound) → IsSoundFor engines facts job → new.flush ≡ old.flush → new.inserts ≡ old.inserts
+      → found.hits.number ≡ job.number → found.hits.items ≡ tally.hits.items → found.items ≡ tally.items → found.tries ≡ tally.tries
+      → SearchesJob finds stream set all old job found new
+  unfolding hits tries items state_behind
+  searches-job engines facts found sound flush inserts number told_are items_are tries_are = λ means d before by stands.
       let tried : TriesBy finds means set d.trying = record { rules = by.rules; made = by.made; told = by.told } in
       let same : making ≡ d.making = one_making means d before by stands in
-      let did : IsDoneBy d.making d.trying job.moment job.work old.flows new.flows tally.hits.items = subst (λ (m : Making). IsDoneBy m d.trying job.moment job.work old.flows new.flows tally.hits.items) same (done.done means d.trying tried) in
-      let found = found-is d old before job.number job.moment job.work stands in
+      let did : IsDoneBy all d.making d.trying job.moment job.work old.flows new.flows tally.hits.items = subst (λ (m : Making). IsDoneBy all m d.trying job.moment job.work old.flows new.flows tally.hits.items) same (done.done means d.trying tried) in
+      let at_hand = found-is d old before job.number job.moment job.work stands in
+      let state : Option FlowState = flow_state d (filter (same_flow job) before) in
+      let given : JobItems = work_items d.making job.moment job.work (session_at_hand state) in
+      let counted : found.items ≡ length (hits_in d.trying given state) =
+      items_are ∙ done.items ∙ (λ i. length (all_items (work_items (same i) job.moment job.work (session_at_hand (at_hand i))))) ∙ sym (length-hits_in d.trying given state) in
       record {
         right = λ i. record {
-          number = number i;
-          items = (items_are ∙ did.hits ∙ ap (λ (f : Option FlowState). hits_in d.trying (work_items d.making job.moment job.work (session_at_hand f)) f) found) i;
+          hits = record {
+            number = number i;
+            items = (told_are ∙ did.hits ∙ ap (λ (f : Option FlowState). told all (hits_in d.trying (work_items d.making job.moment job.work (session_at_hand f)) f)) at_hand) i;
+          };
+          items = counted i;
+          tries = (tries_are ∙ done.tries ∙ (λ j. candidates_of (sym by.rules j) (all_items (work_items (same j) job.moment job.work (session_at_hand (at_hand j)))))) i;
         };
         short = job_short d engines facts before job sound;
         stands = HasDone-stands d old job new before (has_done d did) stands;
       }
     where
-      has_done : (d : Detection) → IsDoneBy d.making d.trying job.moment job.work old.flows new.flows tally.hits.items → HasDone d old job new
+      has_done : (d : Detection) → IsDoneBy all d.making d.trying job.moment job.work old.flows new.flows tally.hits.items → HasDone d old job new
       has_done d did = record { flush = flush; inserts = inserts; flows = did.flows }
-
-  pub counts-tries : CountsTries finds stream set old job tally.tries
-  unfolding tries items
-  counts-tries = λ means d before by stands.
-      let same : making ≡ d.making = one_making means d before by stands in
-      let found = found-is d old before job.number job.moment job.work stands in
-      done.tries ∙ (λ i. candidates_of (sym by.rules i) (all_items (work_items (same i) job.moment job.work (session_at_hand (found i)))))
 
   pub learns-job : LearnsJob old job new
   learns-job other = by_flow (flow_of other)

@@ -21,6 +21,7 @@ pub mod Doing
 pub mod Fresh
 pub mod Reaching
 pub mod SideLaws
+pub mod ToldLaws
 pub mod TryingLaws
 pub mod PartsLaws
 pub mod DetectLaws

@@ -5,7 +5,7 @@ use Rattle.std.proofs.lemmas.List.{append-nil}
 use Rattle.std.specs.Prelude.{IfSome}
 use Rattle.std.specs.Option.{option_map_or}
 use Rattle.edge_io.specs.declared.moment.Moment.{Moment}
-use Rattle.packet_decode.specs.declared.item.ItemHead.{ItemHead}
+use Rattle.packet_decode.specs.declared.item.SessionFacts.{SessionFacts}
 use Rattle.stream5_sessions.specs.declared.state.State.{State}
 use Rattle.stream5_sessions.specs.declared.step.Step.{Step}
 use Rattle.stream5_sessions.proofs.StepLaws.{session_step_tcp}
@@ -16,10 +16,10 @@ use Rattle.stream5_sessions.specs.Phases.{IsBodyOf, segment_of}
 use Rattle.flow_lanes.specs.declared.session.Stretches.{Stretches}
 use Rattle.flow_lanes.specs.Engines.{Making}
 use Rattle.flow_lanes.specs.Hits.{Item}
-use Rattle.flow_lanes.specs.Items.{acked_items, closing_items, held_items, is_queued, left_items, own_items, packet_item, session_behind, stream_items}
+use Rattle.flow_lanes.specs.Items.{acked_items, closing_items, facts_of, held_items, is_queued, left_items, own_items, session_behind, stream_items}
 use Rattle.flow_lanes.specs.Sessions.{Packet, Session, ack_of, is_tcp, after_ack, after_data, is_from_client, seq_of, session_of, session_rules, settled, sizes_of, state_found, state_of}
 use Rattle.flow_lanes.specs.Sound.{HasSessions}
-use Rattle.flow_lanes.specs.Working.{HasNoneLeft, TellsLeft, TellsLeftAt, after_packet, items_on, maybe_items, own_head, own_item, sizes_behind, streams_of, stretches_items, stretches_of, streams_told}
+use Rattle.flow_lanes.specs.Working.{HasNoneLeft, TellsLeft, TellsLeftAt, after_packet, item_with, items_on, maybe_items, own_facts, own_item, sizes_behind, streams_of, stretches_items, stretches_of, streams_told}
 use Rattle.flow_lanes.specs.Sides.{Side, acked_payloads, left_payloads, side_after_ack, side_after_data}
 
 -- where nothing is left, no stretches tell it
@@ -31,9 +31,9 @@ none-told session client server = λ moment sizes i.
 pub all-told : (session : Session) (left : Stretches) → left ≡ stretches_of left_payloads session → TellsLeft session (Some left)
 all-told session left is = λ moment sizes. ap (stretches_items moment sizes) is
 
-own-is : (b : Bool) (item : Item) → own_item item.payload (cond b None (Some item.head)) ≡ cond b [] (item ∷ [])
-own-is true item = refl
-own-is false item = refl
+own-is : (b : Bool) (p : Packet) (facts : SessionFacts) → own_item p (cond b None (Some facts)) ≡ cond b [] (item_with p facts ∷ [])
+own-is true p facts = refl
+own-is false p facts = refl
 
 pub state_of-tcp : (making : Making) (p : Packet) (found : Option Session) → (state_of making p found).tcp ≡ (state_found p found).tcp
 unfolding state_of
@@ -155,14 +155,14 @@ streams-on p step found (Some s) left told =
     let sizes : ℕ × ℕ = sizes_of (after_packet p step s) in
     ap (λ (xs : List Item). (xs ++ acked_items p step s sizes) ++ cond step.ends (held_items (after_packet p step s) p.moment sizes) []) (told p.moment sizes)
 
-pub items-on : (making : Making) (p : Packet) (step : Step) (state : State) (found session : Option Session) (left : Option Stretches) (queued : Bool) (own : Option ItemHead) (old new : List Item)
+pub items-on : (making : Making) (p : Packet) (step : Step) (state : State) (found session : Option Session) (left : Option Stretches) (queued : Bool) (own : Option SessionFacts) (old new : List Item)
     → TellsLeftAt found left → session ≡ session_of making p found step state → new ≡ old ++ streams_of p step left session → queued ≡ is_queued p step session
-    → own ≡ own_head making.inserts p step queued (session_behind p step session) → new ++ own_item p.payload own ≡ old ++ items_on making p step state found
+    → own ≡ own_facts making.inserts p step queued (session_behind p step session) → new ++ own_item p own ≡ old ++ items_on making p step state found
 unfolding streams_on
 items-on making p step state found session left queued own old new left_is session_is pushed queued_is own_is =
     let after : Option Session = session_behind p step session in
-    let own_are : own_item p.payload own ≡ own_items making p step session after =
-    ap (own_item p.payload) own_is ∙ ap (λ (q : Bool). own_item p.payload (own_head making.inserts p step q after)) queued_is ∙ own-is (is_queued p step session && not making.inserts) (packet_item p step after) in
+    let own_are : own_item p own ≡ own_items making p step session after =
+    ap (own_item p) own_is ∙ ap (λ (q : Bool). own_item p (own_facts making.inserts p step q after)) queued_is ∙ own-is (is_queued p step session && not making.inserts) p (facts_of p step after) in
     (λ i. (pushed ∙ ap (λ (xs : List Item). old ++ xs) (streams-on p step found session left left_is)) i ++ own_are i)
     ∙ append_assoc old (streams_on p step found session) (own_items making p step session after)
     ∙ ap (λ (s : Option Session). old ++ (streams_on p step found s ++ own_items making p step s (session_behind p step s))) session_is

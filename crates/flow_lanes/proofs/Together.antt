@@ -19,12 +19,15 @@ use Rattle.option_eval.specs.Places.{Means}
 use Rattle.option_eval.specs.RuleSet.{Rules}
 use Rattle.ordered_merge.specs.declared.numbered.Numbered.{Numbered}
 use Rattle.flow_lanes.specs.declared.answer.BatchOut.{BatchOut}
-use Rattle.flow_lanes.specs.declared.answer.JobOut.{JobOut}
+use Rattle.flow_lanes.specs.declared.answer.JobFound.{JobFound}
+use Rattle.flow_lanes.specs.declared.answer.JobHits.{JobHits}
+use Rattle.flow_lanes.specs.declared.answer.Matches.{Matches}
 use Rattle.flow_lanes.specs.declared.job.Job.{Job}
-use Rattle.flow_lanes.specs.Flows.{Detection, answer, answer_tries, flow_of, same_flow}
+use Rattle.flow_lanes.specs.Flows.{Detection, answer, flow_of, same_flow}
 use Rattle.flow_lanes.specs.Sound.{FlowFacts, IsSoundFor, facts_after}
-use Rattle.flow_lanes.specs.Standing.{AnswersBatch, AreSoundFor, DetectsBy, LaneState, LanesState, Stands, is_in_lane, known_in, known_of, lane_of, new_lane}
-use Rattle.flow_lanes.specs.Batching.{AreParts, AreSoundIn, GoesOn, numbered_out, own_jobs}
+use Rattle.flow_lanes.specs.ItemHits.{matched_entry, told_entry}
+use Rattle.flow_lanes.specs.Standing.{AreSoundFor, DetectsBy, LaneState, LanesState, Stands, is_in_lane, known_in, known_of, lane_of, new_lane}
+use Rattle.flow_lanes.specs.Batching.{AreParts, AreSearched, AreSoundIn, GoesOn, HaveAnswered, HaveMatched, HaveSearched, found_of, numbered_out, own_jobs}
 use Rattle.flow_lanes.proofs.Batches.{answers_joined}
 use Rattle.flow_lanes.proofs.Orders.{answer-local, is_in_lane-by_class, tries-local}
 use Rattle.flow_lanes.proofs.OwnJobs.{GoesOn-known}
@@ -70,10 +73,12 @@ AscendsBy-filter {X} key p xs ascends = rising (filter p xs) (AllPairs-filter (�
         omega arith
 
 -- an answer with its job's number goes by the jobs of its flow alone
-numbered_out-local : (d : Detection) → IsLocal same_flow (numbered_out d)
-numbered_out-local d before job =
-    ap (λ hits. record { number = job.number; value = record { hits = hits; tries = answer_tries d before job } }) (answer-local d before job)
-    ∙ ap (λ tries. record { number = job.number; value = record { hits = answer d (filter (same_flow job) before) job; tries = tries } }) (tries-local d before job)
+numbered_out-local : (all : Bool) (d : Detection) → IsLocal same_flow (numbered_out all d)
+numbered_out-local all d before job =
+    λ i. record {
+      number = job.number;
+      value = record { hits = told_entry all (answer-local d before job i); items = length (answer-local d before job i).items; tries = tries-local d before job i };
+    }
 
 -- each lane's jobs are sound, where the batch's are
 pub AreSoundFor-in : (engines place : ℕ) (lanes : LanesState) (lane : LaneState) (jobs : List Job) → AreSoundFor engines lanes jobs → slice_get lanes.lanes place ≡ Some lane → AreSoundIn engines (length lanes.lanes) place lane jobs
@@ -83,32 +88,32 @@ AreSoundFor-in engines place lanes lane jobs sound is front job rest whole here 
     ap (λ at. option_and_then (λ (l : LaneState). known_of l job) (slice_get lanes.lanes at)) same ∙ ap (option_and_then (λ (l : LaneState). known_of l job)) is in
     subst (λ facts. IsSoundFor engines (facts_after facts (filter (same_flow job) front)) job) known (sound front job rest whole)
 
-module _ {P : Type 0} (finds : P → List ℕ → Option Span) (stream : StreamConfig) (set : Rules P) (olds : List LaneState) (jobs : List Job) (parts : List (List (Numbered JobOut))) (news : List LaneState)
-    (are : AreParts finds stream set olds jobs parts news) where
+module _ {P : Type 0} (finds : P → List ℕ → Option Span) (stream : StreamConfig) (set : Rules P) (all : Bool) (olds : List LaneState) (jobs : List Job) (parts : List (List (Numbered JobFound))) (news : List LaneState)
+    (are : AreParts finds stream set all olds jobs parts news) where
   -- the lane and the part at a place
-  at_place : (place : ℕ) → place < length olds → GoesOn finds stream set (get_or olds place idle) (own_jobs (length olds) place jobs) (get_or parts place []) (get_or news place idle)
+  at_place : (place : ℕ) → place < length olds → GoesOn finds stream set all (get_or olds place idle) (own_jobs (length olds) place jobs) (get_or parts place []) (get_or news place idle)
   at_place place within =
       are.each place (get_or olds place idle) (get_or news place idle) (get_or parts place [])
       (slice_get-get_or olds place idle within)
       (slice_get-get_or parts place [] (omega (arith, are.parts_count)))
       (slice_get-get_or news place idle (omega (arith, are.news_count)))
 
-  numbers_at : (place : ℕ) (part : List (Numbered JobOut)) → place < length parts → map (λ (out : Numbered JobOut). out.number) (get_or parts place part) ≡ map (λ (job : Job). job.number) (own_jobs (length parts) place jobs)
+  numbers_at : (place : ℕ) (part : List (Numbered JobFound)) → place < length parts → map (λ (out : Numbered JobFound). out.number) (get_or parts place part) ≡ map (λ (job : Job). job.number) (own_jobs (length parts) place jobs)
   numbers_at place part within =
-      ap (map (λ (out : Numbered JobOut). out.number)) (get_or_default parts place part [] within)
+      ap (map (λ (out : Numbered JobFound). out.number)) (get_or_default parts place part [] within)
       ∙ (at_place place (omega (arith, are.parts_count))).numbers
       ∙ ap (λ count. map (λ (job : Job). job.number) (own_jobs count place jobs)) (sym are.parts_count)
 
   -- the answers of a lane bear ascending numbers
-  pub part_ascends : AscendsBy (λ (job : Job). job.number) jobs → (place : ℕ) (part : List (Numbered JobOut)) → place < length parts → AscendsBy (λ (out : Numbered JobOut). out.number) (get_or parts place part)
+  pub part_ascends : AscendsBy (λ (job : Job). job.number) jobs → (place : ℕ) (part : List (Numbered JobFound)) → place < length parts → AscendsBy (λ (out : Numbered JobFound). out.number) (get_or parts place part)
   part_ascends ascend place part within =
       subst IsStrictlyIncreasing (sym (numbers_at place part within)) (AscendsBy-filter (λ (job : Job). job.number) (is_in_lane (length parts) place) jobs ascend)
 
   -- all parts have the numbers of the batch
-  pub numbers_joined : 0 < length olds → IsPermutation (map (λ (job : Job). job.number) jobs) (map (λ (out : Numbered JobOut). out.number) (flat_map (λ part. part) parts))
+  pub numbers_joined : 0 < length olds → IsPermutation (map (λ (job : Job). job.number) jobs) (map (λ (out : Numbered JobFound). out.number) (flat_map (λ part. part) parts))
   numbers_joined some =
-      subst (λ (numbers : List ℕ). IsPermutation (map (λ (job : Job). job.number) jobs) numbers) (sym (map-flat_map (λ (out : Numbered JobOut). out.number) (λ part. part) parts))
-      (joined_classes (λ (job : Job). lane_of (length parts) (flow_of job)) (λ (job : Job). job.number) (λ (part : List (Numbered JobOut)). map (λ (out : Numbered JobOut). out.number) part) jobs parts
+      subst (λ (numbers : List ℕ). IsPermutation (map (λ (job : Job). job.number) jobs) numbers) (sym (map-flat_map (λ (out : Numbered JobFound). out.number) (λ part. part) parts))
+      (joined_classes (λ (job : Job). lane_of (length parts) (flow_of job)) (λ (job : Job). job.number) (λ (part : List (Numbered JobFound)). map (λ (out : Numbered JobFound). out.number) part) jobs parts
       (λ job. below_count (length parts) (flow_of job) (omega (arith, are.parts_count)))
       numbers_at)
 
@@ -117,7 +122,7 @@ module _ {P : Type 0} (finds : P → List ℕ → Option Span) (stream : StreamC
   parts_know old new is_old is_new some other =
       let place : ℕ = lane_of (length olds) (flow_of other) in
       let within : place < length olds = below_count (length olds) (flow_of other) some in
-      let here = GoesOn-known finds stream set (length olds) place (get_or olds place idle) (get_or news place idle) jobs (get_or parts place []) other (in_own_lane (length olds) (flow_of other)) (at_place place within) in
+      let here = GoesOn-known finds stream set all (length olds) place (get_or olds place idle) (get_or news place idle) jobs (get_or parts place []) other (in_own_lane (length olds) (flow_of other)) (at_place place within) in
       let known : List LaneState → ℕ → Option FlowFacts = λ lanes count. option_and_then (λ (lane : LaneState). known_of lane other) (slice_get lanes (lane_of count (flow_of other))) in
       let after : known_in new other ≡ known_of (get_or news place idle) other =
       ap (λ lanes. known lanes (length lanes)) is_new ∙ ap (known news) are.news_count ∙ ap (option_and_then (λ (lane : LaneState). known_of lane other)) (slice_get-get_or news place idle (omega (arith, are.news_count))) in
@@ -135,43 +140,75 @@ module _ {P : Type 0} (finds : P → List ℕ → Option Span) (stream : StreamC
         let done = are.each place (get_or olds place idle) lane (get_or parts place []) old (slice_get-get_or parts place [] (omega (arith, are.parts_count))) is in
         let stands = (done.right means d (own_jobs (length olds) place before) detects (stand place (get_or olds place idle) old)).stands in
         subst (λ count. Stands d lane (own_jobs count place (before ++ jobs))) (sym are.news_count)
-        (subst (λ all. Stands d lane all) (sym (filter-append (is_in_lane (length olds) place) before jobs)) stands)
+        (subst (λ (js : List Job). Stands d lane js) (sym (filter-append (is_in_lane (length olds) place) before jobs)) stands)
 
     -- an ascending list of all answers is that of the jobs taken one by one
-    pub parts_answer : 0 < length olds → AscendsBy (λ (job : Job). job.number) jobs → (merged : List (Numbered JobOut)) → IsPermutation (flat_map (λ part. part) parts) merged
-        → AscendsBy (λ (out : Numbered JobOut). out.number) merged → merged ≡ along_from (numbered_out d) before jobs
+    pub parts_answer : 0 < length olds → AscendsBy (λ (job : Job). job.number) jobs → (merged : List (Numbered JobFound)) → IsPermutation (flat_map (λ part. part) parts) merged
+        → AscendsBy (λ (out : Numbered JobFound). out.number) merged → merged ≡ along_from (numbered_out all d) before jobs
     parts_answer some ascend merged whole ascending =
-        answers_joined same_flow (λ (job : Job). lane_of (length parts) (flow_of job)) (λ (job : Job). job.number) (λ (out : Numbered JobOut). out.number) (numbered_out d)
-        (numbered_out-local d) (is_in_lane-by_class (length parts)) (λ b job. refl) before jobs parts
+        answers_joined same_flow (λ (job : Job). lane_of (length parts) (flow_of job)) (λ (job : Job). job.number) (λ (out : Numbered JobFound). out.number) (numbered_out all d)
+        (numbered_out-local all d) (is_in_lane-by_class (length parts)) (λ b job. refl) before jobs parts
         (λ job. below_count (length parts) (flow_of job) (omega (arith, are.parts_count)))
         answers_at ascend merged whole ascending
       where
-        answers_at : (place : ℕ) (part : List (Numbered JobOut)) → place < length parts
-            → get_or parts place part ≡ along_from (numbered_out d) (own_jobs (length parts) place before) (own_jobs (length parts) place jobs)
+        answers_at : (place : ℕ) (part : List (Numbered JobFound)) → place < length parts
+            → get_or parts place part ≡ along_from (numbered_out all d) (own_jobs (length parts) place before) (own_jobs (length parts) place jobs)
         answers_at place part within =
             let inside : place < length olds = omega (arith, are.parts_count) in
             let stands = stand place (get_or olds place idle) (slice_get-get_or olds place idle inside) in
             get_or_default parts place part [] within
             ∙ ((at_place place inside).right means d (own_jobs (length olds) place before) detects stands).right
-            ∙ ap (λ count. along_from (numbered_out d) (own_jobs count place before) (own_jobs count place jobs)) (sym are.parts_count)
+            ∙ ap (λ count. along_from (numbered_out all d) (own_jobs count place before) (own_jobs count place jobs)) (sym are.parts_count)
 
-  -- so the batch is answered
-  pub parts_answer_batch : (old new : LanesState) → old.lanes ≡ olds → new.lanes ≡ news → 0 < length olds → AscendsBy (λ (job : Job). job.number) jobs
-      → (merged : List (Numbered JobOut)) → IsPermutation (flat_map (λ part. part) parts) merged → AscendsBy (λ (out : Numbered JobOut). out.number) merged
-      → (out : BatchOut) → out.hits ≡ map (λ (o : Numbered JobOut). o.value.hits) merged → out.tries ≡ sum_by (λ (o : Numbered JobOut). o.value.tries) merged
-      → AnswersBatch finds stream set old jobs out new
-  parts_answer_batch old new is_old is_new some ascend merged whole ascending out hits tries means d before detects stand =
+  -- so the batch is searched
+  pub parts_searched : 0 < length olds → AscendsBy (λ (job : Job). job.number) jobs
+      → (merged : List (Numbered JobFound)) → IsPermutation (flat_map (λ part. part) parts) merged → AscendsBy (λ (out : Numbered JobFound). out.number) merged
+      → HaveSearched finds stream set all olds jobs merged news
+  parts_searched some ascend merged whole ascending old new is_old is_new means d before detects stand =
       let each : (place : ℕ) (lane : LaneState) → slice_get olds place ≡ Some lane → Stands d lane (own_jobs (length olds) place before) =
       subst (λ (lanes : List LaneState). (place : ℕ) (lane : LaneState) → slice_get lanes place ≡ Some lane → Stands d lane (own_jobs (length lanes) place before)) is_old stand.each in
-      let answered : merged ≡ along_from (numbered_out d) before jobs = parts_answer means d before detects each some ascend merged whole ascending in
-      let counts : sum_by (λ (o : Numbered JobOut). o.value.tries) merged ≡ sum (along_from (answer_tries d) before jobs) =
-      sym (sum-map (λ (o : Numbered JobOut). o.value.tries) merged) ∙ ap (λ outs. sum (map (λ (o : Numbered JobOut). o.value.tries) outs)) answered
-      ∙ ap sum (map-along_from (λ (o : Numbered JobOut). o.value.tries) (numbered_out d) before jobs) in
       record {
-        hits = hits ∙ ap (map (λ (o : Numbered JobOut). o.value.hits)) answered ∙ map-along_from (λ (o : Numbered JobOut). o.value.hits) (numbered_out d) before jobs;
-        tries = tries ∙ counts;
+        right = parts_answer means d before detects each some ascend merged whole ascending;
         stands = record {
           some = subst (λ (lanes : List LaneState). 0 < length lanes) (sym is_new) (omega (arith, are.news_count));
           each = subst (λ (lanes : List LaneState). (place : ℕ) (lane : LaneState) → slice_get lanes place ≡ Some lane → Stands d lane (own_jobs (length lanes) place (before ++ jobs))) (sym is_new) (parts_stand means d before detects each);
         };
+      }
+
+-- the sum of what is counted of each job
+sum-found : (all : Bool) (d : Detection) (count : JobFound → ℕ) (before jobs : List Job) (found : List (Numbered JobFound)) → found ≡ along_from (numbered_out all d) before jobs
+    → sum_by (λ (o : Numbered JobFound). count o.value) found ≡ sum (along_from (λ (b : List Job) (job : Job). count (found_of all d b job)) before jobs)
+sum-found all d count before jobs found is =
+    sym (sum-map (λ (o : Numbered JobFound). count o.value) found) ∙ ap (λ (outs : List (Numbered JobFound)). sum (map (λ (o : Numbered JobFound). count o.value) outs)) is
+    ∙ ap sum (map-along_from (λ (o : Numbered JobFound). count o.value) (numbered_out all d) before jobs)
+
+hits-found : (all : Bool) (d : Detection) (before jobs : List Job) (found : List (Numbered JobFound)) → found ≡ along_from (numbered_out all d) before jobs
+    → map (λ (o : Numbered JobFound). o.value.hits) found ≡ along_from (λ (b : List Job) (job : Job). told_entry all (answer d b job)) before jobs
+hits-found all d before jobs found is = ap (map (λ (o : Numbered JobFound). o.value.hits)) is ∙ map-along_from (λ (o : Numbered JobFound). o.value.hits) (numbered_out all d) before jobs
+
+module _ {P : Type 0} (finds : P → List ℕ → Option Span) (stream : StreamConfig) (set : Rules P) (olds news : List LaneState) (jobs : List Job) (found : List (Numbered JobFound)) where
+  -- a search that tells all items answers the batch
+  pub answered : (all : Bool) → all ≡ true → HaveSearched finds stream set all olds jobs found news
+      → (out : BatchOut) → out.hits ≡ map (λ (o : Numbered JobFound). o.value.hits) found → out.tries ≡ sum_by (λ (o : Numbered JobFound). o.value.tries) found
+      → HaveAnswered finds stream set olds jobs out news
+  answered all is searched out hits tries old new is_old is_new means d before detects stand =
+      let done : AreSearched true d before jobs found new = subst (λ (b : Bool). AreSearched b d before jobs found new) is (searched old new is_old is_new means d before detects stand) in
+      record {
+        hits = hits ∙ hits-found true d before jobs found done.right;
+        tries = tries ∙ sum-found true d (λ (f : JobFound). f.tries) before jobs found done.right;
+        stands = done.stands;
+      }
+
+  -- and one that tells those that a rule matches gives its matches
+  pub told_matches : (all : Bool) → all ≡ false → HaveSearched finds stream set all olds jobs found news
+      → (out : Matches) → out.hits.items ≡ map (λ (o : Numbered JobFound). o.value.hits) found → out.items ≡ sum_by (λ (o : Numbered JobFound). o.value.items) found
+      → out.tries ≡ sum_by (λ (o : Numbered JobFound). o.value.tries) found → HaveMatched finds stream set olds jobs out news
+  told_matches all is searched out hits items tries old new is_old is_new means d before detects stand =
+      let done : AreSearched false d before jobs found new = subst (λ (b : Bool). AreSearched b d before jobs found new) is (searched old new is_old is_new means d before detects stand) in
+      record {
+        hits = hits ∙ hits-found false d before jobs found done.right ∙ sym (map-along_from matched_entry (answer d) before jobs);
+        items = items ∙ sum-found false d (λ (f : JobFound). f.items) before jobs found done.right
+            ∙ sym (sym (sum-map (λ (entry : JobHits). length entry.items) (along_from (answer d) before jobs)) ∙ ap sum (map-along_from (λ (entry : JobHits). length entry.items) (answer d) before jobs));
+        tries = tries ∙ sum-found false d (λ (f : JobFound). f.tries) before jobs found done.right;
+        stands = done.stands;
       }

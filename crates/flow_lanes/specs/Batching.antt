@@ -1,23 +1,26 @@
 -- A batch among lanes: what each lane does of it, and what all of them have then.
 --
 -- A lane does the jobs of its own flows in their order, and its answers bear the numbers of their jobs, by
--- which they are put into the order of the batch.
+-- which they are put into the order of the batch. Of the items of a job all are told, or those that a rule
+-- matches.
 -- To try it on: of two lanes and jobs of the flows 0, 1, 0, lane 0 does the first and the third, and lane 1
 -- the second.
-use Rattle.std.specs.Prelude.{◌≡◌, ℕ, ◌<◌, true, List, [], ◌∷◌, ◌++◌, Option, Some, IfOk, filter, length, map, slice_get, slice_index_or}
+use Rattle.std.specs.Prelude.{◌≡◌, ℕ, ◌<◌, Bool, true, List, [], ◌∷◌, ◌++◌, Option, Some, IfOk, filter, length, map, slice_get, slice_index_or}
 use Rattle.edge_io.specs.declared.pattern.Span.{Span}
-use Rattle.edge_io.specs.Along.{along_from}
+use Rattle.edge_io.specs.Along.{along_from, within}
 use Rattle.conf_types.specs.declared.config.StreamConfig.{StreamConfig}
 use Rattle.option_eval.specs.Places.{Means}
 use Rattle.option_eval.specs.RuleSet.{Rules}
 use Rattle.ordered_merge.specs.declared.numbered.Numbered.{Numbered}
 use Rattle.flow_lanes.specs.declared.answer.BatchOut.{BatchOut}
-use Rattle.flow_lanes.specs.declared.answer.JobOut.{JobOut}
+use Rattle.flow_lanes.specs.declared.answer.JobFound.{JobFound}
+use Rattle.flow_lanes.specs.declared.answer.Matches.{Matches}
 use Rattle.flow_lanes.specs.declared.job.Job.{Job}
 use Rattle.flow_lanes.specs.declared.worker.Worker.{Worker}
-use Rattle.flow_lanes.specs.Flows.{Detection, answer, answer_tries, same_flow}
+use Rattle.flow_lanes.specs.Flows.{Detection, answer, answer_tries, items, same_flow}
+use Rattle.flow_lanes.specs.ItemHits.{told_entry}
 use Rattle.flow_lanes.specs.Sound.{IsSoundFor, facts_after}
-use Rattle.flow_lanes.specs.Standing.{AnswersBatch, DetectsBy, LaneState, LanesState, Stands, is_in_lane, known_in, known_of}
+use Rattle.flow_lanes.specs.Standing.{AnswersBatch, AreShort, DetectsBy, LaneState, LanesStand, LanesState, SearchesBatch, Stands, is_in_lane, known_in, known_of}
 
 -- the jobs of one lane among so many
 abbrev pub own_jobs : ℕ → ℕ → List Job → List Job
@@ -29,39 +32,58 @@ AreSoundIn engines count place lane jobs =
     (front : List Job) (job : Job) (rest : List Job) → jobs ≡ front ++ job ∷ rest → is_in_lane count place job ≡ true
     → IsSoundFor engines (facts_after (known_of lane job) (filter (same_flow job) front)) job
 
--- the answer to a job, with the job's number
-abbrev pub numbered_out : Detection → List Job → Job → Numbered JobOut
-numbered_out d before job = record { number = job.number; value = record { hits = answer d before job; tries = answer_tries d before job } }
+-- what is found of a job: those of its items that are told, and how many items and candidates there are
+abbrev pub found_of : Bool → Detection → List Job → Job → JobFound
+found_of all d before job = record {
+  hits = told_entry all (answer d before job);
+  items = length (answer d before job).items;
+  tries = answer_tries d before job;
+}
+
+-- a job of a lane is searched: whatever jobs the lane stood for, what is found is the definition's, and the lane
+-- stands for those and this job
+pub record IsSearched (all : Bool) (d : Detection) (before : List Job) (job : Job) (found : JobFound) (new : LaneState) : Type 0 where
+  pub right : found ≡ found_of all d before job
+  pub short : AreShort job (within same_flow (items d) before job)
+  pub stands : Stands d new (before ++ job ∷ [])
+
+abbrev pub SearchesJob : {P : Type 0} → (P → List ℕ → Option Span) → StreamConfig → Rules P → Bool → LaneState → Job → JobFound → LaneState → Type 0
+SearchesJob finds stream set all old job found new =
+    (means : Means) (d : Detection) (before : List Job) → DetectsBy finds means stream set d → Stands d old before → IsSearched all d before job found new
+
+-- the same with the job's number
+abbrev pub numbered_out : Bool → Detection → List Job → Job → Numbered JobFound
+numbered_out all d before job = record { number = job.number; value = found_of all d before job }
 
 -- a lane that stood for some jobs has done these
-pub record HasDoneJobs (d : Detection) (before jobs : List Job) (outs : List (Numbered JobOut)) (new : LaneState) : Type 0 where
-  pub right : outs ≡ along_from (numbered_out d) before jobs
+pub record HasDoneJobs (all : Bool) (d : Detection) (before jobs : List Job) (outs : List (Numbered JobFound)) (new : LaneState) : Type 0 where
+  pub right : outs ≡ along_from (numbered_out all d) before jobs
   pub stands : Stands d new (before ++ jobs)
 
 -- a lane has gone on with these jobs: whatever it stood for, its answers are the definition's; it has learnt
 -- of the jobs; and the answers bear the numbers of the jobs
-pub record GoesOn {P : Type 0} (finds : P → List ℕ → Option Span) (stream : StreamConfig) (set : Rules P) (old : LaneState) (jobs : List Job) (outs : List (Numbered JobOut)) (new : LaneState) : Type 0 where
-  pub right : (means : Means) (d : Detection) (before : List Job) → DetectsBy finds means stream set d → Stands d old before → HasDoneJobs d before jobs outs new
+pub record GoesOn {P : Type 0} (finds : P → List ℕ → Option Span) (stream : StreamConfig) (set : Rules P) (all : Bool) (old : LaneState) (jobs : List Job) (outs : List (Numbered JobFound)) (new : LaneState) : Type 0 where
+  pub right : (means : Means) (d : Detection) (before : List Job) → DetectsBy finds means stream set d → Stands d old before → HasDoneJobs all d before jobs outs new
   pub known : (other : Job) → known_of new other ≡ facts_after (known_of old other) (filter (same_flow other) jobs)
-  pub numbers : map (λ (out : Numbered JobOut). out.number) outs ≡ map (λ (job : Job). job.number) jobs
+  pub numbers : map (λ (out : Numbered JobFound). out.number) outs ≡ map (λ (job : Job). job.number) jobs
 
 -- a job more is answered, whatever the lane has gone on with before
-abbrev pub AddsOut : {P : Type 0} → (P → List ℕ → Option Span) → StreamConfig → Rules P → Job → LaneState → List (Numbered JobOut) → LaneState → List (Numbered JobOut) → Type 0
-AddsOut finds stream set job old outs new more =
-    (start : LaneState) (jobs : List Job) → GoesOn finds stream set start jobs outs old → GoesOn finds stream set start (jobs ++ job ∷ []) more new
+abbrev pub AddsOut : {P : Type 0} → (P → List ℕ → Option Span) → StreamConfig → Rules P → Bool → Job → LaneState → List (Numbered JobFound) → LaneState → List (Numbered JobFound) → Type 0
+AddsOut finds stream set all job old outs new more =
+    (start : LaneState) (jobs : List Job) → GoesOn finds stream set all start jobs outs old → GoesOn finds stream set all start (jobs ++ job ∷ []) more new
 
 -- the same of a lane among so many, with which only its own jobs go on
-abbrev pub AddsOwn : {P : Type 0} → (P → List ℕ → Option Span) → StreamConfig → Rules P → ℕ → ℕ → Job → LaneState → List (Numbered JobOut) → LaneState → List (Numbered JobOut) → Type 0
-AddsOwn finds stream set count place job old outs new more =
-    (start : LaneState) (front : List Job) → GoesOn finds stream set start (own_jobs count place front) outs old
-    → GoesOn finds stream set start (own_jobs count place (front ++ job ∷ [])) more new
+abbrev pub AddsOwn : {P : Type 0} → (P → List ℕ → Option Span) → StreamConfig → Rules P → Bool → ℕ → ℕ → Job → LaneState → List (Numbered JobFound) → LaneState → List (Numbered JobFound) → Type 0
+AddsOwn finds stream set all count place job old outs new more =
+    (start : LaneState) (front : List Job) → GoesOn finds stream set all start (own_jobs count place front) outs old
+    → GoesOn finds stream set all start (own_jobs count place (front ++ job ∷ [])) more new
 
 -- the lanes have gone on with the jobs of a batch, each with its own: a part of the answers for each lane
-pub record AreParts {P : Type 0} (finds : P → List ℕ → Option Span) (stream : StreamConfig) (set : Rules P) (olds : List LaneState) (jobs : List Job) (parts : List (List (Numbered JobOut))) (news : List LaneState) : Type 0 where
+pub record AreParts {P : Type 0} (finds : P → List ℕ → Option Span) (stream : StreamConfig) (set : Rules P) (all : Bool) (olds : List LaneState) (jobs : List Job) (parts : List (List (Numbered JobFound))) (news : List LaneState) : Type 0 where
   pub news_count : length news ≡ length olds
   pub parts_count : length parts ≡ length olds
-  pub each : (place : ℕ) (old new : LaneState) (part : List (Numbered JobOut)) → slice_get olds place ≡ Some old → slice_get parts place ≡ Some part → slice_get news place ≡ Some new
-      → GoesOn finds stream set old (own_jobs (length olds) place jobs) part new
+  pub each : (place : ℕ) (old new : LaneState) (part : List (Numbered JobFound)) → slice_get olds place ≡ Some old → slice_get parts place ≡ Some part → slice_get news place ≡ Some new
+      → GoesOn finds stream set all old (own_jobs (length olds) place jobs) part new
 
 -- the lanes of workers
 abbrev pub lanes_of : List Worker → List LaneState
@@ -73,15 +95,34 @@ AreSoundAmong engines workers jobs =
     (place : ℕ) (d : Worker) → place < length workers → AreSoundIn engines (length workers) place (slice_index_or workers place d).lane jobs
 
 -- each worker has gone on with its own jobs, where it has answers
-abbrev pub AllGoOn : {P : Type 0} → (P → List ℕ → Option Span) → StreamConfig → Rules P → List Worker → List Job → List Worker → Type 0
-AllGoOn finds stream set olds jobs news =
+abbrev pub AllGoOn : {P : Type 0} → (P → List ℕ → Option Span) → StreamConfig → Rules P → Bool → List Worker → List Job → List Worker → Type 0
+AllGoOn finds stream set all olds jobs news =
     (place : ℕ) (d : Worker) → place < length olds
     → IfOk (slice_index_or news place d).outs
-    (λ outs. GoesOn finds stream set (slice_index_or olds place d).lane (own_jobs (length olds) place jobs) outs.items (slice_index_or news place d).lane)
+    (λ outs. GoesOn finds stream set all (slice_index_or olds place d).lane (own_jobs (length olds) place jobs) outs.items (slice_index_or news place d).lane)
 
--- lanes have answered a batch, whatever else is known of them: its answers are the definition's, and they
--- have learnt of its jobs
-pub record HaveAnswered {P : Type 0} (finds : P → List ℕ → Option Span) (stream : StreamConfig) (set : Rules P) (olds : List LaneState) (jobs : List Job) (out : BatchOut) (news : List LaneState) : Type 0 where
+-- the jobs of a batch are searched: what is found of each is the definition's, in the order of the jobs, and the
+-- lanes stand for the earlier jobs and the batch
+pub record AreSearched (all : Bool) (d : Detection) (before jobs : List Job) (found : List (Numbered JobFound)) (new : LanesState) : Type 0 where
+  pub right : found ≡ along_from (numbered_out all d) before jobs
+  pub stands : LanesStand d new (before ++ jobs)
+
+-- lanes have searched a batch, whatever else is known of them: what is found is the definition's
+abbrev pub HaveSearched : {P : Type 0} → (P → List ℕ → Option Span) → StreamConfig → Rules P → Bool → List LaneState → List Job → List (Numbered JobFound) → List LaneState → Type 0
+HaveSearched finds stream set all olds jobs found news =
+    (old new : LanesState) → old.lanes ≡ olds → new.lanes ≡ news
+    → (means : Means) (d : Detection) (before : List Job) → DetectsBy finds means stream set d → LanesStand d old before → AreSearched all d before jobs found new
+
+-- so the batch is answered, or its matches are told
+abbrev pub HaveAnswered : {P : Type 0} → (P → List ℕ → Option Span) → StreamConfig → Rules P → List LaneState → List Job → BatchOut → List LaneState → Type 0
+HaveAnswered finds stream set olds jobs out news =
+    (old new : LanesState) → old.lanes ≡ olds → new.lanes ≡ news → AnswersBatch finds stream set old jobs out new
+
+abbrev pub HaveMatched : {P : Type 0} → (P → List ℕ → Option Span) → StreamConfig → Rules P → List LaneState → List Job → Matches → List LaneState → Type 0
+HaveMatched finds stream set olds jobs out news =
+    (old new : LanesState) → old.lanes ≡ olds → new.lanes ≡ news → SearchesBatch finds stream set old jobs out new
+
+-- lanes have learnt of the jobs of a batch, whatever else is known of them
+pub record HaveLearnt (olds : List LaneState) (jobs : List Job) (news : List LaneState) : Type 0 where
   pub count : length news ≡ length olds
-  pub right : (old new : LanesState) → old.lanes ≡ olds → new.lanes ≡ news → AnswersBatch finds stream set old jobs out new
   pub known : (old new : LanesState) → old.lanes ≡ olds → new.lanes ≡ news → (other : Job) → known_in new other ≡ facts_after (known_in old other) (filter (same_flow other) jobs)

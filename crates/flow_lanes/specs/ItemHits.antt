@@ -1,10 +1,12 @@
 -- Items of one session with all rules that match them, and the bits that they leave.
 --
 -- The rules of an item see the bits that the items before it left (Snort Users Manual 2.9, section 3.6.10).
+-- Of the items all may be told, or those alone that a rule matches.
 -- To try it on: where a rule sets a bit on the first of two items, the second sees it from its first rule on.
-use Rattle.std.specs.Prelude.{ℕ, List, [], ◌∷◌, Option, fold}
+use Rattle.std.specs.Prelude.{ℕ, ◌==◌, Bool, true, false, not, List, [], ◌∷◌, Option, filter, fold, length, if◌then◌else◌}
 use Rattle.rule_types.specs.declared.rule.Rule.{Rule}
 use Rattle.flow_lanes.specs.declared.answer.Hits.{Hits}
+use Rattle.flow_lanes.specs.declared.answer.JobHits.{JobHits}
 use Rattle.flow_lanes.specs.Hits.{Bits, Item, Test, places_from}
 use Rattle.flow_lanes.specs.Picking.{bits_after_all}
 
@@ -33,3 +35,25 @@ hits_of trying bits (item ∷ items) = hit trying bits item ∷ hits_of trying (
 -- the bits behind items of one session
 abbrev pub bits_after_items : Trying → Option Bits → List Item → Option Bits
 bits_after_items trying bits items = fold (bits_after_item trying) bits items
+
+-- What is told of items.
+
+-- a rule matches the item
+abbrev pub is_matched : Hits → Bool
+is_matched hits = not (length hits.rules == 0)
+
+-- the items that a rule matches
+abbrev pub matched : List Hits → List Hits
+matched items = filter is_matched items
+
+-- those of a job
+abbrev pub matched_entry : JobHits → JobHits
+matched_entry entry = record { number = entry.number; items = matched entry.items }
+
+-- all items, or those that a rule matches
+abbrev pub told : Bool → List Hits → List Hits
+told all items = if all then items else matched items
+
+-- those of a job
+abbrev pub told_entry : Bool → JobHits → JobHits
+told_entry all entry = record { number = entry.number; items = told all entry.items }

@@ -5,7 +5,7 @@
 -- in lane f modulo their number. So the answers of a batch are those of one list of jobs, taken one by one,
 -- for any number of lanes and any cut of the list into batches.
 -- To try it on: of two lanes, which stand for jobs of the flows 0, 1 and 2, lane 0 keeps the flows 0 and 2.
-use Rattle.std.specs.Prelude.{◌≡◌, ℕ, ◌%◌, ◌<◌, ◌≤◌, ◌==◌, Bool, true, false, List, [], ◌∷◌, ◌++◌, Option, Some, None, All, IfSome, filter, fold, length, replicate, map, option_map, option_and_then, slice_get, slice_index_or, sum, IsSome, if◌then◌else◌}
+use Rattle.std.specs.Prelude.{◌≡◌, ℕ, ◌%◌, ◌<◌, ◌≤◌, ◌==◌, Bool, true, false, List, [], ◌∷◌, ◌++◌, Option, Some, None, All, IfSome, filter, fold, length, replicate, map, option_map, option_and_then, slice_get, slice_index_or, sum, sum_by, IsSome, if◌then◌else◌}
 use Rattle.std.specs.Map.{lookup}
 use Rattle.edge_io.specs.declared.pattern.Span.{Span}
 use Rattle.edge_io.specs.Along.{AscendsBy, along_from, told, within}
@@ -16,9 +16,11 @@ use Rattle.option_eval.specs.Places.{Means}
 use Rattle.option_eval.specs.RuleSet.{FindWhatIsMeant, Rules}
 use Rattle.flow_lanes.specs.declared.answer.BatchOut.{BatchOut}
 use Rattle.flow_lanes.specs.declared.answer.JobHits.{JobHits}
+use Rattle.flow_lanes.specs.declared.answer.Matches.{Matches}
 use Rattle.flow_lanes.specs.declared.job.Job.{Job}
 use Rattle.flow_lanes.specs.Flows.{Detection, FlowState, answer, answer_tries, flow_of, items, same_flow, same_number, state_behind}
 use Rattle.flow_lanes.specs.Hits.{Item, Tells}
+use Rattle.flow_lanes.specs.ItemHits.{matched_entry}
 use Rattle.flow_lanes.specs.Sound.{FlowFacts, IsSoundFor, facts_after, facts_behind}
 use Rattle.flow_lanes.specs.Streams.{item_size}
 
@@ -170,6 +172,19 @@ pub record IsBatchAnswered (d : Detection) (before jobs : List Job) (out : Batch
 abbrev pub AnswersBatch : {P : Type 0} → (P → List ℕ → Option Span) → StreamConfig → Rules P → LanesState → List Job → BatchOut → LanesState → Type 0
 AnswersBatch finds stream set old jobs out new =
     (means : Means) (d : Detection) (before : List Job) → DetectsBy finds means stream set d → LanesStand d old before → IsBatchAnswered d before jobs out new
+
+-- a batch is searched: whatever jobs the lanes stood for, there is one entry a job in their order, with those of
+-- its items that a rule matches; all items are counted, and all candidates; and the lanes stand for those jobs
+-- and the batch
+pub record IsBatchSearched (d : Detection) (before jobs : List Job) (out : Matches) (new : LanesState) : Type 0 where
+  pub hits : out.hits.items ≡ map matched_entry (along_from (answer d) before jobs)
+  pub items : out.items ≡ sum_by (λ (entry : JobHits). length entry.items) (along_from (answer d) before jobs)
+  pub tries : out.tries ≡ sum (along_from (answer_tries d) before jobs)
+  pub stands : LanesStand d new (before ++ jobs)
+
+abbrev pub SearchesBatch : {P : Type 0} → (P → List ℕ → Option Span) → StreamConfig → Rules P → LanesState → List Job → Matches → LanesState → Type 0
+SearchesBatch finds stream set old jobs out new =
+    (means : Means) (d : Detection) (before : List Job) → DetectsBy finds means stream set d → LanesStand d old before → IsBatchSearched d before jobs out new
 
 -- memory was lacking: from then on no batch is answered
 abbrev pub HasFailed : LanesState → Type 0

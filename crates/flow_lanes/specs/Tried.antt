@@ -1,7 +1,8 @@
--- One item more, and items more, with all rules that match them.
+-- One item more, and items more, with all rules that match them: all of them are told, or those that a rule
+-- matches.
 --
 -- To try it on: where a rule sets a bit on the first of two items that are tried, the second sees it.
-use Rattle.std.specs.Prelude.{◌≡◌, ℕ, List, [], ◌∷◌, ◌++◌, Option, length, sum_by}
+use Rattle.std.specs.Prelude.{◌≡◌, ℕ, Bool, List, [], ◌∷◌, ◌++◌, Option, length, sum_by}
 use Rattle.edge_io.specs.declared.pattern.Span.{Span}
 use Rattle.rule_types.specs.declared.rule.Rule.{Rule}
 use Rattle.fast_pattern.specs.Candidates.{candidates}
@@ -9,7 +10,7 @@ use Rattle.option_eval.specs.Places.{Means}
 use Rattle.option_eval.specs.RuleSet.{FindWhatIsMeant, Rules}
 use Rattle.flow_lanes.specs.declared.answer.Hits.{Hits}
 use Rattle.flow_lanes.specs.Hits.{Bits, Item, Tells}
-use Rattle.flow_lanes.specs.ItemHits.{Trying, bits_after_item, bits_after_items, hit, hits_of}
+use Rattle.flow_lanes.specs.ItemHits.{Trying, bits_after_item, bits_after_items, hit, hits_of, told}
 
 -- the rules of the set are tried, and it is told which of them match
 pub record TriesBy {P : Type 0} (finds : P → List ℕ → Option Span) (means : Means) (set : Rules P) (trying : Trying) : Type 0 where
@@ -17,14 +18,14 @@ pub record TriesBy {P : Type 0} (finds : P → List ℕ → Option Span) (means 
   pub made : FindWhatIsMeant finds means set
   pub told : Tells means trying.matches
 
--- an item is tried: it stands behind the others with its rules, which leave these bits
-pub record TriesOne (trying : Trying) (item : Item) (old new : Option Bits) (hits_old hits_new : List Hits) : Type 0 where
-  pub hits : hits_new ≡ hits_old ++ hit trying old item ∷ []
+-- an item is tried: it stands behind the others with its rules, if it is told, and these leave these bits
+pub record TriesOne (all : Bool) (trying : Trying) (item : Item) (old new : Option Bits) (hits_old hits_new : List Hits) : Type 0 where
+  pub hits : hits_new ≡ hits_old ++ told all (hit trying old item ∷ [])
   pub bits : new ≡ bits_after_item trying old item
 
 -- items of one session are tried, in order
-pub record TriesAll (trying : Trying) (items : List Item) (old new : Option Bits) (hits_old hits_new : List Hits) : Type 0 where
-  pub hits : hits_new ≡ hits_old ++ hits_of trying old items
+pub record TriesAll (all : Bool) (trying : Trying) (items : List Item) (old new : Option Bits) (hits_old hits_new : List Hits) : Type 0 where
+  pub hits : hits_new ≡ hits_old ++ told all (hits_of trying old items)
   pub bits : new ≡ bits_after_items trying old items
 
 -- how many candidates these items have

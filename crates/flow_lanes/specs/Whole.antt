@@ -1,7 +1,7 @@
 -- One job, by what is kept of flows before it and behind it.
 --
 -- To try it on: the end of a flow gives the streams of its session, and nothing is kept of the flow then.
-use Rattle.std.specs.Prelude.{◌≡◌, ℕ, List, Option, Some, option_and_then, option_map, if◌then◌else◌}
+use Rattle.std.specs.Prelude.{◌≡◌, ℕ, Bool, List, Option, Some, length, option_and_then, option_map, if◌then◌else◌}
 use Rattle.edge_io.specs.declared.moment.Moment.{Moment}
 use Rattle.edge_io.specs.declared.pattern.Span.{Span}
 use Rattle.option_eval.specs.Places.{Means}
@@ -12,7 +12,7 @@ use Rattle.flow_lanes.specs.declared.tally.Tally.{Tally}
 use Rattle.flow_lanes.specs.Engines.{Making}
 use Rattle.flow_lanes.specs.Flows.{FlowState, all_items, flow_of_work, hits_in, same_number, session_at_hand, state_after, work_items}
 use Rattle.flow_lanes.specs.Items.{JobItems}
-use Rattle.flow_lanes.specs.ItemHits.{Trying}
+use Rattle.flow_lanes.specs.ItemHits.{Trying, told}
 use Rattle.flow_lanes.specs.Kept.{kept_in}
 use Rattle.flow_lanes.specs.Sound.{FlowFacts, facts_behind_work}
 use Rattle.flow_lanes.specs.Standing.{KeptFlow, facts_kept, state_kept}
@@ -37,14 +37,15 @@ kept_by making trying moment w kept =
       found = state_after trying (work_items making moment w (session_at_hand (state_kept kept))) (state_kept kept);
     }) (facts_behind_work (facts_kept kept) moment w)
 
--- the job is done with these rules: its items, and what is then kept of each flow
-pub record IsDoneBy (making : Making) (trying : Trying) (moment : Moment) (w : Work) (old new : List (ℕ × KeptFlow)) (given : List Hits) : Type 0 where
-  pub hits : given ≡ hits_in trying (items_for making moment w old) (found_for old w)
+-- the job is done with these rules: its items that are told, and what is then kept of each flow
+pub record IsDoneBy (all : Bool) (making : Making) (trying : Trying) (moment : Moment) (w : Work) (old new : List (ℕ × KeptFlow)) (given : List Hits) : Type 0 where
+  pub hits : given ≡ told all (hits_in trying (items_for making moment w old) (found_for old w))
   pub flows : (flow : ℕ) → kept_in new flow ≡ (if same_number (Some flow) (flow_of_work w) then kept_by making trying moment w (kept_in old flow) else kept_in old flow)
 
--- the job is done: by any rules that tell what the set's patterns find; its candidates are counted; and it is
--- known what the job says of its flow
-pub record IsDone {P : Type 0} (finds : P → List ℕ → Option Span) (set : Rules P) (making : Making) (moment : Moment) (w : Work) (old new : List (ℕ × KeptFlow)) (tally : Tally) : Type 0 where
-  pub done : (means : Means) (trying : Trying) → TriesBy finds means set trying → IsDoneBy making trying moment w old new tally.hits.items
+-- the job is done: by any rules that tell what the set's patterns find; its items and their candidates are
+-- counted; and it is known what the job says of its flow
+pub record IsDone {P : Type 0} (finds : P → List ℕ → Option Span) (set : Rules P) (all : Bool) (making : Making) (moment : Moment) (w : Work) (old new : List (ℕ × KeptFlow)) (tally : Tally) : Type 0 where
+  pub done : (means : Means) (trying : Trying) → TriesBy finds means set trying → IsDoneBy all making trying moment w old new tally.hits.items
+  pub items : tally.items ≡ length (all_items (items_for making moment w old))
   pub tries : tally.tries ≡ candidates_of set.rules (all_items (items_for making moment w old))
   pub facts : (flow : ℕ) → facts_kept (kept_in new flow) ≡ (if same_number (Some flow) (flow_of_work w) then facts_behind_work (facts_kept (kept_in old flow)) moment w else facts_kept (kept_in old flow))

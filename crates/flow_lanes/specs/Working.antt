@@ -4,14 +4,14 @@
 use Rattle.std.specs.Prelude.{◌≡◌, ℕ, Bool, true, false, not, ◌&&◌, List, [], ◌∷◌, ◌++◌, Option, Some, None, map, if◌then◌else◌}
 use Rattle.std.specs.Option.{option_map_or}
 use Rattle.edge_io.specs.declared.moment.Moment.{Moment}
-use Rattle.packet_decode.specs.declared.item.ItemHead.{ItemHead}
+use Rattle.packet_decode.specs.declared.item.SessionFacts.{SessionFacts}
 use Rattle.stream5_sessions.specs.declared.state.State.{State}
 use Rattle.stream5_sessions.specs.declared.step.Step.{Step}
 use Rattle.flow_lanes.specs.declared.cutting.Stretch.{Stretch}
 use Rattle.flow_lanes.specs.declared.session.Stretches.{Stretches}
 use Rattle.flow_lanes.specs.Engines.{Making}
 use Rattle.flow_lanes.specs.Hits.{Item}
-use Rattle.flow_lanes.specs.Items.{acked_items, closing_items, head_between, held_items, left_items, own_items, packet_item, session_behind}
+use Rattle.flow_lanes.specs.Items.{acked_items, closing_items, facts_of, head_between, held_items, left_items, own_items, session_behind}
 use Rattle.flow_lanes.specs.Sessions.{Packet, Session, after_ack, after_data, session_of, sizes_of}
 use Rattle.flow_lanes.specs.Sides.{Side, left_payloads, without_left}
 
@@ -76,14 +76,18 @@ abbrev pub streams_of : Packet → Step → Option Stretches → Option Session 
 streams_of p step left None = maybe_items p.moment (0, 0) left
 streams_of p step left (Some session) = streams_told p step left session
 
--- the head of the packet's own item, unless its data were queued and such packets are no items
-abbrev pub own_head : Bool → Packet → Step → Bool → Option Session → Option ItemHead
-own_head inserts p step queued after = if queued && not inserts then None else Some (packet_item p step after).head
+-- the session facts of the packet's own item, unless its data were queued and such packets are no items
+abbrev pub own_facts : Bool → Packet → Step → Bool → Option Session → Option SessionFacts
+own_facts inserts p step queued after = if queued && not inserts then None else Some (facts_of p step after)
+
+-- the packet with these facts of its session
+abbrev pub item_with : Packet → SessionFacts → Item
+item_with p facts = record { head = record (p.head) { session = facts }; payload = p.payload }
 
 -- the packet's own item
-abbrev pub own_item : List ℕ → Option ItemHead → List Item
-own_item payload None = []
-own_item payload (Some head) = record { head = head; payload = payload } ∷ []
+abbrev pub own_item : Packet → Option SessionFacts → List Item
+own_item p None = []
+own_item p (Some facts) = item_with p facts ∷ []
 
 -- the items of a session that ended before the packet, if one did
 abbrev pub ended_items : Moment → Bool → Option Session → List Item

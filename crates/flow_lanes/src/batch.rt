@@ -1,15 +1,15 @@
 //! Lanes: the jobs of a batch, dealt out by their flows.
 
-ghost use Rattle.std.specs.Prelude.{◌≡◌, ℕ, ◌<◌, ◌≤◌, ◌^◌, ◌↔◌, List, Option, Some, Ok, false, All, IfOk, OnErr, OnOk, fold, length, map, replicate, sum_by};
+ghost use Rattle.std.specs.Prelude.{◌≡◌, ℕ, ◌<◌, ◌≤◌, ◌^◌, ◌↔◌, List, Option, Some, Ok, false, true, All, IfOk, OnErr, OnOk, fold, length, map, replicate, sum_by};
 ghost use Rattle.edge_io.specs.Along.{AscendsBy};
 ghost use Rattle.conf_types.specs.Sound.{IsStreamConfig};
 ghost use Rattle.fast_pattern.specs.Grouping.{StandFor};
 ghost use Rattle.rule_types.specs.Sound.{IsTriable};
 ghost use Rattle.flow_lanes.specs.declared.job.Job.{Job};
-ghost use Rattle.flow_lanes.specs.Standing.{AnswersBatch, AreNew, AreNext, AreSoundFor, HasFailed, LearnsBatch, new_lane};
-ghost use Rattle.flow_lanes.specs.Batching.{AllGoOn, AreSoundAmong, AreSoundIn, GoesOn, HaveAnswered, lanes_of, own_jobs};
+ghost use Rattle.flow_lanes.specs.Standing.{AnswersBatch, AreNew, AreNext, AreSoundFor, HasFailed, LearnsBatch, SearchesBatch, new_lane};
+ghost use Rattle.flow_lanes.specs.Batching.{AllGoOn, AreSoundAmong, AreSoundIn, GoesOn, HaveAnswered, HaveLearnt, HaveMatched, HaveSearched, lanes_of, own_jobs};
 
-use crate::answer::{BatchFault, BatchOut, JobOut};
+use crate::answer::{BatchFault, BatchOut, JobFound, Matches};
 use crate::job::{Job, Work};
 use crate::spread::for_each_spread;
 use crate::worker::{Detector, Share, Worker, flow_of, lane_of};
@@ -126,7 +126,7 @@ fn run_all<P: Pattern, G: Gate, R: Threads + Sync>(
     requires config { IsStreamConfig detector.now.stream.now }
     requires groups { StandFor detector.now.groups.now detector.now.set.now.rules }
     requires triable { All IsTriable detector.now.set.now.rules }
-    ensures { AllGoOn P.finds detector.now.stream.now detector.now.set.now workers.old jobs.now workers.new }
+    ensures { AllGoOn P.finds detector.now.stream.now detector.now.set.now detector.now.all workers.old jobs.now workers.new }
 {
     let count = workers.len();
     let busy = busy_lanes(count, jobs);
@@ -142,13 +142,16 @@ fn run_all<P: Pattern, G: Gate, R: Threads + Sync>(
                 × IsStreamConfig detector.now.stream.now × StandFor detector.now.groups.now detector.now.set.now.rules
                 × All IsTriable detector.now.set.now.rules }
             ensures { IfOk worker.new.outs (λ outs. GoesOn P.finds detector.entry.now.stream.now detector.entry.now.set.now
-                worker.old.lane (own_jobs count place jobs.entry.now) outs.items worker.new.lane) }
+                detector.entry.now.all worker.old.lane (own_jobs count place jobs.entry.now) outs.items worker.new.lane) }
         { worker.run(alloc, Share { count, place }, jobs, detector, gate) },
     );
 }
 
 /// Takes the answers of each lane out of the workers.
-fn take_parts(alloc: Global, workers: &mut [Worker]) -> Result<Vec<Vec<Numbered<JobOut>>>, NoMemory>
+fn take_parts(
+    alloc: Global,
+    workers: &mut [Worker],
+) -> Result<Vec<Vec<Numbered<JobFound>>>, NoMemory>
     ensures lanes { lanes_of workers.new ≡ lanes_of workers.old }
     ensures parts { IfOk result (λ parts. map (λ worker. worker.outs) workers.old ≡ map (λ part. Ok part) parts.items) }
 {
@@ -159,8 +162,8 @@ fn take_parts(alloc: Global, workers: &mut [Worker]) -> Result<Vec<Vec<Numbered<
     Ok(parts)
 }
 
-/// The entries of a batch and the sum of its candidates, of the answers in the order of the jobs.
-fn batch_out(alloc: Global, merged: Vec<Numbered<JobOut>>) -> Result<BatchOut, NoMemory>
+/// The entries of a batch and the sum of its candidates, of what was found in the order of the jobs.
+fn batch_out(alloc: Global, merged: Vec<Numbered<JobFound>>) -> Result<BatchOut, NoMemory>
     ensures hits { IfOk result (λ out. out.hits ≡ map (λ answer. answer.value.hits) merged.items) }
     ensures tries { IfOk result (λ out. out.tries ≡ sum_by (λ answer. answer.value.tries) merged.items) }
 {
@@ -176,7 +179,33 @@ fn batch_out(alloc: Global, merged: Vec<Numbered<JobOut>>) -> Result<BatchOut, N
     })
 }
 
-/// The answers of all lanes to a batch.
+/// What all lanes find of a batch, in the order of its jobs.
+fn search_batch<P: Pattern, G: Gate, R: Threads + Sync>(
+    rt: &R,
+    alloc: Global,
+    workers: &mut [Worker],
+    jobs: &[Job],
+    detector: &Detector<'_, P>,
+    gate: &G,
+) -> Result<Vec<Numbered<JobFound>>, NoMemory>
+    requires some { 0 < length workers.old }
+    requires few { length workers.old ≤ 64 }
+    requires ascend { AscendsBy (λ (job : Job). job.number) jobs.now }
+    requires sound { AreSoundAmong (length detector.now.stream.now.engines) workers.old jobs.now }
+    requires config { IsStreamConfig detector.now.stream.now }
+    requires groups { StandFor detector.now.groups.now detector.now.set.now.rules }
+    requires triable { All IsTriable detector.now.set.now.rules }
+    ensures finds { IfOk result (λ found. HaveSearched P.finds detector.now.stream.now detector.now.set.now
+        detector.now.all (lanes_of workers.old) jobs.now found.items (lanes_of workers.new)) }
+    ensures learns { OnOk result (HaveLearnt (lanes_of workers.old) jobs.now (lanes_of workers.new)) }
+{
+    run_all(rt, alloc, workers, jobs, detector, gate);
+    let parts = take_parts(alloc, workers)?;
+    let found = merge(alloc, parts)?;
+    Ok(found)
+}
+
+/// The answers of all lanes to a batch: all items are told.
 fn answer_batch<P: Pattern, G: Gate, R: Threads + Sync>(
     rt: &R,
     alloc: Global,
@@ -185,6 +214,7 @@ fn answer_batch<P: Pattern, G: Gate, R: Threads + Sync>(
     detector: &Detector<'_, P>,
     gate: &G,
 ) -> Result<BatchOut, NoMemory>
+    requires all { detector.now.all ≡ true }
     requires some { 0 < length workers.old }
     requires few { length workers.old ≤ 64 }
     requires ascend { AscendsBy (λ (job : Job). job.number) jobs.now }
@@ -192,13 +222,40 @@ fn answer_batch<P: Pattern, G: Gate, R: Threads + Sync>(
     requires config { IsStreamConfig detector.now.stream.now }
     requires groups { StandFor detector.now.groups.now detector.now.set.now.rules }
     requires triable { All IsTriable detector.now.set.now.rules }
-    ensures { IfOk result (λ out. HaveAnswered P.finds detector.now.stream.now detector.now.set.now
+    ensures answers { IfOk result (λ out. HaveAnswered P.finds detector.now.stream.now detector.now.set.now
         (lanes_of workers.old) jobs.now out (lanes_of workers.new)) }
+    ensures learns { OnOk result (HaveLearnt (lanes_of workers.old) jobs.now (lanes_of workers.new)) }
 {
-    run_all(rt, alloc, workers, jobs, detector, gate);
-    let parts = take_parts(alloc, workers)?;
-    let merged = merge(alloc, parts)?;
-    batch_out(alloc, merged)
+    let found = search_batch(rt, alloc, workers, jobs, detector, gate)?;
+    let out = batch_out(alloc, found)?;
+    Ok(out)
+}
+
+/// The matches of all lanes in a batch: the items are told that a rule matches.
+fn match_batch<P: Pattern, G: Gate, R: Threads + Sync>(
+    rt: &R,
+    alloc: Global,
+    workers: &mut [Worker],
+    jobs: &[Job],
+    detector: &Detector<'_, P>,
+    gate: &G,
+    out: &mut Matches,
+) -> Result<(), NoMemory>
+    requires matched { detector.now.all ≡ false }
+    requires some { 0 < length workers.old }
+    requires few { length workers.old ≤ 64 }
+    requires ascend { AscendsBy (λ (job : Job). job.number) jobs.now }
+    requires sound { AreSoundAmong (length detector.now.stream.now.engines) workers.old jobs.now }
+    requires config { IsStreamConfig detector.now.stream.now }
+    requires groups { StandFor detector.now.groups.now detector.now.set.now.rules }
+    requires triable { All IsTriable detector.now.set.now.rules }
+    ensures finds { OnOk result (HaveMatched P.finds detector.now.stream.now detector.now.set.now
+        (lanes_of workers.old) jobs.now out.new (lanes_of workers.new)) }
+    ensures learns { OnOk result (HaveLearnt (lanes_of workers.old) jobs.now (lanes_of workers.new)) }
+{
+    let found = search_batch(rt, alloc, workers, jobs, detector, gate)?;
+    out.fill(found)?;
+    Ok(())
 }
 
 /// Lanes, each with flows of its own: flow f is in lane f modulo their number. Contracts see each lane,
@@ -294,11 +351,68 @@ impl Lanes {
             stream,
             set,
             groups,
+            all: true,
         };
         match answer_batch(rt, alloc, &mut self.workers, jobs, &detector, gate) {
             Ok(out) => {
                 self.greatest = greatest_number(self.greatest, jobs);
                 Ok(out)
+            }
+            Err(_) => {
+                self.failed = true;
+                Err(BatchFault::NoMemory)
+            }
+        }
+    }
+
+    /// The matches of a batch of jobs: an entry for each job, in the order of the jobs, with those of its
+    /// items that a rule matches, and how many items and candidates there are in all (specs/Standing). It
+    /// asks of the jobs what `batch` asks, finds what `batch` finds, and leaves the lanes as `batch` leaves
+    /// them. An item without a candidate costs its test for candidates and a count.
+    ///
+    /// # Errors
+    ///
+    /// Those of `batch`. Nothing is said of `out` then.
+    pub fn search<P: Pattern, G: Gate, R: Threads + Sync>(
+        &mut self,
+        rt: &R,
+        alloc: Global,
+        jobs: &[Job],
+        stream: &StreamConfig,
+        set: &RuleSet<P>,
+        groups: &Groups,
+        gate: &G,
+        out: &mut Matches,
+    ) -> Result<(), BatchFault>
+        requires sound { AreSoundFor (length stream.now.engines) self.old jobs.now }
+        requires next { AreNext self.old jobs.now }
+        requires config { IsStreamConfig stream.now }
+        requires groups { StandFor groups.now set.now.rules }
+        requires triable { All IsTriable set.now.rules }
+
+        // Each entry is the definition's, with its items that a rule matches, and the lanes have learnt of
+        // each job.
+        ensures finds { OnOk result (SearchesBatch P.finds stream.now set.now self.old jobs.now out.new self.new) }
+        ensures learns { OnOk result (LearnsBatch self.old jobs.now self.new) }
+
+        // Want of memory is kept in mind, and is all that is.
+        ensures failed { (result ≡ Err BatchFault.Failed) ↔ HasFailed self.old }
+        ensures fails { OnErr result (HasFailed self.new) }
+        ensures works { OnOk result (self.new.failed ≡ false) }
+    {
+        if self.failed {
+            return Err(BatchFault::Failed);
+        }
+        let detector = Detector {
+            stream,
+            set,
+            groups,
+            all: false,
+        };
+        match match_batch(rt, alloc, &mut self.workers, jobs, &detector, gate, out) {
+            Ok(()) => {
+                self.greatest = greatest_number(self.greatest, jobs);
+                Ok(())
             }
             Err(_) => {
                 self.failed = true;

@@ -7,12 +7,14 @@ ghost use Rattle.fast_pattern.specs.Grouping.{StandFor};
 ghost use Rattle.option_eval.specs.Places.{Means};
 ghost use Rattle.flow_lanes.specs.Detecting.{SettlesBy};
 ghost use Rattle.flow_lanes.specs.Flows.{bits_at_hand, session_at_hand, steered};
-ghost use Rattle.flow_lanes.specs.ItemHits.{Trying, hits_of};
+ghost use Rattle.flow_lanes.specs.Given.{packet_of};
+ghost use Rattle.flow_lanes.specs.ItemHits.{Trying, hits_of, told};
 ghost use Rattle.flow_lanes.specs.Kept.{KeepsFound};
 ghost use Rattle.flow_lanes.specs.Tried.{TriesAll, TriesBy, candidates_of};
 ghost use Rattle.flow_lanes.specs.Working.{own_item};
 
 use crate::answer::Hits;
+use crate::arrival::Arrival;
 use crate::item::Item;
 use crate::keeping::FlowState;
 use crate::matcher::Matcher;
@@ -20,7 +22,7 @@ use crate::steering::steer;
 use crate::tally::{Tally, try_items, try_own};
 use edge_io::{NoMemory, Pattern};
 use flowbit_state::Bits;
-use packet_decode::ItemHead;
+use packet_decode::SessionFacts;
 use rule_types::Rule;
 use stream5_sessions::Step;
 
@@ -58,22 +60,24 @@ fn bits_found(tracked: bool, found: &mut Option<FlowState>) -> Option<Bits>
 fn try_current<P: Pattern>(
     matcher: &Matcher<'_, P>,
     streams: &[Item],
-    own: &Option<ItemHead>,
-    payload: &[u8],
+    own: &Option<SessionFacts>,
+    p: &Arrival,
     bits: &mut Option<Bits>,
     tally: &mut Tally,
 ) -> Result<(), NoMemory>
     requires groups { StandFor matcher.now.groups.now matcher.now.set.now.rules }
     requires triable { All IsTriable matcher.now.set.now.rules }
     ensures hits { (means : Means) (trying : Trying) → TriesBy P.finds means matcher.now.set.now trying
-        → OnOk result (TriesAll trying (streams.now ++ own_item payload.now own.now) bits.old bits.new
-        tally.old.hits.items tally.new.hits.items) }
+        → OnOk result (TriesAll matcher.now.all trying (streams.now ++ own_item (packet_of p.now) own.now)
+        bits.old bits.new tally.old.hits.items tally.new.hits.items) }
+    ensures items { OnOk result (tally.new.items
+        ≡ tally.old.items + length (streams.now ++ own_item (packet_of p.now) own.now)) }
     ensures tries { OnOk result (tally.new.tries
-        ≡ tally.old.tries + candidates_of matcher.now.set.now.rules (streams.now ++ own_item payload.now own.now)) }
+        ≡ tally.old.tries + candidates_of matcher.now.set.now.rules (streams.now ++ own_item (packet_of p.now) own.now)) }
     ensures more { OnOk result (length tally.old.hits.items ≤ length tally.new.hits.items) }
 {
     try_items(matcher, streams, bits, tally)?;
-    try_own(matcher, own, payload, bits, tally)?;
+    try_own(matcher, own, p, bits, tally)?;
     Ok(())
 }
 
@@ -130,7 +134,8 @@ pub(crate) fn try_at_end<P: Pattern>(
     requires triable { All IsTriable matcher.now.set.now.rules }
     ensures hits { (means : Means) (trying : Trying) → TriesBy P.finds means matcher.now.set.now trying
         → OnOk result (tally.new.hits.items
-        ≡ tally.old.hits.items ++ hits_of trying (bits_at_hand found.old) items.now) }
+        ≡ tally.old.hits.items ++ told matcher.now.all (hits_of trying (bits_at_hand found.old) items.now)) }
+    ensures items { OnOk result (tally.new.items ≡ tally.old.items + length items.now) }
     ensures tries { OnOk result (tally.new.tries
         ≡ tally.old.tries + candidates_of matcher.now.set.now.rules items.now) }
     ensures found { found.new ≡ None }
@@ -146,8 +151,8 @@ pub(crate) fn try_at_end<P: Pattern>(
 pub(crate) fn try_and_settle<P: Pattern>(
     matcher: &Matcher<'_, P>,
     streams: &[Item],
-    own: &Option<ItemHead>,
-    payload: &[u8],
+    own: &Option<SessionFacts>,
+    p: &Arrival,
     step: &Step,
     found: &mut Option<FlowState>,
     tally: &mut Tally,
@@ -155,15 +160,17 @@ pub(crate) fn try_and_settle<P: Pattern>(
     requires groups { StandFor matcher.now.groups.now matcher.now.set.now.rules }
     requires triable { All IsTriable matcher.now.set.now.rules }
     ensures hits { (means : Means) (trying : Trying) → TriesBy P.finds means matcher.now.set.now trying
-        → OnOk result (SettlesBy trying (streams.now ++ own_item payload.now own.now) step.now.tracked step.now.ends
-        found.old found.new tally.old.hits.items tally.new.hits.items) }
+        → OnOk result (SettlesBy matcher.now.all trying (streams.now ++ own_item (packet_of p.now) own.now)
+        step.now.tracked step.now.ends found.old found.new tally.old.hits.items tally.new.hits.items) }
+    ensures items { OnOk result (tally.new.items
+        ≡ tally.old.items + length (streams.now ++ own_item (packet_of p.now) own.now)) }
     ensures tries { OnOk result (tally.new.tries
-        ≡ tally.old.tries + candidates_of matcher.now.set.now.rules (streams.now ++ own_item payload.now own.now)) }
+        ≡ tally.old.tries + candidates_of matcher.now.set.now.rules (streams.now ++ own_item (packet_of p.now) own.now)) }
     ensures keeps { KeepsFound found.old found.new }
 {
     let first = tally.hits.len();
     let mut bits = bits_found(step.tracked, found);
-    try_current(matcher, streams, own, payload, &mut bits, tally)?;
+    try_current(matcher, streams, own, p, &mut bits, tally)?;
     end_if(step.ends, found);
     settle(matcher.set.rules(), &tally.hits, first, bits, found);
     Ok(())

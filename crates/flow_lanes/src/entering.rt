@@ -9,7 +9,7 @@ ghost use Rattle.flow_lanes.specs.Items.{facts_of, is_queued, session_behind};
 ghost use Rattle.flow_lanes.specs.Kept.{GrowsFound, IsFound, IsOf, KeepsFound};
 ghost use Rattle.flow_lanes.specs.Reach.{AreWithin, HasLimits, IsWithin};
 ghost use Rattle.flow_lanes.specs.Sessions.{Session as Standing, begun_session, session_of, settled, sizes_of, with_bases};
-ghost use Rattle.flow_lanes.specs.Working.{TellsLeftAt, items_on, own_head, own_item, sizes_behind, streams_of};
+ghost use Rattle.flow_lanes.specs.Working.{TellsLeftAt, items_on, own_facts, own_item, sizes_behind, streams_of};
 
 use crate::arrival::Arrival;
 use crate::item::Item;
@@ -19,7 +19,7 @@ use crate::settings::Settings;
 use crate::streams::push_maybe;
 use edge_io::NoMemory;
 use flowbit_state::Bits;
-use packet_decode::{ItemHead, SessionFacts};
+use packet_decode::SessionFacts;
 use std::alloc::Global;
 use stream5_sessions::{Session as Phases, Step};
 
@@ -156,28 +156,25 @@ fn facts_of(p: &Arrival, step: &Step, after: &Option<FlowState>) -> SessionFacts
     }
 }
 
-/// The head of the packet's own item, unless its data were queued and such packets are no items.
-fn own_head(
+/// The session facts of the packet's own item, unless its data were queued and such packets are no items.
+fn own_facts(
     inserts: bool,
     p: &Arrival,
     step: &Step,
     queued: bool,
     after: &Option<FlowState>,
-) -> Option<ItemHead>
+) -> Option<SessionFacts>
     ensures { (told : Option Standing) → option_map sizes_of (session_at_hand after.now) ≡ option_map sizes_of told
-        → result ≡ own_head inserts (packet_of p.now) step.now queued told }
+        → result ≡ own_facts inserts (packet_of p.now) step.now queued told }
 {
     if queued && !inserts {
         return None;
     }
-    Some(ItemHead {
-        session: facts_of(p, step, after),
-        ..*p.head
-    })
+    Some(facts_of(p, step, after))
 }
 
 /// Appends the streams of the packet's session, which is then as the packet leaves it before an end: the
-/// head of the packet's own item, if it is one.
+/// session facts of the packet's own item, if it is one.
 pub(crate) fn push_current(
     alloc: Global,
     settings: &Settings,
@@ -186,11 +183,11 @@ pub(crate) fn push_current(
     state: Phases,
     found: &mut Option<FlowState>,
     out: &mut Vec<Item>,
-) -> Result<Option<ItemHead>, NoMemory>
+) -> Result<Option<SessionFacts>, NoMemory>
     requires limits { HasLimits (making_of settings.now) }
     requires within { IsWithin (session_at_hand found.old) (2 ^ 63 - 2 ^ 31) }
     requires size { length p.now.payload.now ≤ 65535 }
-    ensures items { IfOk result (λ own. out.new.items ++ own_item p.now.payload.now own ≡ out.old.items
+    ensures items { IfOk result (λ own. out.new.items ++ own_item (packet_of p.now) own ≡ out.old.items
         ++ items_on (making_of settings.now) (packet_of p.now) step.now state (session_at_hand found.old)) }
     ensures state { step.now.ends ≡ false
         → OnOk result (session_at_hand found.new ≡ session_behind (packet_of p.now) step.now
@@ -203,5 +200,5 @@ pub(crate) fn push_current(
     let left = take_left_stretches(alloc, found)?;
     enter(alloc, settings, p, step, state, found);
     let queued = take_packet(alloc, p, step, left, found, out)?;
-    Ok(own_head(settings.inserts, p, step, queued, found))
+    Ok(own_facts(settings.inserts, p, step, queued, found))
 }

@@ -119,6 +119,28 @@ fn pick_all<P: Pattern>(
     Ok(found)
 }
 
+/// The candidates of an item that match it, which are all rules that do, and the bits of its session behind
+/// them.
+pub(crate) fn matching_among<P: Pattern>(
+    alloc: Global,
+    set: &RuleSet<P>,
+    places: &[u32],
+    head: &ItemHead,
+    payload: &[u8],
+    bits: &mut Option<Bits>,
+) -> Result<Items<u32>, NoMemory>
+    requires candidates { places.now ≡ candidates set.now.rules head.now.body payload.now }
+    requires triable { All IsTriable set.now.rules }
+    ensures hits { (means : Means) → FindWhatIsMeant P.finds means set.now
+        → IfOk result (λ rules. AreHits means set.now.rules (record { head = head.now; payload = payload.now })
+        bits.old rules) }
+    ensures bits { (means : Means) → FindWhatIsMeant P.finds means set.now
+        → IfOk result (λ rules. bits.new ≡ bits_after_all set.now.rules bits.old rules) }
+{
+    let found = pick_all(alloc, set, places, head, payload, bits)?;
+    Ok(Items::from_vec(found))
+}
+
 /// All rules of the set that match an item, and the bits of its session behind them: each rule sees the
 /// bits that the rules before it left (specs/Hits). `groups` are those of the set's rules, so that no
 /// rule but a candidate is tried. An item without a session has no bits, None.
@@ -143,9 +165,9 @@ pub fn matching_rules<P: Pattern>(
 {
     let mut places = Vec::new(alloc);
     groups.candidates(alloc, head, payload, &mut places)?;
-    let found = pick_all(alloc, set, &places, head, payload, bits)?;
+    let rules = matching_among(alloc, set, &places, head, payload, bits)?;
     Ok(Found {
-        rules: Items::from_vec(found),
+        rules,
         tries: places.len(),
     })
 }

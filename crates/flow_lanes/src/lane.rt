@@ -6,13 +6,15 @@ ghost use Rattle.fast_pattern.specs.Grouping.{StandFor};
 ghost use Rattle.rule_types.specs.Sound.{IsTriable};
 ghost use Rattle.flow_lanes.specs.Sound.{IsSoundFor};
 ghost use Rattle.flow_lanes.specs.Standing.{AnswersJob, CountsTries, LearnsJob, known_of, new_lane};
+ghost use Rattle.flow_lanes.specs.Batching.{SearchesJob};
 
-use crate::answer::{JobHits, JobOut};
+use crate::answer::{JobFound, JobHits, JobOut};
 use crate::job::Job;
 use crate::keeping::Flows;
 use crate::matcher::Matcher;
 use crate::settings::Settings;
 use crate::tally::Tally;
+use crate::worker::Detector;
 use crate::working::do_work;
 use conf_types::StreamConfig;
 use edge_io::{Items, NoMemory, Pattern};
@@ -46,18 +48,20 @@ impl Model for Lane {
     ghost invariant = { λ lane. 1 ≤ lane.flush };
 }
 
-/// The answer to a job.
-fn job_out(job: &Job, tally: Tally) -> JobOut
+/// What was found of a job.
+fn job_found(job: &Job, tally: Tally) -> JobFound
     ensures number { result.hits.number ≡ job.now.number }
-    ensures items { result.hits.items ≡ tally.hits.items }
+    ensures told { result.hits.items ≡ tally.hits.items }
+    ensures items { result.items ≡ tally.items }
     ensures tries { result.tries ≡ tally.tries }
 {
-    let Tally { hits, tries } = tally;
-    JobOut {
+    let Tally { hits, items, tries } = tally;
+    JobFound {
         hits: JobHits {
             number: job.number,
             items: Items::from_vec(hits),
         },
+        items,
         tries,
     }
 }
@@ -100,14 +104,47 @@ impl Lane {
         ensures learns { OnOk result (LearnsJob self.old job.now self.new) }
         ensures tries { IfOk result (λ out. CountsTries P.finds stream.now set.now self.old job.now out.tries) }
     {
+        let detector = Detector {
+            stream,
+            set,
+            groups,
+            all: true,
+        };
+        let found = self.search(alloc, job, &detector)?;
+        Ok(JobOut {
+            hits: found.hits,
+            tries: found.tries,
+        })
+    }
+
+    /// What is found of one job, of whose items those are told that the detector asks for (`job`).
+    pub(crate) fn search<P: Pattern>(
+        &mut self,
+        alloc: Global,
+        job: &Job,
+        detector: &Detector<'_, P>,
+    ) -> Result<JobFound, NoMemory>
+        requires sound { IsSoundFor (length detector.now.stream.now.engines) (known_of self.old job.now) job.now }
+        requires config { IsStreamConfig detector.now.stream.now }
+        requires groups { StandFor detector.now.groups.now detector.now.set.now.rules }
+        requires triable { All IsTriable detector.now.set.now.rules }
+        ensures finds { IfOk result (λ found. SearchesJob P.finds detector.now.stream.now detector.now.set.now
+            detector.now.all self.old job.now found self.new) }
+        ensures learns { OnOk result (LearnsJob self.old job.now self.new) }
+    {
         let settings = Settings {
             flush: self.flush,
             inserts: self.inserts,
-            stream,
+            stream: detector.stream,
         };
-        let matcher = Matcher { alloc, set, groups };
+        let matcher = Matcher {
+            alloc,
+            set: detector.set,
+            groups: detector.groups,
+            all: detector.all,
+        };
         let flows = &mut self.flows;
         let tally = do_work(&matcher, &settings, job.moment, &job.work, flows)?;
-        Ok(job_out(job, tally))
+        Ok(job_found(job, tally))
     }
 }

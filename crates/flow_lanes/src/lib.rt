@@ -33,7 +33,7 @@ mod tally;
 mod worker;
 mod working;
 
-pub use answer::{BatchFault, BatchOut, Hits, JobHits, JobOut};
+pub use answer::{BatchFault, BatchOut, Hits, JobHits, JobOut, Matches};
 pub use batch::Lanes;
 pub use facts::{EndWay, FlowEnds, FlowFacts};
 pub use hits::{Found, matching_rules};

@@ -7,7 +7,7 @@ ghost use Rattle.option_eval.specs.Places.{Means};
 ghost use Rattle.flow_lanes.specs.Detecting.{DetectsOn, GoesOn};
 ghost use Rattle.flow_lanes.specs.Flows.{all_items, bits_at_hand, hits_in, session_at_hand};
 ghost use Rattle.flow_lanes.specs.Given.{making_of, packet_of};
-ghost use Rattle.flow_lanes.specs.ItemHits.{Trying, hits_of};
+ghost use Rattle.flow_lanes.specs.ItemHits.{Trying, hits_of, told};
 ghost use Rattle.flow_lanes.specs.Items.{finish_items, packet_items};
 ghost use Rattle.flow_lanes.specs.Kept.{IsFound, KeepsFound};
 ghost use Rattle.flow_lanes.specs.Reach.{HasLimits, IsWithin};
@@ -59,7 +59,10 @@ pub(crate) fn end_session<P: Pattern>(
     requires triable { All IsTriable matcher.now.set.now.rules }
     ensures hits { (means : Means) (trying : Trying) → TriesBy P.finds means matcher.now.set.now trying
         → OnOk result (tally.new.hits.items ≡ tally.old.hits.items
-        ++ hits_of trying (bits_at_hand found.old) (ended_items moment true (session_at_hand found.old))) }
+        ++ told matcher.now.all (hits_of trying (bits_at_hand found.old)
+        (ended_items moment true (session_at_hand found.old)))) }
+    ensures items { OnOk result (tally.new.items ≡ tally.old.items
+        + length (ended_items moment true (session_at_hand found.old))) }
     ensures tries { OnOk result (tally.new.tries ≡ tally.old.tries
         + candidates_of matcher.now.set.now.rules (ended_items moment true (session_at_hand found.old))) }
     ensures found { OnOk result (found.new ≡ None) }
@@ -84,7 +87,10 @@ fn end_before<P: Pattern>(
     requires triable { All IsTriable matcher.now.set.now.rules }
     ensures hits { (means : Means) (trying : Trying) → TriesBy P.finds means matcher.now.set.now trying
         → OnOk result (tally.new.hits.items ≡ tally.old.hits.items
-        ++ hits_of trying (bits_at_hand found.old) (ended_items moment ended (session_at_hand found.old))) }
+        ++ told matcher.now.all (hits_of trying (bits_at_hand found.old)
+        (ended_items moment ended (session_at_hand found.old)))) }
+    ensures items { OnOk result (tally.new.items ≡ tally.old.items
+        + length (ended_items moment ended (session_at_hand found.old))) }
     ensures tries { OnOk result (tally.new.tries ≡ tally.old.tries
         + candidates_of matcher.now.set.now.rules (ended_items moment ended (session_at_hand found.old))) }
     ensures found { OnOk result (found.new ≡ unless_ended ended found.old) }
@@ -112,8 +118,10 @@ fn go_on<P: Pattern>(
     requires groups { StandFor matcher.now.groups.now matcher.now.set.now.rules }
     requires triable { All IsTriable matcher.now.set.now.rules }
     ensures hits { (means : Means) (trying : Trying) → TriesBy P.finds means matcher.now.set.now trying
-        → OnOk result (GoesOn trying (making_of settings.now) (packet_of p.now) step.now state
+        → OnOk result (GoesOn matcher.now.all trying (making_of settings.now) (packet_of p.now) step.now state
         found.old found.new tally.old.hits.items tally.new.hits.items) }
+    ensures items { OnOk result (tally.new.items ≡ tally.old.items + length
+        (items_on (making_of settings.now) (packet_of p.now) step.now state (session_at_hand found.old))) }
     ensures tries { OnOk result (tally.new.tries ≡ tally.old.tries + candidates_of matcher.now.set.now.rules
         (items_on (making_of settings.now) (packet_of p.now) step.now state (session_at_hand found.old))) }
     ensures grows { (tcp : Bool) (places : ℕ) → state.tcp ≡ tcp → IsFound tcp places (session_at_hand found.old)
@@ -122,7 +130,7 @@ fn go_on<P: Pattern>(
     let alloc = matcher.alloc;
     let mut items = Vec::new(alloc);
     let own = push_current(alloc, settings, p, step, state, found, &mut items)?;
-    try_and_settle(matcher, &items, &own, p.payload, step, found, tally)?;
+    try_and_settle(matcher, &items, &own, p, step, found, tally)?;
     Ok(())
 }
 
@@ -142,8 +150,10 @@ fn packet_on<P: Pattern>(
     requires triable { All IsTriable matcher.now.set.now.rules }
     ensures detects { (means : Means) (trying : Trying) → TriesBy P.finds means matcher.now.set.now trying
         → tally.old.hits.items ≡ []
-        → OnOk result (DetectsOn trying (packet_items (making_of settings.now) (packet_of p.now)
+        → OnOk result (DetectsOn matcher.now.all trying (packet_items (making_of settings.now) (packet_of p.now)
         (session_at_hand found.old)) found.old tally.new.hits.items found.new) }
+    ensures items { OnOk result (tally.new.items ≡ tally.old.items + length
+        (all_items (packet_items (making_of settings.now) (packet_of p.now) (session_at_hand found.old)))) }
     ensures tries { OnOk result (tally.new.tries ≡ tally.old.tries + candidates_of matcher.now.set.now.rules
         (all_items (packet_items (making_of settings.now) (packet_of p.now) (session_at_hand found.old)))) }
     ensures grows { (places : ℕ) → IsFound (is_tcp p.now.head.now.body) places (session_at_hand found.old)
@@ -170,8 +180,11 @@ impl Flow {
         requires sound { IsSoundPacket (length settings.now.stream.now.engines) (Some self.old.facts)
             (packet_of p.now) }
         ensures detects { (means : Means) (trying : Trying) → TriesBy P.finds means matcher.now.set.now trying
-            → IfOk result (λ tally. DetectsOn trying (packet_items (making_of settings.now) (packet_of p.now)
-            (session_at_hand self.old.found)) self.old.found tally.hits.items self.new.found) }
+            → IfOk result (λ tally. DetectsOn matcher.now.all trying
+            (packet_items (making_of settings.now) (packet_of p.now) (session_at_hand self.old.found))
+            self.old.found tally.hits.items self.new.found) }
+        ensures items { IfOk result (λ tally. tally.items ≡ length
+            (all_items (packet_items (making_of settings.now) (packet_of p.now) (session_at_hand self.old.found)))) }
         ensures tries { IfOk result (λ tally. tally.tries ≡ candidates_of matcher.now.set.now.rules
             (all_items (packet_items (making_of settings.now) (packet_of p.now) (session_at_hand self.old.found)))) }
         ensures facts { self.new.facts ≡ record { ends = self.old.facts.ends; packets = self.old.facts.packets + 1 } }
@@ -192,7 +205,9 @@ impl Flow {
         requires triable { All IsTriable matcher.now.set.now.rules }
         ensures hits { (means : Means) (trying : Trying) → TriesBy P.finds means matcher.now.set.now trying
             → IfOk result (λ tally. tally.hits.items
-            ≡ hits_in trying (finish_items moment (session_at_hand self.found)) self.found) }
+            ≡ told matcher.now.all (hits_in trying (finish_items moment (session_at_hand self.found)) self.found)) }
+        ensures items { IfOk result (λ tally. tally.items ≡ length
+            (all_items (finish_items moment (session_at_hand self.found)))) }
         ensures tries { IfOk result (λ tally. tally.tries ≡ candidates_of matcher.now.set.now.rules
             (all_items (finish_items moment (session_at_hand self.found)))) }
     {

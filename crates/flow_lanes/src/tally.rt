@@ -1,29 +1,33 @@
 //! The items of a job with all rules that match them (specs/ItemHits, specs/Flows).
 
-ghost use Rattle.std.specs.Prelude.{◌≡◌, ◌+◌, ◌≤◌, [], length, All, OnOk};
+ghost use Rattle.std.specs.Prelude.{◌≡◌, ◌+◌, ◌≤◌, ◌++◌, [], ◌∷◌, length, All, IfOk, OnOk};
 ghost use Rattle.rule_types.specs.Sound.{IsTriable};
 ghost use Rattle.fast_pattern.specs.Candidates.{candidates};
 ghost use Rattle.fast_pattern.specs.Grouping.{StandFor};
 ghost use Rattle.option_eval.specs.Places.{Means};
 ghost use Rattle.option_eval.specs.RuleSet.{FindWhatIsMeant};
-ghost use Rattle.flow_lanes.specs.ItemHits.{Trying};
-ghost use Rattle.flow_lanes.specs.Working.{own_item};
+ghost use Rattle.flow_lanes.specs.Given.{packet_of};
+ghost use Rattle.flow_lanes.specs.ItemHits.{Trying, told};
+ghost use Rattle.flow_lanes.specs.Working.{item_with, own_item};
 ghost use Rattle.flow_lanes.specs.Tried.{TriesAll, TriesBy, TriesOne, candidates_of};
 
 use crate::answer::Hits;
-use crate::hits::{Found, matching_rules};
+use crate::arrival::Arrival;
+use crate::hits::matching_among;
 use crate::item::Item;
 use crate::matcher::Matcher;
-use edge_io::{NoMemory, Pattern};
+use edge_io::{Items, NoMemory, Pattern};
 use flowbit_state::Bits;
-use packet_decode::ItemHead;
+use packet_decode::{ItemHead, SessionFacts};
 use std::alloc::Global;
 
 /// What was found of the items of a job so far.
 #[derive(Drop)]
 pub(crate) struct Tally {
-    /// The items with all rules that match them.
+    /// The items that are told, with all rules that match them.
     pub hits: Vec<Hits>,
+    /// How many items there were.
+    pub items: u64,
     /// How many candidates they had.
     pub tries: u64,
 }
@@ -32,17 +36,86 @@ impl Tally {
     /// Nothing was found. Takes no memory.
     pub fn new(alloc: Global) -> Tally
         ensures hits { result.hits.items ≡ [] }
+        ensures items { result.items ≡ 0 }
         ensures tries { result.tries ≡ 0 }
     {
         Tally {
             hits: Vec::new(alloc),
+            items: 0,
             tries: 0,
         }
     }
+
+    /// One item more, of so many candidates. A job of which the items or the candidates cannot be counted has
+    /// more items than memory holds.
+    fn count(&mut self, tries: usize) -> Result<(), NoMemory>
+        ensures items { OnOk result (self.new.items ≡ self.old.items + 1) }
+        ensures tries { OnOk result (self.new.tries ≡ self.old.tries + tries) }
+        ensures hits { self.new.hits.items ≡ self.old.hits.items }
+    {
+        self.items = self.items.checked_add(1).ok_or(NoMemory)?;
+        self.tries = self.tries.checked_add(tries as u64).ok_or(NoMemory)?;
+        Ok(())
+    }
+
+    /// Tells an item with the rules that match it: where none does, only if all items are told.
+    fn tell(&mut self, all: bool, head: &ItemHead, rules: Items<u32>) -> Result<(), NoMemory>
+        ensures hits { OnOk result (self.new.hits.items
+            ≡ self.old.hits.items ++ told all (record { head = head.now; rules = rules } ∷ [])) }
+        ensures items { self.new.items ≡ self.old.items }
+        ensures tries { self.new.tries ≡ self.old.tries }
+        ensures more { OnOk result (length self.old.hits.items ≤ length self.new.hits.items) }
+    {
+        if all || !rules.as_slice().is_empty() {
+            self.hits.push(Hits { head: *head, rules })?;
+        }
+        Ok(())
+    }
 }
 
-/// Tries the rules on an item. A job of which the candidates cannot be counted has more items than memory
-/// holds.
+/// The places of the rules that are worth being tried on an item.
+fn item_candidates<P: Pattern>(
+    matcher: &Matcher<'_, P>,
+    head: &ItemHead,
+    payload: &[u8],
+) -> Result<Vec<u32>, NoMemory>
+    requires groups { StandFor matcher.now.groups.now matcher.now.set.now.rules }
+    ensures { IfOk result (λ places. places.items
+        ≡ candidates matcher.now.set.now.rules head.now.body payload.now) }
+{
+    let mut places = Vec::new(matcher.alloc);
+    matcher
+        .groups
+        .candidates(matcher.alloc, head, payload, &mut places)?;
+    Ok(places)
+}
+
+/// Tries the candidates of an item.
+fn try_candidates<P: Pattern>(
+    matcher: &Matcher<'_, P>,
+    places: &[u32],
+    head: &ItemHead,
+    payload: &[u8],
+    bits: &mut Option<Bits>,
+    tally: &mut Tally,
+) -> Result<(), NoMemory>
+    requires candidates { places.now ≡ candidates matcher.now.set.now.rules head.now.body payload.now }
+    requires triable { All IsTriable matcher.now.set.now.rules }
+    ensures hits { (means : Means) (trying : Trying) → TriesBy P.finds means matcher.now.set.now trying
+        → OnOk result (TriesOne matcher.now.all trying (record { head = head.now; payload = payload.now })
+        bits.old bits.new tally.old.hits.items tally.new.hits.items) }
+    ensures items { OnOk result (tally.new.items ≡ tally.old.items + 1) }
+    ensures tries { OnOk result (tally.new.tries
+        ≡ tally.old.tries + length (candidates matcher.now.set.now.rules head.now.body payload.now)) }
+    ensures more { OnOk result (length tally.old.hits.items ≤ length tally.new.hits.items) }
+{
+    let rules = matching_among(matcher.alloc, matcher.set, places, head, payload, bits)?;
+    tally.count(places.len())?;
+    tally.tell(matcher.all, head, rules)?;
+    Ok(())
+}
+
+/// Tries the rules on an item.
 pub(crate) fn try_item<P: Pattern>(
     matcher: &Matcher<'_, P>,
     head: &ItemHead,
@@ -53,45 +126,70 @@ pub(crate) fn try_item<P: Pattern>(
     requires groups { StandFor matcher.now.groups.now matcher.now.set.now.rules }
     requires triable { All IsTriable matcher.now.set.now.rules }
     ensures hits { (means : Means) (trying : Trying) → TriesBy P.finds means matcher.now.set.now trying
-        → OnOk result (TriesOne trying (record { head = head.now; payload = payload.now }) bits.old bits.new
-        tally.old.hits.items tally.new.hits.items) }
+        → OnOk result (TriesOne matcher.now.all trying (record { head = head.now; payload = payload.now })
+        bits.old bits.new tally.old.hits.items tally.new.hits.items) }
+    ensures items { OnOk result (tally.new.items ≡ tally.old.items + 1) }
     ensures tries { OnOk result (tally.new.tries
         ≡ tally.old.tries + length (candidates matcher.now.set.now.rules head.now.body payload.now)) }
     ensures more { OnOk result (length tally.old.hits.items ≤ length tally.new.hits.items) }
 {
-    let Found { rules, tries } = matching_rules(
-        matcher.alloc,
-        matcher.set,
-        matcher.groups,
-        head,
-        payload,
-        bits,
-    )?;
-    tally.tries = tally.tries.checked_add(tries as u64).ok_or(NoMemory)?;
-    tally.hits.push(Hits { head: *head, rules })?;
-    Ok(())
+    let places = item_candidates(matcher, head, payload)?;
+    try_candidates(matcher, &places, head, payload, bits, tally)
 }
 
-/// Tries the rules on the packet's own item, if it is one.
-pub(crate) fn try_own<P: Pattern>(
+/// Tries the rules on a packet with these facts of its session. Its candidates go by its payload and by what its
+/// head says of the packet alone: where there is none and such an item is not told, no head is made with the
+/// facts.
+fn try_packet<P: Pattern>(
     matcher: &Matcher<'_, P>,
-    own: &Option<ItemHead>,
-    payload: &[u8],
+    facts: SessionFacts,
+    p: &Arrival,
     bits: &mut Option<Bits>,
     tally: &mut Tally,
 ) -> Result<(), NoMemory>
     requires groups { StandFor matcher.now.groups.now matcher.now.set.now.rules }
     requires triable { All IsTriable matcher.now.set.now.rules }
     ensures hits { (means : Means) (trying : Trying) → TriesBy P.finds means matcher.now.set.now trying
-        → OnOk result (TriesAll trying (own_item payload.now own.now) bits.old bits.new tally.old.hits.items
-        tally.new.hits.items) }
+        → OnOk result (TriesOne matcher.now.all trying (item_with (packet_of p.now) facts) bits.old bits.new
+        tally.old.hits.items tally.new.hits.items) }
+    ensures items { OnOk result (tally.new.items ≡ tally.old.items + 1) }
     ensures tries { OnOk result (tally.new.tries
-        ≡ tally.old.tries + candidates_of matcher.now.set.now.rules (own_item payload.now own.now)) }
+        ≡ tally.old.tries + length (candidates matcher.now.set.now.rules p.now.head.now.body p.now.payload.now)) }
+    ensures more { OnOk result (length tally.old.hits.items ≤ length tally.new.hits.items) }
+{
+    let places = item_candidates(matcher, p.head, p.payload)?;
+    if places.is_empty() && !matcher.all {
+        return tally.count(0);
+    }
+    let head = ItemHead {
+        session: facts,
+        ..*p.head
+    };
+    try_candidates(matcher, &places, &head, p.payload, bits, tally)
+}
+
+/// Tries the rules on the packet's own item, if it is one.
+pub(crate) fn try_own<P: Pattern>(
+    matcher: &Matcher<'_, P>,
+    own: &Option<SessionFacts>,
+    p: &Arrival,
+    bits: &mut Option<Bits>,
+    tally: &mut Tally,
+) -> Result<(), NoMemory>
+    requires groups { StandFor matcher.now.groups.now matcher.now.set.now.rules }
+    requires triable { All IsTriable matcher.now.set.now.rules }
+    ensures hits { (means : Means) (trying : Trying) → TriesBy P.finds means matcher.now.set.now trying
+        → OnOk result (TriesAll matcher.now.all trying (own_item (packet_of p.now) own.now) bits.old bits.new
+        tally.old.hits.items tally.new.hits.items) }
+    ensures items { OnOk result (tally.new.items
+        ≡ tally.old.items + length (own_item (packet_of p.now) own.now)) }
+    ensures tries { OnOk result (tally.new.tries
+        ≡ tally.old.tries + candidates_of matcher.now.set.now.rules (own_item (packet_of p.now) own.now)) }
     ensures more { OnOk result (length tally.old.hits.items ≤ length tally.new.hits.items) }
 {
     match own {
         None => Ok(()),
-        Some(head) => try_item(matcher, head, payload, bits, tally),
+        Some(facts) => try_packet(matcher, *facts, p, bits, tally),
     }
 }
 
@@ -105,7 +203,9 @@ pub(crate) fn try_items<P: Pattern>(
     requires groups { StandFor matcher.now.groups.now matcher.now.set.now.rules }
     requires triable { All IsTriable matcher.now.set.now.rules }
     ensures hits { (means : Means) (trying : Trying) → TriesBy P.finds means matcher.now.set.now trying
-        → OnOk result (TriesAll trying items.now bits.old bits.new tally.old.hits.items tally.new.hits.items) }
+        → OnOk result (TriesAll matcher.now.all trying items.now bits.old bits.new
+        tally.old.hits.items tally.new.hits.items) }
+    ensures items { OnOk result (tally.new.items ≡ tally.old.items + length items.now) }
     ensures tries { OnOk result (tally.new.tries
         ≡ tally.old.tries + candidates_of matcher.now.set.now.rules items.now) }
     ensures more { OnOk result (length tally.old.hits.items ≤ length tally.new.hits.items) }

@@ -10,7 +10,7 @@ ghost use Rattle.flow_lanes.specs.Sound.{IsSoundFor};
 ghost use Rattle.flow_lanes.specs.Standing.{LaneState, is_in_lane, known_of, lane_of, new_lane};
 ghost use Rattle.flow_lanes.specs.Batching.{AddsOut, AddsOwn, AreSoundIn, GoesOn, own_jobs};
 
-use crate::answer::JobOut;
+use crate::answer::JobFound;
 use crate::job::{Job, Work};
 use crate::lane::Lane;
 use conf_types::StreamConfig;
@@ -21,12 +21,14 @@ use ordered_merge::Numbered;
 use std::alloc::Global;
 use std::mem;
 
-/// By what the jobs of a batch are answered, the same for all lanes.
+/// By what the jobs of a batch are answered, the same for all lanes. With `all`, each item is told; without,
+/// those alone that a rule matches.
 #[derive(Drop)]
 pub(crate) struct Detector<'a, P> {
     pub stream: &'a StreamConfig,
     pub set: &'a RuleSet<P>,
     pub groups: &'a Groups,
+    pub all: bool,
 }
 
 /// A lane among so many, by its place.
@@ -64,16 +66,16 @@ fn answer<P: Pattern>(
     lane: &mut Lane,
     job: &Job,
     detector: &Detector<'_, P>,
-    outs: &mut Vec<Numbered<JobOut>>,
+    outs: &mut Vec<Numbered<JobFound>>,
 ) -> Result<(), NoMemory>
     requires sound { IsSoundFor (length detector.now.stream.now.engines) (known_of lane.old job.now) job.now }
     requires config { IsStreamConfig detector.now.stream.now }
     requires groups { StandFor detector.now.groups.now detector.now.set.now.rules }
     requires triable { All IsTriable detector.now.set.now.rules }
-    ensures { OnOk result (AddsOut P.finds detector.now.stream.now detector.now.set.now job.now
+    ensures { OnOk result (AddsOut P.finds detector.now.stream.now detector.now.set.now detector.now.all job.now
         lane.old outs.old.items lane.new outs.new.items) }
 {
-    let value = lane.job(alloc, job, detector.stream, detector.set, detector.groups)?;
+    let value = lane.search(alloc, job, detector)?;
     outs.push(Numbered {
         number: job.number,
         value,
@@ -88,7 +90,7 @@ fn answer_own<P: Pattern>(
     share: Share,
     job: &Job,
     detector: &Detector<'_, P>,
-    outs: &mut Vec<Numbered<JobOut>>,
+    outs: &mut Vec<Numbered<JobFound>>,
 ) -> Result<(), NoMemory>
     requires some { 0 < share.count }
     requires sound { is_in_lane share.count share.place job.now ≡ true
@@ -96,7 +98,7 @@ fn answer_own<P: Pattern>(
     requires config { IsStreamConfig detector.now.stream.now }
     requires groups { StandFor detector.now.groups.now detector.now.set.now.rules }
     requires triable { All IsTriable detector.now.set.now.rules }
-    ensures { OnOk result (AddsOwn P.finds detector.now.stream.now detector.now.set.now share.count share.place job.now
+    ensures { OnOk result (AddsOwn P.finds detector.now.stream.now detector.now.set.now detector.now.all share.count share.place job.now
         lane.old outs.old.items lane.new outs.new.items) }
 {
     if lane_of(share.count, flow_of(job)) == share.place {
@@ -112,13 +114,13 @@ fn own_outs<P: Pattern>(
     share: Share,
     jobs: &[Job],
     detector: &Detector<'_, P>,
-) -> Result<Vec<Numbered<JobOut>>, NoMemory>
+) -> Result<Vec<Numbered<JobFound>>, NoMemory>
     requires some { 0 < share.count }
     requires sound { AreSoundIn (length detector.now.stream.now.engines) share.count share.place lane.old jobs.now }
     requires config { IsStreamConfig detector.now.stream.now }
     requires groups { StandFor detector.now.groups.now detector.now.set.now.rules }
     requires triable { All IsTriable detector.now.set.now.rules }
-    ensures { IfOk result (λ outs. GoesOn P.finds detector.now.stream.now detector.now.set.now
+    ensures { IfOk result (λ outs. GoesOn P.finds detector.now.stream.now detector.now.set.now detector.now.all
         lane.old (own_jobs share.count share.place jobs.now) outs.items lane.new) }
 {
     let mut outs = Vec::new(alloc);
@@ -144,7 +146,7 @@ fn has_work(share: Share, jobs: &[Job]) -> bool
 #[derive(Drop)]
 pub(crate) struct Worker {
     pub lane: Lane,
-    pub outs: Result<Vec<Numbered<JobOut>>, NoMemory>,
+    pub outs: Result<Vec<Numbered<JobFound>>, NoMemory>,
 }
 
 impl Worker {
@@ -176,7 +178,7 @@ impl Worker {
         requires config { IsStreamConfig detector.now.stream.now }
         requires groups { StandFor detector.now.groups.now detector.now.set.now.rules }
         requires triable { All IsTriable detector.now.set.now.rules }
-        ensures { IfOk self.new.outs (λ outs. GoesOn P.finds detector.now.stream.now detector.now.set.now
+        ensures { IfOk self.new.outs (λ outs. GoesOn P.finds detector.now.stream.now detector.now.set.now detector.now.all
             self.old.lane (own_jobs share.count share.place jobs.now) outs.items self.new.lane) }
     {
         if has_work(share, jobs) {
@@ -186,7 +188,7 @@ impl Worker {
     }
 
     /// Gives the answers away.
-    pub fn take_outs(&mut self, alloc: Global) -> Result<Vec<Numbered<JobOut>>, NoMemory>
+    pub fn take_outs(&mut self, alloc: Global) -> Result<Vec<Numbered<JobFound>>, NoMemory>
         ensures taken { result ≡ self.old.outs }
         ensures lane { self.new.lane ≡ self.old.lane }
     {

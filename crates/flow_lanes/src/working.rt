@@ -34,7 +34,7 @@ fn do_packet<P: Pattern>(
     requires triable { All IsTriable matcher.now.set.now.rules }
     requires sound { IsSoundPacket (length settings.now.stream.now.engines)
         (facts_kept (kept_in flows.old.entries flow)) (packet_of p.now) }
-    ensures { IfOk result (IsDone P.finds matcher.now.set.now (making_of settings.now) p.now.moment
+    ensures { IfOk result (IsDone P.finds matcher.now.set.now matcher.now.all (making_of settings.now) p.now.moment
         (works.Packet flow p.now.head.now p.now.payload.now p.now.to_dst p.now.to_src)
         flows.old.entries flows.new.entries) }
 {
@@ -60,7 +60,7 @@ fn first_packet<P: Pattern>(
     requires triable { All IsTriable matcher.now.set.now.rules }
     requires first { kept_in flows.old.entries flow ≡ None }
     requires sound { IsSoundPacket (length settings.now.stream.now.engines) None (packet_of p.now) }
-    ensures { IfOk result (IsDone P.finds matcher.now.set.now (making_of settings.now) p.now.moment
+    ensures { IfOk result (IsDone P.finds matcher.now.set.now matcher.now.all (making_of settings.now) p.now.moment
         (works.Packet flow p.now.head.now p.now.payload.now p.now.to_dst p.now.to_src)
         flows.old.entries flows.new.entries) }
 {
@@ -79,7 +79,7 @@ fn do_finish<P: Pattern>(
 ) -> Result<Tally, NoMemory>
     requires groups { StandFor matcher.now.groups.now matcher.now.set.now.rules }
     requires triable { All IsTriable matcher.now.set.now.rules }
-    ensures { (making : Making) → IfOk result (IsDone P.finds matcher.now.set.now making moment
+    ensures { (making : Making) → IfOk result (IsDone P.finds matcher.now.set.now matcher.now.all making moment
         (works.Finish flow) flows.old.entries flows.new.entries) }
 {
     match flows.remove(&flow) {
@@ -101,7 +101,7 @@ fn do_alone<P: Pattern>(
 ) -> Result<Tally, NoMemory>
     requires groups { StandFor matcher.now.groups.now matcher.now.set.now.rules }
     requires triable { All IsTriable matcher.now.set.now.rules }
-    ensures { (making : Making) → IfOk result (IsDone P.finds matcher.now.set.now making moment
+    ensures { (making : Making) → IfOk result (IsDone P.finds matcher.now.set.now matcher.now.all making moment
         (works.Alone head.now payload.now) flows.now.entries flows.now.entries) }
 {
     let mut tally = Tally::new(matcher.alloc);
@@ -122,7 +122,7 @@ pub(crate) fn do_work<P: Pattern>(
     requires triable { All IsTriable matcher.now.set.now.rules }
     requires sound { IsSoundWork (length settings.now.stream.now.engines) (known_for flows.old.entries work.now)
         moment work.now }
-    ensures { IfOk result (IsDone P.finds matcher.now.set.now (making_of settings.now) moment work.now
+    ensures { IfOk result (IsDone P.finds matcher.now.set.now matcher.now.all (making_of settings.now) moment work.now
         flows.old.entries flows.new.entries) }
 {
     match work {

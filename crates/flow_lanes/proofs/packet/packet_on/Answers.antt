@@ -4,7 +4,7 @@ use Rattle.stream5_sessions.specs.declared.step.Step.{Step}
 use Rattle.flow_lanes.specs.Flows.{session_at_hand}
 use Rattle.flow_lanes.specs.Given.{making_of, packet_of}
 use Rattle.flow_lanes.specs.Sessions.{is_tcp}
-use Rattle.flow_lanes.proofs.DetectLaws.{told-on, told-tries}
+use Rattle.flow_lanes.proofs.DetectLaws.{told-items, told-on, told-tries}
 use Rattle.flow_lanes.proofs.FlowLaws.{IsFound-more}
 use Rattle.flow_lanes.proofs.Fresh.{fresh}
 use Rattle.flow_lanes.proofs.PartsLaws.{state_found-tcp, state_of-tcp}
@@ -27,6 +27,15 @@ returns-clause-grows g c = λ places h.
     let tcp = is_tcp c.args.p.now.head.now.body in
     c.go_on.ensures.grows tcp places (ap (λ (s : State). s.tcp) c.step_and_state-state.ensures.state ∙ state_of-tcp (making_of c.args.settings.now) p found ∙ state_found-tcp p found c.requires.found.same) (c.end_before.ensures.keeps tcp places h)
 
+pub returns-clause-items : goal.returns-clause-items
+returns-clause-items g c =
+    let p = packet_of c.args.p.now in
+    let making = making_of c.args.settings.now in
+    let step = c.step_and_state-state.result.0 in
+    let anew : step.ended_before ≡ true → step.begun ≡ step.tracked = subst (λ (s : Step). s.ended_before ≡ true → s.begun ≡ s.tracked) (sym c.step_and_state-state.ensures.step) (fresh making p (session_at_hand c.args.found.now)) in
+    told-items making p c.args.found.now c.end_before.new.found step c.step_and_state-state.result.1 c.step_and_state-state.ensures.step c.step_and_state-state.ensures.state anew c.in_ok-end_before.ensures.found
+    c.args.tally.now.items c.end_before.new.tally.items c.go_on.new.tally.items c.in_ok-end_before.ensures.items c.in_ok-go_on.ensures.items
+
 pub returns-clause-tries : goal.returns-clause-tries
 returns-clause-tries g c =
     let p = packet_of c.args.p.now in
@@ -43,4 +52,4 @@ returns-clause-detects g c = λ means trying by none.
     let step = c.step_and_state-state.result.0 in
     let anew : step.ended_before ≡ true → step.begun ≡ step.tracked = subst (λ (s : Step). s.ended_before ≡ true → s.begun ≡ s.tracked) (sym c.step_and_state-state.ensures.step) (fresh making p (session_at_hand c.args.found.now)) in
     told-on making p c.args.found.now c.end_before.new.found step c.step_and_state-state.result.1 c.step_and_state-state.ensures.step c.step_and_state-state.ensures.state anew c.in_ok-end_before.ensures.found
-    trying c.go_on.new.found c.args.tally.now.hits.items c.end_before.new.tally.hits.items c.go_on.new.tally.hits.items none (c.in_ok-end_before.ensures.hits means trying by) (c.in_ok-go_on.ensures.hits means trying by)
+    c.args.matcher.now.all trying c.go_on.new.found c.args.tally.now.hits.items c.end_before.new.tally.hits.items c.go_on.new.tally.hits.items none (c.in_ok-end_before.ensures.hits means trying by) (c.in_ok-go_on.ensures.hits means trying by)

@@ -25,7 +25,7 @@ returns-in_ok-tally-in-Some g c =
     let updates = (c.get_mut.follows.holds c.packet.new.self).3 (search rules) in
     let is = c.in-Some.ensures.value ∙ looked_up c.args.flow old in
     let sound = subst (λ (f : Option KeptFlow). IsSoundPacket (length c.args.settings.now.stream.now.engines) (facts_kept f) (packet_of p)) (sym is) c.requires.sound in
-    do-packet g.P.Pattern.finds c.args.matcher.now.set.now (making_of c.args.settings.now) p.moment c.args.flow p.head.now p.payload.now p.to_dst p.to_src old new (Some kept) c.packet.new.self c.in_ok-tally-in-Some.tally
+    do-packet g.P.Pattern.finds c.args.matcher.now.set.now c.args.matcher.now.all (making_of c.args.settings.now) p.moment c.args.flow p.head.now p.payload.now p.to_dst p.to_src old new (Some kept) c.packet.new.self c.in_ok-tally-in-Some.tally
     is (sets-from c.args.flow (Some c.packet.new.self) old new (λ other. updates.0 other))
-    c.in_ok-tally-in-Some.ensures.detects c.in_ok-tally-in-Some.ensures.tries
+    c.in_ok-tally-in-Some.ensures.detects c.in_ok-tally-in-Some.ensures.items c.in_ok-tally-in-Some.ensures.tries
     (c.packet.ensures.facts ∙ ap (λ (e : FlowEnds). record { ends = e; packets = kept.facts.packets + 1 }) sound.same_ends)

@@ -20,9 +20,10 @@ returns g c =
     let old = c.args.flows.now.entries in
     let kept = c.packet.new.self in
     let tally = c.in_ok-tally.tally in
-    do-packet g.P.Pattern.finds c.args.matcher.now.set.now making p.moment c.args.flow p.head.now p.payload.now p.to_dst p.to_src old c.insert.new.self.entries None kept tally
+    do-packet g.P.Pattern.finds c.args.matcher.now.set.now c.args.matcher.now.all making p.moment c.args.flow p.head.now p.payload.now p.to_dst p.to_src old c.insert.new.self.entries None kept tally
     (sym c.requires.first)
     (sets-from c.args.flow (Some kept) old c.insert.new.self.entries (λ other. c.in_ok-insert.ensures.updates.0 other))
-    (λ means trying by. subst (λ (f : Option FlowState). DetectsOn trying (packet_items making (packet_of p) (session_at_hand f)) f tally.hits.items kept.found) c.new-kept.ensures.found (c.in_ok-tally.ensures.detects means trying by))
+    (λ means trying by. subst (λ (f : Option FlowState). DetectsOn c.args.matcher.now.all trying (packet_items making (packet_of p) (session_at_hand f)) f tally.hits.items kept.found) c.new-kept.ensures.found (c.in_ok-tally.ensures.detects means trying by))
+    (c.in_ok-tally.ensures.items ∙ ap (λ (f : Option FlowState). length (all_items (packet_items making (packet_of p) (session_at_hand f)))) c.new-kept.ensures.found)
     (c.in_ok-tally.ensures.tries ∙ ap (λ (f : Option FlowState). candidates_of c.args.matcher.now.set.now.rules (all_items (packet_items making (packet_of p) (session_at_hand f)))) c.new-kept.ensures.found)
     (c.packet.ensures.facts ∙ ap (λ (f : FlowFacts). record { ends = f.ends; packets = f.packets + 1 }) c.new-kept.ensures.facts)

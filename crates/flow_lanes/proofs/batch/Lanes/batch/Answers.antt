@@ -14,12 +14,12 @@ answer_batch-requires-clause-sound g c κs within =
 
 pub returns-in-Ok-clause-answers : goal.returns-in-Ok-clause-answers
 returns-in-Ok-clause-answers g c =
-    c.in-Ok.ensures.right _ _ (ap (λ (lanes : LanesState). lanes.lanes) (sym c.self.view_is) ∙ ap lanes_of (sym c.deref_mut.ensures.value))
+    c.in-Ok.ensures.answers _ _ (ap (λ (lanes : LanesState). lanes.lanes) (sym c.self.view_is) ∙ ap lanes_of (sym c.deref_mut.ensures.value))
     (ap lanes_of (with_items_is c.self.inside.workers c.answer_batch.new.workers (omega arith)))
 
 pub returns-in-Ok-clause-learns : goal.returns-in-Ok-clause-learns
 returns-in-Ok-clause-learns g c =
-    have_learnt g.P.Pattern.finds c.args.stream.now c.args.set.now _ _ c.args.jobs.now c.in-Ok.out _ _ c.in-Ok.ensures
+    have_learnt _ _ c.args.jobs.now _ _ c.in-Ok.ensures.learns
     (ap (λ (lanes : LanesState). lanes.lanes) (sym c.self.view_is) ∙ ap lanes_of (sym c.deref_mut.ensures.value))
     (ap lanes_of (with_items_is c.self.inside.workers c.answer_batch.new.workers (omega arith)))
     (c.greatest_number-self-inside.ensures ∙ ap (λ (lanes : LanesState). fold (λ most (job : Job). Some job.number) lanes.greatest c.args.jobs.now) c.self.view_is)

@@ -1,15 +1,21 @@
-use Rattle.std.proofs.Common.{◌≡◌, subst}
+use Rattle.std.proofs.Common.{◌≡◌, length, subst}
 use Rattle.flow_lanes.specs.Flows.{all_items, hits_in, session_at_hand}
+use Rattle.flow_lanes.specs.ItemHits.{told}
 use Rattle.flow_lanes.specs.Items.{finish_items}
 use Rattle.flow_lanes.specs.Standing.{KeptFlow}
 use Rattle.flow_lanes.specs.Tried.{candidates_of}
-use Rattle.flow_lanes.proofs.DetectLaws.{finished-hits, finished-tries}
+use Rattle.flow_lanes.proofs.DetectLaws.{finished-hits, finished-items, finished-tries}
 use Rattle.flow_lanes.proofs.keeping.Flow.finish.Goals as goal
 
 pub returns-clause-hits : goal.returns-clause-hits
 returns-clause-hits g c = λ means trying by.
-    subst (λ (k : KeptFlow). c.end_session.new.tally.hits.items ≡ hits_in trying (finish_items c.args.moment (session_at_hand k.found)) k.found) c.self.view_is
-    (finished-hits trying c.args.moment c.self.inside.found c.new-tally.result.hits.items c.end_session.new.tally.hits.items c.new-tally.ensures.hits (c.in_ok-end_session.ensures.hits means trying by))
+    subst (λ (k : KeptFlow). c.end_session.new.tally.hits.items ≡ told c.args.matcher.now.all (hits_in trying (finish_items c.args.moment (session_at_hand k.found)) k.found)) c.self.view_is
+    (finished-hits c.args.matcher.now.all trying c.args.moment c.self.inside.found c.new-tally.result.hits.items c.end_session.new.tally.hits.items c.new-tally.ensures.hits (c.in_ok-end_session.ensures.hits means trying by))
+
+pub returns-clause-items : goal.returns-clause-items
+returns-clause-items g c =
+    subst (λ (k : KeptFlow). c.end_session.new.tally.items ≡ length (all_items (finish_items c.args.moment (session_at_hand k.found)))) c.self.view_is
+    (finished-items c.args.moment c.self.inside.found c.new-tally.result.items c.end_session.new.tally.items c.new-tally.ensures.items c.in_ok-end_session.ensures.items)
 
 pub returns-clause-tries : goal.returns-clause-tries
 returns-clause-tries g c =

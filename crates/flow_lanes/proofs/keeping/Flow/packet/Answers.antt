@@ -29,5 +29,5 @@ invariant_of-self-2 g c =
 pub returns-clause-detects : goal.returns-clause-detects
 returns-clause-detects g c = λ means trying by.
     subst
-    (λ (k : KeptFlow). DetectsOn trying (packet_items (making_of c.args.settings.now) (packet_of c.args.p.now) (session_at_hand k.found)) k.found c.packet_on.new.tally.hits.items c.packet_on.new.found)
+    (λ (k : KeptFlow). DetectsOn c.args.matcher.now.all trying (packet_items (making_of c.args.settings.now) (packet_of c.args.p.now) (session_at_hand k.found)) k.found c.packet_on.new.tally.hits.items c.packet_on.new.found)
     c.self.view_is (c.in_ok-packet_on.ensures.detects means trying by c.new-tally.ensures.hits)
