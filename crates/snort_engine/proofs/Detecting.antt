@@ -11,13 +11,13 @@ use Rattle.rule_types.specs.declared.rule.Rule.{Rule}
 use Rattle.fast_pattern.specs.Grouping.{StandFor}
 use Rattle.fast_pattern.specs.declared.groups.Groups.{Groups}
 use Rattle.event_filters.specs.Standing.{FiltersState, IsGiven}
-use Rattle.flow_lanes.specs.declared.answer.BatchOut.{BatchOut}
 use Rattle.flow_lanes.specs.declared.answer.Hits.{Hits}
 use Rattle.flow_lanes.specs.declared.answer.JobHits.{JobHits}
+use Rattle.flow_lanes.specs.declared.answer.Matches.{Matches}
 use Rattle.flow_lanes.specs.declared.job.Job.{Job}
 use Rattle.flow_lanes.specs.Flows.{Detection, answer, answer_tries}
 use Rattle.flow_lanes.specs.Hits.{Test}
-use Rattle.flow_lanes.specs.Standing.{DetectsBy, IsBatchAnswered, LanesStand, LanesState, LearnsBatch}
+use Rattle.flow_lanes.specs.Standing.{DetectsBy, IsBatchSearched, LanesStand, LanesState, LearnsBatch}
 use Rattle.record_jobs.specs.declared.counts.RecordCounts.{RecordCounts}
 use Rattle.record_jobs.specs.Way.{LinkedRecord, Way}
 use Rattle.record_jobs.specs.Jobs.{finishes, jobs}
@@ -41,6 +41,7 @@ use Rattle.snort_engine.specs.Counts.{counts_of, hit_count, try_count}
 use Rattle.snort_engine.specs.Outside.{WritesPart}
 use Rattle.snort_engine.specs.Gathering.{Gathers}
 use Rattle.snort_engine.specs.Showing.{EventsStand, Showing, Shows, ShowsPart, Told, items_lines, tally_of}
+use Rattle.snort_engine.specs.Matching.{ShowsMatches, ShowsMatchesPart}
 use Rattle.snort_engine.specs.Sourcing.{PlacesJobs, Sourced, last_behind, told_in}
 use Rattle.snort_engine.specs.Detecting.{AreTaken, Closes, ClosesPart, Detecting, InspectionStands, IsKnown, IsNewInspection, IsSoundPlan, MakesJobs, Running, Runs, RunsPart, ShowsRecords, ShowsRecordsPart, closing_lines, counted, jobs_lines, waiting}
 use Rattle.snort_engine.specs.Watching.{IsTest, plan_of}
@@ -81,17 +82,18 @@ stands_beside plan source before batch inspection stands =
     subst (λ (x : List Job). InspectionStands plan (before ++ x) inspection) (sym (whats-by_place source 0 batch)) stands
 
 -- the jobs of a batch were run, and the items that were found shown
-pub runs_found : (plan : Plan) (source : ℕ → LinkedRecord) (batch : List Job) (old new : Running) (out : BatchOut)
-    → ((before : List Job) → LanesStand (detection_of plan) old.inspection.lanes before → IsBatchAnswered (detection_of plan) before batch out new.inspection.lanes)
+pub runs_found : (plan : Plan) (source : ℕ → LinkedRecord) (batch : List Job) (old new : Running) (out : Matches)
+    → ((before : List Job) → LanesStand (detection_of plan) old.inspection.lanes before → IsBatchSearched (detection_of plan) before batch out new.inspection.lanes)
     → new.inspection.tries ≡ old.inspection.tries + out.tries
-    → Shows plan.form plan.config plan.rules (told_in (by_place source 0 out.hits)) (showing_of old) (showing_of new)
+    → ShowsMatches plan.form plan.config plan.rules source out (showing_of old) (showing_of new)
     → Runs plan (by_place source 0 batch) old new
 unfolding Runs Shows jobs_lines
 runs_found plan source batch old new out answers tries shows = λ before stands.
     let d = detection_of plan in
     let answered = answers before stands.lanes in
-    let items = items_found d source before batch out.hits answered.hits in
-    let shown = shows (trail (job_items d) before) stands.events in record {
+    let entries : List JobHits = along_from (answer d) before batch in
+    let items = items_found d source before batch entries refl in
+    let shown = shows entries (record { hits = answered.hits; items = answered.items }) (trail (job_items d) before) stands.events in record {
       stands = stands_beside plan source before batch new.inspection (record {
         lanes = answered.stands;
         events = subst (λ (x : List Hits). EventsStand plan.config plan.rules x new.inspection.events)
@@ -99,20 +101,22 @@ runs_found plan source batch old new out answers tries shows = λ before stands.
         tries = tries_found d before batch old.inspection.tries new.inspection.tries out.tries stands.tries tries answered.tries;
       });
       came = subst (λ (x : List Told). Gathers (items_lines plan.form plan.config plan.rules (trail (job_items d) before) x) (waiting old) (waiting new))
-          (told_found d source before batch out.hits answered.hits) shown.came;
+          (told_found d source before batch entries refl) shown.came;
     }
 
 -- or a part of their lines was written
-pub runs_part_found : (plan : Plan) (source : ℕ → LinkedRecord) (batch : List Job) (old : Running) (new : Option (List ℕ)) (out : BatchOut) (lanes : LanesState)
-    → ((before : List Job) → LanesStand (detection_of plan) old.inspection.lanes before → IsBatchAnswered (detection_of plan) before batch out lanes)
-    → ShowsPart plan.form plan.config plan.rules (told_in (by_place source 0 out.hits)) (showing_of old) new
+pub runs_part_found : (plan : Plan) (source : ℕ → LinkedRecord) (batch : List Job) (old : Running) (new : Option (List ℕ)) (out : Matches) (lanes : LanesState)
+    → ((before : List Job) → LanesStand (detection_of plan) old.inspection.lanes before → IsBatchSearched (detection_of plan) before batch out lanes)
+    → ShowsMatchesPart plan.form plan.config plan.rules source out (showing_of old) new
     → RunsPart plan (by_place source 0 batch) old new
 unfolding RunsPart ShowsPart jobs_lines
 runs_part_found plan source batch old new out lanes answers part = λ before stands.
     let d = detection_of plan in
-    let items = told_found d source before batch out.hits (answers before stands.lanes).hits in
+    let answered = answers before stands.lanes in
+    let entries : List JobHits = along_from (answer d) before batch in
+    let items = told_found d source before batch entries refl in
     subst (λ (x : List Told). WritesPart old.written (old.inspection.events.block.items ++ items_lines plan.form plan.config plan.rules (trail (job_items d) before) x) new) items
-    (part (trail (job_items d) before) stands.events)
+    (part entries (record { hits = answered.hits; items = answered.items }) (trail (job_items d) before) stands.events)
 
 -- or nothing was
 pub runs_nothing : (plan : Plan) (batch : List Sourced) (old : Running) → RunsPart plan batch old old.written
@@ -120,17 +124,17 @@ unfolding RunsPart
 runs_nothing plan batch old = λ before stands. WritesPart-none old.written _
 
 -- by the answer of the last step
-pub runs_by : (answer : Result (Unit {0}) Stop) (plan : Plan) (source : ℕ → LinkedRecord) (batch : List Job) (old new : Running) (out : BatchOut)
-    → ((before : List Job) → LanesStand (detection_of plan) old.inspection.lanes before → IsBatchAnswered (detection_of plan) before batch out new.inspection.lanes)
+pub runs_by : (answer : Result (Unit {0}) Stop) (plan : Plan) (source : ℕ → LinkedRecord) (batch : List Job) (old new : Running) (out : Matches)
+    → ((before : List Job) → LanesStand (detection_of plan) old.inspection.lanes before → IsBatchSearched (detection_of plan) before batch out new.inspection.lanes)
     → new.inspection.tries ≡ old.inspection.tries + out.tries
-    → OnOk answer (Shows plan.form plan.config plan.rules (told_in (by_place source 0 out.hits)) (showing_of old) (showing_of new))
+    → OnOk answer (ShowsMatches plan.form plan.config plan.rules source out (showing_of old) (showing_of new))
     → OnOk answer (Runs plan (by_place source 0 batch) old new)
 runs_by (Ok done) plan source batch old new out answers tries shows = runs_found plan source batch old new out answers tries shows
 runs_by (Err why) plan source batch old new out answers tries shows = tt
 
-pub runs_part_by : (answer : Result (Unit {0}) Stop) (plan : Plan) (source : ℕ → LinkedRecord) (batch : List Job) (old : Running) (new : Option (List ℕ)) (out : BatchOut) (lanes : LanesState)
-    → ((before : List Job) → LanesStand (detection_of plan) old.inspection.lanes before → IsBatchAnswered (detection_of plan) before batch out lanes)
-    → OnErr answer (ShowsPart plan.form plan.config plan.rules (told_in (by_place source 0 out.hits)) (showing_of old) new)
+pub runs_part_by : (answer : Result (Unit {0}) Stop) (plan : Plan) (source : ℕ → LinkedRecord) (batch : List Job) (old : Running) (new : Option (List ℕ)) (out : Matches) (lanes : LanesState)
+    → ((before : List Job) → LanesStand (detection_of plan) old.inspection.lanes before → IsBatchSearched (detection_of plan) before batch out lanes)
+    → OnErr answer (ShowsMatchesPart plan.form plan.config plan.rules source out (showing_of old) new)
     → OnErr answer (RunsPart plan (by_place source 0 batch) old new)
 runs_part_by (Ok done) plan source batch old new out lanes answers part = tt
 runs_part_by (Err why) plan source batch old new out lanes answers part = runs_part_found plan source batch old new out lanes answers part

@@ -8,6 +8,7 @@ pub mod Opening
 pub mod Texts
 pub mod Beside
 pub mod Showing
+pub mod Matching
 pub mod Learning
 pub mod Sourcing
 pub mod Detecting

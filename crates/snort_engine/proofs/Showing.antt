@@ -204,7 +204,7 @@ items_lines-one form config rules before source hits =
     (append-nil (map (beside source) (flat_map (event_at rules hits.head) (kept config rules (map filtered_item before) (filtered_item hits)))))
 
 -- a tally by its numbers
-same_tally : (items items' hits hits' alerts alerts' : ℕ) → items ≡ items' → hits ≡ hits' → alerts ≡ alerts'
+pub same_tally : (items items' hits hits' alerts alerts' : ℕ) → items ≡ items' → hits ≡ hits' → alerts ≡ alerts'
     → ◌≡◌ {A = Tally} (record { items = items; hits = hits; alerts = alerts }) (record { items = items'; hits = hits'; alerts = alerts' })
 same_tally items items' hits hits' alerts alerts' a b c = cc
 

@@ -8,9 +8,9 @@ use Rattle.std.specs.Prelude.{◌≡◌, ℕ, ◌+◌, ◌-◌, ◌^◌, ◌<◌
 use Rattle.edge_io.specs.Told.{behind}
 use Rattle.edge_io.specs.declared.pattern.Span.{Span}
 use Rattle.pcap_input.specs.Savefile.{most_records}
-use Rattle.flow_lanes.specs.declared.answer.BatchOut.{BatchOut}
+use Rattle.flow_lanes.specs.declared.answer.Matches.{Matches}
 use Rattle.flow_lanes.specs.declared.job.Job.{Job}
-use Rattle.flow_lanes.specs.Standing.{LanesState, AnswersBatch}
+use Rattle.flow_lanes.specs.Standing.{LanesState, SearchesBatch}
 use Rattle.record_jobs.specs.Ready.{AreReady}
 use Rattle.record_jobs.specs.Way.{LinkedRecord, Way}
 use Rattle.record_jobs.specs.Fronts.{FrontState}
@@ -38,10 +38,10 @@ use Rattle.snort_engine.specs.Watching.{Standing, Streams, IsUnderWay, ComesOver
 abbrev pub AreReadyBy : {P : Type 0} → code.Plan P → LanesState → List Job → Type 0
 AreReadyBy plan lanes jobs = AreReady (length plan.config.now.stream.engines) lanes jobs
 
--- the lanes were given these jobs, and answered so
-abbrev pub AnswersBy : {P : Type 0} → (P → List ℕ → Option Span) → code.Plan P → LanesState → List Job → BatchOut → LanesState
+-- the lanes were given these jobs, and found so
+abbrev pub FindsBy : {P : Type 0} → (P → List ℕ → Option Span) → code.Plan P → LanesState → List Job → Matches → LanesState
     → Type 0
-AnswersBy finds plan old jobs out new = AnswersBatch finds plan.config.now.stream plan.set.now old jobs out new
+FindsBy finds plan old jobs out new = SearchesBatch finds plan.config.now.stream plan.set.now old jobs out new
 
 -- records were made into jobs
 abbrev pub MakesBy : {P : Type 0} → code.Plan P → List LinkedRecord → FrontState → FrontState → List Job → Type 0

@@ -13,6 +13,7 @@ pub mod Counts
 pub mod Gathering
 pub mod Showing
 pub mod Sourcing
+pub mod Matching
 pub mod Detecting
 pub mod Answer
 pub mod Outside

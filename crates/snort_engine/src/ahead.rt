@@ -12,13 +12,13 @@ ghost use Rattle.snort_engine.specs.Detecting.{IsSoundPlan};
 ghost use Rattle.snort_engine.specs.Watching.{plan_of, IsTest, IsShowStop};
 ghost use Rattle.snort_engine.specs.Beside.{by_place, source_in};
 ghost use Rattle.snort_engine.specs.Sourcing.{last_behind};
-ghost use Rattle.snort_engine.specs.Ahead.{at_lanes, half_at, AnswersBy, AreReadyBy, FeedsOn, MakesBy, PlacesBy, CanReadOn, ShowsJobs, ShowsJobsPart};
+ghost use Rattle.snort_engine.specs.Ahead.{at_lanes, half_at, FindsBy, AreReadyBy, FeedsOn, MakesBy, PlacesBy, CanReadOn, ShowsJobs, ShowsJobsPart};
 
 use crate::batch::{Reached, read_batch};
 use crate::context::Context;
 use crate::counts::sum;
 use crate::detect::{Inspection, make_jobs};
-use crate::events::show_hits;
+use crate::events::show_matches;
 use crate::fault::ReadFault;
 use crate::lines::offer;
 use crate::plan::{Plan, front_config};
@@ -27,7 +27,7 @@ use crate::sources::{Made, Sources, keep_last};
 use crate::stop::Stop;
 use edge_io::{Gate, Host, NoMemory, Pattern, Sink};
 use fast_pattern::Groups;
-use flow_lanes::{BatchFault, BatchOut, Job, Lanes, Work};
+use flow_lanes::{BatchFault, Job, Lanes, Matches, Work};
 use record_jobs::Front;
 use std::thread::{Threads, join_mut};
 
@@ -108,21 +108,22 @@ fn feed<H: Host, P, G, R>(
     (reached, made)
 }
 
-/// The answers of the lanes to a batch of jobs.
+/// What the lanes find in a batch of jobs.
 fn inspect<P: Pattern, G: Gate, R: Threads + Sync>(
     context: &Context<'_, P, G, R>,
     jobs: &[Job],
     groups: &Groups,
     lanes: &mut Lanes,
-) -> Result<BatchOut, BatchFault>
+) -> Result<Matches, BatchFault>
     requires plan { IsSoundPlan context.now.plan.now }
     requires ready { AreReadyBy context.now.plan.now lanes.old jobs.now }
     requires groups { StandFor groups.now context.now.plan.now.set.now.rules }
-    ensures answers { IfOk result (λ out. AnswersBy P.finds context.now.plan.now lanes.old jobs.now out lanes.new) }
+    ensures answers { IfOk result (λ out. FindsBy P.finds context.now.plan.now lanes.old jobs.now out lanes.new) }
     ensures learns { OnOk result (LearnsBatch lanes.old jobs.now lanes.new) }
 {
     let plan = context.plan;
-    lanes.batch(
+    let mut found = Matches::new(context.alloc);
+    lanes.search(
         context.rt,
         context.alloc,
         jobs,
@@ -130,7 +131,9 @@ fn inspect<P: Pattern, G: Gate, R: Threads + Sync>(
         plan.set,
         groups,
         context.gate,
-    )
+        &mut found,
+    )?;
+    Ok(found)
 }
 
 /// The lanes inspect the jobs that wait, and half a batch of records is read behind theirs and made into
@@ -146,7 +149,7 @@ pub(crate) fn inspect_and_feed<H: Host, P: Pattern, G: Gate, R: Threads + Sync>(
     records: &mut Vec<LinkedRecord>,
     front: &mut Front,
 ) -> (
-    Result<BatchOut, BatchFault>,
+    Result<Matches, BatchFault>,
     (Reached, Result<Made, NoMemory>),
 )
     requires plan { IsSoundPlan context.now.plan.now }
@@ -159,7 +162,7 @@ pub(crate) fn inspect_and_feed<H: Host, P: Pattern, G: Gate, R: Threads + Sync>(
     requires behind { front.old.counts.records ≤ number_of reader.old }
 
     // The lanes have answered as they would alone.
-    ensures answers { IfOk result.0 (λ out. AnswersBy P.finds context.now.plan.now lanes.old jobs.now out lanes.new) }
+    ensures answers { IfOk result.0 (λ out. FindsBy P.finds context.now.plan.now lanes.old jobs.now out lanes.new) }
     ensures learns { OnOk result.0 (LearnsBatch lanes.old jobs.now lanes.new) }
 
     // And so was read.
@@ -181,10 +184,10 @@ pub(crate) fn inspect_and_feed<H: Host, P: Pattern, G: Gate, R: Threads + Sync>(
     ensures same_contents { H.contents host.new ≡ H.contents host.old }
     ensures later { H.faults host.old ≤ H.faults host.new }
 {
-    let mut inspecting = || -> Result<BatchOut, BatchFault>
+    let mut inspecting = || -> Result<Matches, BatchFault>
         requires { IsSoundPlan context.now.plan.now × AreReadyBy context.now.plan.now lanes.now jobs.now
             × StandFor groups.now context.now.plan.now.set.now.rules }
-        ensures answers { IfOk result (λ out. AnswersBy P.finds context.entry.now.plan.now
+        ensures answers { IfOk result (λ out. FindsBy P.finds context.entry.now.plan.now
             lanes.entry.now jobs.entry.now out lanes.exit.now) }
         ensures learns { OnOk result (LearnsBatch lanes.entry.now jobs.entry.now lanes.exit.now) }
     { inspect(context, jobs, groups, lanes) };
@@ -226,7 +229,7 @@ pub(crate) fn inspect_and_feed<H: Host, P: Pattern, G: Gate, R: Threads + Sync>(
 #[tactic(auto, using(crate::proofs::Prefixes::rising))]
 pub(crate) fn show_found<P: Pattern, A: Sink>(
     plan: &Plan<'_, P>,
-    found: &BatchOut,
+    found: &Matches,
     records: &mut Vec<LinkedRecord>,
     places: &[usize],
     inspection: &mut Inspection,
@@ -236,14 +239,14 @@ pub(crate) fn show_found<P: Pattern, A: Sink>(
     requires none { inspection.old.events.block.items ≡ [] }
     ensures shown { (matches : Test) → IsTest P.finds plan.now.set.now matches
         → (jobs : List Job) (lanes : LanesState)
-        → AnswersBy P.finds plan.now lanes jobs found.now inspection.old.lanes
+        → FindsBy P.finds plan.now lanes jobs found.now inspection.old.lanes
         → OnOk result (ShowsJobs (plan_of matches plan.now)
         (by_place (source_in records.old.items inspection.old.last places.now) 0 jobs)
         (record { inspection = at_lanes lanes inspection.old; written = A.written alerts.old })
         (record { inspection = inspection.new; written = A.written alerts.new })) }
     ensures stopped { (matches : Test) → IsTest P.finds plan.now.set.now matches
         → (jobs : List Job) (lanes : LanesState)
-        → AnswersBy P.finds plan.now lanes jobs found.now inspection.old.lanes
+        → FindsBy P.finds plan.now lanes jobs found.now inspection.old.lanes
         → OnErr result (ShowsJobsPart (plan_of matches plan.now)
         (by_place (source_in records.old.items inspection.old.last places.now) 0 jobs)
         (record { inspection = at_lanes lanes inspection.old; written = A.written alerts.old }) (A.written alerts.new)) }
@@ -257,13 +260,13 @@ pub(crate) fn show_found<P: Pattern, A: Sink>(
 {
     inspection.tries = sum(inspection.tries, found.tries)?;
     let sources = Sources { records, places };
-    show_hits(
+    show_matches(
         plan.config,
         plan.set.rules(),
         plan.form,
         sources,
         &inspection.last,
-        found.hits.as_slice(),
+        found,
         &mut inspection.events,
         alerts,
     )?;

@@ -14,7 +14,7 @@ ghost use Rattle.snort_engine.specs.Watching.{plan_of, IsTest, IsShowStop};
 ghost use Rattle.snort_engine.specs.Detecting.{IsSoundPlan, IsNewInspection, counted, MakesJobs, Runs, RunsPart, Knows, DetectorStands, ShowsRecords, ShowsRecordsPart, Closes, ClosesPart};
 
 use crate::counts::{Counts, sum};
-use crate::events::{Events, show_hits};
+use crate::events::{Events, show_matches};
 use crate::lines::offer;
 use crate::plan::{Plan, front_config};
 use crate::reader::LinkedRecord;
@@ -22,7 +22,7 @@ use crate::sources::{Made, Sources, keep_last};
 use crate::stop::Stop;
 use edge_io::{Gate, NoMemory, Pattern, Sink};
 use fast_pattern::Groups;
-use flow_lanes::{Job, Lanes};
+use flow_lanes::{Job, Lanes, Matches};
 use record_jobs::{Front, FrontConfig, RecordCounts};
 use rule_parser::Rule;
 use std::alloc::Global;
@@ -163,7 +163,8 @@ fn run_jobs<P: Pattern, G: Gate, A: Sink, R: Threads + Sync>(
     ensures fault { IsErrOf result Stop.CannotWrite → Rose (A.faults alerts.old) (A.faults alerts.new) }
     ensures later { A.faults alerts.old ≤ A.faults alerts.new }
 {
-    let out = inspection.lanes.batch(
+    let mut found = Matches::new(alloc);
+    inspection.lanes.search(
         rt,
         alloc,
         jobs,
@@ -171,15 +172,16 @@ fn run_jobs<P: Pattern, G: Gate, A: Sink, R: Threads + Sync>(
         plan.set,
         &inspection.groups,
         gate,
+        &mut found,
     )?;
-    inspection.tries = sum(inspection.tries, out.tries)?;
-    show_hits(
+    inspection.tries = sum(inspection.tries, found.tries)?;
+    show_matches(
         plan.config,
         plan.set.rules(),
         plan.form,
         sources,
         &inspection.last,
-        out.hits.as_slice(),
+        &found,
         &mut inspection.events,
         alerts,
     )

@@ -5,6 +5,7 @@ ghost use Rattle.conf_types.specs.Sound as conf;
 ghost use Rattle.rule_types.specs.Sound.{IsSound};
 ghost use Rattle.snort_engine.specs.Watching.{IsShowStop};
 ghost use Rattle.snort_engine.specs.Beside.{beside, by_place};
+ghost use Rattle.snort_engine.specs.Matching.{ShowsMatches, ShowsMatchesPart};
 ghost use Rattle.snort_engine.specs.Showing.{EventsStand, Shows, ShowsPart};
 ghost use Rattle.snort_engine.specs.Sourcing.{source_by, told_in};
 
@@ -17,7 +18,7 @@ use crate::stop::Stop;
 use conf_parser::Config;
 use edge_io::{NoMemory, Sink};
 use event_filters::Filters;
-use flow_lanes::{Hits, JobHits};
+use flow_lanes::{Hits, JobHits, Matches};
 use rule_parser::Rule;
 use std::alloc::Global;
 
@@ -149,7 +150,7 @@ fn show_items<A: Sink>(
 
 /// Makes the texts of the items of jobs, in the order of the jobs; `last` is the last record before theirs.
 #[tactic(auto, using(crate::proofs::Prefixes::rising))]
-pub(crate) fn show_hits<'a, A: Sink>(
+fn show_hits<'a, A: Sink>(
     config: &Config,
     rules: &[Rule],
     form: Form,
@@ -178,5 +179,43 @@ pub(crate) fn show_hits<'a, A: Sink>(
         show_items(config, rules, form, origin, items, events, alerts)?;
         place += 1;
     }
+    Ok(())
+}
+
+/// Makes the texts of the matches of jobs, in the order of the jobs, and counts all items of the jobs: those that
+/// no rule matches give nothing but their count. `last` is the last record before theirs.
+#[tactic(auto, using(crate::proofs::Prefixes::rising))]
+pub(crate) fn show_matches<'a, A: Sink>(
+    config: &Config,
+    rules: &[Rule],
+    form: Form,
+    sources: Sources<'a>,
+    last: &'a LinkedRecord,
+    found: &Matches,
+    events: &mut Events,
+    alerts: &mut A,
+) -> Result<(), Stop>
+    requires { All (IsSound config.now.classes) rules.now }
+    ensures shown { OnOk result (ShowsMatches form config.now rules.now (source_by sources.entry last.now) found.now
+        (record { events = events.old; written = A.written alerts.old })
+        (record { events = events.new; written = A.written alerts.new })) }
+    ensures stopped { OnErr result (ShowsMatchesPart form config.now rules.now (source_by sources.entry last.now)
+        found.now (record { events = events.old; written = A.written alerts.old }) (A.written alerts.new)) }
+    ensures kind { IfErr result IsShowStop }
+    ensures fault { IsErrOf result Stop.CannotWrite → Rose (A.faults alerts.old) (A.faults alerts.new) }
+    ensures later { A.faults alerts.old ≤ A.faults alerts.new }
+{
+    let items = sum(events.tally.items, found.items)?;
+    show_hits(
+        config,
+        rules,
+        form,
+        sources,
+        last,
+        &found.hits,
+        events,
+        alerts,
+    )?;
+    events.tally.items = items;
     Ok(())
 }

@@ -6,8 +6,8 @@ use Rattle.snort_engine.specs.Sourcing.{source_by}
 use Rattle.snort_engine.proofs.Detecting.{detects_by, runs_by, runs_nothing, runs_part_by}
 use Rattle.snort_engine.proofs.detect.run_jobs.Goals as goal
 
-pub returns-in_err-out-clause-stopped : goal.returns-in_err-out-clause-stopped
-returns-in_err-out-clause-stopped g c = λ matches test.
+pub returns-in_err-search-clause-stopped : goal.returns-in_err-search-clause-stopped
+returns-in_err-search-clause-stopped g c = λ matches test.
     let p = err_from_is_err_and c.from_residual.result c.from_residual.ensures.1 in
     rw p.1 (runs_nothing (plan_of matches c.args.plan.now) (by_place (source_by c.args.sources c.args.inspection.now.last) 0 c.args.jobs.now) _)
 
@@ -18,14 +18,14 @@ returns-in_err-inspection-clause-stopped g c = λ matches test.
 
 pub returns-clause-shown : goal.returns-clause-shown
 returns-clause-shown g c = λ matches test.
-    let shows = rw (c.rules.ensures, c.as_slice.ensures) at c.show_hits.ensures.shown in
-    runs_by c.show_hits.result (plan_of matches c.args.plan.now) (source_by c.args.sources c.args.inspection.now.last) c.args.jobs.now _ _ c.in_ok-out.out
-    (λ before stands. c.in_ok-out.ensures.answers test.means (detection_of (plan_of matches c.args.plan.now)) before (detects_by {P = g.row.P.Denot} g.P.Pattern.finds c.args.plan.now matches test) stands)
+    let shows = rw c.rules.ensures at c.show_matches.ensures.shown in
+    runs_by c.show_matches.result (plan_of matches c.args.plan.now) (source_by c.args.sources c.args.inspection.now.last) c.args.jobs.now _ _ c.search.new.out
+    (λ before stands. c.in_ok-search.ensures.finds test.means (detection_of (plan_of matches c.args.plan.now)) before (detects_by {P = g.row.P.Denot} g.P.Pattern.finds c.args.plan.now matches test) stands)
     c.in_ok-inspection.ensures shows
 
 pub returns-clause-stopped : goal.returns-clause-stopped
 returns-clause-stopped g c = λ matches test.
-    let part = rw (c.rules.ensures, c.as_slice.ensures) at c.show_hits.ensures.stopped in
-    runs_part_by c.show_hits.result (plan_of matches c.args.plan.now) (source_by c.args.sources c.args.inspection.now.last) c.args.jobs.now _ _ c.in_ok-out.out c.batch.new.self
-    (λ before stands. c.in_ok-out.ensures.answers test.means (detection_of (plan_of matches c.args.plan.now)) before (detects_by {P = g.row.P.Denot} g.P.Pattern.finds c.args.plan.now matches test) stands)
+    let part = rw c.rules.ensures at c.show_matches.ensures.stopped in
+    runs_part_by c.show_matches.result (plan_of matches c.args.plan.now) (source_by c.args.sources c.args.inspection.now.last) c.args.jobs.now _ _ c.search.new.out c.search.new.self
+    (λ before stands. c.in_ok-search.ensures.finds test.means (detection_of (plan_of matches c.args.plan.now)) before (detects_by {P = g.row.P.Denot} g.P.Pattern.finds c.args.plan.now matches test) stands)
     part
