@@ -1,6 +1,4 @@
-use Rattle.std.proofs.Common.{◌≡◌, ℕ, ◌+◌, ◌≤◌, List, length, Option, Some, None, refl, sym, ap, ◌∙◌, subst, arith}
-use Rattle.packet_decode.specs.declared.placed.Placed.{Placed}
-use Rattle.packet_decode.specs.declared.skip.Skip.{Skip}
+use Rattle.std.proofs.Common.{◌≡◌, ℕ, ◌+◌, List, length, Option, Some, None, refl, sym, ap, ◌∙◌, subst, arith}
 use Rattle.packet_decode.specs.Decoding.{decoded, fields_at, payload_at, placed}
 use Rattle.stream5_sessions.specs.declared.key.Key.{Key}
 use Rattle.record_jobs.specs.declared.counts.RecordCounts.{RecordCounts}
