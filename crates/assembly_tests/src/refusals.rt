@@ -29,6 +29,13 @@ const LEFT: [(Preference, &[u8; 32]); 2] = [
     (Preference::Linux, b"WWWWWWWWZZZZZZZZZZZZZZZZZZZZZZZZ"),
 ];
 
+/// As many segments as there are fill a direction.
+const LIMITS: Limits = Limits {
+    bytes: 1024,
+    segs: PARTS.len() as u32,
+    flush: 4,
+};
+
 /// The call's value. Where it lacks memory, what it must leave is asserted, and it is made once more.
 macro_rules! again {
     ($rt:expr, $call:expr, $left:expr) => {
@@ -47,6 +54,14 @@ fn compare_runs(rt: &impl Abort, runs: &Vec<Run>, left: &[u8; 32], second: u64) 
     assert_eq!(rt; runs.len(), 2);
     for (run, (start, bytes)) in runs.iter().zip([(0, &left[..12]), (second, &left[12..])]) {
         assert!(rt; run.start == start && run.bytes.bytes() == bytes);
+    }
+}
+
+/// Whether the run up to place 12 was given, and nothing else.
+fn is_first(runs: &[Run], left: &[u8; 32]) -> bool {
+    match runs {
+        [run] => run.start == 0 && run.bytes.bytes() == &left[..12],
+        _ => false,
     }
 }
 
@@ -144,19 +159,53 @@ fn compare_list(rt: &impl Abort, alloc: Global) -> Result<(), NoMemory> {
     Ok(())
 }
 
-/// A segment is added: the answer is that of the call that had memory.
+/// What becomes of a byte with this sequence number, where the direction is started. Where it isn't queued, nothing
+/// changes, and no memory is taken.
+fn fate_of(direction: &mut Direction, seq: u32) -> Option<Added>
+    requires { passed direction.old ≤ 2 ^ 62 }
+    ensures { passed direction.new ≤ passed direction.old }
+{
+    if !direction.started() {
+        return None;
+    }
+    direction.add(seq, b"b").ok()
+}
+
+/// What can be seen of a direction that stays as it is: whether it is started with this base, since the byte before
+/// it is old and the first one behind the window is past it.
+fn stands_at(direction: &mut Direction, base: u32) -> bool
+    requires { passed direction.old ≤ 2 ^ 62 }
+    ensures { passed direction.new ≤ passed direction.old }
+{
+    fate_of(direction, base.wrapping_sub(1)) == Some(Added::Old)
+        && fate_of(direction, base.wrapping_add(LIMITS.bytes)) == Some(Added::PastWindow)
+}
+
+/// Whether it is full besides: then a byte at the base is one too many.
+fn is_full_at(direction: &mut Direction, base: u32) -> bool
+    requires { passed direction.old ≤ 2 ^ 62 }
+    ensures { passed direction.new ≤ passed direction.old }
+{
+    stands_at(direction, base) && fate_of(direction, base) == Some(Added::TooManySegs)
+}
+
+/// A segment is added, where the base is 0: the answer is that of the call that had memory.
 fn add(rt: &impl Abort, direction: &mut Direction, start: u16, bytes: &str) -> Result<(), NoMemory>
     requires { passed direction.old ≤ 2 ^ 62 }
     ensures { passed direction.new ≤ passed direction.old }
 {
     let (seq, bytes) = (u32::from(start), bytes.as_bytes());
     assert!(rt; direction.started() && !bytes.is_empty());
-    let added = again!(rt, direction.add(seq, bytes), direction.started());
+    let added = again!(
+        rt,
+        direction.add(seq, bytes),
+        stands_at(direction, 0) && direction.started()
+    );
     assert_eq!(rt; added, Added::Queued);
     Ok(())
 }
 
-/// What is acknowledged is given: the answer is that of the call that had memory.
+/// What is acknowledged of a full direction with the base 0 is given: the answer is that of the call that had memory.
 fn ack(
     rt: &impl Abort,
     alloc: Global,
@@ -171,7 +220,7 @@ fn ack(
     let flushed = again!(
         rt,
         direction.ack(alloc, acked, runs),
-        direction.started() && runs.len() == count
+        is_full_at(direction, 0) && runs.len() == count
     );
     assert!(rt; flushed);
     Ok(())
@@ -184,24 +233,20 @@ fn compare_direction(
     preference: Preference,
     left: &[u8; 32],
 ) -> Result<(), NoMemory> {
-    let limits = Limits {
-        bytes: 1024,
-        segs: 4,
-        flush: 4,
-    };
-    let mut direction = Direction::new(alloc, limits, preference);
+    let mut direction = Direction::new(alloc, LIMITS, preference);
     direction.start(0);
     let [(at, w), (x_at, x), (y_at, y), (z_at, z)] = PARTS;
     add(rt, &mut direction, at, w)?;
     add(rt, &mut direction, x_at, x)?;
     add(rt, &mut direction, y_at, y)?;
     add(rt, &mut direction, z_at, z)?;
+    assert!(rt; is_full_at(&mut direction, 0));
     let mut runs = Vec::new(alloc);
     ack(rt, alloc, &mut direction, 12, &mut runs)?;
     again!(
         rt,
         direction.flush_all(alloc, &mut runs),
-        direction.started() && runs.len() == 1
+        stands_at(&mut direction, 12) && is_first(&runs, left)
     );
     compare_runs(rt, &runs, left, 0);
     Ok(())
@@ -224,6 +269,9 @@ fn head(place: u16, more: bool) -> IpHead {
 }
 
 /// A datagram's fragments are taken: three are held, and the last makes it whole.
+///
+/// What is held is seen by the answers alone. No more fragments are held than there are: if one stayed behind a call
+/// that lacked memory, the datagram would be dropped for room, and the last fragment wouldn't make it whole.
 fn compare_datagram(
     rt: &impl Abort,
     alloc: Global,
@@ -236,10 +284,13 @@ fn compare_datagram(
         min_ttl: 1,
     };
     let moment = Moment { nanos: 0 };
-    let mut frag3 = Frag3::new(alloc, 9);
+    let mut frag3 = Frag3::new(alloc, PARTS.len() as u32);
     for (number, (place, part)) in PARTS.iter().enumerate() {
         let (ip, part) = (head(*place, number < 3), part.as_bytes());
-        let taken = again!(rt, frag3.accept(alloc, &ip, part, moment, rules), true);
+        let taken = match frag3.accept(alloc, &ip, part, moment, rules) {
+            Ok(taken) => taken,
+            Err(NoMemory) => frag3.accept(alloc, &ip, part, moment, rules)?,
+        };
         match &taken {
             Taken::Held => assert!(rt; number < 3),
             Taken::Whole(Datagram { ip: _, bytes }) => assert!(rt;

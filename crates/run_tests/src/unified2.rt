@@ -67,13 +67,16 @@ fn lanes_write_the_same_records(rt: HostRuntime) -> Result<(), Fail> {
         status == Status::Done && are_records && count > 20,
         "{count} records"
     );
-    let (_status, two) = alerts_of(&rt, alloc, "snort -c r --generate 600 --unified2 --lanes 2")?;
-    let (_status, many) = alerts_of(
-        &rt,
-        alloc,
+    for command in [
+        "snort -c r --generate 600 --unified2 --lanes 2",
         "snort -c r --generate 600 --unified2 --lanes 64",
-    )?;
-    assert!(rt; two.bytes() == one.bytes() && many.bytes() == one.bytes());
+    ] {
+        let (status, many) = alerts_of(&rt, alloc, command)?;
+        assert!(rt;
+            status == Status::Done && many.bytes() == one.bytes(),
+            "{command}"
+        );
+    }
     Ok(())
 }
 
@@ -157,7 +160,10 @@ fn count_read_back<R: Threads + Sync>(
     lines: &str,
     command: &str,
 ) -> Result<usize, Fail> {
-    let (_status, written) = alerts_of(rt, alloc, command)?;
+    let (status, written) = alerts_of(rt, alloc, command)?;
+    if status != Status::Done {
+        return Err(Fail::from("the run is cut short"));
+    }
     let left = shown(rt, alloc, written.bytes())?;
     if left.status != Status::Done || !left.errors.bytes().is_empty() {
         return Err(Fail::from("the file is refused"));
@@ -168,7 +174,8 @@ fn count_read_back<R: Threads + Sync>(
 #[test]
 fn records_are_shown_as_their_lines(rt: HostRuntime) -> Result<(), Fail> {
     let alloc = rt.alloc();
-    let (_status, alerts) = alerts_of(&rt, alloc, "snort -c r --generate 600")?;
+    let (status, alerts) = alerts_of(&rt, alloc, "snort -c r --generate 600")?;
+    assert!(rt; status == Status::Done);
     let lines = str::from_utf8(alerts.bytes())?;
     for command in [
         "snort -c r --generate 600 --unified2 --lanes 1",
