@@ -1,4 +1,4 @@
-"""Pictures as SVG, which go by the reader's theme. Used by overlap_pictures and speed."""
+"""Pictures as SVG, which go by the reader's theme. Used by what draws them."""
 from html import escape
 
 LIGHT = {"ink": "#1f2328", "faint": "#656d76", "line": "#d0d7de", "paper": "#ffffff", "none": "#f6f8fa",
@@ -15,7 +15,8 @@ def style(theme):
     fonts = ("text{font:13px system-ui,-apple-system,'Segoe UI',Helvetica,Arial,sans-serif}"
              ".byte{font:13px ui-monospace,SFMono-Regular,Menlo,Consolas,'DejaVu Sans Mono',monospace;text-anchor:middle}"
              "polyline{fill:none;stroke-width:2}.head{font-weight:600}.mid{text-anchor:middle}.end{text-anchor:end}"
-             ".pale{opacity:.28}text.faint{font-size:12px}")
+             ".pale{opacity:.28}text.faint{font-size:12px}"
+             ".code{font:12px ui-monospace,SFMono-Regular,Menlo,Consolas,'DejaVu Sans Mono',monospace}")
     if theme:
         return fonts + rules(DARK if theme == "dark" else LIGHT)
     return fonts + rules(LIGHT) + "@media (prefers-color-scheme:dark){" + rules(DARK) + "}"
@@ -32,6 +33,13 @@ class Picture:
 
     def rule(self, x, y, across, down):
         self.parts.append(f'<path class="rule" d="M{x:g} {y:g}l{across:g} {down:g}"/>')
+
+    def dot(self, x, y, radius, kind):
+        self.parts.append(f'<circle cx="{x:.1f}" cy="{y:.1f}" r="{radius:g}" class="{kind}"/>')
+
+    def line(self, places, kind):
+        points = " ".join(f"{x:.1f},{y:.1f}" for x, y in places)
+        self.parts.append(f'<polyline points="{points}" class="{kind}"/>')
 
     def svg(self, theme):
         size = f'width="{self.width}" height="{self.height}" viewBox="0 0 {self.width} {self.height}"'

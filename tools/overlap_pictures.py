@@ -1,18 +1,11 @@
-#!/usr/bin/env python3
-"""Draws which bytes each policy keeps where segments or fragments overlap, from the overlap table.
+"""Which bytes each policy keeps where segments or fragments overlap, as pictures. Used by draw_pictures.
 
-    tools/overlap_pictures [--theme light|dark] [FOLDER]
-
-Writes pairs.svg, three.svg, segments.svg and fragments.svg into FOLDER, docs/manual/pictures where none is named. A
-picture goes by the reader's theme, light or dark; --theme fixes it. The table is that of crates/overlap_core/specs/Overlap.
+The table of policies is that of crates/overlap_core/specs/Overlap.
 """
-import os, sys
 from collections import namedtuple
 
-sys.dont_write_bytecode = True
 from pictures import Picture
 
-TOP = os.path.dirname(os.path.dirname(os.path.realpath(__file__)))
 Segment = namedtuple("Segment", "start text")  # the place of its first byte; its bytes, one a letter
 
 def end(segment):
@@ -123,16 +116,4 @@ def sent_fragments():
     hosts = [("windows keeps", "windows"), ("linux keeps", "linux")]
     return rows("The fragments of examples/fragments and what two hosts keep", segments, names, hosts, 0, 26, 136)
 
-def main(words):
-    theme = None
-    if words[:1] == ["--theme"] and words[1:2] in (["light"], ["dark"]):
-        theme, words = words[1], words[2:]
-    if len(words) > 1 or words[:1] and words[0].startswith("-"):
-        sys.exit(__doc__.strip())
-    folder = words[0] if words else f"{TOP}/docs/manual/pictures"
-    os.makedirs(folder, exist_ok=True)
-    for name, draw in {"pairs": pairs, "three": three, "segments": sent_segments, "fragments": sent_fragments}.items():
-        with open(f"{folder}/{name}.svg", "w", encoding="utf-8") as file:
-            file.write(draw().svg(theme))
-
-main(sys.argv[1:])
+PICTURES = {"pairs": pairs, "three": three, "segments": sent_segments, "fragments": sent_fragments}
