@@ -7,4 +7,4 @@ use Rattle.regex_maker.specs.Meaning.{span_in}
 
 -- the leftmost match of its expression
 abbrev pub found_by : RegexPattern → List ℕ → Option Span
-found_by pattern bytes = span_in (pattern_of pattern.program) bytes
+found_by pattern bytes = span_in (pattern_of pattern.program.value) bytes

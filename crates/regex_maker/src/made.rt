@@ -16,14 +16,15 @@ use std::sync::Arc;
 #[derive(Drop)]
 pub struct RegexPattern {
     alloc: Global,
-    pub(crate) program: Program,
-    sieve: Sieve,
+    /// Boxed, as the sieve is, since every option of a rule has room for a pattern.
+    pub(crate) program: Box<Program>,
+    sieve: Box<Sieve>,
     /// The working memory of searches that have ended.
     pub(crate) shelf: Shelf,
     /// What the maker's patterns keep together.
     tally: Arc<Tally>,
-    ghost sifted: { IsSieveFor sieve program },
-    ghost shelved: { IsShelfFor shelf program.dfa },
+    ghost sifted: { IsSieveFor sieve.value program.value },
+    ghost shelved: { IsShelfFor shelf program.value.dfa },
 }
 
 impl RegexPattern {
@@ -33,14 +34,14 @@ impl RegexPattern {
         program: Program,
         tally: Arc<Tally>,
     ) -> Result<RegexPattern, NoMemory>
-        ensures { IfOk result (λ pattern. pattern.program ≡ program) }
+        ensures { IfOk result (λ pattern. pattern.program.value ≡ program) }
     {
         let sieve = Sieve::new(alloc, &program)?;
         let shelf = Shelf::new(alloc, &program.dfa)?;
         Ok(RegexPattern {
             alloc,
-            program,
-            sieve,
+            program: Box::new(alloc, program)?,
+            sieve: Box::new(alloc, sieve)?,
             shelf,
             tally,
         })
@@ -48,7 +49,7 @@ impl RegexPattern {
 
     /// Memory that a search before left, or new memory.
     fn memory(&self) -> Result<Box<Memory>, NoMemory>
-        ensures { IfOk result (λ memory. IsMemoryFor memory.value self.now.program.dfa) }
+        ensures { IfOk result (λ memory. IsMemoryFor memory.value self.now.program.value.dfa) }
     {
         match self.shelf.take() {
             Some(memory) => Ok(memory),
@@ -63,7 +64,7 @@ impl RegexPattern {
     /// made for this search and dropped behind it.
     #[inline(never)]
     fn find_slowly(&self, bytes: &[u8]) -> Result<Option<(usize, usize)>, NoMemory>
-        ensures { IfOk result (λ ends. ends ≡ option_map span (leftmost self.now.program bytes.now 0)) }
+        ensures { IfOk result (λ ends. ends ≡ option_map span (leftmost self.now.program.value bytes.now 0)) }
     {
         let mut searcher = Searcher::new(self.alloc, &self.program)?;
         Ok(searcher.find(bytes, 0))
@@ -71,7 +72,7 @@ impl RegexPattern {
 
     /// The ends of the leftmost match.
     fn ends(&self, bytes: &[u8]) -> Result<Option<(usize, usize)>, NoMemory>
-        ensures { IfOk result (λ ends. ends ≡ option_map span (leftmost self.now.program bytes.now 0)) }
+        ensures { IfOk result (λ ends. ends ≡ option_map span (leftmost self.now.program.value bytes.now 0)) }
     {
         let Some(start) = self.sieve.first_place(&self.program, bytes) else {
             return Ok(None);

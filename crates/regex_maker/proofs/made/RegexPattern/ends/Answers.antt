@@ -1,10 +1,17 @@
+use Rattle.std.proofs.Common.{◌≡◌, true, ap, sym, ◌∙◌}
 use Rattle.std.proofs.Math.Logic.{∥∥₁_elim, ∥∥₁_prop}
 use Rattle.regex_meta.proofs.PlansLemmas.{Suits-of_truncated}
 use Rattle.regex_meta.specs.Programs.{pattern_of}
 use Rattle.regex_meta.specs.declared.plan.Plan.TheVariants.{AtStart}
+use Rattle.regex_maker.specs.declared.sieve.Sieve.{Sieve}
 use Rattle.regex_maker.proofs.made.RegexPattern.ends.Goals as goal
+
+pub first_place-requires : goal.first_place-requires
+first_place-requires c = rw (c.deref.ensures, c.deref-2.ensures) c.args.self.now.sifted
 
 pub find_at_start-found-requires-clause-anchored : goal.find_at_start-found-requires-clause-anchored
 find_at_start-found-requires-clause-anchored c =
-    Suits-of_truncated (pattern_of c.args.self.now.program) AtStart
-    (∥∥₁_elim c.args.self.now.sifted.anchored ∥∥₁_prop (λ anchors. ∣ anchors c.if-self.true ∣₁))
+    let anchored : c.args.self.now.sieve.value.anchored ≡ true = ap (λ (sieve : Sieve). sieve.anchored) (sym c.deref-3.ensures) ∙ c.if-deref.true in
+    rw c.deref-then-deref.ensures
+    (Suits-of_truncated (pattern_of c.args.self.now.program.value) AtStart
+    (∥∥₁_elim c.args.self.now.sifted.anchored ∥∥₁_prop (λ anchors. ∣ anchors anchored ∣₁)))
