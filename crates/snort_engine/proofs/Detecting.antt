@@ -310,11 +310,6 @@ known_records way rules old new records made known makes learns groups none =
       none = none;
     }
 
-pub known_by : (answer : Result (Unit {0}) Stop) (way : Way) (rules : List Rule) (old new : Detector) (records : List LinkedRecord) (made : List Job) → IsKnown way rules old → MakesJobs way records old.front new.front made
-    → LearnsBatch old.inspection.lanes made new.inspection.lanes → new.inspection.groups ≡ old.inspection.groups → OnOk answer (new.inspection.events.block.items ≡ []) → OnOk answer (IsKnown way rules new)
-known_by (Ok done) way rules old new records made known makes learns groups none = known_records way rules old new records made known makes learns groups none
-known_by (Err why) way rules old new records made known makes learns groups none = tt
-
 -- ---- a detector that was given nothing
 
 pub inspection_stands-new : {P : Type 0} (plan : code.Plan P) (matches : Test) (inspection : Inspection) → IsSoundPlan plan → IsNewInspection plan inspection → InspectionStands (plan_of matches plan) [] inspection

@@ -14,7 +14,6 @@ pub mod Sourcing
 pub mod Detecting
 pub mod Batches
 pub mod Watched
-pub mod GoingAhead
 pub mod Finishing
 pub mod FileWays
 pub mod Loaded

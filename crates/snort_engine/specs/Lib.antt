@@ -25,6 +25,5 @@ pub mod Headline
 pub mod Stop
 pub mod Batch
 pub mod Watching
-pub mod Ahead
 pub mod Reporting
 pub mod Preparing

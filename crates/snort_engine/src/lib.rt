@@ -14,17 +14,14 @@
 //! filters of events, the lines, the host and the sinks. The program stands on this crate.
 #![tactic(auto)]
 
-mod ahead;
 mod batch;
 mod capture;
-mod context;
 mod counts;
 mod detect;
 mod detector;
 mod events;
 mod fault;
 mod form;
-mod halves;
 mod laws;
 mod lines;
 mod listing;

@@ -16,10 +16,8 @@ ghost use Rattle.snort_engine.specs.Watching.{plan_of, IsTest, Watches, ComesOve
 
 use crate::Status;
 use crate::batch::{give_back, more, most_at, read_batch, room_behind};
-use crate::context::Context;
 use crate::counts::Counts;
 use crate::detect::{Detector, close, show_records};
-use crate::halves::watch_halves;
 use crate::plan::Plan;
 use crate::reader::{LinkedRecord, RecordReader};
 use crate::stop::{Stop, is_whole};
@@ -137,51 +135,6 @@ fn watch_batches<H: Host, P: Pattern, G: Gate, A: Sink, R: Threads + Sync>(
     Ok(())
 }
 
-/// Reads all records and writes their lines: with more than one lane, each half of a batch is read while
-/// the lanes work on the one before. What it ends with is not closed yet.
-#[tactic(auto, using(crate::proofs::Prefixes::rising))]
-fn watch_all<H: Host, P: Pattern, G: Gate, A: Sink, R: Threads + Sync>(
-    rt: &R,
-    alloc: Global,
-    host: &mut H,
-    reader: &mut RecordReader,
-    plan: &Plan<'_, P>,
-    gate: &G,
-    detector: &mut Detector,
-    alerts: &mut A,
-) -> Result<(), Stop>
-    requires plan { IsSoundPlan plan.now }
-    requires known { Knows plan.now detector.old }
-    requires none { detector.old.front.counts.records ≡ 0 }
-    requires within { number_of reader.old ≤ most_records }
-    requires fresh { IsFresh reader.old }
-    ensures comes { (matches : Test) → IsTest P.finds plan.now.set.now matches
-        → DetectorStands (plan_of matches plan.now) [] detector.old
-        → ComesOver (plan_of matches plan.now) reader.old
-        (record { left = H.left host.old; written = A.written alerts.old })
-        (record { left = H.left host.new; written = A.written alerts.new }) detector.new result }
-    ensures known { StaysKnown plan.now detector.new result }
-    ensures few { StaysFew detector.new result }
-    ensures write_fault { IsErrOf result Stop.CannotWrite → Rose (A.faults alerts.old) (A.faults alerts.new) }
-    ensures read_fault { outcome_status result ≡ Status.HostFault → Rose (H.faults host.old) (H.faults host.new) }
-    ensures same_opens { H.opens host.new ≡ H.opens host.old }
-    ensures same_contents { H.contents host.new ≡ H.contents host.old }
-    ensures later { H.faults host.old ≤ H.faults host.new }
-    ensures later_alerts { A.faults alerts.old ≤ A.faults alerts.new }
-{
-    if plan.lanes > 1 {
-        let context = Context {
-            rt,
-            alloc,
-            plan,
-            gate,
-        };
-        watch_halves(&context, host, reader, detector, alerts)
-    } else {
-        watch_batches(rt, alloc, host, reader, plan, gate, detector, alerts)
-    }
-}
-
 /// Closes a capture whose batches ended so, where it is to be closed.
 #[tactic(auto, using(crate::proofs::Prefixes::rising))]
 fn close_watched<P: Pattern, G: Gate, A: Sink, R: Threads + Sync>(
@@ -243,7 +196,7 @@ pub(crate) fn watch_records<H: Host, P: Pattern, G: Gate, A: Sink, R: Threads + 
     ensures later_alerts { A.faults alerts.old ≤ A.faults alerts.new }
 {
     let mut detector = Detector::new(alloc, plan)?;
-    let watched = watch_all(rt, alloc, host, reader, plan, gate, &mut detector, alerts);
+    let watched = watch_batches(rt, alloc, host, reader, plan, gate, &mut detector, alerts);
     close_watched(rt, alloc, plan, gate, detector, watched, alerts, counts)
 }
 
