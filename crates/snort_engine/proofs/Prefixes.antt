@@ -6,9 +6,10 @@ use Rattle.std.proofs.lemmas.Bool.Decides.{nat_tests}
 use Rattle.std.proofs.lemmas.List.{append-nil, take-append-drop}
 use mathlib.Core.List.{IsPrefix}
 use Rattle.edge_io.specs.Told.{behind, Rose}
+use Rattle.edge_io.specs.declared.host.Host.{Ghosts as HostOf}
 use Rattle.edge_io.proofs.Told.{behind-nil, behind-behind}
 use Rattle.snort_engine.specs.declared.stop.Stop.{Stop}
-use Rattle.snort_engine.specs.Outside.{WritesPart}
+use Rattle.snort_engine.specs.Outside.{OnlyRead, WritesPart}
 use Rattle.snort_engine.specs.Gathering.{Gathering, Gathers}
 
 -- a text is a beginning of itself
@@ -148,4 +149,24 @@ rose_since old middle new later rose = grind (arith, nat_tests)
 pub rose_on : (old middle new : ℕ) → Rose old middle → middle ≤ new → Rose old new
 rose_on old middle new rose later = omega (arith, rose)
 
+-- ---- a host that is only read from
+
+-- nothing was done with it
+pub read_not : {H : Type 0} (g : HostOf H) (host : H) → OnlyRead g host host
+read_not g host = record { files = refl; opens = refl; later = omega arith }
+
+-- it was read from, and again
+pub read_on : {H : Type 0} (g : HostOf H) (old middle new : H) → OnlyRead g old middle → OnlyRead g middle new → OnlyRead g old new
+read_on g old middle new one two = record {
+  files = two.files ∙ one.files;
+  opens = two.opens ∙ one.opens;
+  later = let before = one.later in let after = two.later in omega (arith, before, after);
+}
+
+-- its count rose behind what was read
+pub read_rose : {H : Type 0} (g : HostOf H) (old middle new : H) → OnlyRead g old middle → Rose (g.faults middle) (g.faults new) → Rose (g.faults old) (g.faults new)
+read_rose g old middle new read rose = rose_since (g.faults old) (g.faults middle) (g.faults new) read.later rose
+
 pub ruleset rising = (rose_since, rose_on)
+
+pub ruleset reading = (rose_since, rose_on, read_not, read_on, read_rose)

@@ -7,7 +7,9 @@ use Rattle.std.specs.Prelude.{◌≡◌, ℕ, ◌≤◌, List, Option}
 use mathlib.Core.List.{IsPrefix}
 use Rattle.edge_io.specs.Told.{behind, Rose}
 use Rattle.edge_io.specs.Files.{Files}
+use Rattle.edge_io.specs.declared.host.Host.{Ghosts as HostOf}
 use Rattle.edge_io.specs.declared.pattern.Refusal.{Refusal}
+use Rattle.edge_io.specs.declared.sink.Sink.{Ghosts as SinkOf}
 
 -- of the host: its files and what is left of the open capture, where they are told, how often a
 -- capture was opened, and how many faults there were; of the two sinks: the bytes written, where they
@@ -23,6 +25,20 @@ pub record Outside : Type 0 where
   pub error_faults : ℕ
   pub refusals : List Refusal
 
+-- of a host, of the sinks of alerts and of errors, and of a maker that refused these
+abbrev pub outside : {H A E : Type 0} → HostOf H → SinkOf A → SinkOf E → H → A → E → List Refusal → Outside
+outside h a e host alerts errors refusals = record {
+  files = h.contents host;
+  left = h.left host;
+  opens = h.opens host;
+  host_faults = h.faults host;
+  alerts = a.written alerts;
+  alert_faults = a.faults alerts;
+  errors = e.written errors;
+  error_faults = e.faults errors;
+  refusals = refusals;
+}
+
 -- of the capture and the alert sink alone
 pub record Work : Type 0 where
   pub left : Option (List ℕ)
@@ -30,9 +46,26 @@ pub record Work : Type 0 where
   pub host_faults : ℕ
   pub alerts : Option (List ℕ)
 
+-- of a host and a sink of alerts
+abbrev pub work : {H A : Type 0} → HostOf H → SinkOf A → H → A → Work
+work h a host alerts = record { left = h.left host; opens = h.opens host; host_faults = h.faults host; alerts = a.written alerts }
+
 -- the part of the outside that the work on a capture touches
 abbrev pub work_of : Outside → Work
 work_of seen = record { left = seen.left; opens = seen.opens; host_faults = seen.host_faults; alerts = seen.alerts }
+
+-- a host was only read from: its files stay, nothing was opened, and no fault is forgotten
+pub record OnlyRead {H : Type 0} (g : HostOf H) (old new : H) : Type 0 where
+  pub files : g.contents new ≡ g.contents old
+  pub opens : g.opens new ≡ g.opens old
+  pub later : g.faults old ≤ g.faults new
+
+-- files of a host were loaded: what is left of its open capture stays, too
+pub record OnlyLoaded {H : Type 0} (g : HostOf H) (old new : H) : Type 0 where
+  pub files : g.contents new ≡ g.contents old
+  pub left : g.left new ≡ g.left old
+  pub opens : g.opens new ≡ g.opens old
+  pub later : g.faults old ≤ g.faults new
 
 -- behind what was told a beginning of the text was written, and no other byte
 unfoldable pub WritesPart : Option (List ℕ) → List ℕ → Option (List ℕ) → Type 0

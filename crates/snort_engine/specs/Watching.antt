@@ -5,7 +5,9 @@
 -- may be, and the bytes of two batches were taken.
 use Rattle.std.specs.Prelude.{◌≡◌, ℕ, ◌+◌, ◌-◌, ◌≤◌, min, ◌⊎◌, Bool, true, false, List, [], ◌++◌, length, Option, None, Some, Result, Ok, Err, ⊤}
 use Rattle.edge_io.specs.Told.{before, behind}
+use Rattle.edge_io.specs.declared.host.Host.{Ghosts as HostOf}
 use Rattle.edge_io.specs.declared.pattern.Span.{Span}
+use Rattle.edge_io.specs.declared.sink.Sink.{Ghosts as SinkOf}
 use Rattle.pcap_input.specs.Savefile.{most_records}
 use Rattle.option_eval.specs.Places.{Means}
 use Rattle.option_eval.specs.RuleSet.{Rules, FindWhatIsMeant}
@@ -63,6 +65,10 @@ IsShowStop why = ⊥
 pub record Streams : Type 0 where
   pub left : Option (List ℕ)
   pub written : Option (List ℕ)
+
+-- of a host and a sink of alerts
+abbrev pub streams : {H A : Type 0} → HostOf H → SinkOf A → H → A → Streams
+streams h a host alerts = record { left = h.left host; written = a.written alerts }
 
 -- the lines of a capture's first records
 unfoldable pub lines_of : Plan → List LinkedRecord → CaptureState → List ℕ
@@ -146,6 +152,9 @@ pub record Standing : Type 0 where
   pub room : Option ℕ
   pub detector : Detector
   pub streams : Streams
+
+abbrev pub standing : {H A : Type 0} → HostOf H → SinkOf A → RecordReader → Option ℕ → Detector → H → A → Standing
+standing h a reader room detector host alerts = record { reader = reader; room = room; detector = detector; streams = streams h a host alerts }
 
 -- from the first reader on some records were given, the detector stands for them, and their lines were
 -- written

@@ -3,6 +3,7 @@ ghost use Rattle.edge_io.specs.Told.{Rose};
 ghost use Rattle.pcap_input.specs.Savefile.{most_records};
 ghost use Rattle.snort_engine.specs.Reader.{IsFresh, IsNext, number_of};
 ghost use Rattle.snort_engine.specs.Batch.{ReadsOn, more_of};
+ghost use Rattle.snort_engine.specs.Outside.{OnlyRead};
 ghost use Rattle.snort_engine.specs.Watching.{most_at, room_behind};
 
 use crate::fault::ReadFault;
@@ -26,6 +27,7 @@ pub(crate) enum Reached {
 }
 
 /// Reads one record behind those that were read.
+#[tactic(auto, using(crate::proofs::Prefixes::reading))]
 fn read_one<H: Host>(
     alloc: Global,
     host: &mut H,
@@ -40,9 +42,7 @@ fn read_one<H: Host>(
     ensures none { result ≢ Reached.More → vec_len records.new ≡ vec_len records.old }
     ensures next { result ≡ Reached.More → IsFresh reader.new × IsNext reader.old reader.new }
     ensures failed { result ≡ Reached.Fault ReadFault.Failed → Rose (H.faults host.old) (H.faults host.new) }
-    ensures same_opens { H.opens host.new ≡ H.opens host.old }
-    ensures same_contents { H.contents host.new ≡ H.contents host.old }
-    ensures later { H.faults host.old ≤ H.faults host.new }
+    ensures host { OnlyRead H.Host host.old host.new }
 {
     // Room comes first, so that no record is lost that was taken.
     if records.reserve(1).is_err() {
@@ -81,6 +81,7 @@ pub(crate) fn room_behind(room: Option<u32>, count: usize) -> Option<u32>
 
 /// Reads a batch of `most` records, or fewer where the capture ends, is refused or can't be read on
 /// behind them. These are still to be shown.
+#[tactic(auto, using(crate::proofs::Prefixes::reading))]
 pub(crate) fn read_batch<H: Host>(
     alloc: Global,
     host: &mut H,
@@ -102,9 +103,7 @@ pub(crate) fn read_batch<H: Host>(
     ensures numbered { result ≡ Reached.More → number_of reader.new ≡ number_of reader.old + vec_len records.new }
     ensures filled { 0 < vec_len records.new → number_of reader.old + vec_len records.new ≤ most_records }
     ensures failed { result ≡ Reached.Fault ReadFault.Failed → Rose (H.faults host.old) (H.faults host.new) }
-    ensures same_opens { H.opens host.new ≡ H.opens host.old }
-    ensures same_contents { H.contents host.new ≡ H.contents host.old }
-    ensures later { H.faults host.old ≤ H.faults host.new }
+    ensures host { OnlyRead H.Host host.old host.new }
 {
     'batch: while records.len() < most {
         match read_one(alloc, host, reader, records) {

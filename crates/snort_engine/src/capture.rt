@@ -6,7 +6,7 @@ ghost use Rattle.edge_io.specs.Told.{Rose};
 ghost use Rattle.flow_lanes.specs.Hits.{Test};
 ghost use Rattle.snort_engine.specs.Course.{Course, Makes};
 ghost use Rattle.snort_engine.specs.Sources.{IsMade, LacksCapture, OpensOn, source_name, way_from};
-ghost use Rattle.snort_engine.specs.Outside.{Work};
+ghost use Rattle.snort_engine.specs.Outside.{Work, work};
 ghost use Rattle.snort_engine.specs.Ending.{Ends};
 ghost use Rattle.snort_engine.specs.Stop.{outcome_status, outcome_text};
 ghost use Rattle.snort_engine.specs.Reporting.{counts_due};
@@ -83,18 +83,7 @@ pub(crate) fn watch_capture<H: Host, P: Pattern, G: Gate, A: Sink, R: Threads + 
         → (files : Files) (course : Course) → H.contents host.old ≡ Some files
         → course.way ≡ way_from plan.now.source (plan_of matches plan.now)
         → Ends files course
-        (record {
-          left = H.left host.old;
-          opens = H.opens host.old;
-          host_faults = H.faults host.old;
-          alerts = A.written alerts.old;
-        })
-        (record {
-          left = H.left host.new;
-          opens = H.opens host.new;
-          host_faults = H.faults host.new;
-          alerts = A.written alerts.new;
-        })
+        (work H.Host A.Sink host.old alerts.old) (work H.Host A.Sink host.new alerts.new)
         (outcome_status result)
         (concat course.warnings ++ with_counts (outcome_text (source_name plan.now.source) result) (counts_due plan.now.counted result counts.new)) }
     ensures write_fault { outcome_status result ≡ Status.WriteFault → Rose (A.faults alerts.old) (A.faults alerts.new) }

@@ -1,6 +1,7 @@
 ghost use Rattle.std.specs.Prelude.{◌≡◌, map, string_bytes};
 ghost use Rattle.option_eval.specs.RuleSet.{SameMeaning};
 ghost use Rattle.snort_setup.specs.Steps.{Grows};
+ghost use Rattle.snort_engine.specs.Outside.{outside};
 ghost use Rattle.snort_engine.specs.Headline.{Headline};
 
 use crate::Status;
@@ -35,29 +36,8 @@ pub fn run<H: Host, M: PatternMaker, A: Sink, E: Sink, G: Gate, R: Threads + Syn
     gate: &G,
 ) -> Status
     ensures headline { Headline (map string_bytes words.now) (M.means maker.old)
-        (record {
-          files = H.contents host.old;
-          left = H.left host.old;
-          opens = H.opens host.old;
-          host_faults = H.faults host.old;
-          alerts = A.written alerts.old;
-          alert_faults = A.faults alerts.old;
-          errors = E.written errors.old;
-          error_faults = E.faults errors.old;
-          refusals = M.refusals maker.old;
-        })
-        (record {
-          files = H.contents host.new;
-          left = H.left host.new;
-          opens = H.opens host.new;
-          host_faults = H.faults host.new;
-          alerts = A.written alerts.new;
-          alert_faults = A.faults alerts.new;
-          errors = E.written errors.new;
-          error_faults = E.faults errors.new;
-          refusals = M.refusals maker.new;
-        })
-        result }
+        (outside H.Host A.Sink E.Sink host.old alerts.old errors.old (M.refusals maker.old))
+        (outside H.Host A.Sink E.Sink host.new alerts.new errors.new (M.refusals maker.new)) result }
 
     // The maker means what it meant, and keeps what it refused.
     ensures same_meaning { SameMeaning (M.means maker.old) (M.means maker.new) }

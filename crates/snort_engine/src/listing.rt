@@ -3,6 +3,7 @@ ghost use Rattle.std.specs.Prelude.{◌≡◌, ◌≤◌, ◌++◌, Some, OnOk, 
 ghost use Rattle.edge_io.specs.Files.{Files};
 ghost use Rattle.edge_io.specs.Told.{Rose};
 ghost use Rattle.snort_engine.specs.Messages.{too_large_text};
+ghost use Rattle.snort_engine.specs.Outside.{OnlyLoaded};
 ghost use Rattle.snort_engine.specs.Preparing.{HasCause, ListsBytes, ListsFile, StopsAtFile};
 ghost use Rattle.snort_engine.specs.RecordLines.{counted_line, end_text, entry_line, entry_lines, event_front, event_line, micro_text};
 
@@ -168,10 +169,7 @@ pub(crate) fn list_records<H: Host>(alloc: Global, name: &str, host: &mut H) -> 
     ensures lists { (files : Files) → H.contents host.old ≡ Some files
         → ListsFile name.now files (Rose (H.faults host.old) (H.faults host.new)) result }
     ensures cause { IfErr result (HasCause (Rose (H.faults host.old) (H.faults host.new)) (H.contents host.old)) }
-    ensures same_contents { H.contents host.new ≡ H.contents host.old }
-    ensures same_left { H.left host.new ≡ H.left host.old }
-    ensures same_opens { H.opens host.new ≡ H.opens host.old }
-    ensures later { H.faults host.old ≤ H.faults host.new }
+    ensures host { OnlyLoaded H.Host host.old host.new }
 {
     let mut bytes = Vec::new(alloc);
     match host.load(name, MOST_BYTES, &mut bytes) {

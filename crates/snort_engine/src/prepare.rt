@@ -15,6 +15,7 @@ ghost use Rattle.snort_setup.specs.Steps.{grown_by, Grows};
 ghost use Rattle.snort_setup.specs.Whole.{ready_of};
 ghost use Rattle.snort_engine.specs.Course.{IsForMade, setup_words, checks_of, form_of, way_of};
 ghost use Rattle.snort_engine.specs.Preparing.{IsPrepared, IsSetUp, KeepsSetup, HasCause, IsForFaultyWords, OfWatch, task_way, way_for, told_of, way_by};
+ghost use Rattle.snort_engine.specs.Outside.{OnlyLoaded};
 ghost use Rattle.snort_engine.specs.Sources.{source_name, IsMade, IsSourceFor, way_from};
 ghost use Rattle.snort_engine.specs.Watching.{plan_of};
 ghost use Rattle.snort_engine.specs.Detecting.{IsRanged};
@@ -183,10 +184,7 @@ fn set_up<H: Host, M: PatternMaker>(
     ensures config { IfOk result (λ setup. conf.IsSound setup.config) }
     ensures rules { IfOk result (λ setup. All (IsSound setup.config.classes) setup.set.rules) }
     ensures meant { IfOk result (λ setup. FindWhatIsMeant M.Made.finds (M.means maker.old) setup.set) }
-    ensures same_contents { H.contents host.new ≡ H.contents host.old }
-    ensures same_left { H.left host.new ≡ H.left host.old }
-    ensures same_opens { H.opens host.new ≡ H.opens host.old }
-    ensures later { H.faults host.old ≤ H.faults host.new }
+    ensures host { OnlyLoaded H.Host host.old host.new }
     ensures grows { Grows (M.refusals maker.old) (M.refusals maker.new) }
     ensures same_meaning { SameMeaning (M.means maker.old) (M.means maker.new) }
 {
@@ -258,10 +256,7 @@ fn prepare_run<'a, H: Host, M: PatternMaker>(
     ensures rules { IfOk result (λ ready. All (IsSound ready.setup.config.classes) ready.setup.set.rules) }
     ensures ranges { IfOk result (λ ready. IsRanged ready.lanes ready.flush) }
     ensures meant { IfOk result (λ ready. FindWhatIsMeant M.Made.finds (M.means maker.old) ready.setup.set) }
-    ensures same_contents { H.contents host.new ≡ H.contents host.old }
-    ensures same_left { H.left host.new ≡ H.left host.old }
-    ensures same_opens { H.opens host.new ≡ H.opens host.old }
-    ensures later { H.faults host.old ≤ H.faults host.new }
+    ensures host { OnlyLoaded H.Host host.old host.new }
     ensures grows { Grows (M.refusals maker.old) (M.refusals maker.new) }
     ensures same_meaning { SameMeaning (M.means maker.old) (M.means maker.new) }
 {
@@ -295,10 +290,7 @@ pub(crate) fn prepare<'a, H: Host, M: PatternMaker>(
     ensures meant { IfOk result (OfWatch (λ ready. FindWhatIsMeant M.Made.finds (M.means maker.old) ready.setup.set)) }
 
     // The host is as before, but for its count, and the maker but for what it refused.
-    ensures same_contents { H.contents host.new ≡ H.contents host.old }
-    ensures same_left { H.left host.new ≡ H.left host.old }
-    ensures same_opens { H.opens host.new ≡ H.opens host.old }
-    ensures later { H.faults host.old ≤ H.faults host.new }
+    ensures host { OnlyLoaded H.Host host.old host.new }
     ensures grows { Grows (M.refusals maker.old) (M.refusals maker.new) }
     ensures same_meaning { SameMeaning (M.means maker.old) (M.means maker.new) }
 {

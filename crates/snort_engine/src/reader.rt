@@ -4,6 +4,7 @@ ghost use Rattle.std.specs.FinMap.{get};
 ghost use Rattle.edge_io.specs.Told.{Rose};
 ghost use Rattle.edge_io.specs.Files.{Files, Lacks};
 ghost use Rattle.snort_engine.specs.declared.reader.RecordReader.TheVariants.{Savefile, Blocks};
+ghost use Rattle.snort_engine.specs.Outside.{OnlyRead};
 ghost use Rattle.snort_engine.specs.Trace.{no_record};
 ghost use Rattle.snort_engine.specs.Reader.{IsFresh, number_of, Gives, Opens, OpensSo};
 
@@ -102,9 +103,7 @@ impl RecordReader {
         requires { IsFresh self.old }
         ensures gives { Gives self.old self.new result (H.left host.old) (H.left host.new) }
         ensures failed { IsErrOf result ReadFault.Failed → Rose (H.faults host.old) (H.faults host.new) }
-        ensures same_contents { H.contents host.new ≡ H.contents host.old }
-        ensures same_opens { H.opens host.new ≡ H.opens host.old }
-        ensures later { H.faults host.old ≤ H.faults host.new }
+        ensures host { OnlyRead H.Host host.old host.new }
     {
         match self {
             RecordReader::Savefile(reader) => next_of_savefile(alloc, host, reader),
@@ -150,9 +149,7 @@ fn next_of_savefile<H: Host>(
     requires { reader.old.refused ≡ None }
     ensures gives { Gives (Savefile reader.old) (Savefile reader.new) result (H.left host.old) (H.left host.new) }
     ensures failed { IsErrOf result ReadFault.Failed → Rose (H.faults host.old) (H.faults host.new) }
-    ensures same_contents { H.contents host.new ≡ H.contents host.old }
-    ensures same_opens { H.opens host.new ≡ H.opens host.old }
-    ensures later { H.faults host.old ≤ H.faults host.new }
+    ensures host { OnlyRead H.Host host.old host.new }
 {
     let link = reader.head().link;
     match reader.next(alloc, host) {
@@ -171,9 +168,7 @@ fn next_of_blocks<H: Host>(
     requires { reader.old.refused ≡ None }
     ensures gives { Gives (Blocks reader.old) (Blocks reader.new) result (H.left host.old) (H.left host.new) }
     ensures failed { IsErrOf result ReadFault.Failed → Rose (H.faults host.old) (H.faults host.new) }
-    ensures same_contents { H.contents host.new ≡ H.contents host.old }
-    ensures same_opens { H.opens host.new ≡ H.opens host.old }
-    ensures later { H.faults host.old ≤ H.faults host.new }
+    ensures host { OnlyRead H.Host host.old host.new }
 {
     match reader.next(alloc, host) {
         Ok(Some(NgRecord { link, item })) => Ok(Some(LinkedRecord {

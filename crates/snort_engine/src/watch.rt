@@ -7,12 +7,13 @@ ghost use Rattle.flow_lanes.specs.Hits.{Test};
 ghost use Rattle.snort_engine.specs.Course.{Course, Goes};
 ghost use Rattle.snort_engine.specs.Reader.{IsFresh, number_of, OpensSo};
 ghost use Rattle.snort_engine.specs.Sources.{source_name};
+ghost use Rattle.snort_engine.specs.Outside.{OnlyRead, work};
 ghost use Rattle.snort_engine.specs.Ending.{Ends};
 ghost use Rattle.snort_engine.specs.Stop.{outcome_status, outcome_text};
 ghost use Rattle.snort_engine.specs.Reporting.{counts_due};
 ghost use Rattle.snort_engine.specs.Counts.{no_counts, with_counts};
 ghost use Rattle.snort_engine.specs.Detecting.{IsSoundPlan, Knows, DetectorStands};
-ghost use Rattle.snort_engine.specs.Watching.{plan_of, IsTest, Watches, ComesOver, IsCloseBehind, GoesOn, StaysKnown, StaysFew, ClosesWatched};
+ghost use Rattle.snort_engine.specs.Watching.{plan_of, standing, streams, IsTest, Watches, ComesOver, IsCloseBehind, GoesOn, StaysKnown, StaysFew, ClosesWatched};
 
 use crate::Status;
 use crate::batch::{give_back, more, most_at, read_batch, room_behind};
@@ -27,7 +28,7 @@ use std::thread::Threads;
 
 /// Reads a batch of records and writes their lines. Ok(true) where more records may follow, Ok(false)
 /// at the capture's end, and where no record may be read any more. `room` is how many may be.
-#[tactic(auto, using(crate::proofs::Prefixes::rising))]
+#[tactic(auto, using(crate::proofs::Prefixes::reading))]
 fn watch_batch<H: Host, P: Pattern, G: Gate, A: Sink, R: Threads + Sync>(
     rt: &R,
     alloc: Global,
@@ -48,19 +49,8 @@ fn watch_batch<H: Host, P: Pattern, G: Gate, A: Sink, R: Threads + Sync>(
     requires no_records { records.old.items ≡ [] }
     ensures goes_on { (matches : Test) → IsTest P.finds plan.now.set.now matches
         → GoesOn (plan_of matches plan.now)
-        (record {
-          reader = reader.old;
-          room = room.old;
-          detector = detector.old;
-          streams = record { left = H.left host.old; written = A.written alerts.old };
-        })
-        (record {
-          reader = reader.new;
-          room = room.new;
-          detector = detector.new;
-          streams = record { left = H.left host.new; written = A.written alerts.new };
-        })
-        result }
+        (standing H.Host A.Sink reader.old room.old detector.old host.old alerts.old)
+        (standing H.Host A.Sink reader.new room.new detector.new host.new alerts.new) result }
     ensures further { result ≡ Ok true → number_of reader.old < number_of reader.new }
     ensures within { result ≡ Ok true → number_of reader.new ≤ most_records }
     ensures fresh { result ≡ Ok true → IsFresh reader.new }
@@ -70,9 +60,7 @@ fn watch_batch<H: Host, P: Pattern, G: Gate, A: Sink, R: Threads + Sync>(
     ensures few { StaysFew detector.new result }
     ensures write_fault { IsErrOf result Stop.CannotWrite → Rose (A.faults alerts.old) (A.faults alerts.new) }
     ensures read_fault { outcome_status result ≡ Status.HostFault → Rose (H.faults host.old) (H.faults host.new) }
-    ensures same_opens { H.opens host.new ≡ H.opens host.old }
-    ensures same_contents { H.contents host.new ≡ H.contents host.old }
-    ensures later { H.faults host.old ≤ H.faults host.new }
+    ensures host { OnlyRead H.Host host.old host.new }
     ensures later_alerts { A.faults alerts.old ≤ A.faults alerts.new }
 {
     let most = most_at(*room);
@@ -88,7 +76,7 @@ fn watch_batch<H: Host, P: Pattern, G: Gate, A: Sink, R: Threads + Sync>(
 
 /// Reads one batch of records after another, and writes the lines of each before the next is read. What
 /// it ends with is not closed yet.
-#[tactic(auto, using(crate::proofs::Prefixes::rising))]
+#[tactic(auto, using(crate::proofs::Prefixes::reading))]
 fn watch_batches<H: Host, P: Pattern, G: Gate, A: Sink, R: Threads + Sync>(
     rt: &R,
     alloc: Global,
@@ -107,15 +95,12 @@ fn watch_batches<H: Host, P: Pattern, G: Gate, A: Sink, R: Threads + Sync>(
     ensures comes { (matches : Test) → IsTest P.finds plan.now.set.now matches
         → DetectorStands (plan_of matches plan.now) [] detector.old
         → ComesOver (plan_of matches plan.now) reader.old
-        (record { left = H.left host.old; written = A.written alerts.old })
-        (record { left = H.left host.new; written = A.written alerts.new }) detector.new result }
+        (streams H.Host A.Sink host.old alerts.old) (streams H.Host A.Sink host.new alerts.new) detector.new result }
     ensures known { StaysKnown plan.now detector.new result }
     ensures few { StaysFew detector.new result }
     ensures write_fault { IsErrOf result Stop.CannotWrite → Rose (A.faults alerts.old) (A.faults alerts.new) }
     ensures read_fault { outcome_status result ≡ Status.HostFault → Rose (H.faults host.old) (H.faults host.new) }
-    ensures same_opens { H.opens host.new ≡ H.opens host.old }
-    ensures same_contents { H.contents host.new ≡ H.contents host.old }
-    ensures later { H.faults host.old ≤ H.faults host.new }
+    ensures host { OnlyRead H.Host host.old host.new }
     ensures later_alerts { A.faults alerts.old ≤ A.faults alerts.new }
 {
     let mut room = plan.limit;
@@ -182,17 +167,13 @@ pub(crate) fn watch_records<H: Host, P: Pattern, G: Gate, A: Sink, R: Threads + 
     requires fresh { IsFresh reader.old }
     ensures watches { (matches : Test) → IsTest P.finds plan.now.set.now matches
         → Watches (plan_of matches plan.now) reader.old
-        (record { left = H.left host.old; written = A.written alerts.old })
-        (record { left = H.left host.new; written = A.written alerts.new }) counts.new result }
+        (streams H.Host A.Sink host.old alerts.old) (streams H.Host A.Sink host.new alerts.new) counts.new result }
     ensures close { (matches : Test) → IsTest P.finds plan.now.set.now matches
         → IsCloseBehind (plan_of matches plan.now) reader.old
-        (record { left = H.left host.old; written = A.written alerts.old })
-        (record { left = H.left host.new; written = A.written alerts.new }) }
+        (streams H.Host A.Sink host.old alerts.old) (streams H.Host A.Sink host.new alerts.new) }
     ensures write_fault { IsErrOf result Stop.CannotWrite → Rose (A.faults alerts.old) (A.faults alerts.new) }
     ensures read_fault { outcome_status result ≡ Status.HostFault → Rose (H.faults host.old) (H.faults host.new) }
-    ensures same_opens { H.opens host.new ≡ H.opens host.old }
-    ensures same_contents { H.contents host.new ≡ H.contents host.old }
-    ensures later { H.faults host.old ≤ H.faults host.new }
+    ensures host { OnlyRead H.Host host.old host.new }
     ensures later_alerts { A.faults alerts.old ≤ A.faults alerts.new }
 {
     let mut detector = Detector::new(alloc, plan)?;
@@ -202,7 +183,7 @@ pub(crate) fn watch_records<H: Host, P: Pattern, G: Gate, A: Sink, R: Threads + 
 
 /// Opens the file of this name as the capture and writes the lines of its records; `counts` is then what
 /// was counted, where it was read to its end, or is refused.
-#[tactic(auto, using(crate::proofs::Prefixes::rising))]
+#[tactic(auto, using(crate::proofs::Prefixes::reading))]
 pub(crate) fn watch_file<H: Host, P: Pattern, G: Gate, A: Sink, R: Threads + Sync>(
     rt: &R,
     alloc: Global,
@@ -220,18 +201,7 @@ pub(crate) fn watch_file<H: Host, P: Pattern, G: Gate, A: Sink, R: Threads + Syn
         → (files : Files) (course : Course) → H.contents host.old ≡ Some files
         → course.way ≡ Goes (plan_of matches plan.now)
         → Ends files course
-        (record {
-          left = H.left host.old;
-          opens = H.opens host.old;
-          host_faults = H.faults host.old;
-          alerts = A.written alerts.old;
-        })
-        (record {
-          left = H.left host.new;
-          opens = H.opens host.new;
-          host_faults = H.faults host.new;
-          alerts = A.written alerts.new;
-        })
+        (work H.Host A.Sink host.old alerts.old) (work H.Host A.Sink host.new alerts.new)
         (outcome_status result)
         (concat course.warnings ++ with_counts (outcome_text name.now result) (counts_due plan.now.counted result counts.new)) }
     ensures write_fault { outcome_status result ≡ Status.WriteFault → Rose (A.faults alerts.old) (A.faults alerts.new) }

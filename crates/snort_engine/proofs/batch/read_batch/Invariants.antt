@@ -3,6 +3,7 @@ use Rattle.std.proofs.Common.{◌≡◌, ◌+◌, ◌-◌, ◌<◌, ◌≤◌, [
 use Rattle.pcap_input.specs.Savefile.{most_records}
 use Rattle.snort_engine.specs.Reader.{IsFresh, number_of}
 use Rattle.snort_engine.specs.Batch.{ReadsOn}
+use Rattle.snort_engine.specs.Outside.{OnlyRead}
 use Rattle.snort_engine.specs.declared.batch.Reached.TheVariants.{More}
 use Rattle.snort_engine.proofs.batch.read_batch.Given as goal
 
@@ -13,9 +14,7 @@ invariant-batch g l = record {
   few : vec_len l.records ≤ l.most;
   number : number_of l.reader ≡ number_of l.fn.reader + vec_len l.records;
   within : 0 < vec_len l.records → number_of l.reader ≤ most_records;
-  opens : g.H.Host.opens l.host ≡ g.H.Host.opens l.fn.host;
-  contents : g.H.Host.contents l.host ≡ g.H.Host.contents l.fn.host;
-  later : g.H.Host.faults l.fn.host ≤ g.H.Host.faults l.host;
+  host : OnlyRead g.H.Host l.fn.host l.host;
 }
 
 abbrev pub decreases-batch : goal.decreases-batch

@@ -28,24 +28,24 @@ returns-in-Ok-Watch-clause-headline g c =
       };
       prepared = λ files is. (rw c.in-Ok-Watch.field-0-is at c.in-Ok-Watch.ensures.prepared) files is;
       faulty_words = λ none. c.in-Ok-Watch.ensures.faulty_words none;
-      since = record { left = c.prepare-prepared.ensures.same_left; opens = c.prepare-prepared.ensures.same_opens; alerts = refl; later = c.prepare-prepared.ensures.later };
+      since = record { left = c.prepare-prepared.ensures.host.left; opens = c.prepare-prepared.ensures.host.opens; alerts = refl; later = c.prepare-prepared.ensures.host.later };
       ends = λ matches tells files course is goes.
           c.watch_capture-outcome.ensures.ends matches
           (record { means = g.M.PatternMaker.means c.args.maker.now; find = rw c.plan_for-plan.ensures.set (rw c.in-Ok-Watch.field-0-is at c.in-Ok-Watch.ensures.meant); tells = tells })
-          files course (c.prepare-prepared.ensures.same_contents ∙ is) (goes ∙ sym (c.plan_for-plan.ensures.way matches));
+          files course (c.prepare-prepared.ensures.host.files ∙ is) (goes ∙ sym (c.plan_for-plan.ensures.way matches));
       write_fault = c.watch_capture-outcome.ensures.write_fault;
       read_fault = λ matches failed.
-          rw (c.prepare-prepared.ensures.same_contents, c.plan_for-plan.ensures.way matches) at (c.watch_capture-outcome.ensures.read_fault matches failed);
+          rw (c.prepare-prepared.ensures.host.files, c.plan_for-plan.ensures.way matches) at (c.watch_capture-outcome.ensures.read_fault matches failed);
       opened = λ matches.
-          rw (c.prepare-prepared.ensures.same_contents, c.prepare-prepared.ensures.same_opens, c.plan_for-plan.ensures.way matches) at (c.watch_capture-outcome.ensures.opened matches);
+          rw (c.prepare-prepared.ensures.host.files, c.prepare-prepared.ensures.host.opens, c.plan_for-plan.ensures.way matches) at (c.watch_capture-outcome.ensures.opened matches);
       made_unopened = λ for_made.
           let made = c.plan_for-plan.ensures.made ((rw c.in-Ok-Watch.field-0-is at c.in-Ok-Watch.ensures.made) for_made) in (
-            opens_made _ c.plan_for-plan.result.source _ _ _ _ made (c.watch_capture-outcome.ensures.opened (c.matching_is_decided.ensures (g.M.PatternMaker.means c.args.maker.now)).0) ∙ c.prepare-prepared.ensures.same_opens,
-            c.watch_capture-outcome.ensures.made_unopened made ∙ c.prepare-prepared.ensures.same_left,
+            opens_made _ c.plan_for-plan.result.source _ _ _ _ made (c.watch_capture-outcome.ensures.opened (c.matching_is_decided.ensures (g.M.PatternMaker.means c.args.maker.now)).0) ∙ c.prepare-prepared.ensures.host.opens,
+            c.watch_capture-outcome.ensures.made_unopened made ∙ c.prepare-prepared.ensures.host.left,
           );
-      same_files = c.watch_capture-outcome.ensures.same_contents ∙ c.prepare-prepared.ensures.same_contents;
+      same_files = c.watch_capture-outcome.ensures.same_contents ∙ c.prepare-prepared.ensures.host.files;
       counts = record {
-        host = omega (arith, c.prepare-prepared.ensures.later, c.watch_capture-outcome.ensures.later);
+        host = omega (arith, c.prepare-prepared.ensures.host.later, c.watch_capture-outcome.ensures.later);
         alerts = c.watch_capture-outcome.ensures.later_alerts;
         errors = omega (arith, c.tell_all-well.ensures.later, c.report.ensures.later);
       };
@@ -73,17 +73,17 @@ returns-in-Ok-Tell-clause-headline g c =
       };
       prepared = λ files is. (rw c.in-Ok-Tell.field-0-is at c.in-Ok-Tell.ensures.prepared) files is;
       faulty_words = λ none. c.in-Ok-Tell.ensures.faulty_words none;
-      since = record { left = c.prepare-prepared.ensures.same_left; opens = c.prepare-prepared.ensures.same_opens; alerts = refl; later = c.prepare-prepared.ensures.later };
+      since = record { left = c.prepare-prepared.ensures.host.left; opens = c.prepare-prepared.ensures.host.opens; alerts = refl; later = c.prepare-prepared.ensures.host.later };
       ends = λ matches tells files course is lists.
           listed_ends files course c.in-Ok-Tell.lines _ _ c.offer-outcome.result lists refl refl
           (rw c.into_vec-block.ensures at c.offer-outcome.ensures.offered) (rw c.into_vec-block.ensures at c.offer-outcome.ensures.stopped) c.offer-outcome.ensures.kind;
       write_fault = λ failed. write_stop c.offer-outcome.result c.offer-outcome.ensures.kind c.offer-outcome.ensures.fault failed;
       read_fault = λ matches failed. absurd (no_host_stop c.offer-outcome.result c.offer-outcome.ensures.kind failed);
-      opened = λ matches. c.prepare-prepared.ensures.same_opens;
-      made_unopened = λ for_made. (c.prepare-prepared.ensures.same_opens, c.prepare-prepared.ensures.same_left);
-      same_files = c.prepare-prepared.ensures.same_contents;
+      opened = λ matches. c.prepare-prepared.ensures.host.opens;
+      made_unopened = λ for_made. (c.prepare-prepared.ensures.host.opens, c.prepare-prepared.ensures.host.left);
+      same_files = c.prepare-prepared.ensures.host.files;
       counts = record {
-        host = c.prepare-prepared.ensures.later;
+        host = c.prepare-prepared.ensures.host.later;
         alerts = c.offer-outcome.ensures.later;
         errors = omega (arith, c.tell_all-well.ensures.later, c.report-in-Ok-Tell.ensures.later);
       };
@@ -106,9 +106,9 @@ returns-clause-headline g c =
       prepared = λ files is. c.in-Err.ensures.prepared files is;
       cause = c.in-Err.ensures.cause;
       faulty_words = λ none. c.in-Err.ensures.faulty_words none;
-      unopened = record { left = c.prepare-prepared.ensures.same_left; opens = c.prepare-prepared.ensures.same_opens; alerts = refl };
-      same_files = c.prepare-prepared.ensures.same_contents;
-      counts = record { host = c.prepare-prepared.ensures.later; alerts = omega arith; errors = omega (arith, c.tell_all-well.ensures.later, c.report-in-Err.ensures.later) };
+      unopened = record { left = c.prepare-prepared.ensures.host.left; opens = c.prepare-prepared.ensures.host.opens; alerts = refl };
+      same_files = c.prepare-prepared.ensures.host.files;
+      counts = record { host = c.prepare-prepared.ensures.host.later; alerts = omega arith; errors = omega (arith, c.tell_all-well.ensures.later, c.report-in-Err.ensures.later) };
     })
     (record {
       middle = g.E.Sink.written c.tell_all-well.new.errors;

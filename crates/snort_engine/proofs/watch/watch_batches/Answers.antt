@@ -1,6 +1,7 @@
 use Rattle.std.proofs.Common.{Ok, refl, ap, ◌∙◌, arith}
 use Rattle.std.proofs.lemmas.Result.{err_from_is_err_and}
 use Rattle.snort_engine.specs.Watching.{plan_of}
+use Rattle.snort_engine.proofs.Prefixes.{read_not, read_on}
 use Rattle.snort_engine.proofs.Watched.{under_way-start}
 use Rattle.snort_engine.proofs.watch.watch_batches.Goals as goal
 
@@ -12,9 +13,7 @@ batches-init g c = record {
   within = c.requires.within;
   fresh = c.requires.fresh;
   shown = c.new-records.ensures.items;
-  opens = refl;
-  contents = refl;
-  later = omega arith;
+  host = read_not g.H.Host c.args.host.now;
   later_alerts = omega arith;
 }
 
@@ -38,8 +37,6 @@ batches-preserved g c =
       within = c.in_ok-watch_batch.ensures.within (ap Ok c.if-branch.true);
       fresh = c.in_ok-watch_batch.ensures.fresh (ap Ok c.if-branch.true);
       shown = c.in_ok-watch_batch.ensures.shown;
-      opens = c.in_ok-watch_batch.ensures.same_opens ∙ c.batches.invariant.opens;
-      contents = c.in_ok-watch_batch.ensures.same_contents ∙ c.batches.invariant.contents;
-      later = omega (arith, c.in_ok-watch_batch.ensures.later, c.batches.invariant.later);
+      host = read_on g.H.Host _ _ _ c.batches.invariant.host c.in_ok-watch_batch.ensures.host;
       later_alerts = omega (arith, c.in_ok-watch_batch.ensures.later_alerts, c.batches.invariant.later_alerts);
     }

@@ -2,6 +2,7 @@
 use Rattle.std.proofs.Common.{◌≡◌, ◌≤◌, ◌-◌, []}
 use Rattle.pcap_input.specs.Savefile.{most_records}
 use Rattle.flow_lanes.specs.Hits.{Test}
+use Rattle.snort_engine.specs.Outside.{OnlyRead}
 use Rattle.snort_engine.specs.Reader.{IsFresh, number_of}
 use Rattle.snort_engine.specs.Detecting.{Knows, DetectorStands}
 use Rattle.snort_engine.specs.Watching.{plan_of, IsTest, IsUnderWay}
@@ -17,9 +18,7 @@ invariant-batches g l = record {
   within : number_of l.reader ≤ most_records;
   fresh : IsFresh l.reader;
   shown : l.records.items ≡ [];
-  opens : g.H.Host.opens l.host ≡ g.H.Host.opens l.fn.host;
-  contents : g.H.Host.contents l.host ≡ g.H.Host.contents l.fn.host;
-  later : g.H.Host.faults l.fn.host ≤ g.H.Host.faults l.host;
+  host : OnlyRead g.H.Host l.fn.host l.host;
   later_alerts : g.A.Sink.faults l.fn.alerts ≤ g.A.Sink.faults l.alerts;
 }
 

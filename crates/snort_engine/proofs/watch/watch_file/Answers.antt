@@ -1,4 +1,4 @@
-use Rattle.std.proofs.Common.{Err, refl, sym, ap}
+use Rattle.std.proofs.Common.{Err, refl, sym, ap, ◌∙◌, arith}
 use Rattle.std.proofs.lemmas.Result.{err_from_is_err_and}
 use Rattle.snort_engine.specs.Watching.{plan_of}
 use Rattle.snort_engine.proofs.Prefixes.{rose_since}
@@ -26,5 +26,11 @@ returns-clause-ends g c = λ matches test files course told goes.
 
 pub returns-clause-opened : goal.returns-clause-opened
 returns-clause-opened g c =
-    rw c.watch_records.ensures.same_opens (opens_later _ c.args.name.now (g.H.Host.faults c.args.host.now) _ _ (g.H.Host.opens c.args.host.now) _
-    c.watch_records.ensures.later c.in_ok-reader.ensures.opened)
+    rw c.watch_records.ensures.host.opens (opens_later _ c.args.name.now (g.H.Host.faults c.args.host.now) _ _ (g.H.Host.opens c.args.host.now) _
+    c.watch_records.ensures.host.later c.in_ok-reader.ensures.opened)
+
+pub returns-clause-same_contents : goal.returns-clause-same_contents
+returns-clause-same_contents g c = c.watch_records.ensures.host.files ∙ c.in_ok-reader.ensures.same_contents
+
+pub returns-clause-later : goal.returns-clause-later
+returns-clause-later g c = let more = c.watch_records.ensures.host.later in omega (arith, c.in_ok-reader.ensures.later, more)
