@@ -54,7 +54,7 @@ use Rattle.snort_engine.proofs.Learning.{stand-new}
 -- ---- jobs
 
 -- what is detected by goes by this configuration and these rules
-pub detects_by : {P : Type 0} (finds : P → List ℕ → Option Span) (plan : code.Plan P) (matches : Test) (test : IsTest finds plan.set.now matches) → DetectsBy finds test.means plan.config.now.stream plan.set.now (detection_of (plan_of matches plan))
+pub detects_by : {P : Type 0} (finds : P → List ℕ → Option Span) (plan : code.Plan P) (matches : Test) (test : IsTest finds plan.setup.set matches) → DetectsBy finds test.means plan.setup.config.stream plan.setup.set (detection_of (plan_of matches plan))
 detects_by finds plan matches test = record { config = refl; rules = refl; made = test.find; told = test.tells }
 
 -- the items of the answers to a batch, without their records
@@ -319,12 +319,12 @@ inspection_stands-new plan matches inspection sound new = record {
   tries = new.tries;
 }
 
-pub known-new : {P : Type 0} (plan : code.Plan P) (detector : Detector) → StandsFor (way_by plan.checks plan.hosts.now plan.config.now) detector.front [] → IsNewInspection plan detector.inspection
-    → IsKnown (way_by plan.checks plan.hosts.now plan.config.now) plan.set.now.rules detector
+pub known-new : {P : Type 0} (plan : code.Plan P) (detector : Detector) → StandsFor (way_by plan.checks plan.setup.hosts plan.setup.config) detector.front [] → IsNewInspection plan detector.inspection
+    → IsKnown (way_by plan.checks plan.setup.hosts plan.setup.config) plan.setup.set.rules detector
 known-new plan detector front new = record {
   records = [];
   front = front;
-  learnt = new_learnt plan.lanes plan.flush plan.config.now.inserts detector.inspection.lanes new.lanes;
+  learnt = new_learnt plan.lanes plan.flush plan.setup.config.inserts detector.inspection.lanes new.lanes;
   groups = new.groups;
   none = new.none;
 }

@@ -22,7 +22,7 @@ use Rattle.snort_setup.specs.Setup.{Refused, Lacks, Ready, Warned, warned, IsSet
 use Rattle.snort_setup.specs.Answers.{AreRefusedBy, Gives, HasCause as HasSetupCause}
 use Rattle.snort_setup.specs.Whole.{ready_of}
 use Rattle.snort_setup.proofs.One.{setup-one}
-use Rattle.snort_engine.specs.declared.prepare.Prepared.{Prepared}
+use Rattle.snort_engine.specs.declared.plan.Plan as code
 use Rattle.snort_engine.specs.declared.prepare.Task.TheVariants.{Watch, Tell}
 use Rattle.snort_engine.specs.declared.status.Status.TheVariants as status
 use Rattle.snort_engine.specs.declared.stop.Stop.{Stop}
@@ -176,7 +176,7 @@ setup_stopped {A} {B} view ways wanted files rose grown why warnings set = recor
     by_stop matches halted.NoMemory gives told_are = told_are
 
 -- a detector that is ready is a task, and so a stop is a stop
-pub task_ready : {P : Type 0} (asked : Option Asked) (files : Files) (rose : Type 0) (grown : List Refusal) (prepared : Prepared P) (warnings : List (List ℕ)) → IsPrepared way_for asked files rose grown (Ok prepared) warnings
+pub task_ready : {P : Type 0} (asked : Option Asked) (files : Files) (rose : Type 0) (grown : List Refusal) (prepared : code.Plan P) (warnings : List (List ℕ)) → IsPrepared way_for asked files rose grown (Ok prepared) warnings
     → IsPrepared task_way asked files rose grown (Ok (Watch prepared)) warnings
 task_ready asked files rose grown prepared warnings is = record { refused = is.refused; are_refused = is.are_refused; prepares = is.prepares }
 
@@ -194,7 +194,7 @@ task_stopped view other asked files rose grown why warnings is = record {
 }
 
 -- the detector was set up
-pub setup_ready : {P : Type 0} (wanted : Run) (files : Files) (rose : Type 0) (grown : List Refusal) (setup : Setup P) (answer : Result (Prepared P) Stop) (warnings : List (List ℕ))
+pub setup_ready : {P : Type 0} (wanted : Run) (files : Files) (rose : Type 0) (grown : List Refusal) (setup : Setup P) (answer : Result (code.Plan P) Stop) (warnings : List (List ℕ))
     → IsSetUp ready_of wanted files rose grown (Ok setup) warnings
     → ((matches : Test) → way_by (way_for matches) answer ≡ way_of matches wanted (Ok (ready_of setup))) → KeepsSetup setup answer
     → IsPrepared way_for (Some (run wanted)) files rose grown answer warnings
@@ -206,7 +206,7 @@ setup_ready {P} wanted files rose grown setup answer warnings set way keeps = re
       (run_way wanted (given files matches set.sets_up.refused) (warned set.given_warnings (Ok (ready_of setup))) warnings (way_by (way_for matches) answer) set.sets_up.gives set.told_are (way matches));
 }
   where
-    by_answer : (matches : Test) (a : Result (Prepared P) Stop) → KeepsSetup setup a → HasWay (Some (run wanted)) (given files matches set.sets_up.refused) warnings (way_by (way_for matches) a)
+    by_answer : (matches : Test) (a : Result (code.Plan P) Stop) → KeepsSetup setup a → HasWay (Some (run wanted)) (given files matches set.sets_up.refused) warnings (way_by (way_for matches) a)
         → Prepares (way_for matches) (Some (run wanted)) (given files matches set.sets_up.refused) rose a warnings
     by_answer matches (Ok prepared) kept has = has
     by_answer matches (Err (stop.Accepted rules)) kept has = has
@@ -255,7 +255,7 @@ pub source_made : (wanted : Run) (source : Source) → IsSourceFor wanted (Some 
 source_made wanted (File name) (unmade, named) asks = let none : false ≡ true = subst (λ (generate : Option ℕ). IsSome generate) unmade asks in absurd cc
 source_made wanted (Made seed count) is asks = tt
 
-pub run_made : {P : Type 0} (asked : Option Asked) (wanted : Run) (answer : Result (Prepared P) Stop) → asked ≡ Some (run wanted) → IfOk answer (λ ready. IsSome wanted.generate → IsMade ready.source)
+pub run_made : {P : Type 0} (asked : Option Asked) (wanted : Run) (answer : Result (code.Plan P) Stop) → asked ≡ Some (run wanted) → IfOk answer (λ ready. IsSome wanted.generate → IsMade ready.source)
     → IfOk answer (λ ready. IsForMade asked → IsMade ready.source)
 run_made asked wanted (Ok prepared) is made = λ for_made. made (subst IsForMade is for_made)
 run_made asked wanted (Err why) is made = tt
@@ -269,28 +269,28 @@ setup_cause rose host (halted.CannotRead name) cause = cause
 setup_cause rose host halted.NoMemory cause = tt
 
 -- a detector that was set up is stopped without a fault
-pub kept_cause : {P : Type 0} (rose : Type 0) (host : Option Files) (setup : Setup P) (answer : Result (Prepared P) Stop) → KeepsSetup setup answer → IfErr answer (HasCause rose host)
+pub kept_cause : {P : Type 0} (rose : Type 0) (host : Option Files) (setup : Setup P) (answer : Result (code.Plan P) Stop) → KeepsSetup setup answer → IfErr answer (HasCause rose host)
 kept_cause rose host setup (Ok prepared) kept = tt
 kept_cause rose host setup (Err (stop.Accepted rules)) kept = tt
 kept_cause rose host setup (Err stop.CommandLine) kept = tt
 kept_cause rose host setup (Err why) kept = absurd kept
 
 -- its configuration stays sound
-pub kept_config : {P : Type 0} (setup : Setup P) (answer : Result (Prepared P) Stop) → KeepsSetup setup answer → conf.IsSound setup.config → IfOk answer (λ ready. conf.IsSound ready.setup.config)
+pub kept_config : {P : Type 0} (setup : Setup P) (answer : Result (code.Plan P) Stop) → KeepsSetup setup answer → conf.IsSound setup.config → IfOk answer (λ ready. conf.IsSound ready.setup.config)
 kept_config {P} setup (Ok prepared) kept sound = subst (λ (s : Setup P). conf.IsSound s.config) (sym kept) sound
 kept_config setup (Err why) kept sound = tt
 
 -- its numbers are those of the words
-pub kept_ranges : {P : Type 0} (answer : Result (Prepared P) Stop) (lanes flush : ℕ) → IfOk answer (λ ready. (ready.lanes ≡ lanes) × (ready.flush ≡ flush)) → IsRanged lanes flush → IfOk answer (λ ready. IsRanged ready.lanes ready.flush)
+pub kept_ranges : {P : Type 0} (answer : Result (code.Plan P) Stop) (lanes flush : ℕ) → IfOk answer (λ ready. (ready.lanes ≡ lanes) × (ready.flush ≡ flush)) → IsRanged lanes flush → IfOk answer (λ ready. IsRanged ready.lanes ready.flush)
 kept_ranges (Ok prepared) lanes flush (same, too) ranged = subst (λ (n : ℕ). IsRanged n prepared.flush) (sym same) (subst (λ (n : ℕ). IsRanged lanes n) (sym too) ranged)
 kept_ranges (Err why) lanes flush same ranged = tt
 
 -- its rules stay sound
-pub kept_rules : {P : Type 0} (setup : Setup P) (answer : Result (Prepared P) Stop) → KeepsSetup setup answer → All (IsSound setup.config.classes) setup.set.rules → IfOk answer (λ ready. All (IsSound ready.setup.config.classes) ready.setup.set.rules)
+pub kept_rules : {P : Type 0} (setup : Setup P) (answer : Result (code.Plan P) Stop) → KeepsSetup setup answer → All (IsSound setup.config.classes) setup.set.rules → IfOk answer (λ ready. All (IsSound ready.setup.config.classes) ready.setup.set.rules)
 kept_rules {P} setup (Ok prepared) kept sound = subst (λ (s : Setup P). All (IsSound s.config.classes) s.set.rules) (sym kept) sound
 kept_rules setup (Err why) kept sound = tt
 
 -- and its patterns find what is meant
-pub kept_meant : {P : Type 0} (finds : P → List ℕ → Option Span) (means : Means) (setup : Setup P) (answer : Result (Prepared P) Stop) → KeepsSetup setup answer → FindWhatIsMeant finds means setup.set → IfOk answer (λ ready. FindWhatIsMeant finds means ready.setup.set)
+pub kept_meant : {P : Type 0} (finds : P → List ℕ → Option Span) (means : Means) (setup : Setup P) (answer : Result (code.Plan P) Stop) → KeepsSetup setup answer → FindWhatIsMeant finds means setup.set → IfOk answer (λ ready. FindWhatIsMeant finds means ready.setup.set)
 kept_meant {P} finds means setup (Ok prepared) kept found = subst (λ (s : Setup P). FindWhatIsMeant finds means s.set) (sym kept) found
 kept_meant finds means setup (Err why) kept found = tt

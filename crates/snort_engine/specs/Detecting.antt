@@ -43,8 +43,8 @@ pub record IsRanged (lanes flush : ℕ) : Type 0 where
 
 -- its configuration and its rules are sound, and its numbers in their ranges
 pub record IsSoundPlan {P : Type 0} (plan : code.Plan P) : Type 0 where
-  pub config : conf.IsSound plan.config.now
-  pub rules : All (IsSound plan.config.now.classes) plan.set.now.rules
+  pub config : conf.IsSound plan.setup.config
+  pub rules : All (IsSound plan.setup.config.classes) plan.setup.set.rules
   pub ranges : IsRanged plan.lanes plan.flush
 
 -- ---- jobs
@@ -57,9 +57,9 @@ pub record InspectionStands (plan : Plan) (before : List Job) (inspection : Insp
 
 -- an inspection that was given nothing
 pub record IsNewInspection {P : Type 0} (plan : code.Plan P) (inspection : Inspection) : Type 0 where
-  pub lanes : AreNew plan.lanes plan.flush plan.config.now.inserts inspection.lanes
-  pub groups : StandFor inspection.groups plan.set.now.rules
-  pub events : EventsStand plan.config.now plan.set.now.rules [] inspection.events
+  pub lanes : AreNew plan.lanes plan.flush plan.setup.config.inserts inspection.lanes
+  pub groups : StandFor inspection.groups plan.setup.set.rules
+  pub events : EventsStand plan.setup.config plan.setup.set.rules [] inspection.events
   pub none : inspection.events.block.items ≡ []
   pub tries : inspection.tries ≡ 0
   pub last : inspection.last ≡ no_record
@@ -119,7 +119,7 @@ pub record IsKnown (way : Way) (rules : List Rule) (detector : Detector) : Type 
   pub none : detector.inspection.events.block.items ≡ []
 
 abbrev pub Knows : {P : Type 0} → code.Plan P → Detector → Type 0
-Knows plan detector = IsKnown (way_by plan.checks plan.hosts.now plan.config.now) plan.set.now.rules detector
+Knows plan detector = IsKnown (way_by plan.checks plan.setup.hosts plan.setup.config) plan.setup.set.rules detector
 
 -- the detector, and what was written where it is told
 pub record Detecting : Type 0 where

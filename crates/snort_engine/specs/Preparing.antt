@@ -16,15 +16,16 @@ use Rattle.snort_setup.specs.declared.stop.SetupStop.{SetupStop}
 use Rattle.snort_setup.specs.declared.stop.SetupStop.TheVariants as halted
 use Rattle.snort_setup.specs.Answers.{SetsUp}
 use Rattle.snort_setup.specs.Setup.{Ready}
-use Rattle.snort_engine.specs.declared.prepare.Prepared.{Prepared}
+use Rattle.snort_engine.specs.declared.plan.Plan as code
 use Rattle.snort_engine.specs.declared.prepare.Task.{Task}
 use Rattle.snort_engine.specs.declared.prepare.Task.TheVariants.{Watch, Tell}
 use Rattle.snort_engine.specs.declared.stop.Stop.{Stop}
 use Rattle.snort_engine.specs.declared.stop.Stop.TheVariants as stop
-use Rattle.snort_engine.specs.Course.{Plan, Way, Stops, Lists, Course, Given, given, IsCourse, AreListed, IsFileWay, Reads, AreRefused, setup_words, told_warnings}
+use Rattle.snort_engine.specs.Course.{Way, Stops, Lists, Course, Given, given, IsCourse, AreListed, IsFileWay, Reads, AreRefused, setup_words, told_warnings}
 use Rattle.snort_engine.specs.Messages.{too_large_text}
-use Rattle.snort_engine.specs.Sources.{source_name, way_from}
+use Rattle.snort_engine.specs.Sources.{way_from}
 use Rattle.snort_engine.specs.Stop.{stop_status, stop_text}
+use Rattle.snort_engine.specs.Watching.{plan_of}
 
 -- the words have a course of this way, with these warnings
 pub record HasWay (asked : Option Asked) (given : Given) (warnings : List (List ℕ)) (way : Way) : Type 0 where
@@ -33,33 +34,18 @@ pub record HasWay (asked : Option Asked) (given : Given) (warnings : List (List 
   pub warnings_are : course.warnings ≡ warnings
   pub way_is : course.way ≡ way
 
--- the plan of a detector that is ready for a capture, where this test says which rules match
-abbrev pub plan_by : {P : Type 0} → Test → Prepared P → Plan
-plan_by matches prepared = record {
-  source = source_name prepared.source;
-  limit = prepared.limit;
-  checks = prepared.checks;
-  config = prepared.setup.config;
-  hosts = prepared.setup.hosts;
-  flush = prepared.flush;
-  rules = prepared.setup.set.rules;
-  matches = matches;
-  form = prepared.form;
-  counted = prepared.counted;
-}
-
--- its way
-abbrev pub way_for : {P : Type 0} → Test → Prepared P → Way
-way_for matches prepared = way_from prepared.source (plan_by matches prepared)
+-- the way of a detector that is ready for a capture, where this test says which rules match
+abbrev pub way_for : {P : Type 0} → Test → code.Plan P → Way
+way_for matches plan = way_from plan.source (plan_of matches plan)
 
 -- the way of a task
 abbrev pub task_way : {P : Type 0} → Test → Task P → Way
-task_way matches (Watch prepared) = way_for matches prepared
+task_way matches (Watch plan) = way_for matches plan
 task_way matches (Tell lines) = Lists lines
 
 -- this holds of the detector, if the task has one
-abbrev pub OfWatch : {P : Type 0} → (Prepared P → Type 0) → Task P → Type 0
-OfWatch Holds (Watch prepared) = Holds prepared
+abbrev pub OfWatch : {P : Type 0} → (code.Plan P → Type 0) → Task P → Type 0
+OfWatch Holds (Watch plan) = Holds plan
 OfWatch Holds (Tell lines) = ⊤
 
 -- the way of a stop; no stop before a capture is opened tells its name
@@ -101,8 +87,8 @@ pub record IsSetUp {A : Type 0} (view : A → Ready) (wanted : Run) (files : Fil
   pub told_are : warnings ≡ told_of answer wanted given_warnings
 
 -- a detector that is set up is kept as it is, or stops as accepted, or for faulty words
-abbrev pub KeepsSetup : {P : Type 0} → Setup P → Result (Prepared P) Stop → Type 0
-KeepsSetup setup (Ok prepared) = prepared.setup ≡ setup
+abbrev pub KeepsSetup : {P : Type 0} → Setup P → Result (code.Plan P) Stop → Type 0
+KeepsSetup setup (Ok plan) = plan.setup ≡ setup
 KeepsSetup setup (Err (stop.Accepted rules)) = ⊤
 KeepsSetup setup (Err stop.CommandLine) = ⊤
 KeepsSetup setup (Err why) = ⊥

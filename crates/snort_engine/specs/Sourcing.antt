@@ -22,9 +22,10 @@ lent_record lent = lent.now
 abbrev pub last_behind : LinkedRecord → List LinkedRecord → LinkedRecord
 last_behind last records = fold (λ _ r. r) last records
 
--- the record of the job at a place of a batch, by the place of its record among these: this one where it has none
-abbrev pub source_by : Sources → LinkedRecord → ℕ → LinkedRecord
-source_by sources last job = source_in sources.records.now last sources.places.now job
+-- the record of the job at a place of a batch, by the place of its record among these: the last one before
+-- these where it has none
+abbrev pub source_by : Sources → ℕ → LinkedRecord
+source_by sources job = source_in sources.records.now sources.last.now sources.places.now job
 
 -- a job, beside its record
 abbrev pub Sourced : Type 0

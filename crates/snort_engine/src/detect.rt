@@ -8,11 +8,12 @@ ghost use Rattle.flow_lanes.specs.Standing.{LearnsBatch};
 ghost use Rattle.record_jobs.specs.Way as ways;
 ghost use Rattle.record_jobs.specs.Ready.{AreReady};
 ghost use Rattle.record_jobs.specs.Fronts.{GivesFinishes};
-ghost use Rattle.snort_engine.specs.Beside.{by_place};
-ghost use Rattle.snort_engine.specs.Sourcing.{PlacesJobs, source_by};
+ghost use Rattle.snort_engine.specs.Beside.{by_place, source_in};
+ghost use Rattle.snort_engine.specs.Sourcing.{PlacesJobs};
 ghost use Rattle.snort_engine.specs.Watching.{plan_of, IsTest, IsShowStop};
 ghost use Rattle.snort_engine.specs.Detecting.{IsSoundPlan, IsNewInspection, counted, MakesJobs, Runs, RunsPart, Knows, DetectorStands, ShowsRecords, ShowsRecordsPart, Closes, ClosesPart};
 
+use crate::context::Context;
 use crate::counts::{Counts, sum};
 use crate::events::{Events, show_matches};
 use crate::lines::offer;
@@ -67,11 +68,11 @@ impl Inspection {
         requires { IsSoundPlan plan.now }
         ensures { IfOk result (λ inspection. IsNewInspection plan.now inspection) }
     {
-        let rules = plan.set.rules();
+        let rules = plan.setup.set.rules();
         Ok(Inspection {
-            lanes: Lanes::new(alloc, plan.lanes, plan.flush, plan.config.inserts)?,
+            lanes: Lanes::new(alloc, plan.lanes, plan.flush, plan.setup.config.inserts)?,
             groups: groups_of(alloc, rules)?,
-            events: Events::new(alloc, plan.config, rules)?,
+            events: Events::new(alloc, &plan.setup.config, rules)?,
             tries: 0,
             last: LinkedRecord::none(alloc),
         })
@@ -132,29 +133,28 @@ pub(crate) fn make_jobs(
     Ok(Made { jobs, places })
 }
 
-/// Runs a batch of jobs, and makes the lines of what it finds, behind those that wait.
+/// Runs a batch of jobs, which were made of these records, and makes the lines of what it finds, behind those
+/// that wait.
 #[tactic(auto, using(crate::proofs::Prefixes::rising))]
 fn run_jobs<P: Pattern, G: Gate, A: Sink, R: Threads + Sync>(
-    rt: &R,
-    alloc: Global,
-    plan: &Plan<'_, P>,
-    gate: &G,
+    context: &Context<'_, P, G, R>,
     jobs: &[Job],
-    sources: Sources<'_>,
+    records: &[LinkedRecord],
+    places: &[usize],
     inspection: &mut Inspection,
     alerts: &mut A,
 ) -> Result<(), Stop>
-    requires plan { IsSoundPlan plan.now }
-    requires ready { AreReady (length plan.now.config.now.stream.engines) inspection.old.lanes jobs.now }
-    requires groups { StandFor inspection.old.groups plan.now.set.now.rules }
-    ensures shown { (matches : Test) → IsTest P.finds plan.now.set.now matches
-        → OnOk result (Runs (plan_of matches plan.now)
-        (by_place (source_by sources.entry inspection.old.last) 0 jobs.now)
+    requires plan { IsSoundPlan context.now.plan.now }
+    requires ready { AreReady (length context.now.plan.now.setup.config.stream.engines) inspection.old.lanes jobs.now }
+    requires groups { StandFor inspection.old.groups context.now.plan.now.setup.set.rules }
+    ensures shown { (matches : Test) → IsTest P.finds context.now.plan.now.setup.set matches
+        → OnOk result (Runs (plan_of matches context.now.plan.now)
+        (by_place (source_in records.now inspection.old.last places.now) 0 jobs.now)
         (record { inspection = inspection.old; written = A.written alerts.old })
         (record { inspection = inspection.new; written = A.written alerts.new })) }
-    ensures stopped { (matches : Test) → IsTest P.finds plan.now.set.now matches
-        → OnErr result (RunsPart (plan_of matches plan.now)
-        (by_place (source_by sources.entry inspection.old.last) 0 jobs.now)
+    ensures stopped { (matches : Test) → IsTest P.finds context.now.plan.now.setup.set matches
+        → OnErr result (RunsPart (plan_of matches context.now.plan.now)
+        (by_place (source_in records.now inspection.old.last places.now) 0 jobs.now)
         (record { inspection = inspection.old; written = A.written alerts.old }) (A.written alerts.new)) }
     ensures learns { OnOk result (LearnsBatch inspection.old.lanes jobs.now inspection.new.lanes) }
     ensures groups_stay { OnOk result (inspection.new.groups ≡ inspection.old.groups) }
@@ -163,24 +163,29 @@ fn run_jobs<P: Pattern, G: Gate, A: Sink, R: Threads + Sync>(
     ensures fault { IsErrOf result Stop.CannotWrite → Rose (A.faults alerts.old) (A.faults alerts.new) }
     ensures later { A.faults alerts.old ≤ A.faults alerts.new }
 {
-    let mut found = Matches::new(alloc);
+    let plan = context.plan;
+    let mut found = Matches::new(context.alloc);
     inspection.lanes.search(
-        rt,
-        alloc,
+        context.rt,
+        context.alloc,
         jobs,
-        &plan.config.stream,
-        plan.set,
+        &plan.setup.config.stream,
+        &plan.setup.set,
         &inspection.groups,
-        gate,
+        context.gate,
         &mut found,
     )?;
     inspection.tries = sum(inspection.tries, found.tries)?;
+    let sources = Sources {
+        records,
+        places,
+        last: &inspection.last,
+    };
     show_matches(
-        plan.config,
-        plan.set.rules(),
+        &plan.setup.config,
+        plan.setup.set.rules(),
         plan.form,
         sources,
-        &inspection.last,
         &found,
         &mut inspection.events,
         alerts,
@@ -191,39 +196,38 @@ fn run_jobs<P: Pattern, G: Gate, A: Sink, R: Threads + Sync>(
 /// in its place then.
 #[tactic(auto, using(crate::proofs::Prefixes::rising))]
 pub(crate) fn show_records<P: Pattern, G: Gate, A: Sink, R: Threads + Sync>(
-    rt: &R,
-    alloc: Global,
-    plan: &Plan<'_, P>,
-    gate: &G,
+    context: &Context<'_, P, G, R>,
     records: &mut Vec<LinkedRecord>,
     detector: &mut Detector,
     alerts: &mut A,
 ) -> Result<(), Stop>
-    requires plan { IsSoundPlan plan.now }
-    requires known { Knows plan.now detector.old }
+    requires plan { IsSoundPlan context.now.plan.now }
+    requires known { Knows context.now.plan.now detector.old }
     requires few { detector.old.front.counts.records + length records.old.items ≤ 2 ^ 32 }
-    ensures shown { (matches : Test) → IsTest P.finds plan.now.set.now matches
-        → OnOk result (ShowsRecords (plan_of matches plan.now) records.old.items
+    ensures shown { (matches : Test) → IsTest P.finds context.now.plan.now.setup.set matches
+        → OnOk result (ShowsRecords (plan_of matches context.now.plan.now) records.old.items
         (record { detector = detector.old; written = A.written alerts.old })
         (record { detector = detector.new; written = A.written alerts.new })) }
-    ensures stopped { (matches : Test) → IsTest P.finds plan.now.set.now matches
-        → OnErr result (ShowsRecordsPart (plan_of matches plan.now) records.old.items
+    ensures stopped { (matches : Test) → IsTest P.finds context.now.plan.now.setup.set matches
+        → OnErr result (ShowsRecordsPart (plan_of matches context.now.plan.now) records.old.items
         (record { detector = detector.old; written = A.written alerts.old }) (A.written alerts.new)) }
-    ensures known { OnOk result (Knows plan.now detector.new) }
+    ensures known { OnOk result (Knows context.now.plan.now detector.new) }
     ensures records { OnOk result (detector.new.front.counts.records
         ≡ detector.old.front.counts.records + length records.old.items) }
     ensures kind { IfErr result IsShowStop }
     ensures fault { IsErrOf result Stop.CannotWrite → Rose (A.faults alerts.old) (A.faults alerts.new) }
     ensures later { A.faults alerts.old ≤ A.faults alerts.new }
 {
-    let made = make_jobs(alloc, &front_config(plan), records, &mut detector.front)?;
+    let by = front_config(context.plan);
+    let made = make_jobs(context.alloc, &by, records, &mut detector.front)?;
     let inspection = &mut detector.inspection;
-    let sources = Sources {
-        records,
-        places: &made.places,
-    };
     run_jobs(
-        rt, alloc, plan, gate, &made.jobs, sources, inspection, alerts,
+        context,
+        &made.jobs,
+        records,
+        &made.places,
+        inspection,
+        alerts,
     )?;
     offer(&mut inspection.events.block, alerts)?;
     keep_last(records, &mut inspection.last);
@@ -243,21 +247,18 @@ fn last_jobs(alloc: Global, front: Front) -> Result<Vec<Job>, NoMemory>
 /// gives all that was counted.
 #[tactic(auto, using(crate::proofs::Prefixes::rising))]
 pub(crate) fn close<P: Pattern, G: Gate, A: Sink, R: Threads + Sync>(
-    rt: &R,
-    alloc: Global,
-    plan: &Plan<'_, P>,
-    gate: &G,
+    context: &Context<'_, P, G, R>,
     detector: Detector,
     alerts: &mut A,
 ) -> Result<Counts, Stop>
-    requires plan { IsSoundPlan plan.now }
-    requires known { Knows plan.now detector }
+    requires plan { IsSoundPlan context.now.plan.now }
+    requires known { Knows context.now.plan.now detector }
     requires few { detector.front.counts.records ≤ 2 ^ 32 }
-    ensures shown { (matches : Test) → IsTest P.finds plan.now.set.now matches
-        → IfOk result (λ counts. Closes (plan_of matches plan.now)
+    ensures shown { (matches : Test) → IsTest P.finds context.now.plan.now.setup.set matches
+        → IfOk result (λ counts. Closes (plan_of matches context.now.plan.now)
         (record { detector = detector; written = A.written alerts.old }) (A.written alerts.new) counts) }
-    ensures stopped { (matches : Test) → IsTest P.finds plan.now.set.now matches
-        → OnErr result (ClosesPart (plan_of matches plan.now)
+    ensures stopped { (matches : Test) → IsTest P.finds context.now.plan.now.setup.set matches
+        → OnErr result (ClosesPart (plan_of matches context.now.plan.now)
         (record { detector = detector; written = A.written alerts.old }) (A.written alerts.new)) }
     ensures kind { IfErr result IsShowStop }
     ensures fault { IsErrOf result Stop.CannotWrite → Rose (A.faults alerts.old) (A.faults alerts.new) }
@@ -268,22 +269,9 @@ pub(crate) fn close<P: Pattern, G: Gate, A: Sink, R: Threads + Sync>(
         mut inspection,
     } = detector;
     let seen = front.counts();
-    let jobs = last_jobs(alloc, front)?;
+    let jobs = last_jobs(context.alloc, front)?;
     // All of them are of the last record.
-    let sources = Sources {
-        records: &[],
-        places: &[],
-    };
-    run_jobs(
-        rt,
-        alloc,
-        plan,
-        gate,
-        &jobs,
-        sources,
-        &mut inspection,
-        alerts,
-    )?;
+    run_jobs(context, &jobs, &[], &[], &mut inspection, alerts)?;
     offer(&mut inspection.events.block, alerts)?;
     Ok(inspection.counts(seen))
 }

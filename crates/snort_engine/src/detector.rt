@@ -6,9 +6,10 @@ ghost use Rattle.snort_engine.specs.Headline.{Headline};
 
 use crate::Status;
 use crate::capture::watch_capture;
+use crate::context::Context;
 use crate::counts::Counts;
 use crate::lines::offer;
-use crate::prepare::{Task, plan_for, prepare};
+use crate::prepare::{Task, prepare};
 use crate::report::{counts_due, report, tell_all};
 use edge_io::{Gate, Host, Items, PatternMaker, Sink};
 use flow_lanes::matching_is_decided;
@@ -48,10 +49,15 @@ pub fn run<H: Host, M: PatternMaker, A: Sink, E: Sink, G: Gate, R: Threads + Syn
     let prepared = prepare(alloc, words, host, maker, &mut warnings);
     let well = tell_all(errors, warnings.as_slice());
     match prepared {
-        Ok(Task::Watch(ready)) => {
-            let plan = plan_for(&ready);
+        Ok(Task::Watch(plan)) => {
+            let context = Context {
+                rt,
+                alloc,
+                plan: &plan,
+                gate,
+            };
             let mut counts = Counts::NONE;
-            let outcome = watch_capture(rt, alloc, host, &plan, gate, alerts, &mut counts);
+            let outcome = watch_capture(&context, host, alerts, &mut counts);
             let told = counts_due(plan.counted, &outcome, counts);
             report(alloc, errors, well, plan.source.name(), &outcome, told)
         }

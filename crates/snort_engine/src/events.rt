@@ -148,25 +148,24 @@ fn show_items<A: Sink>(
     Ok(())
 }
 
-/// Makes the texts of the items of jobs, in the order of the jobs; `last` is the last record before theirs.
+/// Makes the texts of the items of jobs, in the order of the jobs.
 #[tactic(auto, using(crate::proofs::Prefixes::rising))]
-fn show_hits<'a, A: Sink>(
+fn show_hits<A: Sink>(
     config: &Config,
     rules: &[Rule],
     form: Form,
-    sources: Sources<'a>,
-    last: &'a LinkedRecord,
+    sources: Sources<'_>,
     jobs: &[JobHits],
     events: &mut Events,
     alerts: &mut A,
 ) -> Result<(), Stop>
     requires { All (IsSound config.now.classes) rules.now }
     ensures shown { OnOk result (Shows form config.now rules.now
-        (told_in (by_place (source_by sources.entry last.now) 0 jobs.now))
+        (told_in (by_place (source_by sources.entry) 0 jobs.now))
         (record { events = events.old; written = A.written alerts.old })
         (record { events = events.new; written = A.written alerts.new })) }
     ensures stopped { OnErr result (ShowsPart form config.now rules.now
-        (told_in (by_place (source_by sources.entry last.now) 0 jobs.now))
+        (told_in (by_place (source_by sources.entry) 0 jobs.now))
         (record { events = events.old; written = A.written alerts.old }) (A.written alerts.new)) }
     ensures kind { IfErr result IsShowStop }
     ensures fault { IsErrOf result Stop.CannotWrite → Rose (A.faults alerts.old) (A.faults alerts.new) }
@@ -174,7 +173,7 @@ fn show_hits<'a, A: Sink>(
 {
     let mut place = 0;
     for job in jobs {
-        let origin = sources.of(last, place);
+        let origin = sources.of(place);
         let items = job.items.as_slice();
         show_items(config, rules, form, origin, items, events, alerts)?;
         place += 1;
@@ -183,39 +182,29 @@ fn show_hits<'a, A: Sink>(
 }
 
 /// Makes the texts of the matches of jobs, in the order of the jobs, and counts all items of the jobs: those that
-/// no rule matches give nothing but their count. `last` is the last record before theirs.
+/// no rule matches give nothing but their count.
 #[tactic(auto, using(crate::proofs::Prefixes::rising))]
-pub(crate) fn show_matches<'a, A: Sink>(
+pub(crate) fn show_matches<A: Sink>(
     config: &Config,
     rules: &[Rule],
     form: Form,
-    sources: Sources<'a>,
-    last: &'a LinkedRecord,
+    sources: Sources<'_>,
     found: &Matches,
     events: &mut Events,
     alerts: &mut A,
 ) -> Result<(), Stop>
     requires { All (IsSound config.now.classes) rules.now }
-    ensures shown { OnOk result (ShowsMatches form config.now rules.now (source_by sources.entry last.now) found.now
+    ensures shown { OnOk result (ShowsMatches form config.now rules.now (source_by sources.entry) found.now
         (record { events = events.old; written = A.written alerts.old })
         (record { events = events.new; written = A.written alerts.new })) }
-    ensures stopped { OnErr result (ShowsMatchesPart form config.now rules.now (source_by sources.entry last.now)
+    ensures stopped { OnErr result (ShowsMatchesPart form config.now rules.now (source_by sources.entry)
         found.now (record { events = events.old; written = A.written alerts.old }) (A.written alerts.new)) }
     ensures kind { IfErr result IsShowStop }
     ensures fault { IsErrOf result Stop.CannotWrite → Rose (A.faults alerts.old) (A.faults alerts.new) }
     ensures later { A.faults alerts.old ≤ A.faults alerts.new }
 {
     let items = sum(events.tally.items, found.items)?;
-    show_hits(
-        config,
-        rules,
-        form,
-        sources,
-        last,
-        &found.hits,
-        events,
-        alerts,
-    )?;
+    show_hits(config, rules, form, sources, &found.hits, events, alerts)?;
     events.tally.items = items;
     Ok(())
 }

@@ -16,6 +16,7 @@
 
 mod batch;
 mod capture;
+mod context;
 mod counts;
 mod detect;
 mod detector;

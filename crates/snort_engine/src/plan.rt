@@ -4,11 +4,9 @@ ghost use Rattle.snort_engine.specs.Trace.{way_by};
 ghost use Rattle.snort_engine.specs.Sources.{source_name};
 
 use crate::form::Form;
-use conf_parser::Config;
-use host_table::Hosts;
-use option_eval::RuleSet;
 use packet_decode::Checks;
 use record_jobs::FrontConfig;
+use snort_setup::Setup;
 
 /// Where a capture comes from.
 #[derive(Clone, Copy, Debug)]
@@ -31,8 +29,8 @@ impl<'a> Source<'a> {
     }
 }
 
-/// What is done with a capture.
-#[derive(Clone, Copy)]
+/// What is done with a capture: a detector that is ready for it.
+#[derive(Drop)]
 pub(crate) struct Plan<'a, P> {
     /// Where the capture comes from.
     pub source: Source<'a>,
@@ -40,12 +38,9 @@ pub(crate) struct Plan<'a, P> {
     pub limit: Option<u32>,
     /// The checksums that are verified.
     pub checks: Checks,
-    /// How fragments, streams and events are dealt with, and the classes that rules name.
-    pub config: &'a Config,
-    /// What is known of hosts.
-    pub hosts: &'a Hosts,
-    /// The rules, in the order in which they were read, with their patterns.
-    pub set: &'a RuleSet<P>,
+    /// The configuration, the rules with their patterns in the order in which they were read, and what is known
+    /// of hosts.
+    pub setup: Setup<P>,
     /// How many lanes do the work, 1 to 64.
     pub lanes: u32,
     /// How many bytes of a stream are acknowledged at least before they are an item, 1 to 65536.
@@ -57,13 +52,13 @@ pub(crate) struct Plan<'a, P> {
 }
 
 /// What records are made into jobs by.
-pub(crate) fn front_config<'a, P>(plan: &Plan<'a, P>) -> FrontConfig<'a>
-    ensures way { ways.way_of result ≡ way_by plan.entry.now.checks plan.entry.now.hosts.now plan.entry.now.config.now }
-    ensures config { result.config.now ≡ plan.entry.now.config.now }
+pub(crate) fn front_config<'a, P>(plan: &'a Plan<'_, P>) -> FrontConfig<'a>
+    ensures way { ways.way_of result ≡ way_by plan.entry.now.checks plan.entry.now.setup.hosts plan.entry.now.setup.config }
+    ensures config { result.config.now ≡ plan.entry.now.setup.config }
 {
     FrontConfig {
         checks: plan.checks,
-        hosts: plan.hosts,
-        config: plan.config,
+        hosts: &plan.setup.hosts,
+        config: &plan.setup.config,
     }
 }

@@ -16,8 +16,7 @@ ghost use Rattle.snort_setup.specs.Whole.{ready_of};
 ghost use Rattle.snort_engine.specs.Course.{IsForMade, setup_words, checks_of, form_of, way_of};
 ghost use Rattle.snort_engine.specs.Preparing.{IsPrepared, IsSetUp, KeepsSetup, HasCause, IsForFaultyWords, OfWatch, task_way, way_for, told_of, way_by};
 ghost use Rattle.snort_engine.specs.Outside.{OnlyLoaded};
-ghost use Rattle.snort_engine.specs.Sources.{source_name, IsMade, IsSourceFor, way_from};
-ghost use Rattle.snort_engine.specs.Watching.{plan_of};
+ghost use Rattle.snort_engine.specs.Sources.{IsMade, IsSourceFor};
 ghost use Rattle.snort_engine.specs.Detecting.{IsRanged};
 
 use crate::form::Form;
@@ -30,58 +29,13 @@ use packet_decode::Checks;
 use snort_setup::{Setup, SetupStop, SetupWords, read_setup};
 use std::alloc::Global;
 
-/// A detector that is ready for a capture.
-#[derive(Drop)]
-pub(crate) struct Prepared<'a, P> {
-    /// Where the capture comes from.
-    pub source: Source<'a>,
-    /// How many of its records are read at most.
-    pub limit: Option<u32>,
-    /// The checksums that are verified.
-    pub checks: Checks,
-    /// How many lanes do the work, 1 to 64.
-    pub lanes: u32,
-    /// How many bytes of a stream are acknowledged at least before they are an item, 1 to 65536.
-    pub flush: u32,
-    /// The form in which alerts are written.
-    pub form: Form,
-    /// The counts of the run are told.
-    pub counted: bool,
-    pub setup: Setup<P>,
-}
-
 /// What a run is to do.
 #[derive(Drop)]
 pub(crate) enum Task<'a, P> {
     /// To watch a capture.
-    Watch(Prepared<'a, P>),
+    Watch(Plan<'a, P>),
     /// To tell the records of a Unified2 file, by these lines.
     Tell(Text),
-}
-
-/// What is done with the capture.
-pub(crate) fn plan_for<'a, P>(prepared: &'a Prepared<'_, P>) -> Plan<'a, P>
-    ensures way { (matches : Test) → way_from result.source (plan_of matches result) ≡ way_for matches prepared.now }
-    ensures set { result.set.now ≡ prepared.now.setup.set }
-    ensures config { result.config.now ≡ prepared.now.setup.config }
-    ensures name { source_name result.source ≡ source_name prepared.now.source }
-    ensures made { IsMade prepared.now.source → IsMade result.source }
-    ensures lanes { result.lanes ≡ prepared.now.lanes }
-    ensures flush { result.flush ≡ prepared.now.flush }
-    ensures counted { result.counted ≡ prepared.now.counted }
-{
-    Plan {
-        source: prepared.source,
-        limit: prepared.limit,
-        checks: prepared.checks,
-        config: &prepared.setup.config,
-        hosts: &prepared.setup.hosts,
-        set: &prepared.setup.set,
-        lanes: prepared.lanes,
-        flush: prepared.flush,
-        form: prepared.form,
-        counted: prepared.counted,
-    }
 }
 
 /// The form of alerts.
@@ -210,7 +164,7 @@ fn source_of<'a>(wanted: &Words<'a>) -> Option<Source<'a>>
 }
 
 /// What is left to do with a detector that is set up.
-fn ready<'a, P: Pattern>(wanted: &Words<'a>, setup: Setup<P>) -> Result<Prepared<'a, P>, Stop>
+fn ready<'a, P: Pattern>(wanted: &Words<'a>, setup: Setup<P>) -> Result<Plan<'a, P>, Stop>
     ensures way { (matches : Test) → way_by (way_for matches) result
         ≡ way_of matches (run_of wanted.now) (Ok (ready_of setup)) }
     ensures made { IfOk result (λ ready. IsSome wanted.now.generate → IsMade ready.source) }
@@ -225,7 +179,7 @@ fn ready<'a, P: Pattern>(wanted: &Words<'a>, setup: Setup<P>) -> Result<Prepared
     let Some(source) = source_of(wanted) else {
         return Err(Stop::CommandLine);
     };
-    Ok(Prepared {
+    Ok(Plan {
         source,
         limit: wanted.limit,
         checks: checks_for(wanted, setup.config.checks),
@@ -244,7 +198,7 @@ fn prepare_run<'a, H: Host, M: PatternMaker>(
     host: &mut H,
     maker: &mut M,
     warnings: &mut Items<Text>,
-) -> Result<Prepared<'a, M::Made>, Stop>
+) -> Result<Plan<'a, M::Made>, Stop>
     requires named { HasName (setup_words (run_of wanted.now)).definition }
     requires ranged { IsRanged wanted.now.lanes wanted.now.flush_point }
     ensures prepared { (files : Files) → H.contents host.old ≡ Some files

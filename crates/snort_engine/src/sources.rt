@@ -13,12 +13,13 @@ pub(crate) struct Made {
     pub places: Vec<usize>,
 }
 
-/// The records that the jobs of a batch were made of.
+/// The records that the jobs of a batch were made of, and the last one before these.
 #[derive(Clone, Copy)]
 pub(crate) struct Sources<'a> {
     pub records: &'a [LinkedRecord],
     /// The place of each job's record among these. A job without one is of the last record before.
     pub places: &'a [usize],
+    pub last: &'a LinkedRecord,
 }
 
 impl<'a> Sources<'a> {
@@ -31,13 +32,13 @@ impl<'a> Sources<'a> {
         self.records.get(*place)
     }
 
-    /// The record of the job at this place of the batch, where this is the last record before it.
-    pub fn of(self, last: &'a LinkedRecord, job: usize) -> &'a LinkedRecord
-        ensures { result.now ≡ source_by self.entry last.now job }
+    /// The record of the job at this place of the batch.
+    pub fn of(self, job: usize) -> &'a LinkedRecord
+        ensures { result.now ≡ source_by self.entry job }
     {
         match self.record(job) {
             Some(found) => found,
-            None => last,
+            None => self.last,
         }
     }
 }

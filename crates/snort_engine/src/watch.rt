@@ -17,38 +17,34 @@ ghost use Rattle.snort_engine.specs.Watching.{plan_of, standing, streams, IsTest
 
 use crate::Status;
 use crate::batch::{give_back, more, most_at, read_batch, room_behind};
+use crate::context::Context;
 use crate::counts::Counts;
 use crate::detect::{Detector, close, show_records};
-use crate::plan::Plan;
 use crate::reader::{LinkedRecord, RecordReader};
 use crate::stop::{Stop, is_whole};
 use edge_io::{Gate, Host, Pattern, Sink};
-use std::alloc::Global;
 use std::thread::Threads;
 
 /// Reads a batch of records and writes their lines. Ok(true) where more records may follow, Ok(false)
 /// at the capture's end, and where no record may be read any more. `room` is how many may be.
 #[tactic(auto, using(crate::proofs::Prefixes::reading))]
 fn watch_batch<H: Host, P: Pattern, G: Gate, A: Sink, R: Threads + Sync>(
-    rt: &R,
-    alloc: Global,
+    context: &Context<'_, P, G, R>,
     host: &mut H,
     reader: &mut RecordReader,
-    plan: &Plan<'_, P>,
-    gate: &G,
     room: &mut Option<u32>,
     records: &mut Vec<LinkedRecord>,
     detector: &mut Detector,
     alerts: &mut A,
 ) -> Result<bool, Stop>
-    requires plan { IsSoundPlan plan.now }
-    requires known { Knows plan.now detector.old }
+    requires plan { IsSoundPlan context.now.plan.now }
+    requires known { Knows context.now.plan.now detector.old }
     requires behind { detector.old.front.counts.records ≤ number_of reader.old }
     requires within { number_of reader.old ≤ most_records }
     requires fresh { IsFresh reader.old }
     requires no_records { records.old.items ≡ [] }
-    ensures goes_on { (matches : Test) → IsTest P.finds plan.now.set.now matches
-        → GoesOn (plan_of matches plan.now)
+    ensures goes_on { (matches : Test) → IsTest P.finds context.now.plan.now.setup.set matches
+        → GoesOn (plan_of matches context.now.plan.now)
         (standing H.Host A.Sink reader.old room.old detector.old host.old alerts.old)
         (standing H.Host A.Sink reader.new room.new detector.new host.new alerts.new) result }
     ensures further { result ≡ Ok true → number_of reader.old < number_of reader.new }
@@ -56,7 +52,7 @@ fn watch_batch<H: Host, P: Pattern, G: Gate, A: Sink, R: Threads + Sync>(
     ensures fresh { result ≡ Ok true → IsFresh reader.new }
     ensures behind { result ≡ Ok true → detector.new.front.counts.records ≤ number_of reader.new }
     ensures shown { OnOk result (records.new.items ≡ []) }
-    ensures known { StaysKnown plan.now detector.new result }
+    ensures known { StaysKnown context.now.plan.now detector.new result }
     ensures few { StaysFew detector.new result }
     ensures write_fault { IsErrOf result Stop.CannotWrite → Rose (A.faults alerts.old) (A.faults alerts.new) }
     ensures read_fault { outcome_status result ≡ Status.HostFault → Rose (H.faults host.old) (H.faults host.new) }
@@ -67,10 +63,10 @@ fn watch_batch<H: Host, P: Pattern, G: Gate, A: Sink, R: Threads + Sync>(
     if most == 0 {
         return Ok(false);
     }
-    let reached = read_batch(alloc, host, reader, most, records);
+    let reached = read_batch(context.alloc, host, reader, most, records);
     *room = room_behind(*room, records.len());
-    show_records(rt, alloc, plan, gate, records, detector, alerts)?;
-    give_back(alloc, reader, records);
+    show_records(context, records, detector, alerts)?;
+    give_back(context.alloc, reader, records);
     more(reached)
 }
 
@@ -78,40 +74,34 @@ fn watch_batch<H: Host, P: Pattern, G: Gate, A: Sink, R: Threads + Sync>(
 /// it ends with is not closed yet.
 #[tactic(auto, using(crate::proofs::Prefixes::reading))]
 fn watch_batches<H: Host, P: Pattern, G: Gate, A: Sink, R: Threads + Sync>(
-    rt: &R,
-    alloc: Global,
+    context: &Context<'_, P, G, R>,
     host: &mut H,
     reader: &mut RecordReader,
-    plan: &Plan<'_, P>,
-    gate: &G,
     detector: &mut Detector,
     alerts: &mut A,
 ) -> Result<(), Stop>
-    requires plan { IsSoundPlan plan.now }
-    requires known { Knows plan.now detector.old }
+    requires plan { IsSoundPlan context.now.plan.now }
+    requires known { Knows context.now.plan.now detector.old }
     requires none { detector.old.front.counts.records ≡ 0 }
     requires within { number_of reader.old ≤ most_records }
     requires fresh { IsFresh reader.old }
-    ensures comes { (matches : Test) → IsTest P.finds plan.now.set.now matches
-        → DetectorStands (plan_of matches plan.now) [] detector.old
-        → ComesOver (plan_of matches plan.now) reader.old
+    ensures comes { (matches : Test) → IsTest P.finds context.now.plan.now.setup.set matches
+        → DetectorStands (plan_of matches context.now.plan.now) [] detector.old
+        → ComesOver (plan_of matches context.now.plan.now) reader.old
         (streams H.Host A.Sink host.old alerts.old) (streams H.Host A.Sink host.new alerts.new) detector.new result }
-    ensures known { StaysKnown plan.now detector.new result }
+    ensures known { StaysKnown context.now.plan.now detector.new result }
     ensures few { StaysFew detector.new result }
     ensures write_fault { IsErrOf result Stop.CannotWrite → Rose (A.faults alerts.old) (A.faults alerts.new) }
     ensures read_fault { outcome_status result ≡ Status.HostFault → Rose (H.faults host.old) (H.faults host.new) }
     ensures host { OnlyRead H.Host host.old host.new }
     ensures later_alerts { A.faults alerts.old ≤ A.faults alerts.new }
 {
-    let mut room = plan.limit;
-    let mut records = Vec::new(alloc);
+    let mut room = context.plan.limit;
+    let mut records = Vec::new(context.alloc);
     'batches: while watch_batch(
-        rt,
-        alloc,
+        context,
         host,
         reader,
-        plan,
-        gate,
         &mut room,
         &mut records,
         detector,
@@ -123,20 +113,17 @@ fn watch_batches<H: Host, P: Pattern, G: Gate, A: Sink, R: Threads + Sync>(
 /// Closes a capture whose batches ended so, where it is to be closed.
 #[tactic(auto, using(crate::proofs::Prefixes::rising))]
 fn close_watched<P: Pattern, G: Gate, A: Sink, R: Threads + Sync>(
-    rt: &R,
-    alloc: Global,
-    plan: &Plan<'_, P>,
-    gate: &G,
+    context: &Context<'_, P, G, R>,
     detector: Detector,
     watched: Result<(), Stop>,
     alerts: &mut A,
     counts: &mut Counts,
 ) -> Result<(), Stop>
-    requires plan { IsSoundPlan plan.now }
-    requires known { StaysKnown plan.now detector watched }
+    requires plan { IsSoundPlan context.now.plan.now }
+    requires known { StaysKnown context.now.plan.now detector watched }
     requires few { StaysFew detector watched }
-    ensures closes { (matches : Test) → IsTest P.finds plan.now.set.now matches
-        → ClosesWatched (plan_of matches plan.now) detector watched
+    ensures closes { (matches : Test) → IsTest P.finds context.now.plan.now.setup.set matches
+        → ClosesWatched (plan_of matches context.now.plan.now) detector watched
         (A.written alerts.old) (A.written alerts.new) counts.new result }
     ensures write_fault { IsErrOf result Stop.CannotWrite → IsErrOf watched Stop.CannotWrite ⊎ Rose (A.faults alerts.old) (A.faults alerts.new) }
     ensures read_fault { outcome_status result ≡ Status.HostFault → outcome_status watched ≡ Status.HostFault }
@@ -145,7 +132,7 @@ fn close_watched<P: Pattern, G: Gate, A: Sink, R: Threads + Sync>(
     if !is_whole(&watched) {
         return watched;
     }
-    *counts = close(rt, alloc, plan, gate, detector, alerts)?;
+    *counts = close(context, detector, alerts)?;
     watched
 }
 
@@ -153,57 +140,51 @@ fn close_watched<P: Pattern, G: Gate, A: Sink, R: Threads + Sync>(
 /// flows that end with it; `counts` is then what was counted, where it was read to its end.
 #[tactic(auto, using(crate::proofs::Prefixes::rising))]
 pub(crate) fn watch_records<H: Host, P: Pattern, G: Gate, A: Sink, R: Threads + Sync>(
-    rt: &R,
-    alloc: Global,
+    context: &Context<'_, P, G, R>,
     host: &mut H,
     reader: &mut RecordReader,
-    plan: &Plan<'_, P>,
-    gate: &G,
     alerts: &mut A,
     counts: &mut Counts,
 ) -> Result<(), Stop>
-    requires plan { IsSoundPlan plan.now }
+    requires plan { IsSoundPlan context.now.plan.now }
     requires within { number_of reader.old ≤ most_records }
     requires fresh { IsFresh reader.old }
-    ensures watches { (matches : Test) → IsTest P.finds plan.now.set.now matches
-        → Watches (plan_of matches plan.now) reader.old
+    ensures watches { (matches : Test) → IsTest P.finds context.now.plan.now.setup.set matches
+        → Watches (plan_of matches context.now.plan.now) reader.old
         (streams H.Host A.Sink host.old alerts.old) (streams H.Host A.Sink host.new alerts.new) counts.new result }
-    ensures close { (matches : Test) → IsTest P.finds plan.now.set.now matches
-        → IsCloseBehind (plan_of matches plan.now) reader.old
+    ensures close { (matches : Test) → IsTest P.finds context.now.plan.now.setup.set matches
+        → IsCloseBehind (plan_of matches context.now.plan.now) reader.old
         (streams H.Host A.Sink host.old alerts.old) (streams H.Host A.Sink host.new alerts.new) }
     ensures write_fault { IsErrOf result Stop.CannotWrite → Rose (A.faults alerts.old) (A.faults alerts.new) }
     ensures read_fault { outcome_status result ≡ Status.HostFault → Rose (H.faults host.old) (H.faults host.new) }
     ensures host { OnlyRead H.Host host.old host.new }
     ensures later_alerts { A.faults alerts.old ≤ A.faults alerts.new }
 {
-    let mut detector = Detector::new(alloc, plan)?;
-    let watched = watch_batches(rt, alloc, host, reader, plan, gate, &mut detector, alerts);
-    close_watched(rt, alloc, plan, gate, detector, watched, alerts, counts)
+    let mut detector = Detector::new(context.alloc, context.plan)?;
+    let watched = watch_batches(context, host, reader, &mut detector, alerts);
+    close_watched(context, detector, watched, alerts, counts)
 }
 
 /// Opens the file of this name as the capture and writes the lines of its records; `counts` is then what
 /// was counted, where it was read to its end, or is refused.
 #[tactic(auto, using(crate::proofs::Prefixes::reading))]
 pub(crate) fn watch_file<H: Host, P: Pattern, G: Gate, A: Sink, R: Threads + Sync>(
-    rt: &R,
-    alloc: Global,
+    context: &Context<'_, P, G, R>,
     host: &mut H,
     name: &str,
-    plan: &Plan<'_, P>,
-    gate: &G,
     alerts: &mut A,
     counts: &mut Counts,
 ) -> Result<(), Stop>
-    requires plan { IsSoundPlan plan.now }
-    requires named { source_name plan.now.source ≡ name.now }
+    requires plan { IsSoundPlan context.now.plan.now }
+    requires named { source_name context.now.plan.now.source ≡ name.now }
     requires none { counts.old ≡ no_counts }
-    ensures ends { (matches : Test) → IsTest P.finds plan.now.set.now matches
+    ensures ends { (matches : Test) → IsTest P.finds context.now.plan.now.setup.set matches
         → (files : Files) (course : Course) → H.contents host.old ≡ Some files
-        → course.way ≡ Goes (plan_of matches plan.now)
+        → course.way ≡ Goes (plan_of matches context.now.plan.now)
         → Ends files course
         (work H.Host A.Sink host.old alerts.old) (work H.Host A.Sink host.new alerts.new)
         (outcome_status result)
-        (concat course.warnings ++ with_counts (outcome_text name.now result) (counts_due plan.now.counted result counts.new)) }
+        (concat course.warnings ++ with_counts (outcome_text name.now result) (counts_due context.now.plan.now.counted result counts.new)) }
     ensures write_fault { outcome_status result ≡ Status.WriteFault → Rose (A.faults alerts.old) (A.faults alerts.new) }
     ensures read_fault { outcome_status result ≡ Status.HostFault
         → Rose (H.faults host.old) (H.faults host.new) ⊎ Lacks (H.contents host.old) name.now }
@@ -213,6 +194,6 @@ pub(crate) fn watch_file<H: Host, P: Pattern, G: Gate, A: Sink, R: Threads + Syn
     ensures later { H.faults host.old ≤ H.faults host.new }
     ensures later_alerts { A.faults alerts.old ≤ A.faults alerts.new }
 {
-    let mut reader = RecordReader::open(alloc, host, name)?;
-    watch_records(rt, alloc, host, &mut reader, plan, gate, alerts, counts)
+    let mut reader = RecordReader::open(context.alloc, host, name)?;
+    watch_records(context, host, &mut reader, alerts, counts)
 }

@@ -6,12 +6,12 @@ use Rattle.snort_engine.proofs.capture.watch_capture.Goals as goal
 
 pub returns-in-File-clause-ends : goal.returns-in-File-clause-ends
 returns-in-File-clause-ends g c = λ matches test files course told goes.
-    let way = goes ∙ ap (λ (s : Source). way_from s (plan_of matches c.args.plan.now)) c.in-File.is in
+    let way = goes ∙ ap (λ (s : Source). way_from s (plan_of matches c.args.context.now.plan.now)) c.in-File.is in
     rw c.in-File.is (c.watch_file.ensures.ends matches test files course told way)
 
 pub returns-in-Made-clause-ends : goal.returns-in-Made-clause-ends
 returns-in-Made-clause-ends g c = λ matches test files course told goes.
-    let way = goes ∙ ap (λ (s : Source). way_from s (plan_of matches c.args.plan.now)) c.in-Made.is in
+    let way = goes ∙ ap (λ (s : Source). way_from s (plan_of matches c.args.context.now.plan.now)) c.in-Made.is in
     c.watch_made.ensures.ends matches test files course
     (record {
       left = g.H.Host.left c.args.host.now;

@@ -12,11 +12,11 @@ pub returns-in_err-bytes-clause-ends : goal.returns-in_err-bytes-clause-ends
 unfolding stop_text
 returns-in_err-bytes-clause-ends g c = λ matches test files course before same makes.
     let p = err_from_is_err_and c.from_residual.result c.from_residual.ensures.1 in
-    rw (p.1, p.2) (unmade_ends (plan_of matches c.args.plan.now) files course c.args.seed c.args.count before _ makes same)
+    rw (p.1, p.2) (unmade_ends (plan_of matches c.args.context.now.plan.now) files course c.args.seed c.args.count before _ makes same)
 
 pub returns-clause-ends : goal.returns-clause-ends
 returns-clause-ends g c = λ matches test files course before same makes.
-    made_ends (plan_of matches c.args.plan.now) files course c.args.seed c.args.count c.in_ok-bytes.bytes.items c.made_reader-reader.result _ _ _ _ before _ c.watch_records.result
+    made_ends (plan_of matches c.args.context.now.plan.now) files course c.args.seed c.args.count c.in_ok-bytes.bytes.items c.made_reader-reader.result _ _ _ _ before _ c.watch_records.result
     makes same c.in_ok-bytes.ensures c.made_reader-reader.ensures
     (c.new-made.ensures ∙ ap (λ (xs : List ℕ). Some (drop 24 xs)) c.deref.ensures.value)
     (c.watch_records.ensures.watches matches test)

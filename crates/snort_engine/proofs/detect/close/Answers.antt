@@ -12,24 +12,24 @@ use Rattle.snort_engine.proofs.detect.close.Goals as goal
 pub returns-in_err-jobs-clause-stopped : goal.returns-in_err-jobs-clause-stopped
 returns-in_err-jobs-clause-stopped g c = λ matches test.
     let p = err_from_is_err_and c.from_residual.result c.from_residual.ensures.1 in
-    rw p.1 (closed_nothing (plan_of matches c.args.plan.now) _)
+    rw p.1 (closed_nothing (plan_of matches c.args.context.now.plan.now) _)
 
 pub run_jobs-requires-clause-ready : goal.run_jobs-requires-clause-ready
 run_jobs-requires-clause-ready g c κs within =
     rw c.deref.ensures.value
-    (ready_closing _ (way_by c.args.plan.now.checks c.args.plan.now.hosts.now c.args.plan.now.config.now) c.args.plan.now.set.now.rules c.args.detector c.in_ok-jobs.jobs.items refl c.requires.known c.in_ok-jobs.ensures c.requires.few)
+    (ready_closing _ (way_by c.args.context.now.plan.now.checks c.args.context.now.plan.now.setup.hosts c.args.context.now.plan.now.setup.config) c.args.context.now.plan.now.setup.set.rules c.args.detector c.in_ok-jobs.jobs.items refl c.requires.known c.in_ok-jobs.ensures c.requires.few)
 
 pub returns-in_err-run_jobs-clause-stopped : goal.returns-in_err-run_jobs-clause-stopped
 returns-in_err-run_jobs-clause-stopped g c = λ matches test.
     let p = err_from_is_err_and c.from_residual-in_err-run_jobs.result c.from_residual-in_err-run_jobs.ensures.1 in
     let part = rw c.deref.ensures.value at (c.in_err-run_jobs.ensures.stopped matches test) in
-    rw p.1 (closed_part (plan_of matches c.args.plan.now) _ c.in_ok-jobs.jobs.items _ c.in_ok-jobs.ensures c.requires.known.none part)
+    rw p.1 (closed_part (plan_of matches c.args.context.now.plan.now) _ c.in_ok-jobs.jobs.items _ c.in_ok-jobs.ensures c.requires.known.none part)
 
 pub returns-in_err-offer-clause-stopped : goal.returns-in_err-offer-clause-stopped
 returns-in_err-offer-clause-stopped g c = λ matches test.
     let p = err_from_is_err_and c.from_residual-in_err-offer.result c.from_residual-in_err-offer.ensures.1 in
     let runs = rw c.deref.ensures.value at (c.in_ok-run_jobs.ensures.shown matches test) in
-    rw p.1 (closed_offered_part (plan_of matches c.args.plan.now) _ c.in_ok-jobs.jobs.items _ _ c.in_ok-jobs.ensures runs c.requires.known.none c.in_err-offer.ensures.stopped)
+    rw p.1 (closed_offered_part (plan_of matches c.args.context.now.plan.now) _ c.in_ok-jobs.jobs.items _ _ c.in_ok-jobs.ensures runs c.requires.known.none c.in_err-offer.ensures.stopped)
 
 pub returns-clause-shown : goal.returns-clause-shown
 returns-clause-shown g c = λ matches test.
@@ -37,8 +37,8 @@ returns-clause-shown g c = λ matches test.
     let run : Inspection = c.run_jobs.new.inspection in
     let last : Inspection = record { lanes = run.lanes; groups = run.groups; events = record { filters = run.events.filters; tally = run.events.tally; kept = run.events.kept; block = c.offer.new.block }; tries = run.tries; last = run.last } in
     rw c.counts.ensures
-    (closed_whole (plan_of matches c.args.plan.now) _ c.in_ok-jobs.jobs.items _ last _ c.counts-seen.result c.in_ok-jobs.ensures c.counts-seen.ensures.counts runs c.requires.known.none c.in_ok-offer.ensures.offered
-    (λ before stands. stands_on (plan_of matches c.args.plan.now) before run last refl refl refl refl stands))
+    (closed_whole (plan_of matches c.args.context.now.plan.now) _ c.in_ok-jobs.jobs.items _ last _ c.counts-seen.result c.in_ok-jobs.ensures c.counts-seen.ensures.counts runs c.requires.known.none c.in_ok-offer.ensures.offered
+    (λ before stands. stands_on (plan_of matches c.args.context.now.plan.now) before run last refl refl refl refl stands))
 
 pub returns-in_err-offer-clause-fault : goal.returns-in_err-offer-clause-fault
 returns-in_err-offer-clause-fault g c = λ is.

@@ -8,43 +8,43 @@ use Rattle.snort_engine.proofs.detect.show_records.Goals as goal
 pub returns-in_err-made-clause-stopped : goal.returns-in_err-made-clause-stopped
 returns-in_err-made-clause-stopped g c = λ matches test.
     let p = err_from_is_err_and c.from_residual.result c.from_residual.ensures.1 in
-    rw p.1 (records_nothing (plan_of matches c.args.plan.now) _ _)
+    rw p.1 (records_nothing (plan_of matches c.args.context.now.plan.now) _ _)
 
 pub run_jobs-requires-clause-ready : goal.run_jobs-requires-clause-ready
 run_jobs-requires-clause-ready g c κs within =
-    let makes = rw (c.front_config.ensures.way, c.deref.ensures.value) at c.in_ok-made.ensures.makes in
+    let makes = rw (c.front_config-by.ensures.way, c.deref.ensures.value) at c.in_ok-made.ensures.makes in
     let few = c.requires.few in
-    rw c.deref-4.ensures.value
-    (ready_records _ (way_by c.args.plan.now.checks c.args.plan.now.hosts.now c.args.plan.now.config.now) c.args.plan.now.set.now.rules c.args.detector.now c.args.records.now.items _ c.in_ok-made.made.jobs.items
+    rw c.deref-2.ensures.value
+    (ready_records _ (way_by c.args.context.now.plan.now.checks c.args.context.now.plan.now.setup.hosts c.args.context.now.plan.now.setup.config) c.args.context.now.plan.now.setup.set.rules c.args.detector.now c.args.records.now.items _ c.in_ok-made.made.jobs.items
     refl c.requires.known makes (omega (arith, few)))
 
 pub returns-in_err-run_jobs-clause-stopped : goal.returns-in_err-run_jobs-clause-stopped
 returns-in_err-run_jobs-clause-stopped g c = λ matches test.
     let p = err_from_is_err_and c.from_residual-in_err-run_jobs.result c.from_residual-in_err-run_jobs.ensures.1 in
-    let makes = rw (c.front_config.ensures.way, c.deref.ensures.value) at c.in_ok-made.ensures.makes in
-    let placed = rw (c.front_config.ensures.way, c.deref.ensures.value) at c.in_ok-made.ensures.places in
-    let part = rw (c.deref-4.ensures.value, c.deref-2.ensures.value, c.deref-3.ensures.value) at (c.in_err-run_jobs.ensures.stopped matches test) in
-    rw p.1 (records_part (plan_of matches c.args.plan.now) c.args.records.now.items _ _ _ c.in_ok-made.made.jobs.items c.in_ok-made.made.places.items makes placed c.requires.known.none part)
+    let makes = rw (c.front_config-by.ensures.way, c.deref.ensures.value) at c.in_ok-made.ensures.makes in
+    let placed = rw (c.front_config-by.ensures.way, c.deref.ensures.value) at c.in_ok-made.ensures.places in
+    let part = rw (c.deref-2.ensures.value, c.deref-3.ensures.value, c.deref-4.ensures.value) at (c.in_err-run_jobs.ensures.stopped matches test) in
+    rw p.1 (records_part (plan_of matches c.args.context.now.plan.now) c.args.records.now.items _ _ _ c.in_ok-made.made.jobs.items c.in_ok-made.made.places.items makes placed c.requires.known.none part)
 
 pub returns-in_err-offer-clause-stopped : goal.returns-in_err-offer-clause-stopped
 returns-in_err-offer-clause-stopped g c = λ matches test.
     let p = err_from_is_err_and c.from_residual-in_err-offer.result c.from_residual-in_err-offer.ensures.1 in
-    let makes = rw (c.front_config.ensures.way, c.deref.ensures.value) at c.in_ok-made.ensures.makes in
-    let placed = rw (c.front_config.ensures.way, c.deref.ensures.value) at c.in_ok-made.ensures.places in
-    let runs = rw (c.deref-4.ensures.value, c.deref-2.ensures.value, c.deref-3.ensures.value) at (c.in_ok-run_jobs.ensures.shown matches test) in
-    rw p.1 (records_offered_part (plan_of matches c.args.plan.now) c.args.records.now.items _ _ _ _ c.in_ok-made.made.jobs.items c.in_ok-made.made.places.items makes placed runs c.requires.known.none c.in_err-offer.ensures.stopped)
+    let makes = rw (c.front_config-by.ensures.way, c.deref.ensures.value) at c.in_ok-made.ensures.makes in
+    let placed = rw (c.front_config-by.ensures.way, c.deref.ensures.value) at c.in_ok-made.ensures.places in
+    let runs = rw (c.deref-2.ensures.value, c.deref-3.ensures.value, c.deref-4.ensures.value) at (c.in_ok-run_jobs.ensures.shown matches test) in
+    rw p.1 (records_offered_part (plan_of matches c.args.context.now.plan.now) c.args.records.now.items _ _ _ _ c.in_ok-made.made.jobs.items c.in_ok-made.made.places.items makes placed runs c.requires.known.none c.in_err-offer.ensures.stopped)
 
 pub returns-clause-shown : goal.returns-clause-shown
 returns-clause-shown g c = λ matches test.
-    let makes = rw (c.front_config.ensures.way, c.deref.ensures.value) at c.in_ok-made.ensures.makes in
-    let placed = rw (c.front_config.ensures.way, c.deref.ensures.value) at c.in_ok-made.ensures.places in
-    let runs = rw (c.deref-4.ensures.value, c.deref-2.ensures.value, c.deref-3.ensures.value) at (c.in_ok-run_jobs.ensures.shown matches test) in
-    records_shown (plan_of matches c.args.plan.now) c.args.records.now.items _ _ c.in_ok-made.made.jobs.items c.in_ok-made.made.places.items _ makes placed runs c.requires.known.none c.in_ok-offer.ensures.offered
-    (λ before stands. stands_on (plan_of matches c.args.plan.now) before _ _ refl refl refl refl stands) (rw c.in_ok-run_jobs.ensures.last_stays at c.keep_last.ensures)
+    let makes = rw (c.front_config-by.ensures.way, c.deref.ensures.value) at c.in_ok-made.ensures.makes in
+    let placed = rw (c.front_config-by.ensures.way, c.deref.ensures.value) at c.in_ok-made.ensures.places in
+    let runs = rw (c.deref-2.ensures.value, c.deref-3.ensures.value, c.deref-4.ensures.value) at (c.in_ok-run_jobs.ensures.shown matches test) in
+    records_shown (plan_of matches c.args.context.now.plan.now) c.args.records.now.items _ _ c.in_ok-made.made.jobs.items c.in_ok-made.made.places.items _ makes placed runs c.requires.known.none c.in_ok-offer.ensures.offered
+    (λ before stands. stands_on (plan_of matches c.args.context.now.plan.now) before _ _ refl refl refl refl stands) (rw c.in_ok-run_jobs.ensures.last_stays at c.keep_last.ensures)
 
 pub returns-clause-known : goal.returns-clause-known
 returns-clause-known g c =
-    let makes = rw (c.front_config.ensures.way, c.deref.ensures.value) at c.in_ok-made.ensures.makes in
-    let learns = rw c.deref-4.ensures.value at c.in_ok-run_jobs.ensures.learns in
-    known_records (way_by c.args.plan.now.checks c.args.plan.now.hosts.now c.args.plan.now.config.now) c.args.plan.now.set.now.rules c.args.detector.now _ c.args.records.now.items c.in_ok-made.made.jobs.items
+    let makes = rw (c.front_config-by.ensures.way, c.deref.ensures.value) at c.in_ok-made.ensures.makes in
+    let learns = rw c.deref-2.ensures.value at c.in_ok-run_jobs.ensures.learns in
+    known_records (way_by c.args.context.now.plan.now.checks c.args.context.now.plan.now.setup.hosts c.args.context.now.plan.now.setup.config) c.args.context.now.plan.now.setup.set.rules c.args.detector.now _ c.args.records.now.items c.in_ok-made.made.jobs.items
     c.requires.known makes learns c.in_ok-run_jobs.ensures.groups_stay c.in_ok-offer.ensures.emptied

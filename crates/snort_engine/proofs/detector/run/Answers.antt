@@ -6,19 +6,16 @@ use Rattle.snort_engine.proofs.Runs.{headline, stopped_run, watched_run, opens_m
 use Rattle.snort_engine.proofs.detector.run.Goals as goal
 
 pub watch_capture-outcome-requires-clause-plan : goal.watch_capture-outcome-requires-clause-plan
-watch_capture-outcome-requires-clause-plan g c κs within =
-    let rules = (rw c.in-Ok-Watch.field-0-is at c.in-Ok-Watch.ensures.rules) in
-    let config = (rw c.in-Ok-Watch.field-0-is at c.in-Ok-Watch.ensures.config) in
-    record {
-      config = rw c.plan_for-plan.ensures.config config;
-      rules = rw (c.plan_for-plan.ensures.set, c.plan_for-plan.ensures.config) rules;
-      ranges = rw (c.plan_for-plan.ensures.lanes, c.plan_for-plan.ensures.flush) (rw c.in-Ok-Watch.field-0-is at c.in-Ok-Watch.ensures.ranges);
-    }
+watch_capture-outcome-requires-clause-plan g c κs within = record {
+  config = rw c.in-Ok-Watch.field-0-is at c.in-Ok-Watch.ensures.config;
+  rules = rw c.in-Ok-Watch.field-0-is at c.in-Ok-Watch.ensures.rules;
+  ranges = rw c.in-Ok-Watch.field-0-is at c.in-Ok-Watch.ensures.ranges;
+}
 
 pub returns-in-Ok-Watch-clause-headline : goal.returns-in-Ok-Watch-clause-headline
 returns-in-Ok-Watch-clause-headline g c =
     headline _ _ _ _ _
-    (watched_run (task_way {P = g.row.M-Made.Denot}) _ _ _ _ (Watch c.in-Ok-Watch.ready) _ c.watch_capture-outcome.result c.prepare-prepared.new.warnings _ (c.matching_is_decided.ensures _)
+    (watched_run (task_way {P = g.row.M-Made.Denot}) _ _ _ _ (Watch c.in-Ok-Watch.plan) _ c.watch_capture-outcome.result c.prepare-prepared.new.warnings _ (c.matching_is_decided.ensures _)
     (record {
       middle = record {
         left = g.H.Host.left c.prepare-prepared.new.host;
@@ -31,16 +28,16 @@ returns-in-Ok-Watch-clause-headline g c =
       since = record { left = c.prepare-prepared.ensures.host.left; opens = c.prepare-prepared.ensures.host.opens; alerts = refl; later = c.prepare-prepared.ensures.host.later };
       ends = λ matches tells files course is goes.
           c.watch_capture-outcome.ensures.ends matches
-          (record { means = g.M.PatternMaker.means c.args.maker.now; find = rw c.plan_for-plan.ensures.set (rw c.in-Ok-Watch.field-0-is at c.in-Ok-Watch.ensures.meant); tells = tells })
-          files course (c.prepare-prepared.ensures.host.files ∙ is) (goes ∙ sym (c.plan_for-plan.ensures.way matches));
+          (record { means = g.M.PatternMaker.means c.args.maker.now; find = rw c.in-Ok-Watch.field-0-is at c.in-Ok-Watch.ensures.meant; tells = tells })
+          files course (c.prepare-prepared.ensures.host.files ∙ is) goes;
       write_fault = c.watch_capture-outcome.ensures.write_fault;
       read_fault = λ matches failed.
-          rw (c.prepare-prepared.ensures.host.files, c.plan_for-plan.ensures.way matches) at (c.watch_capture-outcome.ensures.read_fault matches failed);
+          rw c.prepare-prepared.ensures.host.files at (c.watch_capture-outcome.ensures.read_fault matches failed);
       opened = λ matches.
-          rw (c.prepare-prepared.ensures.host.files, c.prepare-prepared.ensures.host.opens, c.plan_for-plan.ensures.way matches) at (c.watch_capture-outcome.ensures.opened matches);
+          rw (c.prepare-prepared.ensures.host.files, c.prepare-prepared.ensures.host.opens) at (c.watch_capture-outcome.ensures.opened matches);
       made_unopened = λ for_made.
-          let made = c.plan_for-plan.ensures.made ((rw c.in-Ok-Watch.field-0-is at c.in-Ok-Watch.ensures.made) for_made) in (
-            opens_made _ c.plan_for-plan.result.source _ _ _ _ made (c.watch_capture-outcome.ensures.opened (c.matching_is_decided.ensures (g.M.PatternMaker.means c.args.maker.now)).0) ∙ c.prepare-prepared.ensures.host.opens,
+          let made = (rw c.in-Ok-Watch.field-0-is at c.in-Ok-Watch.ensures.made) for_made in (
+            opens_made _ c.in-Ok-Watch.plan.source _ _ _ _ made (c.watch_capture-outcome.ensures.opened (c.matching_is_decided.ensures (g.M.PatternMaker.means c.args.maker.now)).0) ∙ c.prepare-prepared.ensures.host.opens,
             c.watch_capture-outcome.ensures.made_unopened made ∙ c.prepare-prepared.ensures.host.left,
           );
       same_files = c.watch_capture-outcome.ensures.same_contents ∙ c.prepare-prepared.ensures.host.files;

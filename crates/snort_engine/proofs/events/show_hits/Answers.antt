@@ -12,12 +12,12 @@ pub returns-in_err-show_items-clause-stopped : goal.returns-in_err-show_items-cl
 returns-in_err-show_items-clause-stopped g c =
     let p = err_from_is_err_and c.from_residual.result c.from_residual.ensures.1 in
     let stopped = rw (c.as_slice-items.ensures, c.of-origin.ensures, c.loop-job.invariant.at) at c.in_err-show_items.ensures.stopped in
-    rw p.1 (jobs_part c.args.form c.args.config.now c.args.rules.now (source_by c.args.sources c.args.last.now) c.args.jobs.now c.loop-job.job-index c.job-item.result _ _ _ c.loop-job-test.true c.job-item.is c.loop-job.invariant.came stopped)
+    rw p.1 (jobs_part c.args.form c.args.config.now c.args.rules.now (source_by c.args.sources) c.args.jobs.now c.loop-job.job-index c.job-item.result _ _ _ c.loop-job-test.true c.job-item.is c.loop-job.invariant.came stopped)
 
 pub loop-job-preserved : goal.loop-job-preserved
 loop-job-preserved g c =
     let shown = rw (c.as_slice-items.ensures, c.of-origin.ensures, c.loop-job.invariant.at) at c.in_ok-show_items.ensures.shown in record {
-      came = jobs_step c.args.form c.args.config.now c.args.rules.now (source_by c.args.sources c.args.last.now) c.args.jobs.now c.loop-job.job-index c.job-item.result _ _ _ c.loop-job-test.true c.job-item.is c.loop-job.invariant.came shown;
+      came = jobs_step c.args.form c.args.config.now c.args.rules.now (source_by c.args.sources) c.args.jobs.now c.loop-job.job-index c.job-item.result _ _ _ c.loop-job-test.true c.job-item.is c.loop-job.invariant.came shown;
       at = omega (arith, c.loop-job.invariant.at);
       later = omega (arith, c.in_ok-show_items.ensures.later, c.loop-job.invariant.later);
     }

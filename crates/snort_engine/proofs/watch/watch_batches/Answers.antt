@@ -7,7 +7,7 @@ use Rattle.snort_engine.proofs.watch.watch_batches.Goals as goal
 
 pub batches-init : goal.batches-init
 batches-init g c = record {
-  going = λ matches test stands. under_way-start (plan_of matches c.args.plan.now) _ _ _ _ c.requires.fresh refl stands;
+  going = λ matches test stands. under_way-start (plan_of matches c.args.context.now.plan.now) _ _ _ _ c.requires.fresh refl stands;
   known = c.requires.known;
   behind = let none = c.requires.none in omega (arith, none);
   within = c.requires.within;

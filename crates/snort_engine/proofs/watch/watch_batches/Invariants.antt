@@ -10,10 +10,10 @@ use Rattle.snort_engine.proofs.watch.watch_batches.Given as goal
 
 abbrev pub invariant-batches : goal.invariant-batches
 invariant-batches g l = record {
-  going : (matches : Test) → IsTest g.P.Pattern.finds l.plan.set.now matches → DetectorStands (plan_of matches l.plan) [] l.fn.detector
-      → IsUnderWay (plan_of matches l.plan) l.fn.reader (record { left = g.H.Host.left l.fn.host; written = g.A.Sink.written l.fn.alerts })
+  going : (matches : Test) → IsTest g.P.Pattern.finds l.context.plan.now.setup.set matches → DetectorStands (plan_of matches l.context.plan.now) [] l.fn.detector
+      → IsUnderWay (plan_of matches l.context.plan.now) l.fn.reader (record { left = g.H.Host.left l.fn.host; written = g.A.Sink.written l.fn.alerts })
       (record { reader = l.reader; room = l.room; detector = l.detector; streams = record { left = g.H.Host.left l.host; written = g.A.Sink.written l.alerts } });
-  known : Knows l.plan l.detector;
+  known : Knows l.context.plan.now l.detector;
   behind : l.detector.front.counts.records ≤ number_of l.reader;
   within : number_of l.reader ≤ most_records;
   fresh : IsFresh l.reader;

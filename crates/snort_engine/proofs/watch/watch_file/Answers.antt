@@ -12,7 +12,7 @@ returns-in_err-reader-clause-ends g c = λ matches test files course told goes.
     let p = err_from_is_err_and c.from_residual.result c.from_residual.ensures.1 in
     let opens = rw named at (c.in_err-reader.ensures.opens files told) in
     let failed = rw (told, named) at c.in_err-reader.ensures.failed in
-    rw named (open_stops (plan_of matches c.args.plan.now) files course c.in_err-reader.field-0.0 _ _ _ c.from_residual.result p.0 c.requires.none p.1 p.2
+    rw named (open_stops (plan_of matches c.args.context.now.plan.now) files course c.in_err-reader.field-0.0 _ _ _ c.from_residual.result p.0 c.requires.none p.1 p.2
     goes refl opens (λ is. failed (ap Err is)))
 
 pub returns-clause-ends : goal.returns-clause-ends
@@ -20,7 +20,7 @@ returns-clause-ends g c = λ matches test files course told goes.
     let named = sym c.requires.named in
     let opens = rw named at (c.in_ok-reader.ensures.opens files told) in
     let watches = c.watch_records.ensures.watches matches test in
-    rw named (capture_ends (plan_of matches c.args.plan.now) files course c.in_ok-reader.reader _ _ _ _ c.watch_records.result
+    rw named (capture_ends (plan_of matches c.args.context.now.plan.now) files course c.in_ok-reader.reader _ _ _ _ c.watch_records.result
     goes opens watches (c.watch_records.ensures.close matches test)
     (λ is. rose_since _ _ _ c.in_ok-reader.ensures.later (c.watch_records.ensures.read_fault is)))
 

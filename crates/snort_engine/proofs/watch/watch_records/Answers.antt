@@ -10,14 +10,14 @@ returns-in_err-detector-clause-watches g c = λ matches test.
     rw (p.1, p.2) (λ rest told. WritesPart-none _ _)
 
 pub returns-in_err-detector-clause-close : goal.returns-in_err-detector-clause-close
-returns-in_err-detector-clause-close g c = λ matches test. close-start (plan_of matches c.args.plan.now) c.args.reader.now _ c.requires.fresh
+returns-in_err-detector-clause-close g c = λ matches test. close-start (plan_of matches c.args.context.now.plan.now) c.args.reader.now _ c.requires.fresh
 
 pub returns-clause-watches : goal.returns-clause-watches
 returns-clause-watches g c = λ matches test.
-    closed_watch (plan_of matches c.args.plan.now) c.args.reader.now _ _ c.watch_batches-watched.new.detector _ _ c.watch_batches-watched.result c.close_watched.result
+    closed_watch (plan_of matches c.args.context.now.plan.now) c.args.reader.now _ _ c.watch_batches-watched.new.detector _ _ c.watch_batches-watched.result c.close_watched.result
     ((c.watch_batches-watched.ensures.comes matches test (c.in_ok-detector.ensures.stands matches)).0) (c.close_watched.ensures.closes matches test)
 
 pub returns-clause-close : goal.returns-clause-close
 returns-clause-close g c = λ matches test.
-    closed_behind (plan_of matches c.args.plan.now) c.args.reader.now _ _ c.watch_batches-watched.new.detector _ _ c.watch_batches-watched.result c.close_watched.result
+    closed_behind (plan_of matches c.args.context.now.plan.now) c.args.reader.now _ _ c.watch_batches-watched.new.detector _ _ c.watch_batches-watched.result c.close_watched.result
     (c.watch_batches-watched.ensures.comes matches test (c.in_ok-detector.ensures.stands matches)) (c.close_watched.ensures.closes matches test)
