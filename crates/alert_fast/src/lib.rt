@@ -15,3 +15,5 @@ mod utc;
 pub use address::push_address;
 pub use alert::line;
 pub use pieces::six_digits;
+#[doc(hidden)]
+pub use pieces::{Piece, push_pieces};

@@ -11,14 +11,14 @@ use std::alloc::AllocError;
 /// A piece of a text: bytes as they are, a number in decimal digits, or 16 bits in lower-case hex
 /// digits without leading zeros.
 #[derive(Clone, Copy)]
-pub(crate) enum Piece<'a> {
+pub enum Piece<'a> {
     Bytes(&'a [u8]),
     Number(u64),
     Hex(u16),
 }
 
 /// Appends the pieces, one behind another.
-pub(crate) fn push_pieces(out: &mut Vec<u8>, pieces: &[Piece<'_>]) -> Result<(), NoMemory>
+pub fn push_pieces(out: &mut Vec<u8>, pieces: &[Piece<'_>]) -> Result<(), NoMemory>
     ensures appended { OnOk result (out.new.items ≡ out.old.items ++ pieces_text pieces.now) }
     ensures unchanged { OnErr result (out.new.items ≡ out.old.items) }
 {

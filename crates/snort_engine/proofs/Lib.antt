@@ -1,4 +1,3 @@
-pub mod PieceLists
 pub mod Prefixes
 pub mod Recordings
 pub mod Limits

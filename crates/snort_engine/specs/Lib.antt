@@ -1,4 +1,3 @@
-pub mod Pieces
 pub mod Messages
 pub mod Status
 pub mod RecordLines

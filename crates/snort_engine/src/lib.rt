@@ -27,7 +27,6 @@ mod laws;
 mod lines;
 mod listing;
 mod made;
-mod pieces;
 mod plan;
 mod prepare;
 mod reader;

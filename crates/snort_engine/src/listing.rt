@@ -7,10 +7,9 @@ ghost use Rattle.snort_engine.specs.Outside.{OnlyLoaded};
 ghost use Rattle.snort_engine.specs.Preparing.{HasCause, ListsBytes, ListsFile, StopsAtFile};
 ghost use Rattle.snort_engine.specs.RecordLines.{counted_line, end_text, entry_line, entry_lines, event_front, event_line, micro_text};
 
-use crate::pieces::Piece::{Bytes, Number};
-use crate::pieces::push_pieces;
 use crate::stop::Stop;
-use alert_fast::{push_address, six_digits};
+use alert_fast::Piece::{Bytes, Number};
+use alert_fast::{push_address, push_pieces, six_digits};
 use edge_io::{Addr, Host, LoadFault, NoMemory, Text};
 use std::alloc::Global;
 use unified2_out::{U2, U2Event, U2Fault, read_records};

@@ -8,8 +8,8 @@ ghost use Rattle.snort_engine.specs.Reporting.{Reports, TellsOn, TellsLast, coun
 
 use crate::Status;
 use crate::counts::Counts;
-use crate::pieces::push_pieces;
 use crate::stop::{Stop, is_whole};
+use alert_fast::push_pieces;
 use edge_io::{NoMemory, Sink, Text, write_all};
 use std::alloc::Global;
 

@@ -1,12 +1,12 @@
 ghost use Rattle.std.specs.Prelude.{◌≡◌};
 ghost use Rattle.snort_engine.specs.Stop.{is_whole, stop_status, stop_text};
 ghost use Rattle.snort_engine.specs.Messages.{cannot_read_text};
-ghost use Rattle.snort_engine.specs.Pieces.{pieces_text};
+ghost use Rattle.alert_fast.specs.Pieces.{pieces_text};
 
 use crate::Status;
 use crate::fault::ReadFault;
-use crate::pieces::Piece;
-use crate::pieces::Piece::{Bytes, Number};
+use alert_fast::Piece;
+use alert_fast::Piece::{Bytes, Number};
 use edge_io::{NoMemory, Text, WriteStop};
 use flow_lanes::BatchFault;
 use snort_setup::SetupStop;

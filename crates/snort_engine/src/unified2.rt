@@ -10,10 +10,7 @@ use crate::reader::LinkedRecord;
 use edge_io::{Addr, Link, Moment, NoMemory};
 use packet_decode::{Body, ItemHead};
 use rule_parser::Rule;
-use unified2_out::{LentPacket, U2, U2Event, write_packet, write_record};
-
-/// The most bytes of a packet that is written; no record of a capture has so many.
-const MAX_PACKET: usize = 1_048_548;
+use unified2_out::{LentPacket, MAX_PACKET, U2, U2Event, write_packet, write_record};
 
 /// The whole seconds of a moment, modulo 2^32.
 fn seconds_of(moment: Moment) -> u32

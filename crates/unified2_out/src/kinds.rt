@@ -27,3 +27,6 @@ pub(crate) const PACKET: u32 = 2;
 pub(crate) const PACKET_NUMBERS: usize = 28;
 
 pub(crate) const PACKET_HEAD: usize = HEADER + PACKET_NUMBERS;
+
+/// The most bytes of a packet.
+pub const MAX_PACKET: usize = MAX_BODY - PACKET_NUMBERS;

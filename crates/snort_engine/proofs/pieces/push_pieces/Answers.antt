@@ -1,6 +1,0 @@
-use Rattle.snort_engine.proofs.PieceLists.{appended_more}
-use Rattle.snort_engine.proofs.pieces.push_pieces.Goals as goal
-
-pub loop-piece-preserved : goal.loop-piece-preserved
-loop-piece-preserved c =
-    appended_more c.args.out.now.items c.loop-piece.out.items c.push_piece.new.out.items c.args.pieces.now c.loop-piece.piece-index _ c.loop-piece-test.true c.loop-piece.invariant c.in-Ok.ensures.appended
