@@ -19,7 +19,8 @@ use Rattle.snort_engine.specs.Records.{Ending, Clean, Refused, Recording, record
 use Rattle.snort_engine.specs.Trace.{Closed}
 use Rattle.snort_engine.specs.Lines.{lines}
 use Rattle.snort_engine.specs.Counts.{counts_of, told_counts, with_counts}
-use Rattle.snort_engine.specs.Messages.{cannot_read_text, no_memory_text, not_pcap_text, link_type_text, truncated_text, bad_block_text, too_long_text, too_many_text}
+use Rattle.snort_engine.specs.Messages.{cannot_read_text, no_memory_text, not_pcap_text, link_type_text}
+use Rattle.snort_engine.specs.Messages.{truncated_text, bad_block_text, too_long_text, too_many_text}
 
 -- the bytes of the alerts and of the errors, and the status
 pub record Answer : Type 0 where

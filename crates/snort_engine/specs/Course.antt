@@ -11,7 +11,8 @@
 -- where `r` is lacking it stops with `ERROR: cannot read r` and HostFault; `snort -c r -T` stops with
 -- `configuration accepted: 1 rules` and Done; `snort -c r --generate 5` goes on with the five packets of
 -- the seed 1; `snort --read-unified2 u` writes a line for each record of `u`, and stops where it is lacking.
-use Rattle.std.specs.Prelude.{◌≡◌, ◌<◌, ◌≤◌, ◌⊎◌, ℕ, Bool, true, false, List, [], Option, Some, None, Result, Ok, Err, IsSome, length, if◌then◌else◌}
+use Rattle.std.specs.Prelude.{◌≡◌, ◌<◌, ◌≤◌, ◌⊎◌, ℕ, Bool, true, false, List, [], Option, Some, None, Result, Ok, Err}
+use Rattle.std.specs.Prelude.{IsSome, length, if◌then◌else◌}
 use Rattle.std.specs.Option.{option_map, option_map_or}
 use Rattle.std.specs.FinMap.{get}
 use Rattle.edge_io.specs.Files.{Files}
@@ -34,14 +35,15 @@ use Rattle.snort_engine.specs.declared.form.Form.{Form}
 use Rattle.snort_engine.specs.declared.form.Form.TheVariants as form
 use Rattle.snort_engine.specs.declared.status.Status.{Status}
 use Rattle.snort_engine.specs.declared.status.Status.TheVariants as status
-use Rattle.snort_engine.specs.Messages.{usage_text, version_text, accepted_text, command_line_text, cannot_read_text, bad_unified2_text, too_large_text}
+use Rattle.snort_engine.specs.Messages.{usage_text, version_text, accepted_text, command_line_text, cannot_read_text}
+use Rattle.snort_engine.specs.Messages.{bad_unified2_text, too_large_text}
 use Rattle.snort_engine.specs.RecordLines.{entry_lines}
 
--- what is done with a capture: the name of its file, empty where it has none; how many records are read
--- at most; which checksums are verified; the configuration of fragments, streams and events; the table of hosts; how many bytes of
--- a stream are acknowledged at least before they are an item; the rules that are tried, and the test that
--- says which of them match; the form in which alerts are written; and whether counts are told. How many lanes
--- do the work is no part of it.
+-- what is done with a capture: the name of its file, empty where it has none; how many records are read at
+-- most; which checksums are verified; the configuration of fragments, streams and events; the table of hosts;
+-- how many bytes of a stream are acknowledged at least before they are an item; the rules that are tried, and
+-- the test that says which of them match; the form in which alerts are written; and whether counts are told.
+-- How many lanes do the work is no part of it.
 pub record Plan : Type 0 where
   pub source : List ℕ
   pub limit : Option ℕ
@@ -138,7 +140,8 @@ told_warnings wanted warnings = if wanted.quiet then [] else warnings
 
 -- the course that a setup gives
 abbrev pub course_by : Test → Run → Warned Ready → Course
-course_by matches wanted setup = record { warnings = told_warnings wanted setup.warnings; way = way_of matches wanted setup.outcome }
+course_by matches wanted setup =
+    record { warnings = told_warnings wanted setup.warnings; way = way_of matches wanted setup.outcome }
 
 -- what a course goes by beside the words: the files; the test that says which rules match an item; and
 -- the places of the rule lines whose patterns the maker refused, among all rule lines in reading order
@@ -153,7 +156,8 @@ given files matches refused = record { files = files; matches = matches; refused
 -- the course of a run that the words ask for
 abbrev pub IsRunCourse : Run → Given → Course → Type 0
 IsRunCourse wanted given course =
-    (setup : Warned Ready) × IsSetup (setup_words wanted) given.files given.refused setup × (course ≡ course_by given.matches wanted setup)
+    (setup : Warned Ready) × IsSetup (setup_words wanted) given.files given.refused setup
+    × (course ≡ course_by given.matches wanted setup)
 
 -- bytes of a Unified2 file that are records give a line for each
 pub record AreListed (bytes : List ℕ) (way : Way) : Type 0 where
@@ -205,7 +209,8 @@ HasOneCourse = (asked : Option Asked) (here : Given) (a b : Course) → IsCourse
 -- one of the files that are read before the capture, or in place of one, and the warnings that stand before it
 unfoldable pub Reads : Option Asked → Given → List ℕ → List (List ℕ) → Type 0
 Reads (Some (run wanted)) given name warnings =
-    (earlier : List (List ℕ)) × IsReading (setup_words wanted) given.files given.refused name earlier × (warnings ≡ told_warnings wanted earlier)
+    (earlier : List (List ℕ)) × IsReading (setup_words wanted) given.files given.refused name earlier
+    × (warnings ≡ told_warnings wanted earlier)
 Reads (Some (records_of file)) given name warnings = (name ≡ file) × (warnings ≡ [])
 Reads asked given name warnings = ⊥
 

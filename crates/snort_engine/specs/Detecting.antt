@@ -102,7 +102,8 @@ pub record AreTaken (way : Way) (before records : List LinkedRecord) (new : Fron
 
 -- the same, whatever records stood before
 abbrev pub MakesJobs : Way → List LinkedRecord → FrontState → FrontState → List Job → Type 0
-MakesJobs way records old new made = (before : List LinkedRecord) → StandsFor way old before → AreTaken way before records new made
+MakesJobs way records old new made =
+    (before : List LinkedRecord) → StandsFor way old before → AreTaken way before records new made
 
 -- a detector was given these records
 pub record DetectorStands (plan : Plan) (records : List LinkedRecord) (detector : Detector) : Type 0 where
@@ -133,12 +134,14 @@ pub record AreShown (plan : Plan) (before records : List LinkedRecord) (old new 
 
 -- the same, whatever records came before
 unfoldable pub ShowsRecords : Plan → List LinkedRecord → Detecting → Detecting → Type 0
-ShowsRecords plan records old new = (before : List LinkedRecord) → DetectorStands plan before old.detector → AreShown plan before records old new
+ShowsRecords plan records old new =
+    (before : List LinkedRecord) → DetectorStands plan before old.detector → AreShown plan before records old new
 
 -- or no more than a part of their lines was written
 unfoldable pub ShowsRecordsPart : Plan → List LinkedRecord → Detecting → Option (List ℕ) → Type 0
 ShowsRecordsPart plan records old written =
-    (before : List LinkedRecord) → DetectorStands plan before old.detector → WritesPart old.written (lines plan before records Open) written
+    (before : List LinkedRecord) → DetectorStands plan before old.detector
+    → WritesPart old.written (lines plan before records Open) written
 
 -- ---- the end
 
@@ -154,18 +157,22 @@ counted seen inspection = record {
 
 -- the lines of the flows that end with a capture of these records
 unfoldable pub closing_lines : Plan → List LinkedRecord → List ℕ
-closing_lines plan records = texts_from (text_of plan.form plan.config.classes) (alert_count plan records) (closing_alerts plan records)
+closing_lines plan records =
+    texts_from (text_of plan.form plan.config.classes) (alert_count plan records) (closing_alerts plan records)
 
 -- they were written, and all was counted
-pub record IsClosed (plan : Plan) (records : List LinkedRecord) (old : Detecting) (written : Option (List ℕ)) (counts : Counts) : Type 0 where
+pub record IsClosed (plan : Plan) (records : List LinkedRecord) (old : Detecting) (written : Option (List ℕ)) (counts : Counts) :
+    Type 0 where
   pub wrote : written ≡ behind old.written (closing_lines plan records)
   pub counted : counts ≡ counts_of plan records
 
 -- the same, whatever records came before
 unfoldable pub Closes : Plan → Detecting → Option (List ℕ) → Counts → Type 0
-Closes plan old written counts = (records : List LinkedRecord) → DetectorStands plan records old.detector → IsClosed plan records old written counts
+Closes plan old written counts =
+    (records : List LinkedRecord) → DetectorStands plan records old.detector → IsClosed plan records old written counts
 
 -- or no more than a part of the lines was written
 unfoldable pub ClosesPart : Plan → Detecting → Option (List ℕ) → Type 0
 ClosesPart plan old written =
-    (records : List LinkedRecord) → DetectorStands plan records old.detector → WritesPart old.written (closing_lines plan records) written
+    (records : List LinkedRecord) → DetectorStands plan records old.detector
+    → WritesPart old.written (closing_lines plan records) written

@@ -102,12 +102,14 @@ IsEarly asked given before after ended message =
     ⊎ ((ended ≡ status.NoMemory) × IsLacking asked given message)
 
 -- it has opened nothing and written no line
-pub record EndsEarly (asked : Option Asked) (given : Given) (before after : Work) (ended : Status) (message : List ℕ) : Type 0 where
+pub record EndsEarly (asked : Option Asked) (given : Given) (before after : Work) (ended : Status) (message : List ℕ) :
+    Type 0 where
   pub unopened : IsUnopened before after
   pub why : IsEarly asked given before after ended message
 
 -- a run of these words ends on its course
-pub record EndsOnCourse (asked : Option Asked) (given : Given) (before after : Work) (ended : Status) (message : List ℕ) : Type 0 where
+pub record EndsOnCourse (asked : Option Asked) (given : Given) (before after : Work) (ended : Status) (message : List ℕ) :
+    Type 0 where
   pub course : Course
   pub is : IsCourse asked given course
   pub ends : Ends given.files course before after ended message

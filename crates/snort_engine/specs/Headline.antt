@@ -86,7 +86,7 @@ pub record Headline (words : List (List ℕ)) (means : Means) (before after : Ou
   -- complete: where no count rose, the status is the answer's, unless memory is lacking
   pub complete : OfTold before.files (λ files. NoFault before after
       → HasAnswer (command_line words) (given files matches refused) ended ⊎ (ended ≡ status.NoMemory))
-  -- the capture is opened once, and a second time exactly where it begins as no savefile does; one that is
+  -- the capture is opened at most once, and a second time exactly where it begins as no savefile does; one that is
   -- made isn't, and what the host has open stays as it is
   pub opened_once : IsOpenedOnce (command_line words) (λ files. given files matches refused) before after ended
   pub made_unopened : IsForMade (command_line words) → (after.opens ≡ before.opens) × (after.left ≡ before.left)
@@ -94,7 +94,8 @@ pub record Headline (words : List (List ℕ)) (means : Means) (before after : Ou
   -- refused, whatever the host tells
   pub write_fault : ended ≡ status.WriteFault → Rose before.alert_faults after.alert_faults
   pub host_fault : ended ≡ status.HostFault
-      → Rose before.host_faults after.host_faults ⊎ LacksOne before.files (λ files. given files matches refused) (command_line words)
+      → Rose before.host_faults after.host_faults
+      ⊎ LacksOne before.files (λ files. given files matches refused) (command_line words)
   pub faulty_words : command_line words ≡ None → (ended ≡ status.Refused) ⊎ (ended ≡ status.NoMemory)
   -- the files stay, no count falls, and the maker means the same
   pub same_files : after.files ≡ before.files

@@ -33,7 +33,8 @@ cannot_write_text = codes "ERROR: cannot write\n"
 unfoldable pub no_memory_text : List ℕ
 no_memory_text = codes "ERROR: no memory\n"
 
--- the capture begins neither as a libpcap savefile does nor with a section header
+-- the capture begins neither as a libpcap savefile of version 2 nor with a section header and its byte-order
+-- magic
 unfoldable pub not_pcap_text : List ℕ
 not_pcap_text = codes "ERROR: capture is not a pcap file\n"
 
@@ -62,6 +63,6 @@ bad_unified2_text at = codes "ERROR: unified2 file is bad at byte " ++ decimal a
 unfoldable pub too_large_text : List ℕ → List ℕ
 too_large_text name = codes "ERROR: " ++ (name ++ codes "(0) file is too large\n")
 
--- the capture has more records than are read
+-- the capture goes on behind as many records as are read, or, as blocks, behind 2^62 bytes
 unfoldable pub too_many_text : List ℕ
 too_many_text = codes "ERROR: capture has too many records\n"

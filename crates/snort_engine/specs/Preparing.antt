@@ -21,7 +21,8 @@ use Rattle.snort_engine.specs.declared.prepare.Task.{Task}
 use Rattle.snort_engine.specs.declared.prepare.Task.TheVariants.{Watch, Tell}
 use Rattle.snort_engine.specs.declared.stop.Stop.{Stop}
 use Rattle.snort_engine.specs.declared.stop.Stop.TheVariants as stop
-use Rattle.snort_engine.specs.Course.{Way, Stops, Lists, Course, Given, given, IsCourse, AreListed, IsFileWay, Reads, AreRefused, setup_words, told_warnings}
+use Rattle.snort_engine.specs.Course.{Way, Stops, Lists, Course, Given, given, IsCourse, AreListed, IsFileWay, Reads}
+use Rattle.snort_engine.specs.Course.{AreRefused, setup_words, told_warnings}
 use Rattle.snort_engine.specs.Messages.{too_large_text}
 use Rattle.snort_engine.specs.Sources.{way_from}
 use Rattle.snort_engine.specs.Stop.{stop_status, stop_text}
@@ -68,7 +69,8 @@ Prepares view asked given rose (Err why) warnings = HasWay asked given warnings 
 
 -- an answer over these files, where the maker's refusals grew by these: whatever test says which rules
 -- match, it is what the words' course has over one list of refused lines
-pub record IsPrepared {A : Type 0} (view : Test → A → Way) (asked : Option Asked) (files : Files) (rose : Type 0) (grown : List Refusal) (answer : Result A Stop) (warnings : List (List ℕ)) : Type 0 where
+pub record IsPrepared {A : Type 0} (view : Test → A → Way) (asked : Option Asked) (files : Files) (rose : Type 0)
+    (grown : List Refusal) (answer : Result A Stop) (warnings : List (List ℕ)) : Type 0 where
   pub refused : List ℕ
   pub are_refused : AreRefused asked files refused grown
   pub prepares : (matches : Test) → Prepares (view matches) asked (given files matches refused) rose answer warnings
@@ -81,7 +83,8 @@ told_of (Err halted.NoMemory) wanted warnings = []
 told_of outcome wanted warnings = told_warnings wanted warnings
 
 -- the setup of a run, and the warnings of it that are told
-pub record IsSetUp {A : Type 0} (view : A → Ready) (wanted : Run) (files : Files) (rose : Type 0) (grown : List Refusal) (answer : Result A SetupStop) (warnings : List (List ℕ)) : Type 0 where
+pub record IsSetUp {A : Type 0} (view : A → Ready) (wanted : Run) (files : Files) (rose : Type 0)
+    (grown : List Refusal) (answer : Result A SetupStop) (warnings : List (List ℕ)) : Type 0 where
   pub given_warnings : List (List ℕ)
   pub sets_up : SetsUp view (setup_words wanted) files rose grown answer given_warnings
   pub told_are : warnings ≡ told_of answer wanted given_warnings

@@ -79,7 +79,8 @@ IsRefusedBy first given left_first why = EndsWith first given left_first (Refuse
 
 -- what an answer says of the reader before and behind it, and of what was left: a record and no byte behind
 -- it was taken; or no further record is whole within the bytes taken
-abbrev pub Gives : RecordReader → RecordReader → Result (Option LinkedRecord) ReadFault → Option (List ℕ) → Option (List ℕ) → Type 0
+abbrev pub Gives : RecordReader → RecordReader → Result (Option LinkedRecord) ReadFault
+    → Option (List ℕ) → Option (List ℕ) → Type 0
 Gives old new (Ok (Some given)) left_old left_new = HasRead old new (given ∷ []) left_old left_new × IsNext old new
 Gives old new (Ok None) left_old left_new = AreWhole old [] left_old left_new × EndsWith old [] left_old Clean
 Gives old new (Err why) left_old left_new = AreWhole old [] left_old left_new × IsRefusedBy old [] left_old why
@@ -111,7 +112,8 @@ pub record IsBarelyOpen (held left : Option (List ℕ)) : Type 0 where
 -- the capture has no record, and this ending
 abbrev pub IsRefusedAtOnce : Option (List ℕ) → ReadFault → Type 0
 IsRefusedAtOnce held why =
-    (bytes : List ℕ) → held ≡ Some bytes → (limit : Option ℕ) → records_in limit bytes ≡ record { records = []; ending = Refused why }
+    (bytes : List ℕ) → held ≡ Some bytes → (limit : Option ℕ)
+    → records_in limit bytes ≡ record { records = []; ending = Refused why }
 
 -- a refusal is the capture's ending, unless the host failed or memory lacked
 abbrev pub IsRefusedOpening : Option (List ℕ) → ReadFault → Type 0

@@ -11,7 +11,8 @@
 -- last of them the ending is Truncated at 0, and so it is of the first 23 bytes of a section header; of its 28
 -- bytes the ending is clean again. The capture that is made of any seed with 5 packets has 5 records, under a
 -- limit of 3 the first 3, and a clean ending.
-use Rattle.std.specs.Prelude.{◌≡◌, ℕ, ◌≤◌, ◌==◌, ◌&&◌, nat_le, min, Bool, false, List, [], length, map, take, Option, Some, None, Result, Ok, Err, if◌then◌else◌}
+use Rattle.std.specs.Prelude.{◌≡◌, ℕ, ◌≤◌, ◌==◌, ◌&&◌, nat_le, min, Bool, false, List, [], length, map, take, Option}
+use Rattle.std.specs.Prelude.{Some, None, Result, Ok, Err, if◌then◌else◌}
 use Rattle.edge_io.specs.declared.link.Link.{Link}
 use Rattle.pcap_input.specs.declared.capture.CaptureFault.{CaptureFault}
 use Rattle.pcap_input.specs.declared.capture.CaptureFault.TheVariants as savefile_fault
@@ -134,4 +135,6 @@ pub record IsWhole (count : ℕ) (recording : Recording) : Type 0 where
 -- the law of captures that are made: a plan reads as many records as were asked for, up to its limit, and
 -- they end cleanly
 abbrev pub MadeIsWhole : Type 0
-MadeIsWhole = (plan : Plan) (seed count : ℕ) → count ≤ most_records → IsWhole (limited plan.limit count) (records_of plan (generated seed count))
+MadeIsWhole =
+    (plan : Plan) (seed count : ℕ) → count ≤ most_records
+    → IsWhole (limited plan.limit count) (records_of plan (generated seed count))

@@ -10,9 +10,9 @@ use Rattle.snort_engine.specs.declared.status.Status.{Status}
 use Rattle.snort_engine.specs.declared.status.Status.TheVariants as status
 use Rattle.snort_engine.specs.declared.stop.Stop.{Stop}
 use Rattle.snort_engine.specs.Outside.{WritesPart}
-use Rattle.snort_engine.specs.Stop.{is_whole, outcome_status}
+use Rattle.snort_engine.specs.Stop.{is_whole, outcome_status, outcome_text}
 use Rattle.snort_engine.specs.declared.counts.Counts.{Counts}
-use Rattle.snort_engine.specs.Counts.{told_counts}
+use Rattle.snort_engine.specs.Counts.{told_counts, with_counts}
 use Rattle.snort_engine.specs.Messages.{no_memory_text}
 
 -- the message was written, or a part of it where that sink's count rose
@@ -37,6 +37,11 @@ pub record TellsLast (text : List ℕ) (well : Bool) (old new : Option (List ℕ
 -- was cut short
 abbrev pub counts_due : {A : Type 0} → Bool → Result A Stop → Counts → Option Counts
 counts_due counted outcome counts = told_counts (is_whole outcome && counted) counts
+
+-- what is told of the outcome of a capture of this name, with what was counted
+abbrev pub outcome_said : {A : Type 0} → List ℕ → Bool → Result A Stop → Counts → List ℕ
+outcome_said source counted outcome counts =
+    with_counts (outcome_text source outcome) (counts_due counted outcome counts)
 
 -- this text and the outcome's status, or those of want of memory, behind what was told before
 abbrev pub Reports : {A : Type 0} → List ℕ → Result A Stop → Status → (List ℕ → Type 0) → Type 0

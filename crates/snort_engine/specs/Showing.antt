@@ -94,7 +94,8 @@ abbrev pub gathering_of : Showing → Gathering
 gathering_of showing = record { written = showing.written; block = showing.events.block.items }
 
 -- items came behind earlier items: the filters were given them, and their lines came behind those that wait
-pub record IsShown (form : Form) (config : Config) (rules : List Rule) (before : List Hits) (items : List Told) (old new : Showing) : Type 0 where
+pub record IsShown (form : Form) (config : Config) (rules : List Rule) (before : List Hits) (items : List Told)
+    (old new : Showing) : Type 0 where
   pub stands : EventsStand config rules (before ++ whats items) new.events
   pub came : Gathers (items_lines form config rules before items) (gathering_of old) (gathering_of new)
 

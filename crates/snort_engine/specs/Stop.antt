@@ -11,7 +11,9 @@ use Rattle.snort_engine.specs.declared.status.Status.{Status}
 use Rattle.snort_engine.specs.declared.status.Status.TheVariants as status
 use Rattle.snort_engine.specs.declared.stop.Stop.{Stop}
 use Rattle.snort_engine.specs.declared.stop.Stop.TheVariants as stop
-use Rattle.snort_engine.specs.Messages.{usage_text, version_text, accepted_text, command_line_text, cannot_read_text, cannot_write_text, no_memory_text, not_pcap_text, link_type_text, truncated_text, bad_block_text, too_long_text, too_many_text, bad_unified2_text}
+use Rattle.snort_engine.specs.Messages.{usage_text, version_text, accepted_text, command_line_text, cannot_read_text}
+use Rattle.snort_engine.specs.Messages.{cannot_write_text, no_memory_text, not_pcap_text, link_type_text}
+use Rattle.snort_engine.specs.Messages.{truncated_text, bad_block_text, too_long_text, too_many_text, bad_unified2_text}
 
 -- the status of a stop
 abbrev pub stop_status : Stop → Status

@@ -3,7 +3,8 @@
 -- What is left for a reader are the records that it has yet to give. To try it on: where a write fails
 -- in the lines of the second batch, the lines of the first were written, a part of those of the second
 -- may be, and the bytes of two batches were taken.
-use Rattle.std.specs.Prelude.{◌≡◌, ℕ, ◌+◌, ◌-◌, ◌≤◌, min, ◌⊎◌, Bool, true, false, List, [], ◌++◌, length, Option, None, Some, Result, Ok, Err, ⊤}
+use Rattle.std.specs.Prelude.{◌≡◌, ℕ, ◌+◌, ◌-◌, ◌≤◌, min, ◌⊎◌, Bool, true, false, List, [], ◌++◌, length, Option}
+use Rattle.std.specs.Prelude.{None, Some, Result, Ok, Err, ⊤}
 use Rattle.edge_io.specs.Told.{before, behind}
 use Rattle.edge_io.specs.declared.host.Host.{Ghosts as HostOf}
 use Rattle.edge_io.specs.declared.pattern.Span.{Span}
@@ -87,7 +88,8 @@ abbrev pub counts_left : Plan → RecordReader → List ℕ → Counts
 counts_left plan reader rest = counts_of plan (recording_by plan reader rest).records
 
 -- all lines of the bytes that were left were written, they end so, and all was counted
-pub record IsWatched (plan : Plan) (reader : RecordReader) (rest : List ℕ) (ending : Ending) (old new : Streams) (counts : Counts) : Type 0 where
+pub record IsWatched (plan : Plan) (reader : RecordReader) (rest : List ℕ) (ending : Ending) (old new : Streams)
+    (counts : Counts) : Type 0 where
   pub ends : (recording_by plan reader rest).ending ≡ ending
   pub wrote : new.written ≡ behind old.written (lines_left plan reader rest Closed)
   pub counted : counts ≡ counts_left plan reader rest
@@ -112,11 +114,13 @@ pub record IsCloseBehind (plan : Plan) (reader : RecordReader) (old new : Stream
 
 -- a part of the lines that were left was written, and no other byte
 abbrev pub WritesSome : Plan → RecordReader → Streams → Streams → Type 0
-WritesSome plan reader old new = (rest : List ℕ) → old.left ≡ Some rest → WritesPart old.written (lines_left plan reader rest Closed) new.written
+WritesSome plan reader old new =
+    (rest : List ℕ) → old.left ≡ Some rest → WritesPart old.written (lines_left plan reader rest Closed) new.written
 
 -- the capture was watched to an ending
 abbrev pub WatchesTo : Plan → RecordReader → Ending → Streams → Streams → Counts → Type 0
-WatchesTo plan reader ending old new counts = (rest : List ℕ) → old.left ≡ Some rest → IsWatched plan reader rest ending old new counts
+WatchesTo plan reader ending old new counts =
+    (rest : List ℕ) → old.left ≡ Some rest → IsWatched plan reader rest ending old new counts
 
 -- how the watching ends: at the end of the capture; cut off by the host; stopped by the sink or for
 -- want of memory; or at what can't be read
@@ -154,7 +158,8 @@ pub record Standing : Type 0 where
   pub streams : Streams
 
 abbrev pub standing : {H A : Type 0} → HostOf H → SinkOf A → RecordReader → Option ℕ → Detector → H → A → Standing
-standing h a reader room detector host alerts = record { reader = reader; room = room; detector = detector; streams = streams h a host alerts }
+standing h a reader room detector host alerts =
+    record { reader = reader; room = room; detector = detector; streams = streams h a host alerts }
 
 -- from the first reader on some records were given, the detector stands for them, and their lines were
 -- written
@@ -167,7 +172,8 @@ pub record IsUnderWay (plan : Plan) (first : RecordReader) (start : Streams) (no
 
 -- all records were given, up to this ending, the detector stands for them, and their lines were written:
 -- nothing is closed yet
-pub record IsAtEnd (plan : Plan) (first : RecordReader) (start : Streams) (now : Streams) (detector : Detector) (ending : Ending) : Type 0 where
+pub record IsAtEnd (plan : Plan) (first : RecordReader) (start : Streams) (now : Streams) (detector : Detector)
+    (ending : Ending) : Type 0 where
   pub given : List LinkedRecord
   pub ends : (rest : List ℕ) → start.left ≡ Some rest → recording_by plan first rest ≡ record { records = given; ending = ending }
   pub stands : DetectorStands plan given detector
@@ -191,9 +197,11 @@ abbrev pub GoesOn : Plan → Standing → Standing → Result Bool Stop → Type
 GoesOn plan old new (Ok true) =
     (first : RecordReader) (start : Streams) → IsUnderWay plan first start old → IsUnderWay plan first start new
 GoesOn plan old new (Ok false) =
-    (first : RecordReader) (start : Streams) → IsUnderWay plan first start old → ComesOver plan first start new.streams new.detector (Ok tt)
+    (first : RecordReader) (start : Streams) → IsUnderWay plan first start old
+    → ComesOver plan first start new.streams new.detector (Ok tt)
 GoesOn plan old new (Err why) =
-    (first : RecordReader) (start : Streams) → IsUnderWay plan first start old → ComesOver plan first start new.streams new.detector (Err why)
+    (first : RecordReader) (start : Streams) → IsUnderWay plan first start old
+    → ComesOver plan first start new.streams new.detector (Err why)
 
 -- ---- the end
 
@@ -210,17 +218,21 @@ abbrev pub IsLeft : Result (Unit {0}) Stop → Result (Unit {0}) Stop → Option
 IsLeft watched result old new = (is_whole watched ≡ false) × (result ≡ watched) × (new ≡ old)
 
 -- what came to its end is closed
-abbrev pub IsClosedWhole : Plan → Detector → Result (Unit {0}) Stop → Result (Unit {0}) Stop → Option (List ℕ) → Option (List ℕ) → Counts → Type 0
+abbrev pub IsClosedWhole : Plan → Detector → Result (Unit {0}) Stop → Result (Unit {0}) Stop
+    → Option (List ℕ) → Option (List ℕ) → Counts → Type 0
 IsClosedWhole plan detector watched result old new counts =
     (is_whole watched ≡ true) × (result ≡ watched) × Closes plan (record { detector = detector; written = old }) new counts
 
 -- or its closing was stopped
-abbrev pub IsClosedInPart : Plan → Detector → Result (Unit {0}) Stop → Result (Unit {0}) Stop → Option (List ℕ) → Option (List ℕ) → Type 0
+abbrev pub IsClosedInPart : Plan → Detector → Result (Unit {0}) Stop → Result (Unit {0}) Stop
+    → Option (List ℕ) → Option (List ℕ) → Type 0
 IsClosedInPart plan detector watched result old new =
-    (is_whole watched ≡ true) × ((why : Stop) × (result ≡ Err why) × IsShowStop why) × ClosesPart plan (record { detector = detector; written = old }) new
+    (is_whole watched ≡ true) × ((why : Stop) × (result ≡ Err why) × IsShowStop why)
+    × ClosesPart plan (record { detector = detector; written = old }) new
 
 -- how a capture whose batches ended so is closed
-unfoldable pub ClosesWatched : Plan → Detector → Result (Unit {0}) Stop → Option (List ℕ) → Option (List ℕ) → Counts → Result (Unit {0}) Stop → Type 0
+unfoldable pub ClosesWatched : Plan → Detector → Result (Unit {0}) Stop
+    → Option (List ℕ) → Option (List ℕ) → Counts → Result (Unit {0}) Stop → Type 0
 ClosesWatched plan detector watched old new counts result =
     IsLeft watched result old new
     ⊎ (IsClosedWhole plan detector watched result old new counts ⊎ IsClosedInPart plan detector watched result old new)

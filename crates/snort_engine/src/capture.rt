@@ -9,9 +9,9 @@ ghost use Rattle.snort_engine.specs.Preparing.{way_for};
 ghost use Rattle.snort_engine.specs.Sources.{IsMade, LacksCapture, OpensOn, source_name};
 ghost use Rattle.snort_engine.specs.Outside.{Work, work};
 ghost use Rattle.snort_engine.specs.Ending.{Ends};
-ghost use Rattle.snort_engine.specs.Stop.{outcome_status, outcome_text};
-ghost use Rattle.snort_engine.specs.Reporting.{counts_due};
-ghost use Rattle.snort_engine.specs.Counts.{no_counts, with_counts};
+ghost use Rattle.snort_engine.specs.Stop.{outcome_status};
+ghost use Rattle.snort_engine.specs.Reporting.{outcome_said};
+ghost use Rattle.snort_engine.specs.Counts.{no_counts};
 ghost use Rattle.snort_engine.specs.Detecting.{IsSoundPlan};
 ghost use Rattle.snort_engine.specs.Watching.{plan_of, IsTest};
 
@@ -43,7 +43,8 @@ fn watch_made<P: Pattern, G: Gate, A: Sink, R: Threads + Sync>(
         → course.way ≡ Makes (plan_of matches context.now.plan.now) seed count
         → Ends files course before (record before { alerts = A.written alerts.new })
         (outcome_status result)
-        (concat course.warnings ++ with_counts (outcome_text (source_name context.now.plan.now.source) result) (counts_due context.now.plan.now.counted result counts.new)) }
+        (concat course.warnings ++ outcome_said (source_name context.now.plan.now.source)
+        context.now.plan.now.counted result counts.new) }
     ensures write_fault { outcome_status result ≡ Status.WriteFault → Rose (A.faults alerts.old) (A.faults alerts.new) }
     ensures no_read_fault { ¬ (outcome_status result ≡ Status.HostFault) }
     ensures later_alerts { A.faults alerts.old ≤ A.faults alerts.new }
@@ -71,7 +72,8 @@ pub(crate) fn watch_capture<H: Host, P: Pattern, G: Gate, A: Sink, R: Threads + 
         → Ends files course
         (work H.Host A.Sink host.old alerts.old) (work H.Host A.Sink host.new alerts.new)
         (outcome_status result)
-        (concat course.warnings ++ with_counts (outcome_text (source_name context.now.plan.now.source) result) (counts_due context.now.plan.now.counted result counts.new)) }
+        (concat course.warnings ++ outcome_said (source_name context.now.plan.now.source)
+        context.now.plan.now.counted result counts.new) }
     ensures write_fault { outcome_status result ≡ Status.WriteFault → Rose (A.faults alerts.old) (A.faults alerts.new) }
     ensures read_fault { (matches : Test) → outcome_status result ≡ Status.HostFault
         → Rose (H.faults host.old) (H.faults host.new)

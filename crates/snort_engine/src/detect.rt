@@ -11,7 +11,8 @@ ghost use Rattle.record_jobs.specs.Fronts.{GivesFinishes};
 ghost use Rattle.snort_engine.specs.Beside.{by_place, source_in};
 ghost use Rattle.snort_engine.specs.Sourcing.{PlacesJobs};
 ghost use Rattle.snort_engine.specs.Watching.{plan_of, IsTest, IsShowStop};
-ghost use Rattle.snort_engine.specs.Detecting.{IsSoundPlan, IsNewInspection, counted, MakesJobs, Runs, RunsPart, Knows, DetectorStands, ShowsRecords, ShowsRecordsPart, Closes, ClosesPart};
+ghost use Rattle.snort_engine.specs.Detecting.{IsSoundPlan, IsNewInspection, counted, MakesJobs, Runs, RunsPart};
+ghost use Rattle.snort_engine.specs.Detecting.{Knows, DetectorStands, ShowsRecords, ShowsRecordsPart, Closes, ClosesPart};
 
 use crate::context::Context;
 use crate::counts::{Counts, sum};

@@ -35,7 +35,11 @@ pub(crate) struct Tally {
 impl Tally {
     /// One item more, with so many rules that match it and so many alerts.
     fn with(self, hits: usize, alerts: usize) -> Result<Tally, NoMemory>
-        ensures { IfOk result (λ tally. tally ≡ record { items = self.items + 1; hits = self.hits + hits; alerts = self.alerts + alerts }) }
+        ensures { IfOk result (λ tally. tally ≡ record {
+          items = self.items + 1;
+          hits = self.hits + hits;
+          alerts = self.alerts + alerts;
+        }) }
     {
         Ok(Tally {
             items: sum(self.items, 1)?,

@@ -5,7 +5,7 @@ use pcapng_input::NgFault;
 /// 0: where the record or the block begins that can't be read.
 #[derive(Clone, Copy, Debug)]
 pub(crate) enum ReadFault {
-    /// It begins neither as a savefile of version 2 nor with a section header.
+    /// It begins neither as a savefile of version 2 nor with a section header and its byte-order magic.
     NotPcap,
     /// A link type other than 1, 101 and 113.
     LinkType(u32),
@@ -15,7 +15,7 @@ pub(crate) enum ReadFault {
     BadBlock { at: u64 },
     /// The record at this place says that more than 262144 bytes were captured.
     TooLong { at: u64, len: u32 },
-    /// It goes on behind as many records as are read.
+    /// It goes on behind 4294967295 records, or, as blocks, behind 2^62 bytes.
     TooMany,
     /// The host failed, or has no such file.
     Failed,

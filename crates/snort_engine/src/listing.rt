@@ -5,7 +5,8 @@ ghost use Rattle.edge_io.specs.Told.{Rose};
 ghost use Rattle.snort_engine.specs.Messages.{too_large_text};
 ghost use Rattle.snort_engine.specs.Outside.{OnlyLoaded};
 ghost use Rattle.snort_engine.specs.Preparing.{HasCause, ListsBytes, ListsFile, StopsAtFile};
-ghost use Rattle.snort_engine.specs.RecordLines.{counted_line, end_text, entry_line, entry_lines, event_front, event_line, micro_text};
+ghost use Rattle.snort_engine.specs.RecordLines.{counted_line, end_text, entry_line, entry_lines, event_front};
+ghost use Rattle.snort_engine.specs.RecordLines.{event_line, micro_text};
 
 use crate::stop::Stop;
 use alert_fast::Piece::{Bytes, Number};

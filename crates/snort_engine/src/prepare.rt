@@ -14,7 +14,8 @@ ghost use Rattle.snort_setup.specs.Answers as setup_specs;
 ghost use Rattle.snort_setup.specs.Steps.{grown_by, Grows};
 ghost use Rattle.snort_setup.specs.Whole.{ready_of};
 ghost use Rattle.snort_engine.specs.Course.{IsForMade, setup_words, checks_of, form_of, way_of};
-ghost use Rattle.snort_engine.specs.Preparing.{IsPrepared, IsSetUp, KeepsSetup, HasCause, IsForFaultyWords, OfWatch, task_way, way_for, told_of, way_by};
+ghost use Rattle.snort_engine.specs.Preparing.{IsPrepared, IsSetUp, KeepsSetup, HasCause, IsForFaultyWords, OfWatch};
+ghost use Rattle.snort_engine.specs.Preparing.{task_way, way_for, told_of, way_by};
 ghost use Rattle.snort_engine.specs.Outside.{OnlyLoaded};
 ghost use Rattle.snort_engine.specs.Sources.{IsMade, IsSourceFor};
 ghost use Rattle.snort_engine.specs.Detecting.{IsRanged};
@@ -233,10 +234,12 @@ pub(crate) fn prepare<'a, H: Host, M: PatternMaker>(
 ) -> Result<Task<'a, M::Made>, Stop>
     requires { warnings.old ≡ [] }
     ensures prepared { (files : Files) → H.contents host.old ≡ Some files
-        → IsPrepared task_way (command_line (map string_bytes words.entry.now)) files (Rose (H.faults host.old) (H.faults host.new))
+        → IsPrepared task_way (command_line (map string_bytes words.entry.now)) files
+        (Rose (H.faults host.old) (H.faults host.new))
         (grown_by (M.refusals maker.old) (M.refusals maker.new)) result warnings.new }
     ensures faulty_words { command_line (map string_bytes words.entry.now) ≡ None → IsForFaultyWords result }
-    ensures made { IfOk result (λ task. IsForMade (command_line (map string_bytes words.entry.now)) → OfWatch (λ ready. IsMade ready.source) task) }
+    ensures made { IfOk result (λ task. IsForMade (command_line (map string_bytes words.entry.now))
+        → OfWatch (λ ready. IsMade ready.source) task) }
     ensures cause { IfErr result (HasCause (Rose (H.faults host.old) (H.faults host.new)) (H.contents host.old)) }
     ensures config { IfOk result (OfWatch (λ ready. conf.IsSound ready.setup.config)) }
     ensures rules { IfOk result (OfWatch (λ ready. All (IsSound ready.setup.config.classes) ready.setup.set.rules)) }

@@ -47,12 +47,14 @@ impl LinkedRecord {
         }
     }
 
+    /// The link layer that its bytes begin with.
     pub fn link(&self) -> Link
         ensures { result ≡ self.now.link }
     {
         self.link
     }
 
+    /// The record as the capture has it.
     pub fn captured(&self) -> &Record
         ensures { result.now ≡ self.now.captured }
     {

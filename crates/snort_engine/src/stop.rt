@@ -33,7 +33,7 @@ pub(crate) enum Stop {
     CannotWrite,
     /// Memory ran out.
     NoMemory,
-    /// The capture begins neither as a savefile of version 2 nor with a section header.
+    /// The capture begins neither as a savefile of version 2 nor with a section header and its byte-order magic.
     NotPcap,
     /// The capture has a link type that is not read.
     LinkType(u32),
@@ -43,7 +43,7 @@ pub(crate) enum Stop {
     BadBlock { at: u64 },
     /// The record at this byte is longer than any packet.
     TooLong { at: u64, len: u32 },
-    /// The capture has more records than are read.
+    /// The capture goes on behind 4294967295 records, or, as blocks, behind 2^62 bytes.
     TooMany,
     /// The bytes of a Unified2 file from this one on begin no record.
     BadUnified2 { at: u64 },

@@ -3,7 +3,8 @@ ghost use Rattle.std.specs.Prelude.{◌≡◌, ◌++◌, OnOk, IfOk, true};
 ghost use Rattle.unified2_out.specs.Records.{AreOfOneVersion, packet_of, unified2_text};
 ghost use Rattle.snort_engine.specs.Beside.{beside};
 ghost use Rattle.snort_engine.specs.Trace.{event_of};
-ghost use Rattle.snort_engine.specs.Unified2.{class_number, event_number, event_record, first_port, link_number, micros_of, packet_record, records_text, second_port, seconds_of};
+ghost use Rattle.snort_engine.specs.Unified2.{class_number, event_number, event_record, first_port, link_number};
+ghost use Rattle.snort_engine.specs.Unified2.{micros_of, packet_record, records_text, second_port, seconds_of};
 
 use crate::counts::sum;
 use crate::reader::LinkedRecord;

@@ -9,11 +9,12 @@ ghost use Rattle.snort_engine.specs.Reader.{IsFresh, number_of, OpensSo};
 ghost use Rattle.snort_engine.specs.Sources.{source_name};
 ghost use Rattle.snort_engine.specs.Outside.{OnlyRead, work};
 ghost use Rattle.snort_engine.specs.Ending.{Ends};
-ghost use Rattle.snort_engine.specs.Stop.{outcome_status, outcome_text};
-ghost use Rattle.snort_engine.specs.Reporting.{counts_due};
-ghost use Rattle.snort_engine.specs.Counts.{no_counts, with_counts};
+ghost use Rattle.snort_engine.specs.Stop.{outcome_status};
+ghost use Rattle.snort_engine.specs.Reporting.{outcome_said};
+ghost use Rattle.snort_engine.specs.Counts.{no_counts};
 ghost use Rattle.snort_engine.specs.Detecting.{IsSoundPlan, Knows, DetectorStands};
-ghost use Rattle.snort_engine.specs.Watching.{plan_of, standing, streams, IsTest, Watches, ComesOver, IsCloseBehind, GoesOn, StaysKnown, StaysFew, ClosesWatched};
+ghost use Rattle.snort_engine.specs.Watching.{plan_of, standing, streams, IsTest, Watches, ComesOver, IsCloseBehind};
+ghost use Rattle.snort_engine.specs.Watching.{GoesOn, StaysKnown, StaysFew, ClosesWatched};
 
 use crate::Status;
 use crate::batch::{give_back, more, most_at, read_batch, room_behind};
@@ -125,7 +126,8 @@ fn close_watched<P: Pattern, G: Gate, A: Sink, R: Threads + Sync>(
     ensures closes { (matches : Test) → IsTest P.finds context.now.plan.now.setup.set matches
         → ClosesWatched (plan_of matches context.now.plan.now) detector watched
         (A.written alerts.old) (A.written alerts.new) counts.new result }
-    ensures write_fault { IsErrOf result Stop.CannotWrite → IsErrOf watched Stop.CannotWrite ⊎ Rose (A.faults alerts.old) (A.faults alerts.new) }
+    ensures write_fault { IsErrOf result Stop.CannotWrite
+        → IsErrOf watched Stop.CannotWrite ⊎ Rose (A.faults alerts.old) (A.faults alerts.new) }
     ensures read_fault { outcome_status result ≡ Status.HostFault → outcome_status watched ≡ Status.HostFault }
     ensures later_alerts { A.faults alerts.old ≤ A.faults alerts.new }
 {
@@ -184,7 +186,7 @@ pub(crate) fn watch_file<H: Host, P: Pattern, G: Gate, A: Sink, R: Threads + Syn
         → Ends files course
         (work H.Host A.Sink host.old alerts.old) (work H.Host A.Sink host.new alerts.new)
         (outcome_status result)
-        (concat course.warnings ++ with_counts (outcome_text name.now result) (counts_due context.now.plan.now.counted result counts.new)) }
+        (concat course.warnings ++ outcome_said name.now context.now.plan.now.counted result counts.new) }
     ensures write_fault { outcome_status result ≡ Status.WriteFault → Rose (A.faults alerts.old) (A.faults alerts.new) }
     ensures read_fault { outcome_status result ≡ Status.HostFault
         → Rose (H.faults host.old) (H.faults host.new) ⊎ Lacks (H.contents host.old) name.now }
