@@ -16,8 +16,8 @@ use Rattle.snort_engine.specs.declared.stop.Stop.{Stop}
 use Rattle.snort_engine.specs.declared.stop.Stop.TheVariants as stop
 use Rattle.snort_engine.specs.Course.{Plan, Goes, Course}
 use Rattle.record_jobs.specs.Way.{LinkedRecord}
-use Rattle.snort_engine.specs.Records.{Recording, Ending, Clean, Refused, records_in, records_of}
-use Rattle.snort_engine.specs.Reader.{BeginsBehind, IsBarelyOpen, IsRefusedAtOnce, Opens}
+use Rattle.snort_engine.specs.Records.{AreWithin, Recording, Ending, Clean, Refused, records_in, records_of}
+use Rattle.snort_engine.specs.Reader.{BeginsBehind, IsBarelyOpen, IsRefusedAtOnce, Opens, recording_for}
 use Rattle.snort_engine.specs.declared.counts.Counts.{Counts}
 use Rattle.snort_engine.specs.Trace.{Open, Closed}
 use Rattle.snort_engine.specs.Counts.{counts_of, no_counts, told_counts, with_counts}
@@ -33,6 +33,7 @@ use Rattle.snort_engine.specs.Watching.{recording_by, lines_of, IsCutOff, IsClos
 use Rattle.snort_engine.proofs.Prefixes.{IsPrefix-nil, WritesPart-none}
 use Rattle.snort_engine.proofs.LinesLaws.{lines_join, lines-nil, lines-none, no_counts-are}
 use Rattle.snort_engine.proofs.Opening.{few_hold_none}
+use Rattle.snort_engine.proofs.Recordings.{first_of-none}
 use Rattle.snort_engine.proofs.Finishing.{IsPlain, ends_met, ends_unread, ends_unwritten, ends_lacking, ahead_goes, ahead_cut}
 
 -- ---- no record
@@ -44,6 +45,10 @@ HoldNone bytes = (limit : Option ℕ) → (records_in limit bytes).records ≡ [
 none_within : (plan : Plan) (bytes : List ℕ) → HoldNone bytes → lines_within plan bytes ≡ []
 unfolding lines_within
 none_within plan bytes none = ap (λ (x : List LinkedRecord). lines plan [] x Open) (none plan.limit) ∙ lines-nil plan []
+
+none_over : (limit : Option ℕ) (bytes : List ℕ) → HoldNone bytes → AreWithin limit (records_in None bytes).records
+none_over None bytes none = tt
+none_over (Some limit) bytes none = let size : length (records_in None bytes).records ≡ 0 = ap length (none None) in omega (arith, size)
 
 none_due : (plan : Plan) (bytes : List ℕ) → HoldNone bytes → lines_due plan bytes ≡ []
 unfolding lines_due
@@ -125,6 +130,7 @@ barely_ahead plan files before after same open_so = record {
   still = open_so.still;
   more = [];
   wrote = same ∙ sym (behind-nil before.alerts) ∙ ap (behind before.alerts) (sym (append-nil (lines_due plan open_so.taken) ∙ none_due plan open_so.taken open_so.none));
+  within = none_over plan.limit open_so.taken open_so.none;
 }
 
 -- a capture that is open so, or that isn't, where the host failed at it
@@ -237,6 +243,10 @@ front_first plan given last few =
 records_behind : (plan : Plan) (front taken : List ℕ) (reader : RecordReader) → BeginsBehind front reader → (records_of plan (front ++ taken)).records ≡ (recording_by plan reader taken).records
 records_behind plan front taken reader begins = ap (λ (r : Recording). r.records) (begins plan.limit taken)
 
+-- the same without a limit
+all_behind : (front taken : List ℕ) (reader : RecordReader) → BeginsBehind front reader → (records_in None (front ++ taken)).records ≡ (recording_for reader taken).records
+all_behind front taken reader begins = ap (λ (r : Recording). r.records) (begins None taken ∙ first_of-none (recording_for reader taken))
+
 -- what was taken by the opening and behind it, and the rest
 joined_behind : (front taken rest : List ℕ) (whole : List ℕ) → whole ≡ taken ++ rest → (front ++ taken) ++ rest ≡ front ++ whole
 joined_behind front taken rest whole joined = append_assoc front taken rest ∙ ap (λ (x : List ℕ). front ++ x) (sym joined)
@@ -272,6 +282,7 @@ ahead_behind plan files course held bytes reader left_first before after holds o
       still = split.still;
       more = others ++ close.more;
       wrote = close.wrote ∙ ap (λ (x : List ℕ). behind before.alerts (x ++ close.more)) shown ∙ ap (behind before.alerts) (append_assoc (lines_due plan (o.front ++ close.taken)) others close.more);
+      within = subst (AreWithin plan.limit) (sym (all_behind o.front close.taken reader o.begins)) close.within;
     }
 
 -- the reading was cut off behind what the opening took

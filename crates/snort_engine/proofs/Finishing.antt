@@ -203,7 +203,7 @@ ends_counted files course before after faults ended message since ends = record 
 
     by_way : (way : Way) → ReadsAheadOn files way before after ended → ReadsAheadOn files way (counted before faults) after ended
     by_way (Stops text status_then) (u, how) = (unopened_on u, how)
-    by_way (Goes plan) (inl r) = inl (record { taken = r.taken; rest = r.rest; of = r.of; still = r.still; more = r.more; wrote = r.wrote })
+    by_way (Goes plan) (inl r) = inl (record { taken = r.taken; rest = r.rest; of = r.of; still = r.still; more = r.more; wrote = r.wrote; within = r.within })
     by_way (Goes plan) (inr (cut, inl u)) = inr (cut, inl (unopened_on u))
     by_way (Goes plan) (inr (cut, inr s)) = inr (cut, inr (record { left = s.left; alerts = s.alerts }))
     by_way (Makes plan seed count) apart = record { left = apart.left; opens = apart.opens; no_host_fault = apart.no_host_fault }

@@ -2,7 +2,7 @@
 use Rattle.std.proofs.Common.{◌≡◌, ℕ, zero, suc, ◌+◌, ◌-◌, ◌<◌, ◌≤◌, List, [], ◌∷◌, ◌++◌, Option, Some, None, length, refl, sym, ap, ◌∙◌, arith, inl, inr, ◌⊎◌, ⊎_elim}
 use Rattle.std.proofs.lemmas.List.{append-nil, length-append}
 use Rattle.record_jobs.specs.Way.{LinkedRecord}
-use Rattle.snort_engine.specs.Records.{Recording, Ending, Clean, none_before, first_of}
+use Rattle.snort_engine.specs.Records.{AreWithin, Recording, Ending, Clean, none_before, first_of}
 use Rattle.snort_engine.specs.Reader.{with_front}
 use Rattle.snort_engine.specs.Watching.{IsRoom, most_at, room_behind}
 use Rattle.snort_engine.proofs.Recordings.{with_first, first_of-none, first_of-zero, first_of-none_before, first_of-with_first}
@@ -82,6 +82,12 @@ within_limit limit room given recording is are =
     ∙ ap (λ (c : Recording). (first_of limit c).records) (sym (front_of_none given recording.ending))
     ∙ ap (λ (c : Recording). c.records) (first_of-front limit room given (none_before recording.ending) is)
     ∙ ap (λ (records : List LinkedRecord). given ++ records) (none_of_none room recording.ending) ∙ append-nil given
+
+-- as many were given as may be read
+pub room_within : (limit room : Option ℕ) (given : List LinkedRecord) → IsRoom limit (length given) room → AreWithin limit given
+room_within None room given is = tt
+room_within (Some limit) None given is = absurd is
+room_within (Some limit) (Some room) given is = omega (arith, is)
 
 -- no record is given yet
 pub room_first : (limit : Option ℕ) → IsRoom limit 0 limit

@@ -1,9 +1,10 @@
--- Runs that the headline refuses: one line short, one record too far ahead, one opening too many.
+-- Runs that the headline refuses: one line short, one record too far ahead, one behind the limit, one opening
+-- too many.
 --
 -- The first and the last ones speak of any capture, the second of one whose first record alerts, and behind
 -- which a whole batch was taken. They show that the relations say something of such runs by themselves,
 -- whatever a body's proof looks like.
-use Rattle.std.proofs.Common.{◌≡◌, ℕ, ◌+◌, ◌-◌, ◌≤◌, List, [], ◌∷◌, ◌++◌, Option, Some, length, take, refl, sym, ap, subst, ◌∙◌, arith, ⊎_elim}
+use Rattle.std.proofs.Common.{◌≡◌, ℕ, ◌+◌, ◌-◌, ◌≤◌, List, [], ◌∷◌, ◌++◌, Option, Some, None, length, take, refl, sym, ap, subst, ◌∙◌, arith, ⊎_elim}
 use Rattle.std.specs.FinMap.{get}
 use Rattle.std.proofs.lemmas.List.{length-append, take_at}
 use Rattle.edge_io.specs.Told.{behind}
@@ -13,7 +14,7 @@ use Rattle.command_words.specs.CommandLine.{command_line}
 use Rattle.snort_engine.specs.declared.status.Status.TheVariants as status
 use Rattle.snort_engine.specs.Course.{Plan, Way, Goes, Course, given}
 use Rattle.record_jobs.specs.Way.{LinkedRecord}
-use Rattle.snort_engine.specs.Records.{records_of}
+use Rattle.snort_engine.specs.Records.{AreWithin, records_in, records_of}
 use Rattle.snort_engine.specs.Trace.{Open}
 use Rattle.snort_engine.specs.Lines.{lines}
 use Rattle.snort_engine.specs.Answer.{answer_of}
@@ -76,6 +77,24 @@ one_record_too_far files course plan before after message old taken rest first o
     absurd (omega (arith, lengths, length-append old (byte ∷ (line ++ r.more)))))
     (λ cut. ⊎_elim (λ is. absurd cc) (λ is. absurd cc) cut.0)
     (subst (λ (way : Way). ReadsAheadOn files way before after status.WriteFault) goes ends.read_ahead)
+
+-- a record behind the limit was read, whatever was written: no run ends so as Done
+pub one_record_past_the_limit : (files : Files) (course : Course) (plan : Plan) (before after : Work) (message taken rest : List ℕ) (limit : ℕ)
+    → course.way ≡ Goes plan → get files plan.source ≡ Some (taken ++ rest) → after.left ≡ Some rest
+    → plan.limit ≡ Some limit → limit + 1 ≤ length (records_in None taken).records → Ends files course before after status.Done message → ⊥
+unfolding ReadsAhead
+one_record_past_the_limit files course plan before after message taken rest limit goes held left limited more ends =
+    ⊎_elim
+    (λ (r : IsReadAhead plan (get files plan.source) before after).
+    let rests : r.rest ≡ rest = cc in
+    let wholes : r.taken ++ r.rest ≡ taken ++ rest = cc in
+    let takens : r.taken ≡ taken = same_front r.taken taken r.rest rest rests wholes in
+    let few : length (records_in None taken).records ≤ limit =
+    subst (λ (l : Option ℕ). AreWithin l (records_in None taken).records) limited
+    (subst (λ (x : List ℕ). AreWithin plan.limit (records_in None x).records) takens r.within) in
+    absurd (omega (arith, few, more)))
+    (λ cut. ⊎_elim (λ is. absurd cc) (λ is. absurd cc) cut.0)
+    (subst (λ (way : Way). ReadsAheadOn files way before after status.Done) goes ends.read_ahead)
 
 -- a capture that was opened a third time
 pub opened_thrice : (words : List (List ℕ)) (means : Means) (before after : Outside) → before.opens + 3 ≤ after.opens → Headline words means before after status.Done → ⊥

@@ -12,7 +12,7 @@ use Rattle.snort_engine.specs.declared.reader.RecordReader.{RecordReader}
 use Rattle.snort_engine.specs.declared.stop.Stop.{Stop}
 use Rattle.snort_engine.specs.declared.stop.Stop.TheVariants as stop
 use Rattle.snort_engine.specs.Course.{Plan}
-use Rattle.snort_engine.specs.Records.{Recording, Ending, Clean, Refused, first_of}
+use Rattle.snort_engine.specs.Records.{AreWithin, Recording, Ending, Clean, Refused, first_of}
 use Rattle.snort_engine.specs.Reader.{IsFresh, recording_for, HasRead, AreWhole, EndsWith, IsRefusedBy}
 use Rattle.snort_engine.specs.Outside.{WritesPart}
 use Rattle.snort_engine.specs.Stop.{capture_stop, is_whole}
@@ -26,7 +26,7 @@ use Rattle.snort_engine.specs.ReadAhead.{batch}
 use Rattle.snort_engine.specs.Detecting.{Closes, ClosesPart, DetectorStands, ShowsRecords, ShowsRecordsPart, closing_lines}
 use Rattle.snort_engine.specs.Watching.{Streams, Standing, lines_of, lines_left, IsRoom, most_at, room_behind, IsUnderWay, IsAtEnd, IsCutOff, IsCloseBehind, WritesSome, WatchesTo, Watches, Comes, ComesOver, GoesOn, IsShowStop, IsLeft, IsClosedWhole, IsClosedInPart, ClosesWatched}
 use Rattle.snort_engine.proofs.Prefixes.{WritesPart-all, WritesPart-behind, WritesPart-longer}
-use Rattle.snort_engine.proofs.Limits.{first_of-front, below_limit, at_limit, within_limit, room_first, room_further, room_left}
+use Rattle.snort_engine.proofs.Limits.{first_of-front, below_limit, at_limit, within_limit, room_first, room_further, room_left, room_within}
 use Rattle.snort_engine.proofs.Reading.{reading-start, reading-told, reading-whole}
 use Rattle.snort_engine.proofs.LinesLaws.{lines_of-nil, lines_of-closed, lines_of-append}
 
@@ -104,6 +104,7 @@ close_by plan first room given old after is wrote whole = record {
   few = omega arith;
   more = [];
   wrote = wrote ∙ ap (behind old.written) (sym (append-nil (lines_of plan given Open)));
+  within = subst (AreWithin plan.limit) (sym whole.are) (room_within plan.limit room given is);
 }
 
 -- all records were given, where more might have been read
@@ -252,6 +253,7 @@ batch_stops plan records old new reached why few reads kind shown = λ first sta
         few = batch_few old.room (length records) few;
         more = part;
         wrote = own.2 ∙ ap (λ (x : Option (List ℕ)). behind x part) going.wrote ∙ behind-behind start.written (lines_of plan going.given Open) part;
+        within = subst (AreWithin plan.limit) (sym stopped.whole.are) (room_within plan.limit (room_behind old.room (length records)) given room_is);
       },
     )
 
@@ -368,6 +370,7 @@ module _ (plan : Plan) (first : RecordReader) (start now : Streams) (detector : 
     wrote = wrote ∙ ap (λ (x : Option (List ℕ)). behind x more) close.wrote
         ∙ behind-behind start.written (lines_of plan close.given Open ++ close.more) more
         ∙ ap (behind start.written) (append_assoc (lines_of plan close.given Open) close.more more);
+    within = close.within;
   }
 
   pub closed_behind : (watched result_then : Result (Unit {0}) Stop) → ComesOver plan first start now detector watched → ClosesWatched plan detector watched now.written written counts result_then

@@ -6,8 +6,9 @@
 -- that is cut off before has opened nothing, or has nothing open, and has written no line. Where the
 -- capture is made, nothing is opened or read, and so no fault of reading ends the run; so it is where the
 -- lines of a Unified2 file are written, which was read before.
+-- Under a limit no more records than it lets are whole within the bytes that were taken.
 -- To try it on: where 600 records with a line each were taken, at least the lines of the first 344
--- stand in the alerts.
+-- stand in the alerts; under `-n 5` at most five of them were taken.
 use Rattle.std.specs.Prelude.{◌≡◌, ℕ, ◌-◌, List, [], ◌++◌, length, take, Option, Some, None, ◌⊎◌}
 use Rattle.std.specs.FinMap.{get}
 use Rattle.edge_io.specs.Told.{behind}
@@ -16,7 +17,7 @@ use Rattle.snort_engine.specs.declared.status.Status.{Status}
 use Rattle.snort_engine.specs.declared.status.Status.TheVariants as status
 use Rattle.record_jobs.specs.Way.{LinkedRecord}
 use Rattle.snort_engine.specs.Course.{Plan, Way, Stops, Goes, Makes, Lists, Course}
-use Rattle.snort_engine.specs.Records.{records_of}
+use Rattle.snort_engine.specs.Records.{AreWithin, records_in, records_of}
 use Rattle.snort_engine.specs.Trace.{Open}
 use Rattle.snort_engine.specs.Lines.{lines}
 use Rattle.snort_engine.specs.Outside.{Work}
@@ -52,6 +53,8 @@ pub record IsReadAhead (plan : Plan) (held : Option (List ℕ)) (before after : 
   pub still : after.left ≡ Some rest
   pub more : List ℕ
   pub wrote : after.alerts ≡ behind before.alerts (lines_due plan taken ++ more)
+  -- under a limit no record behind it was read, the records being counted without it
+  pub within : AreWithin plan.limit (records_in None taken).records
 
 -- the host was left alone, and no fault of it ends the run
 pub record IsApart (before after : Work) (ended : Status) : Type 0 where

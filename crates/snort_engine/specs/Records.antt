@@ -12,7 +12,7 @@
 -- bytes the ending is clean again. The capture that is made of any seed with 5 packets has 5 records, under a
 -- limit of 3 the first 3, and a clean ending.
 use Rattle.std.specs.Prelude.{◌≡◌, ℕ, ◌≤◌, ◌==◌, ◌&&◌, nat_le, min, Bool, false, List, [], length, map, take, Option}
-use Rattle.std.specs.Prelude.{Some, None, Result, Ok, Err, if◌then◌else◌}
+use Rattle.std.specs.Prelude.{Some, None, Result, Ok, Err, ⊤, if◌then◌else◌}
 use Rattle.edge_io.specs.declared.link.Link.{Link}
 use Rattle.pcap_input.specs.declared.capture.CaptureFault.{CaptureFault}
 use Rattle.pcap_input.specs.declared.capture.CaptureFault.TheVariants as savefile_fault
@@ -121,6 +121,11 @@ first_of (Some limit) recording =
     if nat_le limit (length recording.records)
     then record { records = take limit recording.records; ending = Clean }
     else recording
+
+-- no more records than a limit lets
+abbrev pub AreWithin : Option ℕ → List LinkedRecord → Type 0
+AreWithin None records = ⊤
+AreWithin (Some limit) records = length records ≤ limit
 
 -- so many, or as many as a limit lets
 abbrev pub limited : Option ℕ → ℕ → ℕ

@@ -23,7 +23,7 @@ use Rattle.snort_engine.specs.declared.stop.Stop.{Stop}
 use Rattle.snort_engine.specs.declared.stop.Stop.TheVariants as stop
 use Rattle.snort_engine.specs.Course.{Plan}
 use Rattle.snort_engine.specs.Sources.{source_name}
-use Rattle.snort_engine.specs.Records.{Ending, Clean, Refused, Recording, first_of}
+use Rattle.snort_engine.specs.Records.{AreWithin, Ending, Clean, Refused, Recording, first_of}
 use Rattle.snort_engine.specs.Reader.{recording_for, HasRead}
 use Rattle.snort_engine.specs.Trace.{Open, Closed, CaptureState}
 use Rattle.snort_engine.specs.Lines.{lines}
@@ -101,7 +101,7 @@ pub record IsCutOff (plan : Plan) (reader : RecordReader) (old new : Streams) : 
   pub wrote : new.written ≡ behind old.written (lines_left plan reader taken Open)
 
 -- of the records that are whole within the bytes taken, the lines of all but the last batch were
--- written, and maybe more
+-- written, and maybe more; without the limit there are no more of them than it lets
 pub record IsCloseBehind (plan : Plan) (reader : RecordReader) (old new : Streams) : Type 0 where
   pub taken : List ℕ
   pub took : old.left ≡ before taken new.left
@@ -111,6 +111,7 @@ pub record IsCloseBehind (plan : Plan) (reader : RecordReader) (old new : Stream
   pub few : length last ≤ batch
   pub more : List ℕ
   pub wrote : new.written ≡ behind old.written (lines_of plan given Open ++ more)
+  pub within : AreWithin plan.limit (recording_for reader taken).records
 
 -- a part of the lines that were left was written, and no other byte
 abbrev pub WritesSome : Plan → RecordReader → Streams → Streams → Type 0
