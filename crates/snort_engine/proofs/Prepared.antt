@@ -27,14 +27,14 @@ use Rattle.snort_engine.specs.declared.prepare.Task.TheVariants.{Watch, Tell}
 use Rattle.snort_engine.specs.declared.status.Status.TheVariants as status
 use Rattle.snort_engine.specs.declared.stop.Stop.{Stop}
 use Rattle.snort_engine.specs.declared.stop.Stop.TheVariants as stop
-use Rattle.snort_engine.specs.Course.{Way, Stops, Makes, Lists, Course, Given, given, IsCourse, IsFileWay, IsForMade, HasOneCourse, checks_of, plan_for, Reads, AreRefused, setup_words, told_warnings, way_ready, way_of, course_by, stopping}
+use Rattle.snort_engine.specs.Course.{Way, Stops, Makes, Lists, Course, Given, given, IsCourse, IsFileWay, IsFileless, IsForMade, HasOneCourse, checks_of, plan_for, Reads, AreRefused, setup_words, told_warnings, way_ready, way_of, course_by, stopping}
 use Rattle.snort_engine.specs.declared.plan.Source.{Source}
 use Rattle.snort_engine.specs.declared.plan.Source.TheVariants.{File, Made}
 use Rattle.snort_engine.specs.Sources.{IsMade, IsSourceFor, source_name, way_from}
 use Rattle.snort_engine.specs.Detecting.{IsRanged}
 use Rattle.snort_engine.specs.Messages.{usage_text, version_text, accepted_text, command_line_text, cannot_read_text}
 use Rattle.snort_engine.specs.Stop.{stop_text, setup_stop}
-use Rattle.snort_engine.specs.Preparing.{HasWay, stops, way_by, Prepares, IsPrepared, IsSetUp, KeepsSetup, HasCause, ListsFile, task_way, way_for, told_of}
+use Rattle.snort_engine.specs.Preparing.{HasWay, stops, way_by, Prepares, StopsFileless, IsPrepared, IsSetUp, KeepsSetup, HasCause, ListsFile, task_way, way_for, told_of}
 use Rattle.snort_engine.proofs.FileWays.{file_way-one}
 
 -- what maps to nothing is nothing
@@ -97,6 +97,33 @@ prepared_version view asked files rose grown warnings is none =
 -- memory was lacking
 pub prepared_lacking : {A : Type 0} (view : Test → A → Way) (asked : Option Asked) (files : Files) (rose : Type 0) (grown : List Refusal) (warnings : List (List ℕ)) → warnings ≡ [] → IsPrepared view asked files rose grown (Err stop.NoMemory) warnings
 prepared_lacking view asked files rose grown warnings none = stopped_at_once view asked files rose grown stop.NoMemory warnings none (λ matches. refl)
+
+-- words that read no file stop so, over any files
+fileless : {A : Type 0} (asked : Option Asked) (rose : Type 0) (why : Stop) (warnings : List (List ℕ)) → warnings ≡ []
+    → ((view : A → Way) (here : Given) → Prepares view asked here rose (Err why) []) → StopsFileless {A = A} asked rose (Err why) warnings
+fileless {A} asked rose why warnings none has = λ view here. subst (λ (w : List (List ℕ)). Prepares view asked here rose (Err why) w) (sym none) (has view here)
+
+pub fileless_faulty : {A : Type 0} (asked : Option Asked) (rose : Type 0) (warnings : List (List ℕ)) → asked ≡ None → warnings ≡ [] → StopsFileless {A = A} asked rose (Err stop.CommandLine) warnings
+fileless_faulty {A} asked rose warnings is none =
+    subst (λ (a : Option Asked). StopsFileless {A = A} a rose (Err stop.CommandLine) warnings) (sym is) (fileless None rose stop.CommandLine warnings none (λ view here. faulty_way here))
+
+pub fileless_help : {A : Type 0} (asked : Option Asked) (rose : Type 0) (warnings : List (List ℕ)) → asked ≡ Some help → warnings ≡ [] → StopsFileless {A = A} asked rose (Err stop.Usage) warnings
+fileless_help {A} asked rose warnings is none =
+    subst (λ (a : Option Asked). StopsFileless {A = A} a rose (Err stop.Usage) warnings) (sym is) (fileless (Some help) rose stop.Usage warnings none (λ view here. help_way here))
+
+pub fileless_version : {A : Type 0} (asked : Option Asked) (rose : Type 0) (warnings : List (List ℕ)) → asked ≡ Some version → warnings ≡ [] → StopsFileless {A = A} asked rose (Err stop.Version) warnings
+fileless_version {A} asked rose warnings is none =
+    subst (λ (a : Option Asked). StopsFileless {A = A} a rose (Err stop.Version) warnings) (sym is) (fileless (Some version) rose stop.Version warnings none (λ view here. version_way here))
+
+pub fileless_lacking : {A : Type 0} (asked : Option Asked) (rose : Type 0) (warnings : List (List ℕ)) → warnings ≡ [] → StopsFileless {A = A} asked rose (Err stop.NoMemory) warnings
+fileless_lacking asked rose warnings none = fileless asked rose stop.NoMemory warnings none (λ view here. refl)
+
+-- words that name files are none of these
+pub not_fileless_file : (asked : Option Asked) (file : List ℕ) → asked ≡ Some (records_of file) → IsFileless asked → ⊥
+not_fileless_file asked file is fileless_so = subst IsFileless is fileless_so
+
+pub not_fileless_run : (asked : Option Asked) (wanted : Run) → asked ≡ Some (run wanted) → IsFileless asked → ⊥
+not_fileless_run asked wanted is fileless_so = subst IsFileless is fileless_so
 
 -- ---- words that name a Unified2 file
 

@@ -16,7 +16,7 @@ use Rattle.snort_engine.specs.declared.status.Status.{Status}
 use Rattle.snort_engine.specs.declared.status.Status.TheVariants as status
 use Rattle.snort_engine.specs.declared.stop.Stop.{Stop}
 use Rattle.snort_engine.specs.declared.stop.Stop.TheVariants as stop
-use Rattle.snort_engine.specs.Course.{Plan, Way, Stops, Goes, Makes, Lists, Course, Given, given, IsCourse, IsForMade, AreRefused}
+use Rattle.snort_engine.specs.Course.{Plan, Way, Stops, Goes, Makes, Lists, Course, Given, given, IsCourse, IsFileless, IsForMade, AreRefused}
 use Rattle.snort_engine.specs.Answer.{Answer, answer_of, way_answer, capture_answer}
 use Rattle.snort_engine.specs.Messages.{no_memory_text}
 use Rattle.snort_engine.specs.Outside.{Outside, Work, work_of, NoFault, NoCountFell}
@@ -24,7 +24,7 @@ use Rattle.snort_engine.specs.ReadAhead.{IsUnopened, ReadsAhead}
 use Rattle.snort_engine.specs.Ending.{IsStated, IsAnswered, Ends, EndsEarly, EndsOnCourse, EndsRun}
 use Rattle.snort_engine.specs.Stop.{stop_status, stop_text, outcome_status}
 use Rattle.snort_engine.specs.Reporting.{TellsOn, TellsLast}
-use Rattle.snort_engine.specs.Preparing.{HasWay, stops, Prepares, IsPrepared, HasCause, IsForFaultyWords}
+use Rattle.snort_engine.specs.Preparing.{HasWay, stops, Prepares, StopsFileless, IsPrepared, HasCause, IsForFaultyWords}
 use Rattle.snort_engine.specs.Headline.{refused_since, EndsSo, HasAnswer, LacksOne, HasOther, MayBeCut, OpensBy, Headline}
 use Rattle.snort_engine.proofs.Prefixes.{rose_since}
 use Rattle.snort_engine.proofs.LinesLaws.{lines_join, prefix_law}
@@ -161,6 +161,7 @@ pub record IsRun (asked : Option Asked) (means : Means) (before after : Outside)
   pub faulty_words : asked ≡ None → (ended ≡ status.Refused) ⊎ (ended ≡ status.NoMemory)
   pub opened_twice : after.opens ≤ before.opens + 2
   pub made_unopened : IsForMade asked → (after.opens ≡ before.opens) × (after.left ≡ before.left)
+  pub fileless : IsFileless asked → (files : Files) → EndsSo asked (given files matches []) before after ended
   pub same_files : after.files ≡ before.files
   pub counts : NoCountFell before after
 
@@ -207,6 +208,7 @@ headline words means before after ended run = record {
   write_fault = run.write_fault;
   host_fault = λ failed. by_files before.files refl failed;
   faulty_words = run.faulty_words;
+  fileless = run.fileless;
   same_files = run.same_files;
   counts = run.counts;
   one_course = one_course;
@@ -319,6 +321,7 @@ pub record IsStopped {A : Type 0} (ways : Test → A → Way) (asked : Option As
   pub prepared : (files : Files) → before.files ≡ Some files → IsPrepared ways asked files (Rose before.host_faults after.host_faults) (refused_since before after) (Err why) warnings
   pub cause : HasCause (Rose before.host_faults after.host_faults) before.files why
   pub faulty_words : asked ≡ None → IsForFaultyWords {A = A} (Err why)
+  pub fileless : IsFileless asked → StopsFileless {A = A} asked (Rose before.host_faults after.host_faults) (Err why) warnings
   pub unopened : IsUnopened (work_of before) (work_of after)
   pub same_files : after.files ≡ before.files
   pub counts : NoCountFell before after
@@ -353,6 +356,12 @@ stopped_run {A} ways asked means before after why warnings ended decided run tol
       (λ lacking. inr lacking.0) told.reports;
   opened_twice = let same = run.unopened.opens in omega (arith, same);
   made_unopened = λ for_made. (run.unopened.opens, run.unopened.left);
+  fileless = λ so files.
+      let here = given files decided.0 [] in
+      let has = run.fileless so (ways decided.0) here in
+      ends_told asked here warnings (stop_text [] why) (Err why) before after ended told
+      (stop_ends (ways decided.0) asked here (work_of before) (work_of after) warnings run.unopened before.files why run.cause has)
+      (stop_untold (ways decided.0) asked here (work_of before) (work_of after) warnings run.unopened before.files why run.cause has);
   same_files = run.same_files;
   counts = run.counts;
 }
@@ -402,6 +411,7 @@ pub record IsWatching {A : Type 0} (ways : Test → A → Way) (asked : Option A
   pub middle : Work
   pub prepared : (files : Files) → before.files ≡ Some files → IsPrepared ways asked files (Rose before.host_faults middle.host_faults) (refused_since before after) (Ok ready) warnings
   pub faulty_words : asked ≡ None → ⊥
+  pub fileless : IsFileless asked → ⊥
   pub since : IsLater (work_of before) middle
   pub ends : (matches : Test) → Tells means matches → (files : Files) (course : Course) → before.files ≡ Some files → course.way ≡ ways matches ready
       → Ends files course middle (work_of after) (outcome_status outcome) (concat course.warnings ++ text)
@@ -480,6 +490,7 @@ watched_run ways asked means before after ready text outcome warnings ended deci
       (run.read_fault decided.0 (by_outcome warnings text outcome before after ended status.HostFault told (λ e. cc) failed));
   write_fault = λ failed. run.write_fault (by_outcome warnings text outcome before after ended status.WriteFault told (λ e. cc) failed);
   faulty_words = λ none. absurd (run.faulty_words none);
+  fileless = λ so. absurd (run.fileless so);
   opened_twice = opens_most before.files (ways decided.0 ready) (Rose run.middle.host_faults after.host_faults) before.opens after.opens (run.opened decided.0);
   made_unopened = run.made_unopened;
   same_files = run.same_files;

@@ -11,7 +11,7 @@
 -- where `r` is lacking it stops with `ERROR: cannot read r` and HostFault; `snort -c r -T` stops with
 -- `configuration accepted: 1 rules` and Done; `snort -c r --generate 5` goes on with the five packets of
 -- the seed 1; `snort --read-unified2 u` writes a line for each record of `u`, and stops where it is lacking.
-use Rattle.std.specs.Prelude.{◌≡◌, ◌<◌, ◌≤◌, ◌⊎◌, ℕ, Bool, true, false, List, [], Option, Some, None, Result, Ok, Err}
+use Rattle.std.specs.Prelude.{◌≡◌, ◌<◌, ◌≤◌, ◌⊎◌, ℕ, Bool, true, false, List, [], Option, Some, None, Result, Ok, Err, ⊤}
 use Rattle.std.specs.Prelude.{IsSome, length, if◌then◌else◌}
 use Rattle.std.specs.Option.{option_map, option_map_or}
 use Rattle.std.specs.FinMap.{get}
@@ -194,6 +194,14 @@ IsCourse (Some help) given course = course ≡ stopping usage_text status.Done
 IsCourse (Some version) given course = course ≡ stopping version_text status.Done
 IsCourse (Some (records_of file)) given course = IsFileCourse file given course
 IsCourse (Some (run wanted)) given course = IsRunCourse wanted given course
+
+-- words that read no file: those that ask for the usage or the version, and those that are no command
+abbrev pub IsFileless : Option Asked → Type 0
+IsFileless None = ⊤
+IsFileless (Some help) = ⊤
+IsFileless (Some version) = ⊤
+IsFileless (Some (records_of file)) = ⊥
+IsFileless (Some (run wanted)) = ⊥
 
 -- the words ask for a capture that is made
 abbrev pub IsForMade : Option Asked → Type 0

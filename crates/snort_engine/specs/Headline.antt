@@ -8,7 +8,7 @@
 -- counts stand whatever is told.
 -- To try it on: where the alert sink fails at its second write, the alert bytes are a beginning of the
 -- answer's, and the message is `ERROR: cannot write`.
-use Rattle.std.specs.Prelude.{◌≡◌, ℕ, ◌+◌, ◌≤◌, List, Option, Some, None, ◌⊎◌, length, drop}
+use Rattle.std.specs.Prelude.{◌≡◌, ℕ, ◌+◌, ◌≤◌, List, Option, Some, None, ◌⊎◌, length, drop, []}
 use Rattle.edge_io.specs.Told.{one_more, Rose}
 use Rattle.edge_io.specs.Files.{Files}
 use Rattle.edge_io.specs.declared.pattern.Refusal.{Refusal}
@@ -17,7 +17,7 @@ use Rattle.command_words.specs.CommandLine.{Asked, command_line}
 use Rattle.flow_lanes.specs.Hits.{Test, Tells}
 use Rattle.snort_engine.specs.declared.status.Status.{Status}
 use Rattle.snort_engine.specs.declared.status.Status.TheVariants as status
-use Rattle.snort_engine.specs.Course.{Course, Given, given, IsCourse, IsForMade, HasOneCourse, AreRefused}
+use Rattle.snort_engine.specs.Course.{Course, Given, given, IsCourse, IsFileless, IsForMade, HasOneCourse, AreRefused}
 use Rattle.snort_engine.specs.Records.{MadeIsWhole}
 use Rattle.snort_engine.specs.Sources.{BeginsOtherwise}
 use Rattle.snort_engine.specs.Lines.{LinesJoin, PrefixLaw}
@@ -97,6 +97,9 @@ pub record Headline (words : List (List ℕ)) (means : Means) (before after : Ou
       → Rose before.host_faults after.host_faults
       ⊎ LacksOne before.files (λ files. given files matches refused) (command_line words)
   pub faulty_words : command_line words ≡ None → (ended ≡ status.Refused) ⊎ (ended ≡ status.NoMemory)
+  -- words that read no file end as they do over any files, whatever the host tells
+  pub fileless : IsFileless (command_line words) → (files : Files)
+      → EndsSo (command_line words) (given files matches []) before after ended
   -- the files stay, no count falls, and the maker means the same
   pub same_files : after.files ≡ before.files
   pub counts : NoCountFell before after

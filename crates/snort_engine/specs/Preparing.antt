@@ -67,6 +67,12 @@ Prepares view asked given rose (Err (stop.CannotReadFile name)) warnings =
 Prepares view asked given rose (Err stop.NoMemory) warnings = warnings ≡ []
 Prepares view asked given rose (Err why) warnings = HasWay asked given warnings (stops why)
 
+-- an answer to words that read no file is a stop, that of their course over any files
+abbrev pub StopsFileless : {A : Type 0} → Option Asked → Type 0 → Result A Stop → List (List ℕ) → Type 0
+StopsFileless {A} asked rose (Ok ready) warnings = ⊥
+StopsFileless {A} asked rose (Err why) warnings =
+    (view : A → Way) (given : Given) → Prepares view asked given rose (Err why) warnings
+
 -- an answer over these files, where the maker's refusals grew by these: whatever test says which rules
 -- match, it is what the words' course has over one list of refused lines
 pub record IsPrepared {A : Type 0} (view : Test → A → Way) (asked : Option Asked) (files : Files) (rose : Type 0)

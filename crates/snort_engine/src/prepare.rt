@@ -13,9 +13,9 @@ ghost use Rattle.snort_setup.specs.Words.{words_of, HasName};
 ghost use Rattle.snort_setup.specs.Answers as setup_specs;
 ghost use Rattle.snort_setup.specs.Steps.{grown_by, Grows};
 ghost use Rattle.snort_setup.specs.Whole.{ready_of};
-ghost use Rattle.snort_engine.specs.Course.{IsForMade, setup_words, checks_of, form_of, way_of};
-ghost use Rattle.snort_engine.specs.Preparing.{IsPrepared, IsSetUp, KeepsSetup, HasCause, IsForFaultyWords, OfWatch};
-ghost use Rattle.snort_engine.specs.Preparing.{task_way, way_for, told_of, way_by};
+ghost use Rattle.snort_engine.specs.Course.{IsFileless, IsForMade, setup_words, checks_of, form_of, way_of};
+ghost use Rattle.snort_engine.specs.Preparing.{IsPrepared, IsSetUp, KeepsSetup, HasCause, IsForFaultyWords, StopsFileless};
+ghost use Rattle.snort_engine.specs.Preparing.{OfWatch, task_way, way_for, told_of, way_by};
 ghost use Rattle.snort_engine.specs.Outside.{OnlyLoaded};
 ghost use Rattle.snort_engine.specs.Sources.{IsMade, IsSourceFor};
 ghost use Rattle.snort_engine.specs.Detecting.{IsRanged};
@@ -237,6 +237,9 @@ pub(crate) fn prepare<'a, H: Host, M: PatternMaker>(
         → IsPrepared task_way (command_line (map string_bytes words.entry.now)) files
         (Rose (H.faults host.old) (H.faults host.new))
         (grown_by (M.refusals maker.old) (M.refusals maker.new)) result warnings.new }
+    ensures fileless { IsFileless (command_line (map string_bytes words.entry.now))
+        → StopsFileless (command_line (map string_bytes words.entry.now))
+        (Rose (H.faults host.old) (H.faults host.new)) result warnings.new }
     ensures faulty_words { command_line (map string_bytes words.entry.now) ≡ None → IsForFaultyWords result }
     ensures made { IfOk result (λ task. IsForMade (command_line (map string_bytes words.entry.now))
         → OfWatch (λ ready. IsMade ready.source) task) }

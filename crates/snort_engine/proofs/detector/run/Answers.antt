@@ -25,6 +25,7 @@ returns-in-Ok-Watch-clause-headline g c =
       };
       prepared = λ files is. (rw c.in-Ok-Watch.field-0-is at c.in-Ok-Watch.ensures.prepared) files is;
       faulty_words = λ none. c.in-Ok-Watch.ensures.faulty_words none;
+      fileless = c.in-Ok-Watch.ensures.fileless;
       since = record { left = c.prepare-prepared.ensures.host.left; opens = c.prepare-prepared.ensures.host.opens; alerts = refl; later = c.prepare-prepared.ensures.host.later };
       ends = λ matches tells files course is goes.
           c.watch_capture-outcome.ensures.ends matches
@@ -70,6 +71,7 @@ returns-in-Ok-Tell-clause-headline g c =
       };
       prepared = λ files is. (rw c.in-Ok-Tell.field-0-is at c.in-Ok-Tell.ensures.prepared) files is;
       faulty_words = λ none. c.in-Ok-Tell.ensures.faulty_words none;
+      fileless = c.in-Ok-Tell.ensures.fileless;
       since = record { left = c.prepare-prepared.ensures.host.left; opens = c.prepare-prepared.ensures.host.opens; alerts = refl; later = c.prepare-prepared.ensures.host.later };
       ends = λ matches tells files course is lists.
           listed_ends files course c.in-Ok-Tell.lines _ _ c.offer-outcome.result lists refl refl
@@ -103,6 +105,7 @@ returns-clause-headline g c =
       prepared = λ files is. c.in-Err.ensures.prepared files is;
       cause = c.in-Err.ensures.cause;
       faulty_words = λ none. c.in-Err.ensures.faulty_words none;
+      fileless = c.in-Err.ensures.fileless;
       unopened = record { left = c.prepare-prepared.ensures.host.left; opens = c.prepare-prepared.ensures.host.opens; alerts = refl };
       same_files = c.prepare-prepared.ensures.host.files;
       counts = record { host = c.prepare-prepared.ensures.host.later; alerts = omega arith; errors = omega (arith, c.tell_all-well.ensures.later, c.report-in-Err.ensures.later) };

@@ -1,8 +1,11 @@
+use Rattle.std.specs.Prelude.{map, string_bytes}
 use Rattle.std.proofs.lemmas.Result.{err_from_is_err_and}
+use Rattle.edge_io.specs.Told.{Rose}
+use Rattle.command_words.specs.CommandLine.{command_line}
 use Rattle.command_words.specs.Told.{run_of}
 use Rattle.snort_engine.specs.Preparing.{task_way, way_for}
 use Rattle.snort_engine.proofs.Named.{command_named, command_ranged}
-use Rattle.snort_engine.proofs.Prepared.{prepared_faulty, prepared_listed, prepared_unlisted, prepared_help, prepared_version, prepared_lacking, task_ready, task_stopped}
+use Rattle.snort_engine.proofs.Prepared.{prepared_faulty, prepared_listed, prepared_unlisted, prepared_help, prepared_version, prepared_lacking, task_ready, task_stopped, fileless_faulty, fileless_help, fileless_lacking, fileless_version, not_fileless_file, not_fileless_run}
 use Rattle.snort_engine.proofs.prepare.prepare.Goals as goal
 
 pub prepare_run-requires-clause-named : goal.prepare_run-requires-clause-named
@@ -10,6 +13,34 @@ prepare_run-requires-clause-named g c κs within = command_named _ (run_of c.in-
 
 pub prepare_run-requires-clause-ranged : goal.prepare_run-requires-clause-ranged
 prepare_run-requires-clause-ranged g c κs within = command_ranged _ (run_of c.in-Ok-Run.wanted) (rw c.in-Ok-Run.field-0-is at c.in-Ok-Run.ensures)
+
+pub returns-in-Ok-Help-clause-fileless : goal.returns-in-Ok-Help-clause-fileless
+returns-in-Ok-Help-clause-fileless g c = λ so. fileless_help _ (Rose (g.H.Host.faults c.args.host.now) (g.H.Host.faults c.args.host.now)) _ (rw c.in-Ok-Help.field-0-is at c.in-Ok-Help.ensures) c.requires
+
+pub returns-in-Ok-Version-clause-fileless : goal.returns-in-Ok-Version-clause-fileless
+returns-in-Ok-Version-clause-fileless g c = λ so. fileless_version _ (Rose (g.H.Host.faults c.args.host.now) (g.H.Host.faults c.args.host.now)) _ (rw c.in-Ok-Version.field-0-is at c.in-Ok-Version.ensures) c.requires
+
+pub returns-in-Err-CommandLine-clause-fileless : goal.returns-in-Err-CommandLine-clause-fileless
+returns-in-Err-CommandLine-clause-fileless g c = λ so. fileless_faulty _ (Rose (g.H.Host.faults c.args.host.now) (g.H.Host.faults c.args.host.now)) _ (rw c.in-Err-CommandLine.field-0-is at c.in-Err-CommandLine.ensures) c.requires
+
+pub returns-in-Err-NoMemory-clause-fileless : goal.returns-in-Err-NoMemory-clause-fileless
+returns-in-Err-NoMemory-clause-fileless g c = λ so. fileless_lacking (command_line (map string_bytes c.args.words.now)) (Rose (g.H.Host.faults c.args.host.now) (g.H.Host.faults c.args.host.now)) _ c.requires
+
+pub returns-in_ok-list_records-in-Ok-ReadUnified2-clause-fileless : goal.returns-in_ok-list_records-in-Ok-ReadUnified2-clause-fileless
+returns-in_ok-list_records-in-Ok-ReadUnified2-clause-fileless g c = λ so.
+    absurd (not_fileless_file _ c.in-Ok-ReadUnified2.file.now (rw c.in-Ok-ReadUnified2.field-0-is at c.in-Ok-ReadUnified2.ensures) so)
+
+pub returns-in_err-list_records-in-Ok-ReadUnified2-clause-fileless : goal.returns-in_err-list_records-in-Ok-ReadUnified2-clause-fileless
+returns-in_err-list_records-in-Ok-ReadUnified2-clause-fileless g c = λ so.
+    absurd (not_fileless_file _ c.in-Ok-ReadUnified2.file.now (rw c.in-Ok-ReadUnified2.field-0-is at c.in-Ok-ReadUnified2.ensures) so)
+
+pub returns-in_ok-prepare_run-in-Ok-Run-clause-fileless : goal.returns-in_ok-prepare_run-in-Ok-Run-clause-fileless
+returns-in_ok-prepare_run-in-Ok-Run-clause-fileless g c = λ so.
+    absurd (not_fileless_run _ (run_of c.in-Ok-Run.wanted) (rw c.in-Ok-Run.field-0-is at c.in-Ok-Run.ensures) so)
+
+pub returns-in_err-prepare_run-in-Ok-Run-clause-fileless : goal.returns-in_err-prepare_run-in-Ok-Run-clause-fileless
+returns-in_err-prepare_run-in-Ok-Run-clause-fileless g c = λ so.
+    absurd (not_fileless_run _ (run_of c.in-Ok-Run.wanted) (rw c.in-Ok-Run.field-0-is at c.in-Ok-Run.ensures) so)
 
 pub returns-in-Ok-Help-clause-prepared : goal.returns-in-Ok-Help-clause-prepared
 returns-in-Ok-Help-clause-prepared g c = λ files told. prepared_help task_way _ files _ _ _ (rw c.in-Ok-Help.field-0-is at c.in-Ok-Help.ensures) c.requires
