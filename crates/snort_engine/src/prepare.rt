@@ -1,5 +1,5 @@
 //! What stands before a capture: the words, the configuration, the rules and the host table.
-ghost use Rattle.std.specs.Prelude.{◌≡◌, ◌≤◌, [], None, Some, Ok, map, string_bytes, length, All, IfOk, IfErr, IsSome};
+ghost use Rattle.std.specs.Prelude.{◌≡◌, [], None, Some, Ok, map, string_bytes, All, IfOk, IfErr, IsSome};
 ghost use Rattle.std.specs.Option.{option_map_or};
 ghost use Rattle.edge_io.specs.Files.{Files};
 ghost use Rattle.edge_io.specs.Told.{Rose};

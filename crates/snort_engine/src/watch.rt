@@ -1,4 +1,4 @@
-ghost use Rattle.std.specs.Prelude.{◌≡◌, ◌<◌, ◌≤◌, ◌⊎◌, ◌++◌, Some, true, [], All, OnOk, IsErrOf};
+ghost use Rattle.std.specs.Prelude.{◌≡◌, ◌<◌, ◌≤◌, ◌⊎◌, ◌++◌, Some, true, [], OnOk, IsErrOf};
 ghost use Rattle.std.specs.List.{concat};
 ghost use Rattle.edge_io.specs.Files.{Files, Lacks};
 ghost use Rattle.edge_io.specs.Told.{Rose};
