@@ -1,4 +1,4 @@
-use Rattle.std.proofs.Common.{◌≡◌, true, ap, sym, ◌∙◌}
+use Rattle.std.proofs.Common.{ap, sym, ◌∙◌}
 use Rattle.std.proofs.Math.Logic.{∥∥₁_elim, ∥∥₁_prop}
 use Rattle.regex_meta.proofs.PlansLemmas.{Suits-of_truncated}
 use Rattle.regex_meta.specs.Programs.{pattern_of}
@@ -11,8 +11,7 @@ first_place-requires c = rw (c.deref.ensures, c.deref-2.ensures) c.args.self.now
 
 pub find_at_start-found-requires-clause-anchored : goal.find_at_start-found-requires-clause-anchored
 find_at_start-found-requires-clause-anchored c =
-    let anchored : c.args.self.now.sieve.value.anchored ≡ true =
-        ap (λ (sieve : Sieve). sieve.anchored) (sym c.deref-3.ensures) ∙ c.if-deref.true in
+    let anchored = ap (λ (sieve : Sieve). sieve.anchored) (sym c.deref-3.ensures) ∙ c.if-deref.true in
     rw c.deref-then-deref.ensures
     (Suits-of_truncated (pattern_of c.args.self.now.program.value) AtStart
     (∥∥₁_elim c.args.self.now.sifted.anchored ∥∥₁_prop (λ anchors. ∣ anchors anchored ∣₁)))
