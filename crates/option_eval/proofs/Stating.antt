@@ -5,6 +5,7 @@ use Rattle.std.specs.Prelude.{bytes_eq}
 use Rattle.std.specs.Ordering.{nat_cmp}
 use Rattle.std.specs.Cmp.Lexicographic.{slice_cmp}
 use Rattle.std.specs.BTreeMap.{BTreeMap, get, is_at}
+use Rattle.std.specs.Map.{lookup}
 use Rattle.std.proofs.lemmas.Map.Text.{is_eq-slice_cmp}
 use Rattle.std.proofs.lemmas.Slice.Eq.{bytes_eq-Decides}
 use Rattle.std.proofs.lemmas.List.Elements.{Contains-push, Contains-push_cases, Contains-append_left}
@@ -22,6 +23,14 @@ pub get_updated : {X : Type 0} (f : X → List ℕ) (m n : BTreeMap (List ℕ) X
     → ((q : List ℕ) → get (slice_cmp nat_cmp) n q ≡ cond (is_at (slice_cmp nat_cmp values) q) w (get (slice_cmp nat_cmp) m q))
     → (q : List ℕ) → option_map f (get (slice_cmp nat_cmp) n q) ≡ cond (bytes_eq values q) placed (option_map f (get (slice_cmp nat_cmp) m q))
 get_updated f m n values w placed is h q = ap (option_map f) (h q) ∙ cond_map f (is_at (slice_cmp nat_cmp values) q) (bytes_eq values q) w (get (slice_cmp nat_cmp) m q) placed (is_eq-slice_cmp values q) is
+
+-- a map with this value alone
+pub get_one : {X : Type 0} (f : X → List ℕ) (m n : BTreeMap (List ℕ) X) (values : List ℕ) (w : X) → m.entries ≡ []
+    → ((q : List ℕ) → get (slice_cmp nat_cmp) n q ≡ cond (is_at (slice_cmp nat_cmp values) q) (Some w) (get (slice_cmp nat_cmp) m q))
+    → (q : List ℕ) → option_map f (get (slice_cmp nat_cmp) n q) ≡ cond (bytes_eq values q) (Some (f w)) None
+get_one {X} f m n values w empty h q =
+    get_updated f m n values (Some w) (Some (f w)) refl h q
+    ∙ ap (λ (es : List (List ℕ × X)). cond (bytes_eq values q) (Some (f w)) (option_map f (lookup (is_at (slice_cmp nat_cmp q)) es))) empty
 
 same_or : {A : Type 0} (b : Bool) (w x y : A) → (b ≡ false → x ≡ y) → cond b w x ≡ cond b w y
 same_or true w x y h = refl

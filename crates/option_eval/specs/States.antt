@@ -1,17 +1,39 @@
 -- Sets of states: value lists, each with the places that go with it.
-use Rattle.std.specs.Prelude.{◌≡◌, ℕ, ◌≤◌, ◌⊎◌, ⊤, List, Contains, Option, Some, option_map}
+use Rattle.std.specs.Prelude.{◌≡◌, ℕ, ◌≤◌, ◌⊎◌, ⊤, List, length, Contains, Option, Some, None, option_map, bytes_eq, if◌then◌else◌}
 use Rattle.std.specs.Ordering.{nat_cmp}
 use Rattle.std.specs.Cmp.Lexicographic.{slice_cmp}
 use Rattle.std.specs.BTreeMap.{get}
 use Rattle.rule_types.specs.declared.option.Opt.{Opt}
+use Rattle.option_eval.specs.declared.state_map.StateMap.{StateMap}
+use Rattle.option_eval.specs.declared.states.Held.{Held}
+use Rattle.option_eval.specs.declared.states.Held.TheVariants as held
 use Rattle.option_eval.specs.declared.states.States.{States}
 use Rattle.option_eval.specs.Places.{Means}
 use Rattle.option_eval.specs.Sets.{standing}
 use Rattle.option_eval.specs.Walks.{MatchesFrom, MatchesFromOne, HasValues, behind_extraction}
 
+-- the places that go with a value list, if a map has a state with it
+unfoldable pub map_at : StateMap → List ℕ → Option (List ℕ)
+map_at map values = option_map (λ places. places.items) (get (slice_cmp nat_cmp) map.places values)
+
+-- the same of what is held
+abbrev pub held_at : Held → List ℕ → Option (List ℕ)
+held_at held.Nothing values = None
+held_at (held.One state) values = if bytes_eq state.values values then Some state.places.items else None
+held_at (held.Many map) values = map_at map values
+
 -- the places that go with a value list, if there is a state with it
 unfoldable pub places_at : States → List ℕ → Option (List ℕ)
-places_at states values = option_map (λ places. places.items) (get (slice_cmp nat_cmp) states.places values)
+places_at states values = held_at states.held values
+
+-- how many states there are
+abbrev pub held_count : Held → ℕ
+held_count held.Nothing = 0
+held_count (held.One state) = 1
+held_count (held.Many map) = length map.places.entries
+
+unfoldable pub state_count : States → ℕ
+state_count states = held_count states.held
 
 -- some state has a standing of this kind
 abbrev pub SomeState : (List ℕ → ℕ → Type 0) → States → Type 0

@@ -19,6 +19,7 @@ mod needle;
 mod next;
 mod reach;
 mod rule_set;
+mod state_map;
 mod states;
 mod steps;
 mod sweep;

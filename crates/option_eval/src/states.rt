@@ -1,14 +1,14 @@
 //! The states of a rule that extracts values: the values so far, with the places that go with them.
 
-ghost use Rattle.std.specs.Prelude.{◌≡◌, ℕ, ◌+◌, ◌++◌, [], ◌∷◌, List, None, Some, false, length, OnOk, IfSome, IfNone, bytes_eq, unwrap_or, if◌then◌else◌};
-ghost use Rattle.option_eval.specs.States.{places_at};
+ghost use Rattle.std.specs.Prelude.{◌≡◌, ℕ, ◌+◌, ◌++◌, [], ◌∷◌, List, None, Some, IfOk, OnOk, IfSome, IfNone, bytes_eq, unwrap_or, if◌then◌else◌};
+ghost use Rattle.option_eval.specs.States.{held_at, places_at, state_count};
 
 use crate::fetch::Values;
+use crate::state_map::StateMap;
 use crate::sweep::Places;
 use edge_io::NoMemory;
 use smallvec::SmallVec;
 use std::alloc::Global;
-use std::collections::BTreeMap;
 
 /// Extracted values, and the places where ways through the options so far end with them.
 #[derive(Drop)]
@@ -18,11 +18,43 @@ pub(crate) struct State {
     pub places: Places,
 }
 
-/// States of different values, the least first.
+/// States of different values.
 #[derive(Drop)]
 pub(crate) struct States {
     alloc: Global,
-    places: BTreeMap<Values, Places>,
+    held: Held,
+}
+
+/// A state alone needs no map: most extractions give one value list.
+#[derive(Drop)]
+enum Held {
+    Nothing,
+    One(State),
+    Many(StateMap),
+}
+
+/// The state of one place.
+fn state_of(alloc: Global, values: Values, place: usize) -> Result<State, NoMemory>
+    ensures values { IfOk result (λ state. state.values ≡ values) }
+    ensures places { IfOk result (λ state. state.places.items ≡ place ∷ []) }
+{
+    let mut places = SmallVec::new(alloc);
+    places.push(place)?;
+    Ok(State { values, places })
+}
+
+/// The states, with a place more in that of these values.
+fn with_place(alloc: Global, held: Held, values: Values, place: usize) -> Result<Held, NoMemory>
+    ensures { IfOk result (λ new. (other : List ℕ) → held_at new other
+        ≡ (if bytes_eq values other then Some (unwrap_or (held_at held values) [] ++ place ∷ []) else held_at held other)) }
+{
+    let mut map = match held {
+        Held::Nothing => return Ok(Held::One(state_of(alloc, values, place)?)),
+        Held::One(state) => StateMap::of(alloc, state)?,
+        Held::Many(map) => map,
+    };
+    map.add(values, place)?;
+    Ok(Held::Many(map))
 }
 
 impl States {
@@ -33,19 +65,7 @@ impl States {
     {
         States {
             alloc,
-            places: BTreeMap::new(alloc),
-        }
-    }
-
-    /// Takes the places of these values out; none if there is no state of them.
-    #[tactic(auto, unfolding(crate::specs::States::places_at))]
-    fn taken(&mut self, values: &Values) -> Places
-        ensures places { result.items ≡ unwrap_or (places_at self.old values.now) [] }
-        ensures others { (other : List ℕ) → bytes_eq values.now other ≡ false → places_at self.new other ≡ places_at self.old other }
-    {
-        match self.places.remove(values) {
-            Some(places) => places,
-            None => SmallVec::new(self.alloc),
+            held: Held::Nothing,
         }
     }
 
@@ -55,22 +75,46 @@ impl States {
         ensures { OnOk result ((other : List ℕ) → places_at self.new other
             ≡ (if bytes_eq values other then Some (unwrap_or (places_at self.old values) [] ++ place ∷ []) else places_at self.old other)) }
     {
-        let mut places = self.taken(&values);
-        places.push(place)?;
-        self.places.insert(values, places)?;
+        if let Held::Many(map) = &mut self.held {
+            return map.add(values, place);
+        }
+        if let Held::One(state) = &mut self.held {
+            if state.values == values {
+                state.places.push(place)?;
+                return Ok(());
+            }
+        }
+        self.add_apart(values, place)
+    }
+
+    /// The same, whatever is held.
+    #[tactic(auto, unfolding(crate::specs::States::places_at))]
+    fn add_apart(&mut self, values: Values, place: usize) -> Result<(), NoMemory>
+        ensures { OnOk result ((other : List ℕ) → places_at self.new other
+            ≡ (if bytes_eq values other then Some (unwrap_or (places_at self.old values) [] ++ place ∷ []) else places_at self.old other)) }
+    {
+        let held = std::mem::replace(&mut self.held, Held::Nothing);
+        self.held = with_place(self.alloc, held, values, place)?;
         Ok(())
     }
 
-    /// Takes the state with the least values out.
-    #[tactic(auto, unfolding(crate::specs::States::places_at))]
+    /// Takes a state out.
+    #[tactic(auto, unfolding(crate::specs::States::places_at, crate::specs::States::state_count))]
     pub fn take_first(&mut self) -> Option<State>
         ensures taken { IfSome result (λ state. places_at self.old state.values ≡ Some state.places.items) }
         ensures left { IfSome result (λ state. (other : List ℕ) → places_at self.new other
             ≡ (if bytes_eq state.values other then None else places_at self.old other)) }
-        ensures fewer { IfSome result (λ state. length self.new.places.entries + 1 ≡ length self.old.places.entries) }
+        ensures fewer { IfSome result (λ state. state_count self.new + 1 ≡ state_count self.old) }
         ensures empty { IfNone result ((values : List ℕ) → places_at self.old values ≡ None) }
     {
-        let (values, places) = self.places.pop_first()?;
-        Some(State { values, places })
+        match std::mem::replace(&mut self.held, Held::Nothing) {
+            Held::Nothing => None,
+            Held::One(state) => Some(state),
+            Held::Many(mut map) => {
+                let state = map.take_first()?;
+                self.held = Held::Many(map);
+                Some(state)
+            }
+        }
     }
 }

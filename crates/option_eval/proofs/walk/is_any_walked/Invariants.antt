@@ -4,7 +4,7 @@ use Rattle.std.specs.List.{AllZip}
 use Rattle.option_eval.specs.Places.{Means}
 use Rattle.option_eval.specs.Ready.{pattern_of}
 use Rattle.option_eval.specs.RuleSet.{IsMade}
-use Rattle.option_eval.specs.States.{AreWithin, HaveValues}
+use Rattle.option_eval.specs.States.{AreWithin, HaveValues, state_count}
 use Rattle.option_eval.specs.Walks.{ExtractsNothing, visits_of, upto_extraction}
 use Rattle.option_eval.proofs.Stepping.{WalkedFrom, IsLeft, Counted}
 use Rattle.option_eval.proofs.walk.is_any_walked.Given as goal
@@ -20,4 +20,4 @@ invariant-loop-state g l = record {
 }
 
 abbrev pub decreases-loop-state : goal.decreases-loop-state
-decreases-loop-state g l = length l.left.places.entries
+decreases-loop-state g l = state_count l.left
