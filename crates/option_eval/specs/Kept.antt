@@ -37,6 +37,10 @@ abbrev pub is_read : ℕ → List Opt → Bool
 is_read name [] = false
 is_read name (option ∷ options) = reads name option || (not (gives name option) && is_read name options)
 
+-- whether the value of each of the two names is still read before options
+abbrev pub names_read : List Opt → List Bool
+names_read options = is_read 0 options ∷ is_read 1 options ∷ []
+
 -- what is kept of a name's value before options
 abbrev pub kept_value : List Opt → List ℕ → ℕ → ℕ
 kept_value options values name = if is_read name options then slice_index values name else 0

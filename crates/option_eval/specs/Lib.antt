@@ -10,3 +10,4 @@ pub mod Walks
 pub mod Kept
 pub mod States
 pub mod Absent
+pub mod Extractions

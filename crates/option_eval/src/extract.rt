@@ -1,7 +1,9 @@
 //! The states behind an extraction.
 
-ghost use Rattle.std.specs.Prelude.{◌≡◌, ℕ, ◌+◌, ◌<◌, ◌≤◌, [], ◌∷◌, Contains, length, slice_set, IfOk, OnOk, bytes_eq};
-ghost use Rattle.rule_types.specs.declared.option.Opt.TheVariants as opt;
+ghost use Rattle.std.specs.Prelude.{◌≡◌, ℕ, ◌+◌, ◌<◌, ◌≤◌, [], ◌∷◌, List, Contains, length, slice_set, IfOk, OnOk, bytes_eq};
+ghost use Rattle.rule_types.specs.declared.option.Opt.{Opt};
+ghost use Rattle.option_eval.specs.Extractions.{extract_option};
+ghost use Rattle.option_eval.specs.Kept.{names_read};
 ghost use Rattle.option_eval.specs.Places.{Means};
 ghost use Rattle.option_eval.specs.Ready.{IsInRange};
 ghost use Rattle.option_eval.specs.Sets.{IsRising};
@@ -9,103 +11,97 @@ ghost use Rattle.option_eval.specs.States.{AreWithin, Leaves};
 
 use crate::Steps;
 use crate::fetch::{Values, fetched_number, rounded_up};
-use crate::kept::kept_values;
+use crate::kept::{Read, kept_values};
 use crate::next::asked_of;
 use crate::states::States;
 use edge_io::NoMemory;
-use rule_types::{Fetch, Opt};
+use rule_types::Fetch;
 use std::sync::ledger::Ledger;
 
-/// Adds the states behind an extraction from the places of a set, each asked: from the first alone, unless
-/// the extraction is relative. Of the values behind it those are kept that the later options read.
-pub(crate) fn extract<L: Ledger>(
-    fetch: &Fetch,
-    name: u8,
-    times: u32,
-    align: u8,
-    later: &[Opt],
-    payload: &[u8],
-    places: &[usize],
-    values: &Values,
-    states: &mut States,
-    visits: &mut Steps<L>,
-) -> Result<(), NoMemory>
-    requires in_range { IsInRange (opt.ByteExtract fetch.now name times align) }
-    requires asked { 0 < length places.now }
-    requires rising { IsRising 0 places.now (length payload.now + 1) }
-    ensures right { (means : Means) → OnOk result
-        (Leaves means payload.now (opt.ByteExtract fetch.now name times align ∷ later.now) values.now places.now states.old states.new) }
-    ensures within { AreWithin (length payload.now) states.old → OnOk result (AreWithin (length payload.now) states.new) }
-    ensures bounded { visits.new ≤ visits.old + (length payload.now + 1) }
-{
-    extract_each(
-        fetch,
-        name,
-        times,
-        align,
-        later,
-        payload,
-        asked_of(fetch.relative, places),
-        values,
-        states,
-        visits,
-    )
+/// An extraction, and which values the options behind it still read.
+#[derive(Clone, Copy)]
+pub(crate) struct Extraction {
+    pub fetch: Fetch,
+    pub name: u8,
+    pub times: u32,
+    pub align: u8,
+    /// Asked once, and not at each place.
+    pub read: Read,
 }
 
-/// The same from each of these places.
-fn extract_each<L: Ledger>(
-    fetch: &Fetch,
-    name: u8,
-    times: u32,
-    align: u8,
-    later: &[Opt],
-    payload: &[u8],
-    places: &[usize],
-    values: &Values,
-    states: &mut States,
-    visits: &mut Steps<L>,
-) -> Result<(), NoMemory>
-    requires in_range { IsInRange (opt.ByteExtract fetch.now name times align) }
-    ensures right { (means : Means) → OnOk result
-        (Leaves means payload.now (opt.ByteExtract fetch.now name times align ∷ later.now) values.now places.now states.old states.new) }
-    ensures within { AreWithin (length payload.now) states.old → OnOk result (AreWithin (length payload.now) states.new) }
-    ensures bounded { visits.new ≤ visits.old + length places.now }
-    ensures counted { OnOk result (visits.new ≡ visits.old + length places.now) }
-{
-    visits.tick_by(places.len() as u64);
-    let mut rest = places;
-    while let [place, next @ ..] = rest {
-        extract_at(
-            fetch, name, times, align, later, payload, *place, values, states,
-        )?;
-        rest = next;
+impl Extraction {
+    /// Adds the states behind the extraction from the places of a set, each asked: from the first alone,
+    /// unless the extraction is relative. Of the values behind it those are kept that the later options read.
+    pub fn extract<L: Ledger>(
+        &self,
+        payload: &[u8],
+        places: &[usize],
+        values: &Values,
+        states: &mut States,
+        visits: &mut Steps<L>,
+    ) -> Result<(), NoMemory>
+        requires in_range { IsInRange (extract_option self.now) }
+        requires asked { 0 < length places.now }
+        requires rising { IsRising 0 places.now (length payload.now + 1) }
+        ensures right { (means : Means) → (later : List Opt) → self.now.read ≡ names_read later → OnOk result
+            (Leaves means payload.now (extract_option self.now ∷ later) values.now places.now states.old states.new) }
+        ensures within { AreWithin (length payload.now) states.old → OnOk result (AreWithin (length payload.now) states.new) }
+        ensures bounded { visits.new ≤ visits.old + (length payload.now + 1) }
+    {
+        self.extract_each(
+            payload,
+            asked_of(self.fetch.relative, places),
+            values,
+            states,
+            visits,
+        )
     }
-    Ok(())
-}
 
-/// The same from one place.
-fn extract_at(
-    fetch: &Fetch,
-    name: u8,
-    times: u32,
-    align: u8,
-    later: &[Opt],
-    payload: &[u8],
-    place: usize,
-    values: &Values,
-    states: &mut States,
-) -> Result<(), NoMemory>
-    requires in_range { IsInRange (opt.ByteExtract fetch.now name times align) }
-    ensures right { (means : Means) → OnOk result
-        (Leaves means payload.now (opt.ByteExtract fetch.now name times align ∷ later.now) values.now (place ∷ []) states.old states.new) }
-    ensures within { AreWithin (length payload.now) states.old → OnOk result (AreWithin (length payload.now) states.new) }
-{
-    match fetched_number(fetch, payload, place, values) {
-        None => Ok(()),
-        Some(read) => {
-            let number = rounded_up(u64::from(align), read.number * u64::from(times));
-            let behind = kept_values(later, &with_value(values, name, number));
-            states.add(behind, read.stop)
+    /// The same from each of these places.
+    fn extract_each<L: Ledger>(
+        &self,
+        payload: &[u8],
+        places: &[usize],
+        values: &Values,
+        states: &mut States,
+        visits: &mut Steps<L>,
+    ) -> Result<(), NoMemory>
+        requires in_range { IsInRange (extract_option self.now) }
+        ensures right { (means : Means) → (later : List Opt) → self.now.read ≡ names_read later → OnOk result
+            (Leaves means payload.now (extract_option self.now ∷ later) values.now places.now states.old states.new) }
+        ensures within { AreWithin (length payload.now) states.old → OnOk result (AreWithin (length payload.now) states.new) }
+        ensures bounded { visits.new ≤ visits.old + length places.now }
+        ensures counted { OnOk result (visits.new ≡ visits.old + length places.now) }
+    {
+        visits.tick_by(places.len() as u64);
+        let mut rest = places;
+        while let [place, next @ ..] = rest {
+            self.extract_at(payload, *place, values, states)?;
+            rest = next;
+        }
+        Ok(())
+    }
+
+    /// The same from one place.
+    fn extract_at(
+        &self,
+        payload: &[u8],
+        place: usize,
+        values: &Values,
+        states: &mut States,
+    ) -> Result<(), NoMemory>
+        requires in_range { IsInRange (extract_option self.now) }
+        ensures right { (means : Means) → (later : List Opt) → self.now.read ≡ names_read later → OnOk result
+            (Leaves means payload.now (extract_option self.now ∷ later) values.now (place ∷ []) states.old states.new) }
+        ensures within { AreWithin (length payload.now) states.old → OnOk result (AreWithin (length payload.now) states.new) }
+    {
+        match fetched_number(&self.fetch, payload, place, values) {
+            None => Ok(()),
+            Some(read) => {
+                let number = rounded_up(u64::from(self.align), read.number * u64::from(self.times));
+                let behind = kept_values(&self.read, &with_value(values, self.name, number));
+                states.add(behind, read.stop)
+            }
         }
     }
 }

@@ -1,7 +1,8 @@
 //! Which extracted values later options still read.
 
-ghost use Rattle.std.specs.Prelude.{◌≡◌, ◌<◌};
-ghost use Rattle.option_eval.specs.Kept.{is_named, is_named_if, reads, gives, is_read, kept_value, kept_values};
+ghost use Rattle.std.specs.Prelude.{◌≡◌, List, if◌then◌else◌};
+ghost use Rattle.rule_types.specs.declared.option.Opt.{Opt};
+ghost use Rattle.option_eval.specs.Kept.{is_named, is_named_if, reads, gives, is_read, kept_values, names_read};
 
 use crate::fetch::Values;
 use rule_types::{Num, Opt};
@@ -67,25 +68,30 @@ fn is_read(name: u8, options: &[Opt]) -> bool
     }
 }
 
-/// What is kept of a name's value before options.
-fn kept_value(options: &[Opt], values: &Values, name: u8) -> u64
-    requires { name < 2 }
-    ensures { result ≡ kept_value options.now values.now name }
+/// Whether the value of each of the two names is still read.
+pub(crate) type Read = [bool; 2];
+
+/// Which values the options read.
+pub(crate) fn names_read(options: &[Opt]) -> Read
+    ensures { result ≡ names_read options.now }
 {
-    if is_read(name, options) {
-        values[usize::from(name)]
-    } else {
-        0
-    }
+    [is_read(0, options), is_read(1, options)]
 }
 
-/// The values that the options read, and 0 in place of the others: so states that differ in nothing that is
-/// still read are one.
-pub(crate) fn kept_values(options: &[Opt], values: &Values) -> Values
-    ensures { result ≡ kept_values options.now values.now }
+/// What is kept of a value.
+fn kept_value(read: bool, value: u64) -> u64
+    ensures { result ≡ (if read then value else 0) }
+{
+    if read { value } else { 0 }
+}
+
+/// The values that are read, and 0 in place of the others: so states that differ in nothing that is still read
+/// are one.
+pub(crate) fn kept_values(read: &Read, values: &Values) -> Values
+    ensures { (options : List Opt) → read.now ≡ names_read options → result ≡ kept_values options values.now }
 {
     [
-        kept_value(options, values, 0),
-        kept_value(options, values, 1),
+        kept_value(read[0], values[0]),
+        kept_value(read[1], values[1]),
     ]
 }

@@ -17,8 +17,9 @@ ghost use Rattle.option_eval.specs.States.{places_at, AreWithin, HaveValues, Lea
 ghost use Rattle.option_eval.specs.Walks.{MatchesFrom, MatchesFromOne, ExtractsNothing, HasEachValueList, visits_of, upto_extraction, behind_extraction};
 
 use crate::Steps;
-use crate::extract::extract;
+use crate::extract::Extraction;
 use crate::fetch::Values;
+use crate::kept::names_read;
 use crate::kind::{is_extract, needs_place};
 use crate::made::Made;
 use crate::next::{Next, next_places, rising, sorted};
@@ -225,9 +226,14 @@ fn is_walked<P: Pattern, L: Ledger>(
         align,
     } = option
     {
-        extract(
-            fetch, *name, *times, *align, later, payload, places, values, behind, visits,
-        )?;
+        let extraction = Extraction {
+            fetch: *fetch,
+            name: *name,
+            times: *times,
+            align: *align,
+            read: names_read(later),
+        };
+        extraction.extract(payload, places, values, behind, visits)?;
         return Ok(false);
     }
     let next = next_places(

@@ -20,7 +20,7 @@ is_walked-returns-in-ByteExtract-clause-right g t c = λ means made.
     let later = take (length options - 1) (drop 1 options) in
     let o = c.option-item.result in
     let is = behind_first options o c.in-len1-up.len_at_least c.option-item.is in
-    subst (λ (xs : List Opt). Leaves means c.args.payload.now xs c.args.values.now c.args.places.now c.args.behind.now c.extract.new.states) (sym (is ∙ ap (λ (x : Opt). x ∷ later) c.in-ByteExtract.is)) (c.in_ok-extract.ensures.right means)
+    subst (λ (xs : List Opt). Leaves means c.args.payload.now xs c.args.values.now c.args.places.now c.args.behind.now c.extract.new.states) (sym (is ∙ ap (λ (x : Opt). x ∷ later) c.in-ByteExtract.is)) (c.in_ok-extract.ensures.right means later c.names_read.ensures)
 
 pub is_walked-returns-clause-right : goal.is_walked-returns-clause-right
 is_walked-returns-clause-right g t c = λ means made.

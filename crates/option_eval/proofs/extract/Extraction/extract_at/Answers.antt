@@ -4,18 +4,21 @@ use Rattle.std.proofs.lemmas.Result.{IfOk-weaker}
 use Rattle.option_eval.specs.Kept.{kept_values}
 use Rattle.option_eval.proofs.Extracting.{leaves_none, leaves_some}
 use Rattle.option_eval.proofs.Stating.{each_added}
-use Rattle.option_eval.proofs.extract.extract_at.Goals as goal
+use Rattle.option_eval.proofs.extract.Extraction.extract_at.Goals as goal
 
 pub returns-in-None-clause-right : goal.returns-in-None-clause-right
-returns-in-None-clause-right c = λ means. leaves_none means c.args.payload.now c.args.fetch.now c.args.name c.args.times c.args.align c.args.later.now c.args.values.now c.args.place c.in-None.ensures.value c.args.states.now
+returns-in-None-clause-right c = λ means later reads.
+    let it = c.args.self.now in
+    leaves_none means c.args.payload.now it.fetch it.name it.times it.align later c.args.values.now c.args.place c.in-None.ensures.value c.args.states.now
 
 pub returns-in-Some-clause-right : goal.returns-in-Some-clause-right
-returns-in-Some-clause-right c = λ means.
+returns-in-Some-clause-right c = λ means later reads.
+    let it = c.args.self.now in
     let number = rw (c.from.ensures, c.from-in-Some.ensures) at c.rounded_up-number.ensures.value in
-    let full = c.with_value.ensures ∙ ap (slice_set c.args.values.now c.args.name) number in
+    let full = c.with_value.ensures ∙ ap (slice_set c.args.values.now it.name) number in
     IfOk-weaker c.add.result _ _
-    (λ done added. leaves_some means c.args.payload.now c.args.fetch.now c.args.name c.args.times c.args.align c.args.later.now c.args.values.now c.args.place _ c.kept_values-behind.result c.in-Some.ensures.value (omega (arith, c.fits-values))
-    (c.kept_values-behind.ensures ∙ ap (kept_values c.args.later.now) full) c.args.states.now c.add.new.self added)
+    (λ done added. leaves_some means c.args.payload.now it.fetch it.name it.times it.align later c.args.values.now c.args.place _ c.kept_values-behind.result c.in-Some.ensures.value (omega (arith, c.fits-values))
+    (c.kept_values-behind.ensures later reads ∙ ap (kept_values later) full) c.args.states.now c.add.new.self added)
     c.add.ensures
 
 pub returns-in-Some-clause-within : goal.returns-in-Some-clause-within

@@ -1,0 +1,18 @@
+use Rattle.std.proofs.Common.{◌+◌, arith, length}
+use Rattle.std.proofs.lemmas.Result.{IfOk-weaker}
+use Rattle.option_eval.proofs.Asking.{length-asked}
+use Rattle.option_eval.proofs.Rising.{rising_length}
+use Rattle.option_eval.proofs.Extracting.{leaves_asked}
+use Rattle.option_eval.proofs.extract.Extraction.extract.Goals as goal
+
+pub returns-clause-right : goal.returns-clause-right
+returns-clause-right g c = λ means later reads.
+    let it = c.args.self.now in
+    IfOk-weaker c.extract_each.result _ _
+    (λ done left. leaves_asked means c.args.payload.now it.fetch it.name it.times it.align later c.args.values.now c.args.places.now c.asked_of.result.now c.args.states.now c.extract_each.new.states
+    c.requires.asked c.asked_of.ensures left)
+    (c.extract_each.ensures.right means later reads)
+
+pub returns-clause-bounded : goal.returns-clause-bounded
+returns-clause-bounded g c =
+    omega (arith, c.extract_each.ensures.bounded, length-asked c.args.self.now.fetch.relative c.args.places.now c.asked_of.result.now c.asked_of.ensures, rising_length c.args.places.now 0 (length c.args.payload.now + 1) c.requires.rising)
