@@ -1,17 +1,18 @@
 use Rattle.std.proofs.Common.{length, arith}
 use Rattle.option_eval.proofs.Rising.{rising_high}
-use Rattle.option_eval.proofs.Sweeping.{adds_none, adds_next, adds_all, on_from_low, on_from_high, rising_next}
+use Rattle.option_eval.proofs.Sweeping.{begins, adds_next, adds_all, on_from_low, on_from_high, rising_next}
 use Rattle.option_eval.proofs.sweep.gather.Goals as goal
 
 pub loop-start-init : goal.loop-start-init
 loop-start-init c =
     let needle = c.args.needle.now in
-    record {
-      low = omega arith;
-      high = c.requires.order;
-      added = adds_none c.args.every needle.nocase c.args.payload.now needle.bytes.now c.args.low c.args.places.items;
-      rising = c.requires.rising;
-    }
+    let begun = begins c.args.every needle.nocase c.args.payload.now needle.bytes.now c.args.low c.args.end c.args.places.items c.is_empty.result c.is_empty.ensures c.requires.order c.requires.rising in
+    rw c.first_start-at.ensures (record {
+      low = begun.0;
+      high = begun.1;
+      added = begun.2;
+      rising = begun.3;
+    })
 
 pub loop-start-preserved : goal.loop-start-preserved
 loop-start-preserved c =
