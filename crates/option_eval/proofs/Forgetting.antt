@@ -78,7 +78,7 @@ module _ (vs ws : List ℕ) (p q : ℕ) where
 
 -- an option other than an extraction leads on alike
 module _ (means : Means) (payload vs ws : List ℕ) (p q : ℕ) where
-  plain_alike : (o : Opt) → is_extract o ≡ false → ((name : ℕ) → reads name o ≡ true → slice_index vs name ≡ slice_index ws name) → Leads means payload o (standing vs p) (standing vs q) → Leads means payload o (standing ws p) (standing ws q)
+  pub plain_alike : (o : Opt) → is_extract o ≡ false → ((name : ℕ) → reads name o ≡ true → slice_index vs name ≡ slice_index ws name) → Leads means payload o (standing vs p) (standing vs q) → Leads means payload o (standing ws p) (standing ws q)
   unfolding Leads
   plain_alike (opt.Content content) plain same h =
       let from = number_if_same vs ws content.from (λ name is. same name (or_left (is_named_if name content.from) (is_named_if name content.room) is)) in

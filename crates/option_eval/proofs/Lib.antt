@@ -6,6 +6,7 @@ pub mod Stating
 pub mod Staying
 pub mod Extracting
 pub mod Forgetting
+pub mod Knowing
 pub mod Leading
 pub mod Looking
 pub mod Occurrences

@@ -11,3 +11,4 @@ pub mod Kept
 pub mod States
 pub mod Absent
 pub mod Extractions
+pub mod Known

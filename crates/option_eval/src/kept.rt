@@ -28,7 +28,7 @@ fn is_named_if(name: u8, number: Option<Num>) -> bool
 }
 
 /// Whether an option reads the value of a name.
-fn reads(name: u8, option: &Opt) -> bool
+pub(crate) fn reads(name: u8, option: &Opt) -> bool
     ensures { result ≡ reads name option.now }
 {
     match option {

@@ -12,6 +12,7 @@ mod extract;
 mod fetch;
 mod kept;
 mod kind;
+mod known;
 mod led;
 mod made;
 mod making;

@@ -3,7 +3,7 @@
 ghost use Rattle.std.specs.Prelude.{◌≡◌, ℕ, ◌+◌, ◌<◌, ◌≤◌, ◌++◌, ◌∷◌, [], Bool, true, false, ◌↔◌, ◌^◌, Contains, take, length, IfOk, MatchBool, if◌then◌else◌};
 ghost use Rattle.std.specs.List.Sorted.{IsPermutation, IsNonDecreasing};
 ghost use Rattle.option_eval.specs.Kinds.{is_relative, is_test, IsJump};
-ghost use Rattle.option_eval.specs.Next.{next_set};
+ghost use Rattle.option_eval.specs.Next.{next_set, IsForAll};
 ghost use Rattle.option_eval.specs.Places.{Means, is_payload_option, is_extract};
 ghost use Rattle.option_eval.specs.Ready.{IsReady, pattern_of};
 ghost use Rattle.option_eval.specs.RuleSet.{IsMade};
@@ -61,6 +61,7 @@ pub(crate) fn next_places<P: Pattern, L: Ledger>(
     ensures found { (means : Means) → IsMade P.finds means option.now (pattern_of made.now) → IfOk result (λ next.
         Gathers every (IsLedTo (LeadsFrom means payload.now values.now option.now) places.now) (next_set next places.now)) }
     ensures rising { IfOk result (λ next. IsRising 0 (next_set next places.now) (length payload.now + 1)) }
+    ensures apart { is_relative option.now ≡ false → IfOk result (IsForAll option.now) }
     ensures bounded { visits.new ≤ visits.old + (if is_payload_option option.now then length payload.now + 1 else 0) }
 {
     if !is_payload_option(option) {
@@ -89,6 +90,7 @@ fn tested<P: Pattern, L: Ledger>(
     ensures found { (means : Means) → (every : Bool) → IsMade P.finds means option.now (pattern_of made.now) → IfOk result (λ next.
         Gathers every (IsLedTo (LeadsFrom means payload.now values.now option.now) places.now) (next_set next places.now)) }
     ensures rising { IfOk result (λ next. IsRising 0 (next_set next places.now) (length payload.now + 1)) }
+    ensures apart { is_relative option.now ≡ false → IfOk result (IsForAll option.now) }
     ensures bounded { visits.new ≤ visits.old + (length payload.now + 1) }
 {
     if is_relative(option) {
@@ -190,6 +192,7 @@ fn moved<P: Pattern, L: Ledger>(
     ensures found { (means : Means) → IsMade P.finds means option.now (pattern_of made.now) → IfOk result (λ next.
         Gathers every (IsLedTo (LeadsFrom means payload.now values.now option.now) places.now) (next_set next places.now)) }
     ensures rising { IfOk result (λ next. IsRising 0 (next_set next places.now) (length payload.now + 1)) }
+    ensures apart { IfOk result (IsForAll option.now) }
     ensures bounded { visits.new ≤ visits.old + (length payload.now + 1) }
 {
     match (option, made) {

@@ -46,7 +46,8 @@ impl StateMap {
     #[tactic(auto, unfolding(crate::specs::States::map_at))]
     pub fn add(&mut self, values: Values, place: usize) -> Result<(), NoMemory>
         ensures { OnOk result ((other : List ℕ) → map_at self.new other
-            ≡ (if bytes_eq values other then Some (unwrap_or (map_at self.old values) [] ++ place ∷ []) else map_at self.old other)) }
+            ≡ (if bytes_eq values other then Some (unwrap_or (map_at self.old values) [] ++ place ∷ [])
+            else map_at self.old other)) }
     {
         let mut places = self.taken(&values);
         places.push(place)?;

@@ -69,11 +69,17 @@ impl States {
         }
     }
 
+    /// Whether there is more than one state.
+    pub fn are_many(&self) -> bool {
+        matches!(&self.held, Held::Many(_))
+    }
+
     /// Adds a place to the state of these values.
     #[tactic(auto, unfolding(crate::specs::States::places_at))]
     pub fn add(&mut self, values: Values, place: usize) -> Result<(), NoMemory>
         ensures { OnOk result ((other : List ℕ) → places_at self.new other
-            ≡ (if bytes_eq values other then Some (unwrap_or (places_at self.old values) [] ++ place ∷ []) else places_at self.old other)) }
+            ≡ (if bytes_eq values other then Some (unwrap_or (places_at self.old values) [] ++ place ∷ [])
+            else places_at self.old other)) }
     {
         if let Held::Many(map) = &mut self.held {
             return map.add(values, place);
@@ -91,7 +97,8 @@ impl States {
     #[tactic(auto, unfolding(crate::specs::States::places_at))]
     fn add_apart(&mut self, values: Values, place: usize) -> Result<(), NoMemory>
         ensures { OnOk result ((other : List ℕ) → places_at self.new other
-            ≡ (if bytes_eq values other then Some (unwrap_or (places_at self.old values) [] ++ place ∷ []) else places_at self.old other)) }
+            ≡ (if bytes_eq values other then Some (unwrap_or (places_at self.old values) [] ++ place ∷ [])
+            else places_at self.old other)) }
     {
         let held = std::mem::replace(&mut self.held, Held::Nothing);
         self.held = with_place(self.alloc, held, values, place)?;

@@ -84,9 +84,10 @@ fn gather_apart(
     requires order { from ≤ done }
     requires fits { done + length needle.now.bytes.now ≤ length payload.now + 1 }
     requires rising { IsRising 0 places.items (from + length needle.now.bytes.now) }
-    ensures found { IfOk result (λ next. Adds every
-        (IsHitIn needle.now.nocase payload.now needle.now.bytes.now from (if nat_lt done low then done else from)) places.items next.items) }
-    ensures rising { IfOk result (λ next. IsRising 0 next.items ((if nat_lt done low then low else from) + length needle.now.bytes.now)) }
+    ensures found { IfOk result (λ next. Adds every (IsHitIn needle.now.nocase payload.now needle.now.bytes.now
+        from (if nat_lt done low then done else from)) places.items next.items) }
+    ensures rising { IfOk result (λ next.
+        IsRising 0 next.items ((if nat_lt done low then low else from) + length needle.now.bytes.now)) }
 {
     if done < low {
         gather(needle, payload, from, done, every, places)

@@ -8,7 +8,8 @@
 ghost use Rattle.std.specs.Prelude.{◌≡◌, ℕ, ◌+◌, ◌*◌, ◌<◌, ◌≤◌, ◌↔◌, [], ◌∷◌, List, Option, None, Contains, length, map, IsTrue, IfOk, IfSome, IfNone, MatchBool};
 ghost use Rattle.std.specs.List.{AllZip};
 ghost use Rattle.edge_io.specs.declared.pattern.Span.{Span};
-ghost use Rattle.option_eval.specs.Next.{next_set};
+ghost use Rattle.option_eval.specs.Known.{known_at, AreKnown, AreRising};
+ghost use Rattle.option_eval.specs.Next.{next_set, RisesTo};
 ghost use Rattle.option_eval.specs.Places.{Means};
 ghost use Rattle.option_eval.specs.Ready.{IsReady, pattern_of};
 ghost use Rattle.option_eval.specs.RuleSet.{IsMade};
@@ -20,14 +21,23 @@ use crate::Steps;
 use crate::extract::Extraction;
 use crate::fetch::Values;
 use crate::kept::names_read;
-use crate::kind::{is_extract, needs_place};
+use crate::kind::is_extract;
+use crate::known::{Known, next_known};
 use crate::made::Made;
-use crate::next::{Next, next_places, rising, sorted};
+use crate::next::{Next, rising, sorted};
 use crate::states::{State, States};
 use edge_io::{NoMemory, Pattern};
 use rule_types::Opt;
 use std::alloc::Global;
 use std::sync::ledger::Ledger;
+
+/// What a walk up to the first extraction leaves: the states behind it, and where options led that lead alike
+/// from each state.
+#[derive(Drop)]
+struct Behind {
+    states: States,
+    known: Known,
+}
 
 /// Whether a way leads through the options from the payload's start.
 pub(crate) fn is_passed<P: Pattern, L: Ledger>(
@@ -45,7 +55,10 @@ pub(crate) fn is_passed<P: Pattern, L: Ledger>(
         → HasEachValueList means payload.now options.now lists
         → visits.new ≤ visits.old + length lists * visits_of options.now (length payload.now) }
 {
-    let mut states = States::new(alloc);
+    let mut behind = Behind {
+        states: States::new(alloc),
+        known: Known::nothing(alloc),
+    };
     if is_walked(
         alloc,
         options,
@@ -53,12 +66,12 @@ pub(crate) fn is_passed<P: Pattern, L: Ledger>(
         payload,
         &[0],
         &[0, 0],
-        &mut states,
+        &mut behind,
         visits,
     )? {
         return Ok(true);
     }
-    is_passed_behind(alloc, options, made, payload, states, visits)
+    is_passed_behind(alloc, options, made, payload, behind.states, visits)
 }
 
 /// Whether a way leads through the options behind the first extraction, from some of the states there.
@@ -83,7 +96,11 @@ fn is_passed_behind<P: Pattern, L: Ledger>(
     let Some((later, made_later)) = behind_extraction(options, made) else {
         return Ok(false);
     };
-    let mut behind = States::new(alloc);
+    let known = nothing_known(alloc, &states, later)?;
+    let mut behind = Behind {
+        states: States::new(alloc),
+        known,
+    };
     if is_any_walked(
         alloc,
         later,
@@ -95,7 +112,18 @@ fn is_passed_behind<P: Pattern, L: Ledger>(
     )? {
         return Ok(true);
     }
-    is_passed_behind(alloc, later, made_later, payload, behind, visits)
+    is_passed_behind(alloc, later, made_later, payload, behind.states, visits)
+}
+
+/// Nothing is known yet of options; from one state alone each is asked once anyway.
+fn nothing_known(alloc: Global, states: &States, options: &[Opt]) -> Result<Known, NoMemory>
+    ensures { IfOk result (λ known. (left : ℕ) → known_at known left ≡ None) }
+{
+    if states.are_many() {
+        Known::of(alloc, options.len())
+    } else {
+        Ok(Known::nothing(alloc))
+    }
 }
 
 /// The options behind the first that extracts a value, and what was made of them.
@@ -133,16 +161,19 @@ fn is_any_walked<P: Pattern, L: Ledger>(
     made: &[Made<P>],
     payload: &[u8],
     states: States,
-    behind: &mut States,
+    behind: &mut Behind,
     visits: &mut Steps<L>,
 ) -> Result<bool, NoMemory>
     requires ready { AllZip IsReady options.now made.now }
     requires within { AreWithin (length payload.now) states }
+    requires known_rising { AreRising (length payload.now + 1) behind.old.known }
     ensures right { (means : Means) → AllZip (IsMade P.finds means) options.now (map pattern_of made.now)
+        → AreKnown means payload.now options.now behind.old.known
         → IfOk result (λ walked. MatchBool walked (MatchesFromSome means payload.now options.now states)
-        (LeavesOf means payload.now options.now states behind.old behind.new)) }
-    ensures within { AreWithin (length payload.now) behind.old → IfOk result (λ walked. AreWithin (length payload.now) behind.new) }
-    ensures nowhere { ExtractsNothing options.now → behind.new ≡ behind.old }
+        (LeavesOf means payload.now options.now states behind.old.states behind.new.states)) }
+    ensures within { AreWithin (length payload.now) behind.old.states
+        → IfOk result (λ walked. AreWithin (length payload.now) behind.new.states) }
+    ensures nowhere { ExtractsNothing options.now → behind.new.states ≡ behind.old.states }
     ensures bounded { (means : Means) → (lists : List (List ℕ)) → AllZip (IsMade P.finds means) options.now (map pattern_of made.now)
         → HaveValues means payload.now lists options.now states
         → visits.new ≤ visits.old + length lists * visits_of (upto_extraction options.now) (length payload.now) }
@@ -163,17 +194,24 @@ fn is_state_walked<P: Pattern, L: Ledger>(
     made: &[Made<P>],
     payload: &[u8],
     state: State,
-    behind: &mut States,
+    behind: &mut Behind,
     visits: &mut Steps<L>,
 ) -> Result<bool, NoMemory>
     requires ready { AllZip IsReady options.now made.now }
     requires within { (p : ℕ) → Contains state.places.items p → p ≤ length payload.now }
+    requires known_rising { AreRising (length payload.now + 1) behind.old.known }
     ensures right { (means : Means) → AllZip (IsMade P.finds means) options.now (map pattern_of made.now)
+        → AreKnown means payload.now options.now behind.old.known
         → IfOk result (λ walked. MatchBool walked (MatchesFromOne means payload.now options.now state.values state.places.items)
-        (Leaves means payload.now options.now state.values state.places.items behind.old behind.new)) }
-    ensures within { AreWithin (length payload.now) behind.old → IfOk result (λ walked. AreWithin (length payload.now) behind.new) }
-    ensures nowhere { ExtractsNothing options.now → behind.new ≡ behind.old }
+        (Leaves means payload.now options.now state.values state.places.items behind.old.states behind.new.states)) }
+    ensures within { AreWithin (length payload.now) behind.old.states
+        → IfOk result (λ walked. AreWithin (length payload.now) behind.new.states) }
+    ensures nowhere { ExtractsNothing options.now → behind.new.states ≡ behind.old.states }
     ensures bounded { visits.new ≤ visits.old + visits_of (upto_extraction options.now) (length payload.now) }
+    ensures known { (means : Means) → AllZip (IsMade P.finds means) options.now (map pattern_of made.now)
+        → AreKnown means payload.now options.now behind.old.known
+        → IfOk result (λ walked. AreKnown means payload.now options.now behind.new.known) }
+    ensures known_rising { IfOk result (λ walked. AreRising (length payload.now + 1) behind.new.known) }
 {
     let places = rising(alloc, sorted(state.places).as_slice())?;
     if places.is_empty() {
@@ -200,18 +238,27 @@ fn is_walked<P: Pattern, L: Ledger>(
     payload: &[u8],
     places: &[usize],
     values: &Values,
-    behind: &mut States,
+    behind: &mut Behind,
     visits: &mut Steps<L>,
 ) -> Result<bool, NoMemory>
     requires ready { AllZip IsReady options.now made.now }
     requires asked { 0 < length places.now }
     requires rising { IsRising 0 places.now (length payload.now + 1) }
+    requires known_rising { AreRising (length payload.now + 1) behind.old.known }
     ensures right { (means : Means) → AllZip (IsMade P.finds means) options.now (map pattern_of made.now)
+        → AreKnown means payload.now options.now behind.old.known
         → IfOk result (λ walked. MatchBool walked (MatchesFromOne means payload.now options.now values.now places.now)
-        (Leaves means payload.now options.now values.now places.now behind.old behind.new)) }
-    ensures within { AreWithin (length payload.now) behind.old → IfOk result (λ walked. AreWithin (length payload.now) behind.new) }
-    ensures nowhere { ExtractsNothing options.now → behind.new ≡ behind.old }
+        (Leaves means payload.now options.now values.now places.now behind.old.states behind.new.states)) }
+    ensures within { AreWithin (length payload.now) behind.old.states
+        → IfOk result (λ walked. AreWithin (length payload.now) behind.new.states) }
+    ensures nowhere { ExtractsNothing options.now → behind.new.states ≡ behind.old.states }
     ensures bounded { visits.new ≤ visits.old + visits_of (upto_extraction options.now) (length payload.now) }
+    ensures known { (means : Means) → AllZip (IsMade P.finds means) options.now (map pattern_of made.now)
+        → AreKnown means payload.now options.now behind.old.known
+        → IfOk result (λ walked. AreKnown means payload.now options.now behind.new.known) }
+    ensures known_rising { IfOk result (λ walked. AreRising (length payload.now + 1) behind.new.known) }
+    ensures others { IfOk result (λ walked. (left : ℕ) → length options.now ≤ left
+        → known_at behind.new.known left ≡ known_at behind.old.known left) }
 {
     let [option, later @ ..] = options else {
         return Ok(true);
@@ -233,46 +280,59 @@ fn is_walked<P: Pattern, L: Ledger>(
             align: *align,
             read: names_read(later),
         };
-        extraction.extract(payload, places, values, behind, visits)?;
+        extraction.extract(payload, places, values, &mut behind.states, visits)?;
         return Ok(false);
     }
-    let next = next_places(
+    let next = next_known(
         alloc,
         option,
         kept,
+        later,
         payload,
         places,
         values,
-        needs_place(later),
+        &mut behind.known,
         visits,
     )?;
-    is_walked_from(
-        alloc, next, later, made_later, payload, places, values, behind, visits,
-    )
+    let walked = is_walked_from(
+        alloc, &next, later, made_later, payload, places, values, behind, visits,
+    )?;
+    behind.known.keep(option, later.len(), next);
+    Ok(walked)
 }
 
 /// The same from the places behind an option.
 #[cycle(walk)]
 fn is_walked_from<P: Pattern, L: Ledger>(
     alloc: Global,
-    next: Next,
+    next: &Next,
     options: &[Opt],
     made: &[Made<P>],
     payload: &[u8],
     places: &[usize],
     values: &Values,
-    behind: &mut States,
+    behind: &mut Behind,
     visits: &mut Steps<L>,
 ) -> Result<bool, NoMemory>
     requires ready { AllZip IsReady options.now made.now }
     requires asked { 0 < length places.now }
-    requires rising { IsRising 0 (next_set next places.now) (length payload.now + 1) }
+    requires rising { IsRising 0 (next_set next.now places.now) (length payload.now + 1) }
+    requires known_rising { AreRising (length payload.now + 1) behind.old.known }
     ensures right { (means : Means) → AllZip (IsMade P.finds means) options.now (map pattern_of made.now)
-        → IfOk result (λ walked. MatchBool walked (MatchesFromOne means payload.now options.now values.now (next_set next places.now))
-        (Leaves means payload.now options.now values.now (next_set next places.now) behind.old behind.new)) }
-    ensures within { AreWithin (length payload.now) behind.old → IfOk result (λ walked. AreWithin (length payload.now) behind.new) }
-    ensures nowhere { ExtractsNothing options.now → behind.new ≡ behind.old }
+        → AreKnown means payload.now options.now behind.old.known
+        → IfOk result (λ walked. MatchBool walked
+        (MatchesFromOne means payload.now options.now values.now (next_set next.now places.now))
+        (Leaves means payload.now options.now values.now (next_set next.now places.now) behind.old.states behind.new.states)) }
+    ensures within { AreWithin (length payload.now) behind.old.states
+        → IfOk result (λ walked. AreWithin (length payload.now) behind.new.states) }
+    ensures nowhere { ExtractsNothing options.now → behind.new.states ≡ behind.old.states }
     ensures bounded { visits.new ≤ visits.old + visits_of (upto_extraction options.now) (length payload.now) }
+    ensures known { (means : Means) → AllZip (IsMade P.finds means) options.now (map pattern_of made.now)
+        → AreKnown means payload.now options.now behind.old.known
+        → IfOk result (λ walked. AreKnown means payload.now options.now behind.new.known) }
+    ensures known_rising { IfOk result (λ walked. AreRising (length payload.now + 1) behind.new.known) }
+    ensures others { IfOk result (λ walked. (left : ℕ) → length options.now ≤ left
+        → known_at behind.new.known left ≡ known_at behind.old.known left) }
 {
     match next {
         Next::Same => {

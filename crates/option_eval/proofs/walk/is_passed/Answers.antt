@@ -7,6 +7,7 @@ use Rattle.option_eval.specs.Sets.{standing}
 use Rattle.option_eval.specs.States.{MatchesFromSome, Leaves}
 use Rattle.option_eval.specs.Walks.{MatchesFrom, MatchesFromOne, HasValues, visits_of, upto_extraction, behind_extraction}
 use Rattle.option_eval.proofs.Extracting.{contains_one}
+use Rattle.option_eval.proofs.Knowing.{known_nothing, rising_nothing}
 use Rattle.option_eval.proofs.Stating.{some_nowhere, each_nowhere}
 use Rattle.option_eval.proofs.Stepping.{match_true, match_false, visits_split, upto_nothing, sum_of_lists, one_of_lists}
 use Rattle.option_eval.proofs.walk.is_passed.Goals as goal
@@ -22,7 +23,7 @@ returns-in_err-is_walked-clause-bounded_by_values g c = λ means lists made each
 
 pub returns-then-branch-clause-right : goal.returns-then-branch-clause-right
 returns-then-branch-clause-right g c = λ means made. (
-  λ yes. match_true _ _ _ c.if-branch.true (c.in_ok-is_walked.ensures.right means made),
+  λ yes. match_true _ _ _ c.if-branch.true (c.in_ok-is_walked.ensures.right means made (known_nothing means c.args.payload.now c.args.options.now c.nothing.result c.nothing.ensures)),
   λ m. refl,
 )
 
@@ -35,19 +36,22 @@ returns-then-branch-clause-bounded_by_values g c = λ means lists made each.
     let size = length c.args.payload.now in
     one_of_lists lists start.values (visits_of c.args.options.now size) c.args.visits.now c.is_walked.new.visits each.0 (omega (arith, c.is_walked.ensures.bounded, visits_split c.args.options.now size))
 
+pub is_walked-requires-clause-known_rising : goal.is_walked-requires-clause-known_rising
+is_walked-requires-clause-known_rising g c κs within = rising_nothing c.nothing.result (length c.args.payload.now + 1) c.nothing.ensures
+
 pub is_passed_behind-requires-clause-within : goal.is_passed_behind-requires-clause-within
 is_passed_behind-requires-clause-within g c κs within =
-    c.in_ok-is_walked.ensures.within (each_nowhere (λ v. ⊤) (λ v p. p ≤ length c.args.payload.now) c.new-states.result c.new-states.ensures)
+    c.in_ok-is_walked.ensures.within (each_nowhere (λ v. ⊤) (λ v p. p ≤ length c.args.payload.now) c.new.result c.new.ensures)
 
 pub returns-clause-right : goal.returns-clause-right
 returns-clause-right g c = λ means made.
     let payload = c.args.payload.now in
     let options = c.args.options.now in
-    let left : Leaves means payload options (0 ∷ 0 ∷ []) (0 ∷ []) c.new-states.result c.is_walked.new.behind = match_false _ _ _ c.if-branch.false (c.in_ok-is_walked.ensures.right means made) in
+    let left : Leaves means payload options (0 ∷ 0 ∷ []) (0 ∷ []) c.new.result c.is_walked.new.behind.states = match_false _ _ _ c.if-branch.false (c.in_ok-is_walked.ensures.right means made (known_nothing means c.args.payload.now c.args.options.now c.nothing.result c.nothing.ensures)) in
     IfOk-weaker c.is_passed_behind.result _ _
     (λ passed h. (
       λ yes. ⊎_elim
-          (λ (none : MatchesFromSome means payload (behind_extraction options) c.new-states.result). absurd (some_nowhere (λ v p. MatchesFrom means payload (behind_extraction options) (standing v p)) c.new-states.result c.new-states.ensures none))
+          (λ (none : MatchesFromSome means payload (behind_extraction options) c.new.result). absurd (some_nowhere (λ v p. MatchesFrom means payload (behind_extraction options) (standing v p)) c.new.result c.new.ensures none))
           (λ (m : MatchesFromOne means payload options (0 ∷ 0 ∷ []) (0 ∷ [])). m)
           (left.sound (h.0 yes)),
       λ m. h.1 (left.complete m),
@@ -64,8 +68,8 @@ returns-clause-bounded_by_values g c = λ means lists made each.
     let payload = c.args.payload.now in
     let size = length payload in
     let options = c.args.options.now in
-    let left : Leaves means payload options (0 ∷ 0 ∷ []) (0 ∷ []) c.new-states.result c.is_walked.new.behind = match_false _ _ _ c.if-branch.false (c.in_ok-is_walked.ensures.right means made) in
-    let none = each_nowhere (Contains lists) (λ v p. HasValues means payload lists (behind_extraction options) (standing v p)) c.new-states.result c.new-states.ensures in
+    let left : Leaves means payload options (0 ∷ 0 ∷ []) (0 ∷ []) c.new.result c.is_walked.new.behind.states = match_false _ _ _ c.if-branch.false (c.in_ok-is_walked.ensures.right means made (known_nothing means c.args.payload.now c.args.options.now c.nothing.result c.nothing.ensures)) in
+    let none = each_nowhere (Contains lists) (λ v p. HasValues means payload lists (behind_extraction options) (standing v p)) c.new.result c.new.ensures in
     let from : (p : ℕ) → Contains (0 ∷ []) p → HasValues means payload lists options (standing (0 ∷ 0 ∷ []) p) = λ p has. subst (λ (q : ℕ). HasValues means payload lists options (standing (0 ∷ 0 ∷ []) q)) (sym (contains_one 0 p has)) each.1 in
     let second = c.is_passed_behind.ensures.bounded means lists made (left.have lists from none) in
     let first = one_of_lists lists start.values (visits_of (upto_extraction options) size) c.args.visits.now c.is_walked.new.visits each.0 c.is_walked.ensures.bounded in

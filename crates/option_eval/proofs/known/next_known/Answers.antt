@@ -1,0 +1,31 @@
+use Rattle.std.proofs.Common.{◌+◌, Bool, length, arith, subst}
+use Rattle.option_eval.specs.Known.{LeadsAlike}
+use Rattle.option_eval.specs.Kinds.{needs_place}
+use Rattle.option_eval.specs.Next.{next_set, RisesTo}
+use Rattle.option_eval.specs.Sets.{Gathers, IsLedTo, LeadsFrom}
+use Rattle.option_eval.proofs.Knowing.{found_known, fixed, leads_all, rises_next}
+use Rattle.option_eval.proofs.known.next_known.Goals as goal
+
+pub returns-in-Some-clause-found : goal.returns-in-Some-clause-found
+returns-in-Some-clause-found g c = λ means made known.
+    found_known (LeadsAlike means c.args.payload.now c.args.option.now (needs_place c.args.later.now)) _ c.in-Some.next c.in-Some.ensures.value known c.args.values.now c.args.places.now (omega (arith, c.fits-values)) c.requires.asked
+
+pub returns-in-Some-clause-alike : goal.returns-in-Some-clause-alike
+returns-in-Some-clause-alike g c = λ means made known free.
+    found_known (LeadsAlike means c.args.payload.now c.args.option.now (needs_place c.args.later.now)) _ c.in-Some.next c.in-Some.ensures.value known
+
+pub returns-in-Some-clause-rising : goal.returns-in-Some-clause-rising
+returns-in-Some-clause-rising g c = found_known (RisesTo (length c.args.payload.now + 1)) _ c.in-Some.next c.in-Some.ensures.value (c.requires.known_rising (length c.args.later.now))
+
+pub returns-clause-found : goal.returns-clause-found
+returns-clause-found g c = λ means made known.
+    subst (λ (every : Bool). Gathers every (IsLedTo (LeadsFrom means c.args.payload.now c.args.values.now c.args.option.now) c.args.places.now) (next_set c.in_ok-next.next c.args.places.now)) c.needs_place.ensures (c.in_ok-next.ensures.found means made)
+
+pub returns-clause-alike : goal.returns-clause-alike
+returns-clause-alike g c = λ means made known free.
+    let found = subst (λ (every : Bool). Gathers every (IsLedTo (LeadsFrom means c.args.payload.now c.args.values.now c.args.option.now) c.args.places.now) (next_set c.in_ok-next.next c.args.places.now)) c.needs_place.ensures (c.in_ok-next.ensures.found means made) in
+    leads_all means c.args.payload.now c.args.option.now c.requires.plain free (needs_place c.args.later.now) c.in_ok-next.next c.args.values.now c.args.places.now (omega (arith, c.fits-values)) c.requires.asked
+    (c.in_ok-next.ensures.apart (fixed means c.args.payload.now c.args.option.now c.requires.plain free)) found
+
+pub returns-clause-rising : goal.returns-clause-rising
+returns-clause-rising g c = rises_next c.in_ok-next.next c.args.places.now (length c.args.payload.now + 1) c.in_ok-next.ensures.rising
