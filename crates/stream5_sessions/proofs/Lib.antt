@@ -1,5 +1,6 @@
 pub mod KeyLaws
 pub mod StepLaws
+pub mod StayLaws
 pub mod EndOrder
 pub mod Recent
 pub mod Protocols

@@ -7,9 +7,11 @@ use Rattle.stream5_sessions.specs.declared.state.Change.{Change}
 use Rattle.stream5_sessions.specs.declared.state.Reading.{Reading}
 use Rattle.stream5_sessions.specs.declared.state.Reading.TheVariants.{Then, EndsBefore}
 use Rattle.stream5_sessions.specs.declared.step.SessionRules.{SessionRules}
-use Rattle.stream5_sessions.specs.Phases.{no_session, state_after, taken, at_hand, is_timed_out, by_row, row_of, in_none, is_open, session_step}
+use Rattle.stream5_sessions.specs.Phases.{no_session, state_after, taken, at_hand, is_timed_out, by_row, row_of, in_none}
+use Rattle.stream5_sessions.specs.Phases.{is_open, session_step}
 
-either_tcp : (b : Bool) (one other : State) (tcp : Bool) → one.tcp ≡ tcp → other.tcp ≡ tcp → (cond b one other).tcp ≡ tcp
+either_tcp : (b : Bool) (one other : State) (tcp : Bool) → one.tcp ≡ tcp → other.tcp ≡ tcp
+    → (cond b one other).tcp ≡ tcp
 either_tcp true one other tcp h g = h
 either_tcp false one other tcp h g = g
 
@@ -17,21 +19,25 @@ taken_tcp : (ended : Bool) (s : State) (change : Change) (p : Segment) → (take
 unfolding taken
 taken_tcp ended s change p = either_tcp change.ends (no_session s.tcp p.moment) (state_after s change p) s.tcp refl refl
 
-by_row_tcp : (timed_out : Bool) (s : State) (reading : Reading) (p : Segment) (needed : Bool) → (by_row timed_out s reading p needed).state.tcp ≡ s.tcp
+by_row_tcp : (timed_out : Bool) (s : State) (reading : Reading) (p : Segment) (needed : Bool)
+    → (by_row timed_out s reading p needed).state.tcp ≡ s.tcp
 by_row_tcp timed_out s (Then change) p needed = taken_tcp timed_out s change p
 by_row_tcp timed_out s EndsBefore p needed = taken_tcp true (no_session s.tcp s.last) (in_none p needed) p
 
 at_hand_tcp : (s : State) (p : Segment) (rules : SessionRules) → (at_hand s p rules).tcp ≡ s.tcp
 unfolding at_hand
-at_hand_tcp s p rules = either_tcp (is_timed_out s p rules) (no_session s.tcp s.last) s s.tcp refl refl
+at_hand_tcp s p rules = either_tcp (is_timed_out s p.moment rules) (no_session s.tcp s.last) s s.tcp refl refl
 
 pub session_step_tcp : (s : State) (p : Segment) (rules : SessionRules) → (session_step s p rules).state.tcp ≡ s.tcp
 unfolding session_step
 session_step_tcp s p rules =
-    by_row_tcp (is_timed_out s p rules) (at_hand s p rules) (row_of (at_hand s p rules) p rules) p rules.needed_new ∙ at_hand_tcp s p rules
+    by_row_tcp (is_timed_out s p.moment rules) (at_hand s p rules) (row_of (at_hand s p rules) p rules) p rules.needed_new
+    ∙ at_hand_tcp s p rules
 
-fresh_row : (timed_out : Bool) (s : State) (reading : Reading) (p : Segment) (needed : Bool) → (timed_out ≡ true → is_open s.phase ≡ false)
-    → (by_row timed_out s reading p needed).step.ended_before ≡ true → (by_row timed_out s reading p needed).step.begun ≡ (by_row timed_out s reading p needed).step.tracked
+fresh_row : (timed_out : Bool) (s : State) (reading : Reading) (p : Segment) (needed : Bool)
+    → (timed_out ≡ true → is_open s.phase ≡ false)
+    → (by_row timed_out s reading p needed).step.ended_before ≡ true
+    → (by_row timed_out s reading p needed).step.begun ≡ (by_row timed_out s reading p needed).step.tracked
 unfolding taken
 fresh_row timed_out s (Then change) p needed none ended = ap (λ (b : Bool). not b && is_open change.phase) (none ended)
 fresh_row timed_out s EndsBefore p needed none ended = refl
@@ -40,11 +46,15 @@ none_open : (b : Bool) (s : State) → b ≡ true → is_open (cond b (no_sessio
 none_open true s is = refl
 none_open false s is = absurd (false≢true is)
 
-at_hand_fresh : (s : State) (p : Segment) (rules : SessionRules) → is_timed_out s p rules ≡ true → is_open (at_hand s p rules).phase ≡ false
+at_hand_fresh : (s : State) (p : Segment) (rules : SessionRules) → is_timed_out s p.moment rules ≡ true
+    → is_open (at_hand s p rules).phase ≡ false
 unfolding at_hand
-at_hand_fresh s p rules is = none_open (is_timed_out s p rules) s is
+at_hand_fresh s p rules is = none_open (is_timed_out s p.moment rules) s is
 
 -- a packet before which a session ended begins its own session, if it has one
-pub session_step_fresh : (s : State) (p : Segment) (rules : SessionRules) → (session_step s p rules).step.ended_before ≡ true → (session_step s p rules).step.begun ≡ (session_step s p rules).step.tracked
+pub session_step_fresh : (s : State) (p : Segment) (rules : SessionRules) → (session_step s p rules).step.ended_before ≡ true
+    → (session_step s p rules).step.begun ≡ (session_step s p rules).step.tracked
 unfolding session_step
-session_step_fresh s p rules = fresh_row (is_timed_out s p rules) (at_hand s p rules) (row_of (at_hand s p rules) p rules) p rules.needed_new (at_hand_fresh s p rules)
+session_step_fresh s p rules =
+    fresh_row (is_timed_out s p.moment rules) (at_hand s p rules) (row_of (at_hand s p rules) p rules) p rules.needed_new
+    (at_hand_fresh s p rules)

@@ -4,3 +4,4 @@ pub mod Liveness
 pub mod Caches
 pub mod Indexed
 pub mod Phases
+pub mod Staying

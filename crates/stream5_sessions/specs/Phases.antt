@@ -13,7 +13,8 @@
 -- 100, ack 1, and there an ACK with seq 1, ack 101 go through Syn and SynAck to Est; the client's base
 -- is 1 and the server's 101. A packet with ACK, seq 5, ack 1 and data alone goes to Mid, where the
 -- client's base is 5 and the server's 1.
-use Rattle.std.specs.Prelude.{ℕ, ◌+◌, ◌*◌, ◌%◌, ◌^◌, ◌==◌, Bool, true, false, not, ◌&&◌, ⊤, Option, Some, None, nat_lt, is_some, bit_and, if◌then◌else◌}
+use Rattle.std.specs.Prelude.{ℕ, ◌+◌, ◌*◌, ◌%◌, ◌^◌, ◌==◌, Bool, true, false, not, ◌&&◌, ⊤}
+use Rattle.std.specs.Prelude.{Option, Some, None, nat_lt, is_some, bit_and, if◌then◌else◌}
 use Rattle.std.specs.Option.{option_map}
 use Rattle.edge_io.specs.declared.moment.Moment.{Moment}
 use Rattle.packet_decode.specs.declared.packet.IpHead.{IpHead}
@@ -87,7 +88,16 @@ segment_of ip body len moment = record {
 
 -- no session stands
 abbrev pub no_session : Bool → Moment → State
-no_session tcp last = record { tcp = tcp; phase = NoSession; client = None; client_base = None; server_base = None; client_fin = None; server_fin = None; last = last }
+no_session tcp last = record {
+  tcp = tcp;
+  phase = NoSession;
+  client = None;
+  client_base = None;
+  server_base = None;
+  client_fin = None;
+  server_fin = None;
+  last = last;
+}
 
 -- The words of the rows.
 
@@ -133,7 +143,14 @@ begins_off = record begins_none { phase = Off }
 
 -- it begins a session in this phase, with this client and these bases of the client and the server
 abbrev pub begins : Phase → End → Option ℕ → Option ℕ → Change
-begins phase client client_base server_base = record { phase = phase; client = Some client; client_base = client_base; server_base = server_base; counts = false; ends = false }
+begins phase client client_base server_base = record {
+  phase = phase;
+  client = Some client;
+  client_base = client_base;
+  server_base = server_base;
+  counts = false;
+  ends = false;
+}
 
 -- the end with the larger port, the sender where the ports are equal
 abbrev pub larger_end : Segment → End
@@ -150,8 +167,18 @@ begins_mid p =
 abbrev pub goes_mid : State → Segment → Change
 goes_mid s p =
     if is_from s.client p
-    then record (stays s) { phase = Mid; client_base = unset s.client_base p.seq; server_base = unset s.server_base p.ack; counts = true }
-    else record (stays s) { phase = Mid; client_base = unset s.client_base p.ack; server_base = unset s.server_base p.seq; counts = true }
+    then record (stays s) {
+      phase = Mid;
+      client_base = unset s.client_base p.seq;
+      server_base = unset s.server_base p.ack;
+      counts = true;
+    }
+    else record (stays s) {
+      phase = Mid;
+      client_base = unset s.client_base p.ack;
+      server_base = unset s.server_base p.seq;
+      counts = true;
+    }
 
 -- the end of a FIN: the place behind the data and the FIN itself
 abbrev pub fin_end : Segment → ℕ
@@ -190,7 +217,8 @@ in_none p needed =
 unfoldable pub in_syn : State → Segment → Bool → Change
 in_syn s p needed =
     if p.rst then ends s else
-    if is_from_server s p && p.syn && p.has_ack && is_base s.client_base p.ack then record (stays s) { phase = SynAck; server_base = Some (plus p.seq 1) } else
+    if is_from_server s p && p.syn && p.has_ack && is_base s.client_base p.ack
+    then record (stays s) { phase = SynAck; server_base = Some (plus p.seq 1) } else
     if is_from s.client p && p.syn && not p.has_ack then record (stays s) { client_base = Some (plus p.seq 1) } else
     if p.has_ack && not p.syn && not needed then goes_mid s p else
     stays s
@@ -297,13 +325,13 @@ taken ended_before s change p = record {
   state = (if change.ends then no_session s.tcp p.moment else state_after s change p);
 }
 
--- the last packet lies further back than the timeout, in seconds: over whole numbers
-unfoldable pub is_timed_out : State → Segment → SessionRules → Bool
-is_timed_out s p rules = is_open s.phase && nat_lt (s.last.nanos + rules.timeout * 1000000000) p.moment.nanos
+-- at this moment the last packet lies further back than the timeout, in seconds: over whole numbers
+unfoldable pub is_timed_out : State → Moment → SessionRules → Bool
+is_timed_out s moment rules = is_open s.phase && nat_lt (s.last.nanos + rules.timeout * 1000000000) moment.nanos
 
 -- the session that a packet meets: none behind the timeout
 unfoldable pub at_hand : State → Segment → SessionRules → State
-at_hand s p rules = if is_timed_out s p rules then no_session s.tcp s.last else s
+at_hand s p rules = if is_timed_out s p.moment rules then no_session s.tcp s.last else s
 
 -- by the row that the packet meets
 abbrev pub by_row : Bool → State → Reading → Segment → Bool → Taken
@@ -314,4 +342,4 @@ by_row timed_out s EndsBefore p needed_new = taken true (no_session s.tcp s.last
 unfoldable pub session_step : State → Segment → SessionRules → Taken
 session_step s p rules =
     let now : State = at_hand s p rules in
-    by_row (is_timed_out s p rules) now (row_of now p rules) p rules.needed_new
+    by_row (is_timed_out s p.moment rules) now (row_of now p rules) p rules.needed_new

@@ -18,6 +18,13 @@ impl End {
     {
         self == other
     }
+
+    /// The end has this address and this port.
+    pub(crate) fn has(&self, addr: &Addr, port: u16) -> bool
+        ensures { result ≡ same_end self.now (record { addr = addr.now; port = port }) }
+    {
+        self.addr == *addr && self.port == port
+    }
 }
 
 impl Hash for End {

@@ -15,6 +15,7 @@ mod rows;
 mod segment;
 mod session;
 mod state;
+mod staying;
 mod step;
 #[cfg(test)]
 mod tests;

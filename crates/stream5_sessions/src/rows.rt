@@ -1,6 +1,9 @@
 //! The table of phases, a phase a function, a row a branch, in the order of specs/Phases.
 ghost use Rattle.std.specs.Prelude.{◌≡◌, Option, is_some, not, ◌&&◌};
-ghost use Rattle.stream5_sessions.specs.Phases.{is_from, is_from_server, is_base, unset, stays, ends, begins_none, begins_off, begins, begins_mid, goes_mid, counts_on, acks_fin, client_fin_after, server_fin_after, larger_end, in_none, in_syn, in_syn_ack, in_est, in_closing, in_off, in_udp, row_of, tcp_row};
+ghost use Rattle.stream5_sessions.specs.Phases.{is_from, is_from_server, is_base, unset, stays, ends, begins_none, begins_off};
+ghost use Rattle.stream5_sessions.specs.Phases.{begins, begins_mid, goes_mid, counts_on, acks_fin, client_fin_after, larger_end};
+ghost use Rattle.stream5_sessions.specs.Phases.{server_fin_after, in_none, in_syn, in_syn_ack, in_est, in_closing, in_off};
+ghost use Rattle.stream5_sessions.specs.Phases.{in_udp, row_of, tcp_row};
 
 use crate::End;
 use crate::segment::{Segment, fin_end, plus};

@@ -1,5 +1,8 @@
-ghost use Rattle.std.specs.Prelude.{◌≡◌};
-ghost use Rattle.stream5_sessions.specs.Phases.{IsBodyOf, segment_of, plus, fin_end};
+ghost use Rattle.std.specs.Prelude.{◌≡◌, ℕ};
+ghost use Rattle.edge_io.specs.declared.moment.Moment.{Moment};
+ghost use Rattle.packet_decode.specs.declared.packet.IpHead.{IpHead};
+ghost use Rattle.stream5_sessions.specs.Phases.{IsBodyOf, segment_of, plus, fin_end, is_set};
+ghost use Rattle.stream5_sessions.specs.Staying.{has_no_control};
 
 use crate::End;
 use edge_io::Moment;
@@ -43,6 +46,47 @@ pub(crate) fn fin_end(segment: &Segment) -> u32
     plus(plus(segment.seq, segment.len), 1)
 }
 
+/// One of the control bits is set.
+fn is_set(flags: u8, bit: u8) -> bool
+    ensures { result ≡ is_set bit flags }
+{
+    flags & bit != 0
+}
+
+/// The sender's port; 0 where the body has none.
+pub(crate) fn sender_port(body: &Body) -> u16
+    ensures { (ip : IpHead) (len : ℕ) (moment : Moment)
+        → (segment_of ip body.now len moment).sender ≡ record { addr = ip.src; port = result } }
+{
+    match *body {
+        Body::Tcp(head) => head.sport,
+        Body::Udp { sport, .. } => sport,
+        _ => 0,
+    }
+}
+
+/// The packet acknowledges something.
+pub(crate) fn has_ack(body: &Body) -> bool
+    ensures { (ip : IpHead) (len : ℕ) (moment : Moment) → result ≡ (segment_of ip body.now len moment).has_ack }
+{
+    match *body {
+        Body::Tcp(head) => is_set(head.flags, ACK),
+        _ => false,
+    }
+}
+
+/// The packet has none of SYN, FIN and RST.
+pub(crate) fn has_no_control(body: &Body) -> bool
+    ensures { (ip : IpHead) (len : ℕ) (moment : Moment) → result ≡ has_no_control (segment_of ip body.now len moment) }
+{
+    match *body {
+        Body::Tcp(head) => {
+            !is_set(head.flags, SYN) && !is_set(head.flags, FIN) && !is_set(head.flags, RST)
+        }
+        _ => true,
+    }
+}
+
 /// A packet of a session, for the table.
 pub(crate) fn segment_of(ip: &IpHead, body: &Body, len: usize, moment: Moment, tcp: bool) -> Segment
     requires { IsBodyOf tcp body.now }
@@ -58,10 +102,10 @@ pub(crate) fn segment_of(ip: &IpHead, body: &Body, len: usize, moment: Moment, t
                 addr: ip.dst,
                 port: head.dport,
             },
-            fin: head.flags & FIN != 0,
-            syn: head.flags & SYN != 0,
-            rst: head.flags & RST != 0,
-            has_ack: head.flags & ACK != 0,
+            fin: is_set(head.flags, FIN),
+            syn: is_set(head.flags, SYN),
+            rst: is_set(head.flags, RST),
+            has_ack: is_set(head.flags, ACK),
             seq: head.seq,
             ack: head.ack,
             len,

@@ -1,9 +1,12 @@
-ghost use Rattle.std.specs.Prelude.{◌≡◌};
-ghost use Rattle.stream5_sessions.specs.Phases.{IsBodyOf, segment_of, no_session, base_after, step_of, state_after, taken, by_row, is_timed_out, at_hand, session_step};
+ghost use Rattle.std.specs.Prelude.{◌≡◌, ℕ, true, false, if◌then◌else◌};
+ghost use Rattle.stream5_sessions.specs.Phases.{IsBodyOf, segment_of, no_session, base_after, step_of, state_after};
+ghost use Rattle.stream5_sessions.specs.Phases.{taken, by_row, is_timed_out, at_hand, session_step};
+ghost use Rattle.stream5_sessions.specs.Staying.{stays_as_is};
 
 use crate::rows::{client_fin_after, in_none, is_from, row_of, server_fin_after};
 use crate::segment::{Segment, segment_of};
-use crate::state::{Change, Phase, Reading, State, Taken};
+use crate::state::{Change, Phase, Reading, State, Taken, is_timed_out};
+use crate::staying::{staying_step, stays_as_is};
 use crate::step::{SessionRules, Step};
 use edge_io::Moment;
 use packet_decode::{Body, IpHead};
@@ -56,6 +59,31 @@ impl Session {
         self.state = state;
         step
     }
+
+    /// Takes one packet of the flow where it leaves the session as it is, but for the moment of its last packet.
+    /// `step` is then what `Session::step` would tell. Of any other packet the answer is false, and nothing
+    /// changes. Takes no memory.
+    pub fn stay(
+        &mut self,
+        ip: &IpHead,
+        body: &Body,
+        moment: Moment,
+        rules: SessionRules,
+        step: &mut Step,
+    ) -> bool
+        ensures stays { (len : ℕ) → result ≡ stays_as_is self.old (segment_of ip.now body.now len moment) rules }
+        ensures told { result ≡ true → (len : ℕ)
+            → session_step self.old (segment_of ip.now body.now len moment) rules ≡ record { step = step.new; state = self.new } }
+        ensures session { self.new ≡ (if result then record self.old { last = moment } else self.old) }
+        ensures untold { result ≡ false → step.new ≡ step.old }
+    {
+        let stays = stays_as_is(&self.state, ip, body, moment, &rules);
+        if stays {
+            *step = staying_step(&self.state, ip, body);
+            self.state.last = moment;
+        }
+        stays
+    }
 }
 
 /// No session stands.
@@ -74,21 +102,12 @@ fn none(tcp: bool, last: Moment) -> State
     }
 }
 
-/// The last packet lies further back than the timeout.
-#[tactic(auto, unfolding(crate::specs::Phases::is_timed_out))]
-fn is_timed_out(state: &State, segment: &Segment, rules: &SessionRules) -> bool
-    ensures { result ≡ is_timed_out state.now segment.now rules.now }
-{
-    let last = u128::from(state.last.nanos) + u128::from(rules.timeout) * 1_000_000_000;
-    state.phase.is_open() && last < u128::from(segment.moment.nanos)
-}
-
 /// The session that the packet meets.
 #[tactic(auto, unfolding(crate::specs::Phases::at_hand))]
 fn at_hand(state: &State, segment: &Segment, rules: &SessionRules) -> State
     ensures { result ≡ at_hand state.now segment.now rules.now }
 {
-    if is_timed_out(state, segment, rules) {
+    if is_timed_out(state, segment.moment, rules) {
         none(state.tcp, state.last)
     } else {
         *state
@@ -126,7 +145,10 @@ fn step_of(ended_before: bool, state: &State, change: Change, segment: &Segment)
 
 /// The ends of both sides' last FINs, with the packet counted where its data count.
 fn fins_after(state: &State, change: Change, segment: &Segment) -> (Option<u32>, Option<u32>)
-    ensures { result ≡ ((state_after state.now change segment.now).client_fin, (state_after state.now change segment.now).server_fin) }
+    ensures { result ≡ (
+      (state_after state.now change segment.now).client_fin,
+      (state_after state.now change segment.now).server_fin,
+    ) }
 {
     if change.counts {
         let now = State {
@@ -203,7 +225,7 @@ fn session_step(state: &State, segment: &Segment, rules: &SessionRules) -> Taken
 {
     let now = at_hand(state, segment, rules);
     by_row(
-        is_timed_out(state, segment, rules),
+        is_timed_out(state, segment.moment, rules),
         &now,
         row_of(&now, segment, rules),
         segment,

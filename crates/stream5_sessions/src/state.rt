@@ -1,4 +1,7 @@
-use crate::{End, Step};
+ghost use Rattle.std.specs.Prelude.{◌≡◌};
+ghost use Rattle.stream5_sessions.specs.Phases.{is_timed_out};
+
+use crate::{End, SessionRules, Step};
 use edge_io::Moment;
 
 /// Where a session stands. Of UDP, `Syn` is a session in which only the client has sent, and `Est`
@@ -84,4 +87,13 @@ pub(crate) enum Reading {
 pub(crate) struct Taken {
     pub step: Step,
     pub state: State,
+}
+
+/// At this moment the last packet lies further back than the timeout.
+#[tactic(auto, unfolding(crate::specs::Phases::is_timed_out))]
+pub(crate) fn is_timed_out(state: &State, moment: Moment, rules: &SessionRules) -> bool
+    ensures { result ≡ is_timed_out state.now moment rules.now }
+{
+    let last = u128::from(state.last.nanos) + u128::from(rules.timeout) * 1_000_000_000;
+    state.phase.is_open() && last < u128::from(moment.nanos)
 }

@@ -10,8 +10,8 @@ pub struct SessionRules {
     pub needed_new: bool,
 }
 
-/// What a packet tells of its session.
-#[derive(Clone, Copy, Debug, PartialEq, Eq)]
+/// What a packet tells of its session. By default, nothing.
+#[derive(Clone, Copy, Debug, Default, PartialEq, Eq)]
 pub struct Step {
     /// A session ended before the packet.
     pub ended_before: bool,

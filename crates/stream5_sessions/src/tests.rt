@@ -63,7 +63,8 @@ struct Row(
 );
 
 /// The step with these facts: `<` ended before, `b` begun, `t` tracked, `e` established, `c` from the
-/// client, `s` from the server, `d` data and `a` acknowledgement count, `x` ends.
+/// client, `s` from the server, `d` data and `a` acknowledgement count, `x` ends. That a packet leaves its session
+/// as it is, which has the letter `=`, is no part of it.
 fn step_with(facts: &str, client_base: Option<u32>, server_base: Option<u32>) -> Step {
     let from_client = if facts.contains('c') {
         Some(true)
@@ -116,6 +117,17 @@ fn ends_of(from: From) -> (End, End) {
     }
 }
 
+/// Whether the packet leaves the session as it is.
+fn leaves(
+    mut session: Session,
+    head: &IpHead,
+    body: &Body,
+    moment: Moment,
+    rules: SessionRules,
+) -> bool {
+    session.stay(head, body, moment, rules, &mut Step::default())
+}
+
 /// Compares what the packets of one TCP flow tell, one after another.
 fn play(rt: &impl Abort, name: &str, rules: SessionRules, rows: &[Row]) {
     let mut session = Session::new(true);
@@ -131,6 +143,8 @@ fn play(rt: &impl Abort, name: &str, rules: SessionRules, rows: &[Row]) {
             window: 65535,
         });
         let head = head_of(sender, receiver);
+        let stays = leaves(session, &head, &body, moment_of(second), rules);
+        assert_eq!(rt; stays, facts.contains('='), "{name}, packet {at}");
         let step = session.step(&head, &body, len, moment_of(second), rules);
         let wanted = step_with(facts, client_base, server_base);
         assert_eq!(rt; step, wanted, "{name}, packet {at}");
@@ -157,13 +171,13 @@ fn handshake_and_fins(rt: HostRuntime) {
             Row(Client, SYN | ACK, 99, 0, 0, 0, "tc", None, None),
             Row(Server, ACK, 100, 0, 3, 0, "ts", None, None),
             Row(Client, ACK, 0, 100, 0, 0, "tecda", None, None),
-            Row(Client, ACK, 0, 100, 4, 0, "tecda", None, None),
-            Row(Server, ACK, 100, 4, 9, 0, "tesda", None, None),
-            Row(Client, 0, 4, 0, 1, 0, "tecd", None, None),
+            Row(Client, ACK, 0, 100, 4, 0, "tecda=", None, None),
+            Row(Server, ACK, 100, 4, 9, 0, "tesda=", None, None),
+            Row(Client, 0, 4, 0, 1, 0, "tecd=", None, None),
             Row(Client, SYN, 4, 0, 1, 0, "tec", None, None),
             Row(Server, SYN | ACK, 4, 0, 1, 0, "tes", None, None),
             Row(Client, FIN | ACK, LAST - 5, 0, 5, 0, "tecda", None, None),
-            Row(Server, ACK, 100, 0, 0, 0, "tesda", None, None),
+            Row(Server, ACK, 100, 0, 0, 0, "tesda=", None, None),
             Row(Server, FIN | ACK, LAST, 0, 100, 0, "tesda", None, None),
             Row(Client, ACK, 0, 99, 0, 0, "tecda", None, None),
             Row(Client, SYN | ACK, 0, 100, 0, 0, "tec", None, None),
@@ -271,7 +285,7 @@ fn beginnings_and_ends(rt: HostRuntime) {
             Row(Client, 0, 7, 0, 0, 130, "tc", None, None),
             Row(Client, 0, 7, 0, 0, 160, "tc", None, None),
             Row(Client, ACK, 7, 2, 0, 191, "<btecda", Some(7), Some(2)),
-            Row(Client, ACK, 7, 2, 0, 50, "tecda", None, None),
+            Row(Client, ACK, 7, 2, 0, 50, "tecda=", None, None),
             Row(Client, RST, 7, 2, 0, 81, "<", None, None),
         ],
     );
@@ -294,13 +308,13 @@ fn datagrams(rt: HostRuntime) {
     use From::{Client, Itself, Server};
     let rows = [
         (Client, 0, "btc"),
-        (Client, 30, "tc"),
+        (Client, 30, "tc="),
         (Server, 30, "tes"),
-        (Client, 60, "tec"),
+        (Client, 60, "tec="),
         (Server, 91, "<btc"),
         (Client, 91, "tes"),
         (Itself, 200, "<btc"),
-        (Itself, 200, "tc"),
+        (Itself, 200, "tc="),
     ];
     let mut session = Session::new(false);
     for (at, (from, second, facts)) in rows.iter().enumerate() {
@@ -310,6 +324,8 @@ fn datagrams(rt: HostRuntime) {
             dport: receiver.port,
         };
         let head = head_of(sender, receiver);
+        let stays = leaves(session, &head, &body, moment_of(*second), RULES);
+        assert_eq!(rt; stays, facts.contains('='), "packet {at}");
         let step = session.step(&head, &body, 3, moment_of(*second), RULES);
         assert_eq!(rt; step, step_with(facts, None, None), "packet {at}");
     }
