@@ -32,3 +32,4 @@ pub mod FlowLaws
 pub mod LimitLaws
 pub mod PushLaws
 pub mod Spreading
+pub mod StayingLaws

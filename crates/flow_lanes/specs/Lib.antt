@@ -17,5 +17,6 @@ pub mod Standing
 pub mod Batching
 pub mod Course
 pub mod Kept
+pub mod Staying
 pub mod Whole
 pub mod Spread

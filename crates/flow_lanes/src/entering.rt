@@ -1,7 +1,8 @@
 //! The session of a packet, in its place: what was left before the packet, the packet's own session, and
 //! what it brings.
 
-ghost use Rattle.std.specs.Prelude.{◌≡◌, ◌+◌, ◌-◌, ◌^◌, ◌≤◌, ◌++◌, ℕ, Bool, false, length, None, Option, option_map, Some, IfOk, OnOk, if◌then◌else◌};
+ghost use Rattle.std.specs.Prelude.{◌≡◌, ◌+◌, ◌-◌, ◌^◌, ◌≤◌, ◌++◌, ℕ, Bool, false, true, length};
+ghost use Rattle.std.specs.Prelude.{None, Option, option_map, Some, IfOk, OnOk, if◌then◌else◌};
 ghost use Rattle.std.specs.FinSet.{empty};
 ghost use Rattle.flow_lanes.specs.Flows.{bits_at_hand, session_at_hand};
 ghost use Rattle.flow_lanes.specs.Given.{making_of, packet_of};
@@ -9,6 +10,7 @@ ghost use Rattle.flow_lanes.specs.Items.{facts_of, is_queued, session_behind};
 ghost use Rattle.flow_lanes.specs.Kept.{GrowsFound, IsFound, IsOf, KeepsFound};
 ghost use Rattle.flow_lanes.specs.Reach.{AreWithin, HasLimits, IsWithin};
 ghost use Rattle.flow_lanes.specs.Sessions.{Session as Standing, begun_session, session_of, settled, sizes_of, with_bases};
+ghost use Rattle.flow_lanes.specs.Staying.{StaysAt};
 ghost use Rattle.flow_lanes.specs.Working.{TellsLeftAt, items_on, own_facts, own_item, sizes_behind, streams_of};
 
 use crate::arrival::Arrival;
@@ -34,6 +36,25 @@ fn take_left_stretches(alloc: Global, found: &mut Option<FlowState>) -> Result<L
     match found {
         None => Ok(Left::none()),
         Some(kept) => kept.session.take_left(alloc),
+    }
+}
+
+/// The session at hand takes a packet that leaves it as it is, where nothing is left before it: `step` is then
+/// what it tells. Of any other packet the answer is false, and nothing changes. Takes no memory.
+pub(crate) fn stay(
+    settings: &Settings,
+    p: &Arrival,
+    found: &mut Option<FlowState>,
+    step: &mut Step,
+) -> bool
+    ensures stays { result ≡ true
+        → StaysAt (making_of settings.now) (packet_of p.now) found.old step.new found.new }
+    ensures still { result ≡ false → found.new ≡ found.old }
+    ensures keeps { KeepsFound found.old found.new }
+{
+    match found {
+        None => false,
+        Some(kept) => kept.session.stay(settings, p, step),
     }
 }
 
@@ -110,7 +131,7 @@ fn enter(
 }
 
 /// The packet's session, if it has one, takes what the packet brings. True exactly where its data are held.
-fn take_packet(
+pub(crate) fn take_packet(
     alloc: Global,
     p: &Arrival,
     step: &Step,
@@ -157,7 +178,7 @@ fn facts_of(p: &Arrival, step: &Step, after: &Option<FlowState>) -> SessionFacts
 }
 
 /// The session facts of the packet's own item, unless its data were queued and such packets are no items.
-fn own_facts(
+pub(crate) fn own_facts(
     inserts: bool,
     p: &Arrival,
     step: &Step,

@@ -1,27 +1,30 @@
 //! One job of a flow, in the flow's place: its items, the rules that match them, and what is then kept.
 
-ghost use Rattle.std.specs.Prelude.{◌≡◌, ◌+◌, ◌-◌, ◌^◌, ◌≤◌, ◌++◌, [], ℕ, Bool, true, All, IfOk, OnOk, None, Some, length};
+ghost use Rattle.std.specs.Prelude.{◌≡◌, ◌+◌, ◌-◌, ◌^◌, ◌≤◌, ◌++◌, [], ℕ, Bool, true, All, Option};
+ghost use Rattle.std.specs.Prelude.{IfOk, OnOk, None, Some, length};
 ghost use Rattle.rule_types.specs.Sound.{IsTriable};
 ghost use Rattle.fast_pattern.specs.Grouping.{StandFor};
 ghost use Rattle.option_eval.specs.Places.{Means};
 ghost use Rattle.flow_lanes.specs.Detecting.{DetectsOn, GoesOn};
-ghost use Rattle.flow_lanes.specs.Flows.{all_items, bits_at_hand, hits_in, session_at_hand};
+ghost use Rattle.flow_lanes.specs.Flows.{FlowState as Found, all_items, bits_at_hand, hits_in, session_at_hand};
 ghost use Rattle.flow_lanes.specs.Given.{making_of, packet_of};
 ghost use Rattle.flow_lanes.specs.ItemHits.{Trying, hits_of, told};
 ghost use Rattle.flow_lanes.specs.Items.{finish_items, packet_items};
-ghost use Rattle.flow_lanes.specs.Kept.{IsFound, KeepsFound};
+ghost use Rattle.flow_lanes.specs.Kept.{GrowsFound, IsFound, KeepsFound};
 ghost use Rattle.flow_lanes.specs.Reach.{HasLimits, IsWithin};
-ghost use Rattle.flow_lanes.specs.Sessions.{is_tcp};
+ghost use Rattle.flow_lanes.specs.Sessions.{is_tcp, state_of};
 ghost use Rattle.flow_lanes.specs.Sound.{HasSessions, IsSoundPacket};
+ghost use Rattle.flow_lanes.specs.Staying.{StaysAt};
 ghost use Rattle.flow_lanes.specs.Tried.{TriesBy, candidates_of};
 ghost use Rattle.flow_lanes.specs.Working.{ended_items, items_on, unless_ended};
 
 use crate::arrival::Arrival;
 use crate::detecting::{try_and_settle, try_at_end};
-use crate::entering::push_current;
+use crate::entering::{own_facts, push_current, stay, take_packet};
 use crate::item::Item;
 use crate::keeping::{Flow, FlowState};
 use crate::matcher::Matcher;
+use crate::session::Left;
 use crate::settings::Settings;
 use crate::steps::step_and_state;
 use crate::tally::Tally;
@@ -134,7 +137,44 @@ fn go_on<P: Pattern>(
     Ok(())
 }
 
+/// A packet that left its session as it is: the rules are tried on its items.
+fn packet_stays<P: Pattern>(
+    matcher: &Matcher<'_, P>,
+    settings: &Settings,
+    p: &Arrival,
+    step: &Step,
+    found: &mut Option<FlowState>,
+    tally: &mut Tally,
+) -> Result<(), NoMemory>
+    requires within { IsWithin (session_at_hand found.old) (2 ^ 63 - 2 ^ 31) }
+    requires size { length p.now.payload.now ≤ 65535 }
+    requires groups { StandFor matcher.now.groups.now matcher.now.set.now.rules }
+    requires triable { All IsTriable matcher.now.set.now.rules }
+    ensures hits { (means : Means) (trying : Trying) → TriesBy P.finds means matcher.now.set.now trying
+        → (before : Option Found) → StaysAt (making_of settings.now) (packet_of p.now) before step.now found.old
+        → OnOk result (GoesOn matcher.now.all trying (making_of settings.now) (packet_of p.now) step.now
+        (state_of (making_of settings.now) (packet_of p.now) (session_at_hand before))
+        before found.new tally.old.hits.items tally.new.hits.items) }
+    ensures items { (before : Option Found) → StaysAt (making_of settings.now) (packet_of p.now) before step.now found.old
+        → OnOk result (tally.new.items ≡ tally.old.items + length
+        (items_on (making_of settings.now) (packet_of p.now) step.now
+        (state_of (making_of settings.now) (packet_of p.now) (session_at_hand before)) (session_at_hand before))) }
+    ensures tries { (before : Option Found) → StaysAt (making_of settings.now) (packet_of p.now) before step.now found.old
+        → OnOk result (tally.new.tries ≡ tally.old.tries + candidates_of matcher.now.set.now.rules
+        (items_on (making_of settings.now) (packet_of p.now) step.now
+        (state_of (making_of settings.now) (packet_of p.now) (session_at_hand before)) (session_at_hand before))) }
+    ensures grows { GrowsFound found.old found.new }
+{
+    let mut items = Vec::new(matcher.alloc);
+    let queued = take_packet(matcher.alloc, p, step, Left::none(), found, &mut items)?;
+    let own = own_facts(settings.inserts, p, step, queued, found);
+    try_and_settle(matcher, &items, &own, p, step, found, tally)?;
+    Ok(())
+}
+
 /// A packet of the flow of which this is found, with the rules that match its items.
+// Kept out of the line of the packets that leave their session as it is, which are most.
+#[inline(never)]
 fn packet_on<P: Pattern>(
     matcher: &Matcher<'_, P>,
     settings: &Settings,
@@ -165,6 +205,40 @@ fn packet_on<P: Pattern>(
     Ok(())
 }
 
+/// A packet of the flow of which this is found, with the rules that match its items: in place, where it leaves its
+/// session as it is.
+fn packet_found<P: Pattern>(
+    matcher: &Matcher<'_, P>,
+    settings: &Settings,
+    p: &Arrival,
+    found: &mut Option<FlowState>,
+    tally: &mut Tally,
+) -> Result<(), NoMemory>
+    requires limits { HasLimits (making_of settings.now) }
+    requires protocol { HasSessions p.now.head.now.body }
+    requires found { IsFound (is_tcp p.now.head.now.body) (2 ^ 63 - 2 ^ 31) (session_at_hand found.old) }
+    requires size { length p.now.payload.now ≤ 65535 }
+    requires groups { StandFor matcher.now.groups.now matcher.now.set.now.rules }
+    requires triable { All IsTriable matcher.now.set.now.rules }
+    ensures detects { (means : Means) (trying : Trying) → TriesBy P.finds means matcher.now.set.now trying
+        → tally.old.hits.items ≡ []
+        → OnOk result (DetectsOn matcher.now.all trying (packet_items (making_of settings.now) (packet_of p.now)
+        (session_at_hand found.old)) found.old tally.new.hits.items found.new) }
+    ensures items { OnOk result (tally.new.items ≡ tally.old.items + length
+        (all_items (packet_items (making_of settings.now) (packet_of p.now) (session_at_hand found.old)))) }
+    ensures tries { OnOk result (tally.new.tries ≡ tally.old.tries + candidates_of matcher.now.set.now.rules
+        (all_items (packet_items (making_of settings.now) (packet_of p.now) (session_at_hand found.old)))) }
+    ensures grows { (places : ℕ) → IsFound (is_tcp p.now.head.now.body) places (session_at_hand found.old)
+        → IsFound (is_tcp p.now.head.now.body) (places + 2 ^ 31) (session_at_hand found.new) }
+{
+    let mut step = Step::default();
+    if stay(settings, p, found, &mut step) {
+        packet_stays(matcher, settings, p, &step, found, tally)
+    } else {
+        packet_on(matcher, settings, p, found, tally)
+    }
+}
+
 impl Flow {
     /// One more packet of the flow: its items with all rules that match them. The flow is then as the packet
     /// leaves it. Where memory is lacking it is as far as the packet came.
@@ -191,7 +265,7 @@ impl Flow {
     {
         self.facts.packets += 1;
         let mut tally = Tally::new(matcher.alloc);
-        packet_on(matcher, settings, p, &mut self.found, &mut tally)?;
+        packet_found(matcher, settings, p, &mut self.found, &mut tally)?;
         Ok(tally)
     }
 

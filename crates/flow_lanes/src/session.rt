@@ -1,10 +1,13 @@
 //! A session between two packets, and what a packet does to it (specs/Sessions).
 
-ghost use Rattle.std.specs.Prelude.{◌≡◌, ℕ, ◌+◌, ◌-◌, ◌^◌, ◌≤◌, ◌++◌, [], false, length, not, None, Some, IfOk, OnOk, if◌then◌else◌};
+ghost use Rattle.std.specs.Prelude.{◌≡◌, ℕ, ◌+◌, ◌-◌, ◌^◌, ◌≤◌, ◌++◌, [], false, true, length, not};
+ghost use Rattle.std.specs.Prelude.{None, Some, IfOk, OnOk, if◌then◌else◌};
 ghost use Rattle.flow_lanes.specs.Given.{making_of, packet_of};
 ghost use Rattle.flow_lanes.specs.Items.{acked_items, closing_items, held_items, is_queued, stream_items};
 ghost use Rattle.flow_lanes.specs.Reach.{AreWithin, GrowsOne, HasLimits, KeepsWithin};
-ghost use Rattle.flow_lanes.specs.Sessions.{after_ack, after_data, begun_session, client_at_begin, client_end, is_from_client, server_at_begin, server_end, settled, sizes_of, with_bases};
+ghost use Rattle.flow_lanes.specs.Sessions.{after_ack, after_data, begun_session, client_at_begin, client_end, is_from_client};
+ghost use Rattle.flow_lanes.specs.Sessions.{server_at_begin, server_end, settled, sizes_of, with_bases};
+ghost use Rattle.flow_lanes.specs.Staying.{StaysIn};
 ghost use Rattle.flow_lanes.specs.Sides.{acked_payloads, left_payloads, queues, side_after_ack, side_after_data};
 ghost use Rattle.flow_lanes.specs.Working.{HasNoneLeft, TellsLeft, after_packet, side_of, streams_told, stretches_of, with_side};
 
@@ -13,6 +16,7 @@ use crate::cutting::Stretch;
 use crate::item::Item;
 use crate::settings::Settings;
 use crate::side::Side;
+use crate::steps::rules_of;
 use crate::streams::push_maybe;
 use edge_io::{Moment, NoMemory};
 use std::alloc::Global;
@@ -160,6 +164,23 @@ impl Session {
     {
         self.state = state;
         self.set_bases(step);
+    }
+
+    /// Takes a packet that leaves the session as it is, where nothing is left of stretches that have ended: `step`
+    /// is then what it tells. Of any other packet the answer is false, and nothing changes. Takes no memory.
+    pub fn stay(&mut self, settings: &Settings, p: &Arrival, step: &mut Step) -> bool
+        ensures stays { result ≡ true
+            → StaysIn (making_of settings.now) (packet_of p.now) self.old step.new self.new }
+        ensures still { result ≡ false → self.new ≡ self.old }
+        ensures within { KeepsWithin self.old self.new }
+        ensures tcp { self.new.state.tcp ≡ self.old.state.tcp }
+    {
+        if self.has_left() {
+            return false;
+        }
+        let rules = rules_of(settings, p, self.opened_to);
+        self.state
+            .stay(&p.head.ip, &p.head.body, p.moment, rules, step)
     }
 
     /// How far the data of the client and of the server reach.

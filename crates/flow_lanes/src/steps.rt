@@ -1,10 +1,10 @@
 //! What a packet tells of its session.
 
-ghost use Rattle.std.specs.Prelude.{◌≡◌};
+ghost use Rattle.std.specs.Prelude.{◌≡◌, Option};
 ghost use Rattle.stream5_sessions.specs.Phases.{IsBodyOf};
 ghost use Rattle.flow_lanes.specs.Flows.{session_at_hand};
 ghost use Rattle.flow_lanes.specs.Given.{making_of, packet_of};
-ghost use Rattle.flow_lanes.specs.Sessions.{opening_end, session_rules, state_found, state_of, step_of};
+ghost use Rattle.flow_lanes.specs.Sessions.{Session as Standing, opening_end, session_rules, state_found, state_of, step_of};
 
 use crate::arrival::Arrival;
 use crate::keeping::FlowState;
@@ -31,16 +31,24 @@ fn opening_end(p: &Arrival, found: &Option<FlowState>) -> End
     }
 }
 
-/// The settings by which the packet is read.
-fn session_rules(settings: &Settings, p: &Arrival, found: &Option<FlowState>) -> SessionRules
-    ensures { result ≡ session_rules (making_of settings.now) (packet_of p.now) (session_at_hand found.now) }
+/// The settings by which the packet is read, where its session's first packet went to this end.
+pub(crate) fn rules_of(settings: &Settings, p: &Arrival, opened_to: End) -> SessionRules
+    ensures { (found : Option Standing) → opening_end (packet_of p.now) found ≡ opened_to
+        → result ≡ session_rules (making_of settings.now) (packet_of p.now) found }
 {
-    let to = p.toward(opening_end(p, found));
+    let to = p.toward(opened_to);
     SessionRules {
         timeout: settings.timeout_to(p.is_tcp(), to.engine),
         needed: to.needed,
         needed_new: p.to_dst.needed,
     }
+}
+
+/// The settings by which the packet is read.
+fn session_rules(settings: &Settings, p: &Arrival, found: &Option<FlowState>) -> SessionRules
+    ensures { result ≡ session_rules (making_of settings.now) (packet_of p.now) (session_at_hand found.now) }
+{
+    rules_of(settings, p, opening_end(p, found))
 }
 
 /// What the packet tells of its session, and where that stands behind it.
