@@ -1,6 +1,7 @@
 -- A tree of numbers and a cache that hashes them: what the tree says of the cache's entries, and what both are
 -- behind a step.
-use Rattle.std.proofs.Common.{◌≡◌, ℕ, zero, suc, ◌-◌, Bool, true, false, cond, ◌&&◌, eqb, List, [], ◌∷◌, take, slice_get, Option, Some, None, refl, sym, ap, subst, ◌∙◌, eq-eqb}
+use Rattle.std.proofs.Common.{◌≡◌, ℕ, zero, suc, ◌-◌, ◌≤◌, Bool, true, false, cond, ◌&&◌, eqb, List, [], ◌∷◌, length, take, slice_get}
+use Rattle.std.proofs.Common.{Option, Some, None, IfSome, refl, sym, ap, subst, ◌∙◌, eq-eqb, arith}
 use Rattle.std.specs.BTreeMap.{BTreeMap, get, is_at}
 use Rattle.std.specs.List.{AllByRecursion, IsDistinct}
 use Rattle.std.specs.Map.{keys_of, values_of, lookup, lookup_entry, remove_entry}
@@ -14,7 +15,8 @@ use Rattle.stream5_sessions.specs.declared.lives.Numbered.{Numbered}
 use Rattle.stream5_sessions.specs.Indexed.{key_cmp, entries_of, is_gone, IsIndexed}
 use Rattle.stream5_sessions.specs.Keys.{same_key}
 use Rattle.stream5_sessions.proofs.KeyLaws.{eq-same_key, same_key-is, same_key-self, same_key-flips}
-use Rattle.stream5_sessions.proofs.Numbered.{Alike, plain_entry, promoted-plain, all-take, all-get, all-promoted, distinct-take, distinct-promoted, apart-from}
+use Rattle.stream5_sessions.proofs.Numbered.{Alike, plain_entry, promoted-plain, all-take, all-get, all-promoted}
+use Rattle.stream5_sessions.proofs.Numbered.{distinct-take, distinct-promoted, apart-from, unless_promoted, unless_last}
 
 abbrev pub numbered : Key → ℕ → Numbered
 numbered key number = record { key = key; number = number }
@@ -95,6 +97,10 @@ entries-take zero es = refl
 entries-take (suc n) [] = refl
 entries-take (suc n) (e ∷ es) = ap (λ (l : List (Key × ℕ)). (e.0.key, e.1) ∷ l) (entries-take n es)
 
+length-entries : (es : List (Numbered × ℕ)) → length (entries_of es) ≡ length es
+length-entries [] = refl
+length-entries (e ∷ es) = ap suc (length-entries es)
+
 pub values-entries : (es : List (Numbered × ℕ)) → values_of (entries_of es) ≡ values_of es
 values-entries [] = refl
 values-entries (e ∷ es) = ap (λ (l : List ℕ). e.1 ∷ l) (values-entries es)
@@ -120,25 +126,39 @@ still : (numbers after : BTreeMap Key ℕ) (P Q : Key → Type 0) → ((q : Key)
 still numbers after P Q same [] ps qs all = tt
 still numbers after P Q same (e ∷ es) ps qs all = (same e.0.key ps.0 qs.0 ∙ all.0, still numbers after P Q same es ps.1 qs.1 all.1)
 
-pub indexed-none : (numbers : BTreeMap Key ℕ) (es : List (Numbered × ℕ)) → es ≡ [] → IsIndexed numbers es
+pub indexed-none : (numbers : BTreeMap Key ℕ) (es : List (Numbered × ℕ)) → numbers.entries ≡ [] → es ≡ [] → IsIndexed numbers es
 unfolding IsDistinct
-indexed-none numbers es none = subst (IsIndexed numbers) (sym none) (record { found = tt; apart = tt })
+indexed-none numbers es empty none = subst (IsIndexed numbers) (sym none) (record {
+  found = tt;
+  only = λ q gone. ap (λ (l : List (Key × ℕ)). lookup (is_at (key_cmp q)) l) empty;
+  apart = tt;
+})
 
 pub indexed-promoted : (numbers : BTreeMap Key ℕ) (key : Key) (number : ℕ) (es : List (Numbered × ℕ)) → get key_cmp numbers key ≡ Some number → IsIndexed numbers es
     → IsIndexed numbers (promoted (eq-value.it (numbered key number)) es)
-indexed-promoted numbers key number es is indexed = record {
-  found = all-promoted (eq-value.it (numbered key number)) (HasNumber numbers) es indexed.found;
-  apart = subst (λ (l : List (Key × ℕ)). IsDistinct same_key (keys_of l))
-      (sym (promoted-plain named (eq-value.it (numbered key number)) (same_key key) es (alike numbers key number is es indexed.found)))
-      (distinct-promoted same_key same_key-flips (same_key key) (entries_of es) indexed.apart);
+indexed-promoted numbers key number es is indexed =
+    let plainly = promoted-plain named (eq-value.it (numbered key number)) (same_key key) es (alike numbers key number is es indexed.found) in
+    record {
+      found = all-promoted (eq-value.it (numbered key number)) (HasNumber numbers) es indexed.found;
+      only = λ q none. indexed.only q (unless_promoted (same_key q) (same_key key) (entries_of es) (ap (lookup (same_key q)) (sym plainly) ∙ none));
+      apart = subst (λ (l : List (Key × ℕ)). IsDistinct same_key (keys_of l)) (sym plainly) (distinct-promoted same_key same_key-flips (same_key key) (entries_of es) indexed.apart);
+    }
+
+-- a tree that answers alike
+pub indexed-alike : (numbers after : BTreeMap Key ℕ) (es : List (Numbered × ℕ)) → ((q : Key) → get key_cmp after q ≡ get key_cmp numbers q) → IsIndexed numbers es → IsIndexed after es
+indexed-alike numbers after es same indexed = record {
+  found = all_alike es indexed.found;
+  only = λ q none. same q ∙ indexed.only q none;
+  apart = indexed.apart;
 }
+  where
+    all_alike : (es : List (Numbered × ℕ)) → AllByRecursion (HasNumber numbers) es → AllByRecursion (HasNumber after) es
+    all_alike [] all = tt
+    all_alike (e ∷ es) all = (same e.0.key ∙ all.0, all_alike es all.1)
 
 -- a tree with the same entries
 pub indexed-same : (numbers after : BTreeMap Key ℕ) (es : List (Numbered × ℕ)) → after.entries ≡ numbers.entries → IsIndexed numbers es → IsIndexed after es
-indexed-same numbers after es same indexed = record {
-  found = subst (λ (l : List (Key × ℕ)). AllByRecursion (λ (e : Numbered × ℕ). lookup (is_at (key_cmp e.0.key)) l ≡ Some e.0.number) es) (sym same) indexed.found;
-  apart = indexed.apart;
-}
+indexed-same numbers after es same = indexed-alike numbers after es (λ q. ap (λ (l : List (Key × ℕ)). lookup (is_at (key_cmp q)) l) same)
 
 -- a number for the key
 abbrev pub Puts : BTreeMap Key ℕ → BTreeMap Key ℕ → Key → Option ℕ → Type 0
@@ -147,16 +167,21 @@ Puts numbers after key number = (q : Key) → get key_cmp after q ≡ cond (is_a
 puts_at : (numbers after : BTreeMap Key ℕ) (key q : Key) (number : Option ℕ) (b : Bool) → Puts numbers after key number → same_key key q ≡ b → get key_cmp after q ≡ cond b number (get key_cmp numbers q)
 puts_at numbers after key q number b put is = put q ∙ ap (λ (x : Bool). cond x number (get key_cmp numbers q)) (cmp_is key q ∙ is)
 
-module _ (numbers put : BTreeMap Key ℕ) (es : List (Numbered × ℕ)) (key : Key) (number : ℕ) (indexed : IsIndexed numbers es) (apart : AllByRecursion (IsOther key) es) (puts : Puts numbers put key (Some number)) where
+module _ (numbers put : BTreeMap Key ℕ) (es : List (Numbered × ℕ)) (key : Key) (number : ℕ) (indexed : IsIndexed numbers es)
+    (absent : lookup (same_key key) (entries_of es) ≡ None) (puts : Puts numbers put key (Some number)) where
+  apart : AllByRecursion (IsOther key) es
+  apart = others key es absent
+
   abbrev Free : Key → Type 0
   Free q = same_key key q ≡ false
 
-  -- the key has a number, and isn't there yet
-  pub indexed-put : IsIndexed put es
-  indexed-put = record {
-    found = still numbers put Free Free (λ q p r. puts_at numbers put key q (Some number) false puts p) es apart apart indexed.found;
-    apart = indexed.apart;
-  }
+  -- the key's number is taken out again
+  pub indexed-undone : (after : BTreeMap Key ℕ) → Puts put after key None → IsIndexed after es
+  indexed-undone after undone = indexed-alike numbers after es (λ q. undone q ∙ ap (λ (o : Option ℕ). cond (is_at (key_cmp key) q) None o) (puts q) ∙ back q (is_at (key_cmp key) q) refl) indexed
+    where
+      back : (q : Key) (b : Bool) → is_at (key_cmp key) q ≡ b → cond {A = Option ℕ} b None (cond b (Some number) (get key_cmp numbers q)) ≡ get key_cmp numbers q
+      back q false is = refl
+      back q true is = sym (indexed.only q (ap (λ (k : Key). lookup (same_key k) (entries_of es)) (sym (same_key-is key q (sym (cmp_is key q) ∙ is))) ∙ absent))
 
   -- the keys behind the new one
   distinct : (i : ℕ) → IsDistinct same_key (keys_of (entries_of ((numbered key number, number) ∷ take i es)))
@@ -166,18 +191,48 @@ module _ (numbers put : BTreeMap Key ℕ) (es : List (Numbered × ℕ)) (key : K
     subst (λ (l : List (Key × ℕ)). IsDistinct same_key (keys_of l)) (sym (entries-take i es)) (distinct-take same_key same_key-flips i (entries_of es) indexed.apart),
   )
 
+  -- a key that isn't among these behind the step wasn't there before it, but for the one that leaves
+  before : (q : Key) (i : ℕ) (evicted : Option (Numbered × ℕ)) → length es ≤ suc i → slice_get es i ≡ evicted
+      → lookup (same_key q) (entries_of ((numbered key number, number) ∷ take i es)) ≡ None → is_gone evicted q ≡ false → get key_cmp put q ≡ None
+  before q i evicted few at none stays = by (same_key q key) refl none
+    where
+      last : (evicted : Option (Numbered × ℕ)) → is_gone evicted q ≡ false → IfSome (option_map (plain_entry named) evicted) (λ e. same_key q e.0 ≡ false)
+      last None off = tt
+      last (Some e) off = same_key-flips e.0.key q (sym (cmp_is e.0.key q) ∙ off)
+
+      there : slice_get (entries_of es) i ≡ option_map (plain_entry named) evicted
+      there = slice_get-map (plain_entry named) es i ∙ ap (option_map (plain_entry named)) at
+
+      by : (b : Bool) → same_key q key ≡ b → cond {A = Option ℕ} b (Some number) (lookup (same_key q) (entries_of (take i es))) ≡ None → get key_cmp put q ≡ None
+      by true is none = cc
+      by false is none =
+          puts_at numbers put key q (Some number) false puts (same_key-flips q key is)
+          ∙ indexed.only q (unless_last (same_key q) i (entries_of es) (omega (arith, few, length-entries es))
+          (ap (lookup (same_key q)) (sym (entries-take i es)) ∙ none)
+          (subst (λ (o : Option (Key × ℕ)). IfSome o (λ e. same_key q e.0 ≡ false)) (sym there) (last evicted stays)))
+
+  only : (after : BTreeMap Key ℕ) (i : ℕ) (evicted : Option (Numbered × ℕ)) → length es ≤ suc i → slice_get es i ≡ evicted
+      → ((q : Key) → get key_cmp after q ≡ cond (is_gone evicted q) None (get key_cmp put q))
+      → (q : Key) → lookup (same_key q) (entries_of ((numbered key number, number) ∷ take i es)) ≡ None → get key_cmp after q ≡ None
+  only after i evicted few at gone q none = gone q ∙ by (is_gone evicted q) refl
+    where
+      by : (b : Bool) → is_gone evicted q ≡ b → cond b None (get key_cmp put q) ≡ None
+      by true is = refl
+      by false is = before q i evicted few at none is
+
   -- the new key goes first, and what was at this place leaves
-  pub indexed-begun : (after : BTreeMap Key ℕ) (i : ℕ) (evicted : Option (Numbered × ℕ)) → slice_get es i ≡ evicted
+  pub indexed-begun : (after : BTreeMap Key ℕ) (i : ℕ) (evicted : Option (Numbered × ℕ)) → length es ≤ suc i → slice_get es i ≡ evicted
       → ((q : Key) → get key_cmp after q ≡ cond (is_gone evicted q) None (get key_cmp put q)) → IsIndexed after ((numbered key number, number) ∷ take i es)
-  indexed-begun after i None at gone = record {
+  indexed-begun after i None few at gone = record {
     found = (
       gone key ∙ puts_at numbers put key key (Some number) true puts (same_key-self key),
       still numbers after Free Free (λ q p r. gone q ∙ puts_at numbers put key q (Some number) false puts p) (take i es)
           (all-take (IsOther key) i es apart) (all-take (IsOther key) i es apart) (all-take (HasNumber numbers) i es indexed.found),
     );
+    only = only after i None few at gone;
     apart = distinct i;
   }
-  indexed-begun after i (Some last) at gone =
+  indexed-begun after i (Some last) few at gone =
       let Gone : Key → Type 0 = λ q. same_key last.0.key q ≡ false in
       let there : slice_get (entries_of es) i ≡ Some (last.0.key, last.1) = slice_get-map (plain_entry named) es i ∙ ap (option_map (plain_entry named)) at in
       let left : AllByRecursion (λ (e : Numbered × ℕ). Gone e.0.key) (take i es) =
@@ -190,5 +245,6 @@ module _ (numbers put : BTreeMap Key ℕ) (es : List (Numbered × ℕ)) (key : K
           still numbers after Free Gone (λ q p r. stays q r ∙ puts_at numbers put key q (Some number) false puts p) (take i es)
               (all-take (IsOther key) i es apart) left (all-take (HasNumber numbers) i es indexed.found),
         );
+        only = only after i (Some last) few at gone;
         apart = distinct i;
       }

@@ -1,6 +1,7 @@
 -- Entries of a cache whose keys have a number beside what names them, as entries by what names them: tests that
 -- answer alike find, remove and move the same entries.
-use Rattle.std.proofs.Common.{◌≡◌, ℕ, zero, suc, Bool, true, false, cond, List, [], ◌∷◌, map, take, slice_get, Option, Some, None, refl, ap, subst, ◌∙◌}
+use Rattle.std.proofs.Common.{◌≡◌, ℕ, zero, suc, ◌≤◌, Bool, true, false, cond, List, [], ◌∷◌, length, map, take, slice_get, Option, Some, None}
+use Rattle.std.proofs.Common.{IfSome, refl, ap, subst, ◌∙◌, arith}
 use Rattle.std.specs.List.{AllByRecursion, IsDistinct}
 use Rattle.std.specs.Map.{keys_of, lookup, lookup_entry, remove_entry}
 use Rattle.std.specs.Option.{option_map, option_map_or}
@@ -61,6 +62,38 @@ module _ {K N V : Type 0} (part : N → K) where
         by : (o : Option (N × V)) → plain (option_map_or (λ e. e ∷ remove_entry test es) o es) ≡ option_map_or (λ e. e ∷ remove_entry by_part (plain es)) (option_map plain_entry o) (plain es)
         by None = refl
         by (Some e) = ap (λ (l : List (K × V)). plain_entry e ∷ l) (remove-plain es alike)
+
+-- ---- what isn't there behind a step wasn't there before it
+module _ {K V : Type 0} (by : K → Bool) where
+  module _ (test : K → Bool) where
+    unless_removed : (es : List (K × V)) (e : K × V) → lookup_entry test es ≡ Some e → by e.0 ≡ false → lookup by (remove_entry test es) ≡ None → lookup by es ≡ None
+    unless_removed [] e is off none = refl
+    unless_removed (f ∷ es) e is off none = (elim (test f.0) as (λ b. cond b (Some f) (lookup_entry test es) ≡ Some e → lookup by (cond b es (f ∷ remove_entry test es)) ≡ None → cond (by f.0) (Some f.1) (lookup by es) ≡ None) [
+      | true ↦ λ is none. let same : f ≡ e = cc in ap (λ (b : Bool). cond {A = Option V} b (Some f.1) (lookup by es)) (ap (λ (g : K × V). by g.0) same ∙ off) ∙ none
+      | false ↦ λ is none. (elim (by f.0) as (λ b. cond {A = Option V} b (Some f.1) (lookup by (remove_entry test es)) ≡ None → cond b (Some f.1) (lookup by es) ≡ None) [
+        | true ↦ λ none. none
+        | false ↦ λ none. unless_removed es e is off none
+      ]) none
+    ]) is none
+
+    pub unless_promoted : (es : List (K × V)) → lookup by (promoted test es) ≡ None → lookup by es ≡ None
+    unless_promoted es none = (elim (lookup_entry test es) as (λ o. lookup_entry test es ≡ o → lookup by (option_map_or (λ e. e ∷ remove_entry test es) o es) ≡ None → lookup by es ≡ None) [
+      | None ↦ λ is none. none
+      | Some e ↦ λ is none. (elim (by e.0) as (λ b. by e.0 ≡ b → cond {A = Option V} b (Some e.1) (lookup by (remove_entry test es)) ≡ None → lookup by es ≡ None) [
+        | true ↦ λ t none. cc
+        | false ↦ λ t none. unless_removed es e is t none
+      ]) refl none
+    ]) refl none
+
+  -- what isn't among the first i of at most i + 1 entries is the last of them, if it is there
+  pub unless_last : (i : ℕ) (es : List (K × V)) → length es ≤ suc i → lookup by (take i es) ≡ None → IfSome (slice_get es i) (λ e. by e.0 ≡ false) → lookup by es ≡ None
+  unless_last i [] few none last = refl
+  unless_last zero (e ∷ []) few none last = ap (λ (b : Bool). cond {A = Option V} b (Some e.1) None) last
+  unless_last zero (e ∷ f ∷ es) few none last = absurd (omega arith)
+  unless_last (suc i) (e ∷ es) few none last = (elim (by e.0) as (λ b. cond {A = Option V} b (Some e.1) (lookup by (take i es)) ≡ None → cond b (Some e.1) (lookup by es) ≡ None) [
+    | true ↦ λ none. none
+    | false ↦ λ none. unless_last i es (omega arith) none last
+  ]) none
 
 -- ---- what holds of each entry holds where one is moved or removed
 module _ {N V : Type 0} (test : N → Bool) (P : N × V → Type 0) where

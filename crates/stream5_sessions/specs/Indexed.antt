@@ -3,7 +3,7 @@
 use Rattle.std.specs.Prelude.{◌≡◌, ℕ, Bool, false, List, Option, Some, None, map}
 use Rattle.std.specs.BTreeMap.{BTreeMap, get, is_at}
 use Rattle.std.specs.List.{AllByRecursion, IsDistinct}
-use Rattle.std.specs.Map.{keys_of}
+use Rattle.std.specs.Map.{keys_of, lookup}
 use Rattle.std.specs.declared.cmp.Ordering.{Ordering}
 use Rattle.stream5_sessions.specs.contracts.key.KeyOrd.TheImpl as ord
 use Rattle.stream5_sessions.specs.declared.key.Key.{Key}
@@ -26,9 +26,10 @@ key_cmp = (ord.ghosts).cmp
 abbrev pub entries_of : List (Numbered × ℕ) → List (Key × ℕ)
 entries_of es = map (λ (e : Numbered × ℕ). (e.0.key, e.1)) es
 
--- the tree has the number of the key of each entry, and no two keys are one
+-- the tree has the number of the key of each entry and of no other key, and no two keys are one
 pub record IsIndexed (numbers : BTreeMap Key ℕ) (es : List (Numbered × ℕ)) : Type 0 where
   pub found : AllByRecursion (λ (e : Numbered × ℕ). get key_cmp numbers e.0.key ≡ Some e.0.number) es
+  pub only : (q : Key) → lookup (same_key q) (entries_of es) ≡ None → get key_cmp numbers q ≡ None
   pub apart : IsDistinct same_key (keys_of (entries_of es))
 
 -- the entry that goes has this key

@@ -2,7 +2,8 @@
 //!
 //! A sender chooses the keys, and could choose many that one hash table keeps in one place. So no key is
 //! hashed: a tree has the number of each key's flow, and the cache hashes that number alone, which counts up.
-ghost use Rattle.std.specs.Prelude.{◌≡◌, ◌≤◌, ◌-◌, [], None, slice_get, IfOk, OnOk, OnErr, option_map, if◌then◌else◌};
+ghost use Rattle.std.specs.Prelude.{◌≡◌, ◌≤◌, ◌-◌, [], None, slice_get, option_map, if◌then◌else◌};
+ghost use Rattle.std.specs.Prelude.{IfOk, OnOk, OnErr};
 ghost use Rattle.std.specs.BTreeMap.{get};
 ghost use Rattle.std.specs.Map.{lookup, values_of};
 ghost use Rattle.lru.specs.LruCache.{promoted};
@@ -96,10 +97,17 @@ impl Lives {
             (self.new ≡ lives_with (kept_by self.old.entries self.old.cap next key None) self.old.cap) }
         ensures err { OnErr result (self.new ≡ self.old) }
     {
-        // Where memory lacks for the cache, the key keeps a number that the next begin replaces.
+        // The cache is never beyond its capacity: a key that isn't among those before its last place is the last.
+        let is_within = self.cache.len() <= self.cache.cap().get();
+        prove!(is_within);
         self.numbers.insert(key, next)?;
-        let evicted = self.cache.push(Numbered { key, number: next }, next)?;
-        Ok(forget(&mut self.numbers, evicted))
+        match self.cache.push(Numbered { key, number: next }, next) {
+            Ok(evicted) => Ok(forget(&mut self.numbers, evicted)),
+            Err(_) => {
+                self.numbers.remove(&key);
+                Err(NoMemory)
+            }
+        }
     }
 
     /// The numbers of the flows.
