@@ -1,4 +1,4 @@
-//! Gates are passed, and the types of this crate cross threads.
+//! What gates answer, and that the types of this crate cross threads.
 
 use crate::crossing::{sendable, shareable};
 use crate::{
@@ -6,9 +6,23 @@ use crate::{
     PatternFlags, Refusal, Span, StreamPolicy, Text,
 };
 
+/// A gate that says no more than it must.
+struct Plain;
+
+impl Gate for Plain {
+    fn pass(&self, _lane: u32) {}
+}
+
 #[test]
-fn gates_are_passed_and_types_cross_threads(_rt: HostRuntime) {
+fn a_gate_wants_threads_unless_it_says_otherwise(rt: HostRuntime) {
     OpenGate.pass(3);
+    Plain.pass(3);
+    assert!(rt; Plain.wants_threads());
+    assert!(rt; !OpenGate.wants_threads());
+}
+
+#[test]
+fn types_cross_threads(_rt: HostRuntime) {
     sendable::<Addr>();
     shareable::<Addr>();
     sendable::<FragPolicy>();
