@@ -4,7 +4,8 @@ use Rattle.std.proofs.lemmas.List.{length-append}
 use Rattle.edge_io.specs.Files.{Files}
 use Rattle.pcapng_input.specs.declared.capture.NgRecord.{NgRecord}
 use Rattle.pcapng_input.specs.declared.capture.NgFault.{NgFault}
-use Rattle.pcapng_input.specs.Reader.{Reading, Tells}
+use Rattle.pcap_input.specs.Reader.{Tells}
+use Rattle.pcapng_input.specs.Reader.{Reading}
 use Rattle.pcapng_input.specs.Calls.{IsOpenCall, IsNextCall, HasRead}
 use Rattle.pcapng_input.proofs.Calls.{reads_all, read-none, read-more}
 use Rattle.decode_tests.specs.Whole.{IsHeld}

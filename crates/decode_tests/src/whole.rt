@@ -1,6 +1,6 @@
 //! A whole pcapng capture as a list of its records, read by the calls of the reader one after another.
 ghost use Rattle.std.specs.Prelude.{◌≡◌, List, ℕ};
-ghost use Rattle.pcapng_input.specs.Reader.{Tells};
+ghost use Rattle.pcap_input.specs.Reader.{Tells};
 ghost use Rattle.decode_tests.specs.Whole.{IsHeld};
 
 use edge_io::{Host, Items};

@@ -1,8 +1,8 @@
 ghost use Rattle.std.specs.Prelude.{◌≡◌, ◌+◌, ◌<◌, ◌≤◌, ◌^◌, length};
 ghost use Rattle.pcap_input.specs.Savefile.{file_header, record_header, number_at, head_with, head_behind, head_of, captured_length, moment_of};
 
+use crate::number::{u16_at, u32_at};
 use crate::{CaptureFault, CaptureHead};
-use byteorder::{BigEndian, ByteOrder, LittleEndian};
 use edge_io::{Link, Moment};
 
 /// The bytes of a file header.
@@ -20,38 +20,19 @@ const NANOSECONDS: u32 = 0xa1b2_3c4d;
 /// The major version of the format.
 const MAJOR: u16 = 2;
 
-/// The number of 32 bits at a place, in the file's byte order.
-#[tactic(auto, using(edge_io::proofs::Bytes::numbers), unfolding(crate::specs::Savefile::number_at))]
-fn u32_at(swapped: bool, bytes: &[u8], place: usize) -> u32
-    requires { place + 4 ≤ length bytes.now }
-    ensures { result ≡ number_at swapped place 4 bytes.now }
-{
-    let bytes = &bytes[place..];
-    if swapped {
-        BigEndian::read_u32(bytes)
-    } else {
-        LittleEndian::read_u32(bytes)
-    }
-}
-
-/// The number of 16 bits at a place, in the file's byte order.
-#[tactic(auto, using(edge_io::proofs::Bytes::numbers), unfolding(crate::specs::Savefile::number_at))]
-fn u16_at(swapped: bool, bytes: &[u8], place: usize) -> u16
-    requires { place + 2 ≤ length bytes.now }
-    ensures { result ≡ number_at swapped place 2 bytes.now }
-{
-    let bytes = &bytes[place..];
-    if swapped {
-        BigEndian::read_u16(bytes)
-    } else {
-        LittleEndian::read_u16(bytes)
-    }
+/// What a capture's magic number tells of its numbers.
+#[derive(Clone, Copy)]
+struct Order {
+    /// The most significant byte stands first.
+    swapped: bool,
+    /// The fractions of a second are nanoseconds, not microseconds.
+    nanos: bool,
 }
 
 /// The head with this link type, where it is one that is read.
 #[tactic(auto, unfolding(crate::specs::Savefile::head_with))]
-fn with_link(swapped: bool, nanos: bool, link_type: u32) -> Result<CaptureHead, CaptureFault>
-    ensures { result ≡ head_with swapped nanos link_type }
+fn with_link(order: Order, link_type: u32) -> Result<CaptureHead, CaptureFault>
+    ensures { result ≡ head_with order.swapped order.nanos link_type }
 {
     let link = match link_type {
         1 => Link::Ethernet,
@@ -61,21 +42,21 @@ fn with_link(swapped: bool, nanos: bool, link_type: u32) -> Result<CaptureHead, 
     };
     Ok(CaptureHead {
         link,
-        swapped,
-        nanos,
+        swapped: order.swapped,
+        nanos: order.nanos,
     })
 }
 
 /// The head of a file header, by what its magic number told.
 #[tactic(auto, unfolding(crate::specs::Savefile::head_behind))]
-fn behind_magic(swapped: bool, nanos: bool, bytes: &[u8]) -> Result<CaptureHead, CaptureFault>
+fn behind_magic(order: Order, bytes: &[u8]) -> Result<CaptureHead, CaptureFault>
     requires { length bytes.now ≡ file_header }
-    ensures { result ≡ head_behind swapped nanos bytes.now }
+    ensures { result ≡ head_behind order.swapped order.nanos bytes.now }
 {
-    if u16_at(swapped, bytes, 4) != MAJOR {
+    if u16_at(order.swapped, bytes, 4) != MAJOR {
         return Err(CaptureFault::NotPcap);
     }
-    with_link(swapped, nanos, u32_at(swapped, bytes, 20) % 65536)
+    with_link(order, u32_at(order.swapped, bytes, 20) % 65536)
 }
 
 /// The head of a file header.
@@ -87,13 +68,37 @@ pub fn read_head(bytes: &[u8]) -> Result<CaptureHead, CaptureFault>
     let least_first = u32_at(false, bytes, 0);
     let most_first = u32_at(true, bytes, 0);
     if least_first == MICROSECONDS {
-        behind_magic(false, false, bytes)
+        behind_magic(
+            Order {
+                swapped: false,
+                nanos: false,
+            },
+            bytes,
+        )
     } else if least_first == NANOSECONDS {
-        behind_magic(false, true, bytes)
+        behind_magic(
+            Order {
+                swapped: false,
+                nanos: true,
+            },
+            bytes,
+        )
     } else if most_first == MICROSECONDS {
-        behind_magic(true, false, bytes)
+        behind_magic(
+            Order {
+                swapped: true,
+                nanos: false,
+            },
+            bytes,
+        )
     } else if most_first == NANOSECONDS {
-        behind_magic(true, true, bytes)
+        behind_magic(
+            Order {
+                swapped: true,
+                nanos: true,
+            },
+            bytes,
+        )
     } else {
         Err(CaptureFault::NotPcap)
     }

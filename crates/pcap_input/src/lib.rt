@@ -9,12 +9,16 @@
 
 mod capture;
 mod draws;
-mod fill;
+#[doc(hidden)]
+pub mod fill;
 mod frames;
 mod generate;
 mod header;
+#[doc(hidden)]
+pub mod number;
 mod reader;
-mod spares;
+#[doc(hidden)]
+pub mod spares;
 mod traffic;
 
 pub use capture::{CaptureFault, CaptureHead, Record};

@@ -4,7 +4,7 @@ use std::alloc::{AllocError, Global};
 
 /// Blocks of memory that hold no record any more, kept for the records that come.
 #[derive(Debug, Drop)]
-pub(crate) struct Spares {
+pub struct Spares {
     /// None until the first block is kept.
     blocks: Option<Vec<Vec<u8>>>,
 }
@@ -34,7 +34,7 @@ impl Spares {
 }
 
 /// The block at this length, with any bytes in it: cut where it is longer, else grown to just that.
-pub(crate) fn resized(mut block: Vec<u8>, len: usize) -> Result<Vec<u8>, AllocError>
+pub fn resized(mut block: Vec<u8>, len: usize) -> Result<Vec<u8>, AllocError>
     ensures size { IfOk result (λ bytes. length bytes.items ≡ len) }
     ensures succeeds { len ≡ 0 → IsOk result }
 {

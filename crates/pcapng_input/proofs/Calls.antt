@@ -8,7 +8,8 @@ use Rattle.pcapng_input.specs.declared.capture.NgRecord.{NgRecord}
 use Rattle.pcapng_input.specs.declared.capture.NgFault.{NgFault}
 use Rattle.pcapng_input.specs.declared.capture.NgFault.TheVariants as fault
 use Rattle.pcapng_input.specs.Blocks.{Ending, Clean, opening, Next, Ends, Stands, next_of, Cut, records_left, first_records, ng_records}
-use Rattle.pcapng_input.specs.Reader.{Reading, Opens, Tells, TakesHead, Answers}
+use Rattle.pcap_input.specs.Reader.{Tells}
+use Rattle.pcapng_input.specs.Reader.{Reading, Opens, TakesHead, Answers}
 use Rattle.pcapng_input.specs.Calls.{IsOpenCall, IsNextCall, IsOfBytes, IsEnding, HasGiven, none, one_more, HasRead, IsBelow, IsLastCall, ReadsCut, ReadsAll, ReadsFirst}
 use Rattle.pcapng_input.proofs.Heads.{tells_opened}
 use Rattle.pcapng_input.proofs.Records.{records_left-ends, records_left-stands}

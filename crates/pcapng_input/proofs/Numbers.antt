@@ -13,7 +13,8 @@ use Rattle.pcapng_input.specs.declared.content.Content.TheVariants as content
 use Rattle.pcapng_input.specs.declared.resolution.Resolution.{Resolution}
 use Rattle.pcapng_input.specs.declared.walk.Walk.{Walk}
 use Rattle.pcapng_input.specs.Options.{resolution_told}
-use Rattle.pcapng_input.specs.Blocks.{most_records, section_type, Ending, Clean, Refused, Step, Stops, Skips, Gives, refused, truncated, bad_block, front_length, is_sized, inner_length, order_of, first_walk, new_section, content_of, given_by, closing, fronted, known, section_block, other_block, section_begun, begun, is_full, step_of, opening, Ends, Stands, next_along, next_of}
+use Rattle.pcap_input.specs.Savefile.{most_records}
+use Rattle.pcapng_input.specs.Blocks.{section_type, Ending, Clean, Refused, Step, Stops, Skips, Gives, refused, truncated, bad_block, front_length, is_sized, inner_length, order_of, first_walk, new_section, content_of, given_by, closing, fronted, known, section_block, other_block, section_begun, begun, is_full, step_of, opening, Ends, Stands, next_along, next_of}
 use Rattle.pcapng_input.proofs.Begins.{fronted-err, fronted-ok, begun_section, number_front}
 
 -- the number of records behind a step from this number

@@ -16,7 +16,7 @@ use Rattle.std.specs.Prelude.{ℕ, zero, suc, ◌+◌, ◌-◌, ◌*◌, ◌%◌
 use Rattle.edge_io.specs.declared.link.Link.{Link}
 use Rattle.edge_io.specs.declared.link.Link.TheVariants.{Ethernet, RawIp, Cooked}
 use Rattle.edge_io.specs.declared.moment.Moment.{Moment}
-use Rattle.pcap_input.specs.Savefile.{number_at}
+use Rattle.pcap_input.specs.Savefile.{longest, most_records, number_at}
 use Rattle.pcapng_input.specs.declared.capture.NgRecord.{NgRecord}
 use Rattle.pcapng_input.specs.declared.capture.NgFault.{NgFault}
 use Rattle.pcapng_input.specs.declared.capture.NgFault.TheVariants as fault
@@ -31,13 +31,7 @@ use Rattle.pcapng_input.specs.declared.walk.Walk.{Walk}
 use Rattle.pcapng_input.specs.Moments.{moment_of}
 use Rattle.pcapng_input.specs.Options.{resolution_told}
 
--- the most captured bytes of a record, records of a capture, and interfaces of a section (own)
-abbrev pub longest : ℕ
-longest = 262144
-
-abbrev pub most_records : ℕ
-most_records = 4294967295
-
+-- the most interfaces of a section (own)
 abbrev pub most_interfaces : ℕ
 most_interfaces = 4096
 

@@ -12,7 +12,8 @@ use Rattle.pcapng_input.specs.declared.capture.NgRecord.{NgRecord}
 use Rattle.pcapng_input.specs.declared.capture.NgFault.{NgFault}
 use Rattle.pcapng_input.specs.declared.capture.NgFault.TheVariants as fault
 use Rattle.pcapng_input.specs.Blocks.{Ending, Clean, Refused, opening, next_of, Cut, ng_records}
-use Rattle.pcapng_input.specs.Reader.{Reading, Opens, Tells, TakesHead, Answers, TakesRecord}
+use Rattle.pcap_input.specs.Reader.{Tells}
+use Rattle.pcapng_input.specs.Reader.{Reading, Opens, TakesHead, Answers, TakesRecord}
 
 -- ---- one call
 

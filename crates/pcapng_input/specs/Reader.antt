@@ -5,7 +5,6 @@
 -- To try it on: a reader of a file with one section header, of 28 bytes, stands at 28 and has no interface;
 -- where 28 such bytes follow and no more, it answers that no record is left, and stands at 56.
 use Rattle.std.specs.Prelude.{◌≡◌, ℕ, List, ◌++◌, Option, Some, None, Result, Ok, Err, ⊤}
-use Rattle.std.specs.FinMap.{get}
 use Rattle.edge_io.specs.Told.{before}
 use Rattle.edge_io.specs.Files.{Files, IsOpened}
 use Rattle.pcapng_input.specs.declared.capture.NgRecord.{NgRecord}
@@ -32,11 +31,6 @@ Opens (Ok reader) step = (more : List ℕ) × (step ≡ Skips reader.walk more) 
 Opens (Err fault.Failed) step = ⊤
 Opens (Err fault.NoMemory) step = ⊤
 Opens (Err why) step = step ≡ Stops (Refused why)
-
--- contents are told, and these bytes are what the name holds
-abbrev pub Tells : Option Files → List ℕ → List ℕ → Type 0
-Tells None name bytes = ⊥
-Tells (Some files) name bytes = get files name ≡ Some bytes
 
 -- what the first block's bytes, or fewer, show: where it is read they are exactly it, whatever follows
 abbrev pub ShowsHead : Result Reading NgFault → List ℕ → Type 0

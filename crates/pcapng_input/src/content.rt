@@ -4,9 +4,9 @@ ghost use Rattle.pcapng_input.specs.Steps.{FitsIn, IsPlain};
 
 use crate::NgFault;
 use crate::block::{Block, Kind};
-use crate::number::{u16_at, u32_at};
 use crate::walk::{Interface, Walk};
 use edge_io::{Link, Moment};
+use pcap_input::number::{u16_at, u32_at};
 
 /// What a packet's block tells of it.
 #[derive(Clone, Copy, Debug, PartialEq, Eq)]

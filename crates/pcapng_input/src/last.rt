@@ -3,9 +3,9 @@ ghost use Rattle.edge_io.specs.Told.{Rose};
 ghost use Rattle.pcapng_input.specs.Steps.{TakesLess, TakesLast};
 
 use crate::NgFault;
-use crate::number::u32_at;
 use crate::piece::{read_piece, skip};
 use edge_io::Host;
+use pcap_input::number::u32_at;
 
 /// Passes over `count` bytes of the block that begins at `at`, reads its last four, and tells whether they
 /// are its total length again.

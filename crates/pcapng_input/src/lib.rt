@@ -11,15 +11,12 @@
 mod block;
 mod capture;
 mod content;
-mod fill;
 mod last;
 mod laws;
-mod number;
 mod options;
 mod piece;
 mod reader;
 mod resolution;
-mod spares;
 mod step;
 mod walk;
 

@@ -1,8 +1,8 @@
 ghost use Rattle.std.specs.Prelude.{◌≡◌};
 ghost use Rattle.pcapng_input.specs.Options.{padded, found_in, resolution_told};
 
-use crate::number::u16_at;
 use crate::resolution::{MICROSECONDS, Resolution};
+use pcap_input::number::u16_at;
 
 /// The bytes of an option's code and length.
 const OPTION_HEADER: usize = 4;

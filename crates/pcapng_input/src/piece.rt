@@ -3,9 +3,9 @@ ghost use Rattle.edge_io.specs.Told.{before, Rose};
 ghost use Rattle.pcapng_input.specs.Steps.{TakesLess, TakesBytes};
 
 use crate::NgFault;
-use crate::fill::fill;
-use crate::spares::resized;
 use edge_io::Host;
+use pcap_input::fill::fill;
+use pcap_input::spares::resized;
 
 /// The most bytes that are passed over at once.
 const PIECE: usize = 512;

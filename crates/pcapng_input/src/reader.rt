@@ -3,17 +3,18 @@ ghost use Rattle.edge_io.specs.Told.{one_more, Rose};
 ghost use Rattle.edge_io.specs.Files.{Lacks, IsUnopened};
 ghost use Rattle.pcapng_input.specs.Blocks.{Clean, Ends, opening, first_walk, next_of};
 ghost use Rattle.pcapng_input.specs.Steps.{Shows};
-ghost use Rattle.pcapng_input.specs.Reader.{Opens, Tells, TakesHead, IsOfHead, Answers, TakesRecord, TakesBlocks, TakesNone, Goes, IsHeadAnswer, IsNothing};
+ghost use Rattle.pcap_input.specs.Reader.{Tells};
+ghost use Rattle.pcapng_input.specs.Reader.{Opens, TakesHead, IsOfHead, Answers, TakesRecord, TakesBlocks, TakesNone, Goes, IsHeadAnswer, IsNothing};
 
 use crate::block::{Block, Kind};
-use crate::fill::fill;
-use crate::number::u32_at;
 use crate::piece::read_piece;
-use crate::spares::Spares;
 use crate::step::{BlockRead, SECTION, order_of, read_block, read_known};
 use crate::walk::Walk;
 use crate::{NgFault, NgRecord};
 use edge_io::{Host, Text};
+use pcap_input::fill::fill;
+use pcap_input::number::u32_at;
+use pcap_input::spares::Spares;
 use std::alloc::Global;
 use std::marker::Model;
 

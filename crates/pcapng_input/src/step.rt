@@ -7,16 +7,16 @@ ghost use Rattle.pcapng_input.specs.Steps.{Shows, FitsIn, IsAtEnd, HasRoom};
 
 use crate::block::{Block, Kind};
 use crate::content::{Content, Packet, front_content};
-use crate::fill::fill;
 use crate::last::is_closed;
-use crate::number::u32_at;
 use crate::options::resolution_told;
 use crate::piece::{read_bytes, read_piece};
-use crate::spares::Spares;
 use crate::walk::{Interface, Walk};
 use crate::{NgFault, NgRecord};
 use edge_io::{Host, Text};
 use pcap_input::Record;
+use pcap_input::fill::fill;
+use pcap_input::number::u32_at;
+use pcap_input::spares::Spares;
 use std::alloc::Global;
 
 /// The type of a section header, the same in both byte orders.
