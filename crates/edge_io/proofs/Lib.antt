@@ -1,3 +1,4 @@
+pub mod Addresses
 pub mod Along
 pub mod AlongClasses
 pub mod Bytes
@@ -6,3 +7,4 @@ pub mod Putting
 pub mod Places
 pub mod Folding
 pub mod Known
+pub mod Words

@@ -1,4 +1,5 @@
 pub mod Along
+pub mod Addresses
 pub mod Bytes
 pub mod OnOption
 pub mod OnResult

@@ -3,17 +3,11 @@
 --
 -- To try it on: two events of one rule from 10.0.0.1 have one key where a line tracks by source, also
 -- where they go to two addresses.
-use Rattle.std.specs.Prelude.{Bool, false, ◌&&◌, ◌==◌, if◌then◌else◌}
+use Rattle.std.specs.Prelude.{Bool, ◌&&◌, ◌==◌, if◌then◌else◌}
 use Rattle.edge_io.specs.declared.address.Addr.{Addr}
-use Rattle.edge_io.specs.declared.address.Addr.TheVariants.{V4, V6}
+use Rattle.edge_io.specs.Addresses.{same_addr}
 use Rattle.packet_decode.specs.declared.item.ItemHead.{ItemHead}
 use Rattle.event_filters.specs.declared.counting.Key.{Key}
-
--- the two addresses are one
-abbrev pub same_addr : Addr → Addr → Bool
-same_addr (V4 a) (V4 b) = a == b
-same_addr (V6 a) (V6 b) = a == b
-same_addr a b = false
 
 -- the two keys are one
 abbrev pub same_key : Key → Key → Bool

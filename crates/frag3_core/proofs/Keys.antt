@@ -3,20 +3,11 @@ use Rattle.std.proofs.Common.{◌≡◌, ℕ, Bool, true, false, ◌&&◌, eqb, 
 use Rattle.std.specs.Cmp.{IsEquivalence}
 use Rattle.std.specs.Cmp.Derive.{both_true}
 use Rattle.std.proofs.lemmas.Bool.{eqb-true, eq-eqb}
-use Rattle.edge_io.specs.declared.address.Addr.{Addr}
-use Rattle.edge_io.specs.declared.address.Addr.TheVariants.{V4, V6}
 use Rattle.frag3_core.specs.declared.key.DatagramKey.{DatagramKey}
-use Rattle.frag3_core.specs.Trackers.{same_addr, same_key}
-
-same_addr-refl : (a : Addr) → same_addr a a ≡ true
-same_addr-refl (V4 a) = eq-eqb a a refl
-same_addr-refl (V6 a) = eq-eqb a a refl
-
-same_addr-true : (a b : Addr) → same_addr a b ≡ true → a ≡ b
-same_addr-true (V4 a) (V4 b) is = ap V4 (eqb-true a b is)
-same_addr-true (V6 a) (V6 b) is = ap V6 (eqb-true a b is)
-same_addr-true (V4 a) (V6 b) is = cc
-same_addr-true (V6 a) (V4 b) is = cc
+use Rattle.edge_io.specs.declared.address.Addr.{Addr}
+use Rattle.edge_io.specs.Addresses.{same_addr}
+use Rattle.edge_io.proofs.Addresses.{same_addr-refl, same_addr-true}
+use Rattle.frag3_core.specs.Trackers.{same_key}
 
 left_true : (a b : Bool) → (a && b) ≡ true → a ≡ true
 left_true true b is = refl

@@ -15,8 +15,7 @@ use Rattle.std.specs.Prelude.{ℕ, ◌+◌, ◌*◌, Bool, false, ◌&&◌, ◌=
 use Rattle.std.specs.List.{range_with_len}
 use Rattle.std.specs.Map.{lookup, remove_entry, values_of}
 use Rattle.std.specs.Option.{option_map, option_map_or, option_or}
-use Rattle.edge_io.specs.declared.address.Addr.{Addr}
-use Rattle.edge_io.specs.declared.address.Addr.TheVariants.{V4, V6}
+use Rattle.edge_io.specs.Addresses.{same_addr}
 use Rattle.edge_io.specs.declared.moment.Moment.{Moment}
 use Rattle.edge_io.specs.declared.policy.Preference.{Preference}
 use Rattle.packet_decode.specs.declared.packet.IpHead.{IpHead}
@@ -68,12 +67,6 @@ pub record TrackerState : Type 0 where
 -- which datagram a fragment belongs to
 abbrev pub key_of : IpHead → DatagramKey
 key_of ip = record { src = ip.src; dst = ip.dst; id = ip.id; protocol = ip.protocol }
-
--- two addresses are the same
-abbrev pub same_addr : Addr → Addr → Bool
-same_addr (V4 a) (V4 b) = a == b
-same_addr (V6 a) (V6 b) = a == b
-same_addr a b = false
 
 -- two fragments belong to one datagram
 abbrev pub same_key : DatagramKey → DatagramKey → Bool

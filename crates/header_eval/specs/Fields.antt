@@ -8,8 +8,7 @@
 -- of no stretch of a stream.
 use Rattle.std.specs.Prelude.{◌≡◌, ℕ, ◌+◌, ◌-◌, ◌==◌, ◌⊎◌, ⊤, Bool, true, false, not, ◌&&◌, ◌||◌, Option, Some, None, List, nat_lt, nat_le, bit_and, if◌then◌else◌}
 use Rattle.std.specs.Option.{option_map}
-use Rattle.edge_io.specs.declared.address.Addr.{Addr}
-use Rattle.edge_io.specs.declared.address.Addr.TheVariants as addr
+use Rattle.edge_io.specs.Addresses.{same_addr}
 use Rattle.net_lists.specs.declared.part.AddrBounds.{AddrBounds}
 use Rattle.net_lists.specs.declared.part.Bounds.{Bounds}
 use Rattle.net_lists.specs.declared.part.Part.{Part}
@@ -208,13 +207,6 @@ flow_holds flow head =
     && (agrees_known flow.from_client head.session.from_client
     && (agrees flow.stream (is_stream head.kind) && agrees flow.frag (is_rebuilt head.kind)))
 
--- Addresses.
-
-abbrev pub same_address : Addr → Addr → Bool
-same_address (addr.V4 a) (addr.V4 b) = a == b
-same_address (addr.V6 a) (addr.V6 b) = a == b
-same_address a b = false
-
 -- How much the sides of a session have sent, where it is known.
 
 abbrev pub sizes_hold : Option (ℕ × ℕ) → Side → Cmp → ℕ → Bool
@@ -232,6 +224,6 @@ field_holds (opt.Flow flow) head len = flow_holds flow head
 field_holds (opt.Flags mode bits mask) head len = flags_hold (tcp_of head.kind head.body) mode bits mask
 field_holds (opt.FragBits mode bits) head len = frag_bits_hold head mode bits
 field_holds (opt.Compare field cmp low high) head len = value_compares (field_value field head len) cmp low high
-field_holds opt.SameIp head len = same_address head.ip.src head.ip.dst
+field_holds opt.SameIp head len = same_addr head.ip.src head.ip.dst
 field_holds (opt.StreamSize side cmp size) head len = sizes_hold head.session.sizes side cmp size
 field_holds opt head len = true

@@ -1,6 +1,7 @@
 //! The options that look at fields.
 ghost use Rattle.std.specs.Prelude.{◌≡◌};
-ghost use Rattle.header_eval.specs.Fields.{of_packet, icmp_kind, icmp_code, icmp_id, icmp_seq, field_value, value_compares, flags_hold, frag_bits, frag_bits_hold, same_address, field_holds};
+ghost use Rattle.edge_io.specs.Addresses.{same_addr};
+ghost use Rattle.header_eval.specs.Fields.{of_packet, icmp_kind, icmp_code, icmp_id, icmp_seq, field_value, value_compares, flags_hold, frag_bits, frag_bits_hold, field_holds};
 
 use crate::compare::{bits_hold, compares};
 use crate::flow::flow_holds;
@@ -122,7 +123,7 @@ fn frag_bits_hold(head: &ItemHead, mode: Mode, bits: u8) -> bool
 
 /// Whether two addresses are the same.
 fn same_address(a: Addr, b: Addr) -> bool
-    ensures { result ≡ same_address a b }
+    ensures { result ≡ same_addr a b }
 {
     a == b
 }

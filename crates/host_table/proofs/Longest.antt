@@ -11,7 +11,8 @@ use Rattle.edge_io.specs.declared.address.Addr.TheVariants.{V4, V6}
 use Rattle.net_lists.specs.declared.network.Network.{Network}
 use Rattle.net_lists.specs.Addresses.{IsNetwork, network_at, bits_of}
 use Rattle.host_table.specs.declared.host_line.HostLine.{HostLine}
-use Rattle.host_table.specs.HostLine.{same_addr, same_network}
+use Rattle.edge_io.specs.Addresses.{same_addr}
+use Rattle.host_table.specs.HostLine.{same_network}
 use Rattle.host_table.specs.Hosts.{has_address, longer, longest, entry_at}
 use Rattle.host_table.proofs.Networks.{same_network-is}
 

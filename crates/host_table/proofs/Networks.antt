@@ -6,18 +6,10 @@ use Rattle.std.proofs.lemmas.Bool.Decides.{nat_tests}
 use Rattle.edge_io.specs.declared.address.Addr.{Addr}
 use Rattle.edge_io.specs.declared.address.Addr.TheVariants.{V4, V6}
 use Rattle.net_lists.specs.declared.network.Network.{Network}
-use Rattle.host_table.specs.HostLine.{same_addr, same_network}
+use Rattle.edge_io.specs.Addresses.{same_addr}
+use Rattle.edge_io.proofs.Addresses.{same_addr-refl, same_addr-true}
+use Rattle.host_table.specs.HostLine.{same_network}
 use Rattle.host_table.specs.Keys.{key_of, key_cmp}
-
-same_addr-is : (a b : Addr) → same_addr a b ≡ true → a ≡ b
-same_addr-is (V4 a) (V4 b) is = ap V4 (eqb-true a b is)
-same_addr-is (V4 a) (V6 b) is = absurd (false≢true is)
-same_addr-is (V6 a) (V4 b) is = absurd (false≢true is)
-same_addr-is (V6 a) (V6 b) is = ap V6 (eqb-true a b is)
-
-same_addr-self : (a : Addr) → same_addr a a ≡ true
-same_addr-self (V4 a) = eq-eqb a a refl
-same_addr-self (V6 a) = eq-eqb a a refl
 
 both : (a b : Bool) → (a && b) ≡ true → (a ≡ true) × (b ≡ true)
 both true b is = (refl, is)
@@ -30,11 +22,11 @@ pub same_network-is : (a b : Network) → same_network a b ≡ true → a ≡ b
 unfolding same_network
 same_network-is a b is =
     let parts = both (eqb a.length b.length) (same_addr a.first b.first) is in
-    ap (λ l. net a.first l) (eqb-true a.length b.length parts.0) ∙ ap (λ f. net f b.length) (same_addr-is a.first b.first parts.1)
+    ap (λ l. net a.first l) (eqb-true a.length b.length parts.0) ∙ ap (λ f. net f b.length) (same_addr-true a.first b.first parts.1)
 
 pub same_network-self : (a : Network) → same_network a a ≡ true
 unfolding same_network
-same_network-self a = rw (eq-eqb a.length a.length refl, same_addr-self a.first)
+same_network-self a = rw (eq-eqb a.length a.length refl, same_addr-refl a.first)
 
 -- keys are equal in their order where their networks are one
 pub key_test : (a b : Network) → is_eq (key_cmp (key_of a) (key_of b)) ≡ same_network a b

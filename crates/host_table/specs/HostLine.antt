@@ -7,12 +7,11 @@
 -- table, Snort Users Manual 2.9, section 2.7; policies as in sections 2.2.1 and 2.2.2.)
 -- To try it on: `10.1.2.3/8 last -` is the network 10.0.0.0 of 8 bits with the fragment policy last and no
 -- stream policy; behind it `10.0.0.0/8 - linux` is given twice, and `10.0.0.0/9 - linux` is not.
-use Rattle.std.specs.Prelude.{ℕ, ◌==◌, ◌&&◌, Bool, false, Option, Some, None, Result, Ok, Err, List, [], ◌∷◌, length, codes, bytes_eq, nat_lt, if◌then◌else◌}
+use Rattle.std.specs.Prelude.{ℕ, ◌==◌, ◌&&◌, Bool, Option, Some, None, Result, Ok, Err, List, [], ◌∷◌, length, codes, bytes_eq, nat_lt, if◌then◌else◌}
 use Rattle.std.specs.List.{list_any}
 use Rattle.std.specs.Option.{option_map}
 use Rattle.edge_io.specs.OnOption.{◌>>=◌}
-use Rattle.edge_io.specs.declared.address.Addr.{Addr}
-use Rattle.edge_io.specs.declared.address.Addr.TheVariants.{V4, V6}
+use Rattle.edge_io.specs.Addresses.{same_addr}
 use Rattle.net_lists.specs.declared.network.Network.{Network}
 use Rattle.net_lists.specs.Addresses.{network}
 use Rattle.net_lists.specs.Cutting.{words}
@@ -21,13 +20,6 @@ use Rattle.host_table.specs.declared.fault.HostFault.TheVariants.{BadLine, Twice
 use Rattle.host_table.specs.declared.host_line.HostLine.{HostLine}
 use Rattle.host_table.specs.Lines.{Numbered}
 use Rattle.edge_io.specs.Policies.{frag_policy, stream_policy}
-
--- one address, of one version
-abbrev pub same_addr : Addr → Addr → Bool
-same_addr (V4 a) (V4 b) = a == b
-same_addr (V4 a) (V6 b) = false
-same_addr (V6 a) (V4 b) = false
-same_addr (V6 a) (V6 b) = a == b
 
 -- the same version, prefix length and address bits
 unfoldable pub same_network : Network → Network → Bool

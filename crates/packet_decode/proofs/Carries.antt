@@ -1,7 +1,8 @@
 -- A one's complement sum with its carries is all ones exactly where the plain sum says so.
 use Rattle.std.proofs.Common.{◌≡◌, ℕ, ◌+◌, ◌-◌, ◌*◌, ◌<◌, ◌≤◌, List, [], ◌∷◌, get_or, suc, nat_lt, ◌==◌, if◌then◌else◌, refl, sym, ap, ◌∙◌, arith, ⊎_elim, add-zero}
 use Rattle.std.proofs.lemmas.Bool.{cases_lt, lt-ltb, le-ltb}
-use Rattle.packet_decode.specs.Checksum.{word_sum, is_all_ones}
+use Rattle.edge_io.specs.Bytes.{word_sum}
+use Rattle.packet_decode.specs.Checksum.{is_all_ones}
 use Rattle.packet_decode.proofs.Sums.{same_ones, folded}
 
 -- one's complement addition of two 16-bit words: a carry out of the top comes back in at the low end

@@ -7,7 +7,8 @@ use Rattle.std.proofs.lemmas.Nat.{and_mask, div_below}
 use Rattle.byteorder.specs.Endian.{big_number}
 use Rattle.edge_io.specs.declared.address.Addr.{Addr}
 use Rattle.edge_io.specs.declared.address.Addr.TheVariants.{V4, V6}
-use Rattle.packet_decode.specs.Checksum.{word_sum, words_of, is_all_ones, address_sum, pseudo_sum}
+use Rattle.edge_io.specs.Bytes.{word_sum}
+use Rattle.packet_decode.specs.Checksum.{words_of, is_all_ones, address_sum, pseudo_sum}
 
 -- sums that differ by a multiple of 65535, and are 0 together
 pub same_ones : (a b k : ℕ) → a ≡ b + k * 65535 → (b ≡ 0 → a ≡ 0) → is_all_ones a ≡ is_all_ones b
@@ -38,24 +39,6 @@ unfolding word_sum
 eight total (a ∷ b ∷ c ∷ d ∷ e ∷ f ∷ g ∷ h ∷ rest) long =
     same_ones _ _ ((a * 256 + b) * 4295032833 + (c * 256 + d) * 65537 + (e * 256 + f)) (omega arith) (λ none. omega arith)
 eight total _ long = absurd (omega arith)
-
--- two bytes as one number are a word
-pub two : (total : ℕ) (bytes : List ℕ) → 2 ≤ length bytes → (total + big_number 2 (take 2 bytes)) + word_sum (drop 2 bytes) ≡ total + word_sum bytes
-unfolding word_sum
-two total (a ∷ b ∷ rest) long = omega arith
-two total _ long = absurd (omega arith)
-
--- an odd last byte
-pub last : (bytes : List ℕ) → length bytes ≡ 1 → word_sum bytes ≡ get_or bytes 0 0 * 256
-unfolding word_sum
-last (a ∷ []) one = refl
-last _ one = absurd (omega arith)
-
--- nothing is left
-pub nothing : (bytes : List ℕ) → length bytes ≡ 0 → word_sum bytes ≡ 0
-unfolding word_sum
-nothing [] zero_long = refl
-nothing (a ∷ rest) zero_long = absurd (omega arith)
 
 -- a number counts as its words
 pub words : (count number more : ℕ) → number < 65536 ^ count → is_all_ones (number + more) ≡ is_all_ones (words_of count number + more)

@@ -1,23 +1,18 @@
 -- The internet checksum, as one checks it: RFC 1071, section 1, rules (1) and (3).
 --
--- The bytes are paired to 16-bit words, an odd last byte with a zero byte behind it. The one's
--- complement sum of the words, the checksum field among them, is to be all ones, ffff. A one's
--- complement sum adds each carry out of the 16 bits back in at the low end, so it is the plain sum
--- modulo 65535, where a multiple of 65535 is written as 0000 if every word is 0, and else as ffff. So
--- it is all ones exactly where the plain sum isn't 0 and is divisible by 65535.
+-- The bytes are paired to 16-bit words, an odd last byte with a zero byte behind it; `word_sum` of
+-- edge_io's specs/Bytes is their plain sum. The one's complement sum of the words, the checksum field
+-- among them, is to be all ones, ffff. A one's complement sum adds each carry out of the 16 bits back in
+-- at the low end, so it is the plain sum modulo 65535, where a multiple of 65535 is written as 0000 if
+-- every word is 0, and else as ffff. So it is all ones exactly where the plain sum isn't 0 and is
+-- divisible by 65535.
 -- To try it on: RFC 1071, section 3: the words 0001, f203, f4f5, f6f7 have the plain sum 2ddf0, whose
 -- one's complement sum is ddf2. With the checksum 220d among them the plain sum is 2fffd, three times
 -- ffff, which is right.
 -- The law `ones_sum-is_all_ones` of proofs/Carries says the same of the sum that adds carries back in.
-use Rattle.std.specs.Prelude.{ℕ, zero, suc, ◌+◌, ◌*◌, ◌/◌, ◌%◌, List, [], ◌∷◌, Bool, ◌&&◌, nat_lt, ◌==◌}
+use Rattle.std.specs.Prelude.{ℕ, zero, suc, ◌+◌, ◌/◌, ◌%◌, Bool, ◌&&◌, nat_lt, ◌==◌}
 use Rattle.edge_io.specs.declared.address.Addr.{Addr}
 use Rattle.edge_io.specs.declared.address.Addr.TheVariants.{V4, V6}
-
--- the plain sum of the 16-bit words of these bytes
-unfoldable pub word_sum : List ℕ → ℕ
-word_sum [] = 0
-word_sum (high ∷ []) = high * 256
-word_sum (high ∷ low ∷ rest) = (high * 256 + low) + word_sum rest
 
 -- the plain sum of the lowest `count` 16-bit words of a number
 unfoldable pub words_of : ℕ → ℕ → ℕ

@@ -26,8 +26,8 @@ use Rattle.packet_decode.specs.declared.packet.Body.TheVariants.{Tcp, Udp, Icmp,
 use Rattle.packet_decode.specs.declared.packet.Packet.{Packet}
 use Rattle.packet_decode.specs.declared.placed.Placed.{Placed}
 use Rattle.edge_io.specs.OnResult.{◌>>=◌}
-use Rattle.edge_io.specs.Bytes.{byte_at, be16, be32, slice}
-use Rattle.packet_decode.specs.Checksum.{word_sum, is_all_ones, pseudo_sum}
+use Rattle.edge_io.specs.Bytes.{byte_at, be16, be32, slice, word_sum}
+use Rattle.packet_decode.specs.Checksum.{is_all_ones, pseudo_sum}
 use Rattle.packet_decode.specs.Versions.{ether_type, first_digit, version_of, icmp_protocol}
 
 -- a packet apart from where its payload lies in memory

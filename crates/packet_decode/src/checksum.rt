@@ -1,5 +1,6 @@
 ghost use Rattle.std.specs.Prelude.{◌≡◌, ℕ, ◌+◌, ◌^◌, ◌<◌, length};
-ghost use Rattle.packet_decode.specs.Checksum.{word_sum, is_all_ones, address_sum, pseudo_sum};
+ghost use Rattle.edge_io.specs.Bytes.{word_sum};
+ghost use Rattle.packet_decode.specs.Checksum.{is_all_ones, address_sum, pseudo_sum};
 ghost use Rattle.packet_decode.specs.Decoding.{is_segment_right, is_message_right};
 
 use crate::{IpHead, IpVersion};

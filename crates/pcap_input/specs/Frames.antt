@@ -7,14 +7,9 @@
 -- identification 1 and time to live 64 has the checksum 66cb.
 use Rattle.std.specs.Prelude.{ℕ, ◌+◌, ◌-◌, ◌*◌, ◌%◌, List, [], ◌∷◌, ◌++◌, length}
 use Rattle.byteorder.specs.Endian.{big_bytes}
+use Rattle.edge_io.specs.Bytes.{word_sum}
 use Rattle.pcap_input.specs.declared.frames.Endpoint.{Endpoint}
 use Rattle.pcap_input.specs.declared.frames.Segment.{Segment}
-
--- the plain sum of the 16-bit words of these bytes, an odd last byte with a zero byte behind it
-unfoldable pub word_sum : List ℕ → ℕ
-word_sum [] = 0
-word_sum (high ∷ []) = high * 256
-word_sum (high ∷ low ∷ rest) = (high * 256 + low) + word_sum rest
 
 -- The checksum of words with this plain sum: the complement of their one's complement sum, which is
 -- the plain sum modulo 65535, where a multiple of 65535 that is not 0 is written ffff.

@@ -1,5 +1,6 @@
 ghost use Rattle.std.specs.Prelude.{◌≡◌, ◌+◌, ◌*◌, ◌<◌, ◌≤◌, ◌^◌, ◌%◌, length, IfOk};
-ghost use Rattle.pcap_input.specs.Frames.{word_sum, checksum, ip_fields, ip_header, pseudo_header, tcp_fields, tcp_sum, tcp_header, udp_header, frame, tcp_frame, udp_frame};
+ghost use Rattle.edge_io.specs.Bytes.{word_sum};
+ghost use Rattle.pcap_input.specs.Frames.{checksum, ip_fields, ip_header, pseudo_header, tcp_fields, tcp_sum, tcp_header, udp_header, frame, tcp_frame, udp_frame};
 
 use byteorder::{BigEndian, ByteOrder};
 use std::alloc::{AllocError, Global};

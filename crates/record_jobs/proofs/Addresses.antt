@@ -3,7 +3,7 @@ use Rattle.std.proofs.Common.{◌≡◌, ℕ, zero, suc, ◌+◌, ◌*◌, ◌/�
 use Rattle.std.specs.Prelude.{IfOk, IfSome, IsOkAnd, option_and_then}
 use Rattle.std.specs.Option.{option_map_or}
 use Rattle.std.proofs.lemmas.Result.{IfOk-weaker}
-use Rattle.edge_io.specs.Bytes.{be16, byte_at, slice}
+use Rattle.edge_io.specs.Bytes.{be16, byte_at, slice, word_sum}
 use Rattle.edge_io.specs.OnResult.{◌>>=◌}
 use Rattle.edge_io.specs.declared.link.Link.{Link}
 use Rattle.edge_io.specs.declared.moment.Moment.{Moment}
@@ -15,7 +15,7 @@ use Rattle.packet_decode.specs.declared.skip.Skip.{Skip}
 use Rattle.packet_decode.specs.declared.skip.Skip.TheVariants as skip
 use Rattle.packet_decode.specs.declared.version.IpVersion.{IpVersion}
 use Rattle.packet_decode.specs.declared.version.IpVersion.TheVariants.{Four, Six}
-use Rattle.packet_decode.specs.Checksum.{is_all_ones, word_sum}
+use Rattle.packet_decode.specs.Checksum.{is_all_ones}
 use Rattle.packet_decode.specs.Decoding.{Fields, data_bounds, datagram_at, decoded, icmp_at, ip_head_at, is_fragment, is_message_right, is_segment_right, link_start, tcp_at, tcp_head_at, transport_at, udp_at}
 use Rattle.packet_decode.specs.Versions.{icmp_protocol, version_of}
 use Rattle.ipv6_decode.specs.declared.walk.Walk.{Walk}

@@ -8,14 +8,14 @@ use Rattle.std.proofs.lemmas.List.{append-nil}
 use Rattle.std.proofs.lemmas.List.Elements.{filter-append}
 use Rattle.std.proofs.lemmas.List.Sums.{fold_push}
 use Rattle.edge_io.specs.declared.address.Addr.{Addr}
-use Rattle.edge_io.specs.declared.address.Addr.TheVariants as addr
 use Rattle.edge_io.specs.declared.moment.Moment.{Moment}
 use Rattle.packet_decode.specs.declared.packet.Body.{Body}
 use Rattle.packet_decode.specs.declared.packet.Body.TheVariants as body
 use Rattle.packet_decode.specs.declared.packet.IpHead.{IpHead}
 use Rattle.stream5_sessions.specs.declared.key.End.{End}
 use Rattle.stream5_sessions.specs.declared.key.Key.{Key}
-use Rattle.stream5_sessions.specs.Keys.{is_end_before, key_of, same_addr, same_end}
+use Rattle.edge_io.proofs.Addresses.{same_addr-refl}
+use Rattle.stream5_sessions.specs.Keys.{is_end_before, key_of, same_end}
 use Rattle.stream5_sessions.specs.Phases.{segment_of}
 use Rattle.stream5_sessions.proofs.KeyLaws.{end_is}
 use Rattle.flow_lanes.specs.declared.job.Job.{Job}
@@ -58,12 +58,8 @@ toward-way : (way : Way) (tcp : Bool) (time : Time) (addr : Addr) → way_of (to
 unfolding toward_address
 toward-way way tcp time addr = refl
 
-same_addr-self : (addr : Addr) → same_addr addr addr ≡ true
-same_addr-self (addr.V4 a) = eq-eqb a a refl
-same_addr-self (addr.V6 a) = eq-eqb a a refl
-
 same_end-self : (end : End) → same_end end end ≡ true
-same_end-self end = ap (λ b. b && eqb end.port end.port) (same_addr-self end.addr) ∙ eq-eqb end.port end.port refl
+same_end-self end = ap (λ b. b && eqb end.port end.port) (same_addr-refl end.addr) ∙ eq-eqb end.port end.port refl
 
 -- what goes by either end of a packet
 toward_end : (way : Way) (time : Time) (item : Item) (end : End)

@@ -7,7 +7,8 @@ use Rattle.edge_io.specs.declared.address.Addr.{Addr}
 use Rattle.edge_io.specs.declared.address.Addr.TheVariants.{V4, V6}
 use Rattle.stream5_sessions.specs.declared.key.End.{End}
 use Rattle.stream5_sessions.specs.contracts.key.EndPartialOrd.TheImpl.{partial_cmp-value}
-use Rattle.stream5_sessions.specs.Keys.{same_addr, is_addr_before, is_end_before, key_of}
+use Rattle.edge_io.specs.Addresses.{same_addr}
+use Rattle.stream5_sessions.specs.Keys.{is_addr_before, is_end_before, key_of}
 use Rattle.stream5_sessions.proofs.KeyLaws.{end_is, end_at, key_at}
 
 numbers_4 : (x y p q : ℕ) → partial_lt partial_cmp-value.it (end_at (V4 x) p) (end_at (V4 y) q) ≡ (ltb x y || (eqb x y && ltb p q))

@@ -10,7 +10,9 @@ use Rattle.stream5_sessions.specs.declared.key.End.{End}
 use Rattle.stream5_sessions.specs.declared.key.Key.{Key}
 use Rattle.stream5_sessions.specs.contracts.key.KeyPartialEq.TheImpl.{eq-value}
 use Rattle.stream5_sessions.specs.contracts.key.EndPartialEq.TheImpl.{eq-value as end}
-use Rattle.stream5_sessions.specs.Keys.{is_of, same_addr, same_end, same_key}
+use Rattle.edge_io.specs.Addresses.{same_addr}
+use Rattle.edge_io.proofs.Addresses.{same_addr-refl, same_addr-true}
+use Rattle.stream5_sessions.specs.Keys.{is_of, same_end, same_key}
 
 end_parts : (x y : Addr) (p q : ℕ) → end.it (record { addr = x; port = p }) (record { addr = y; port = q }) ≡ (same_addr x y && eqb p q)
 end_parts (V4 x) (V4 y) p q = refl
@@ -44,22 +46,12 @@ beq_self : (b : Bool) → cond b b (not b) ≡ true
 beq_self true = refl
 beq_self false = refl
 
-addr_self : (x : Addr) → same_addr x x ≡ true
-addr_self (V4 x) = eq-eqb x x refl
-addr_self (V6 x) = eq-eqb x x refl
-
 end_self : (a : End) → same_end a a ≡ true
-end_self a = rw (addr_self a.addr, eq-eqb a.port a.port refl)
+end_self a = rw (same_addr-refl a.addr, eq-eqb a.port a.port refl)
 
 pub same_key-self : (a : Key) → same_key a a ≡ true
 unfolding same_key
 same_key-self a = rw (beq_self a.tcp, end_self a.low, end_self a.high)
-
-addr_is : (x y : Addr) → same_addr x y ≡ true → x ≡ y
-addr_is (V4 x) (V4 y) h = ap V4 (eqb-true x y h)
-addr_is (V4 x) (V6 y) h = absurd (false≢true h)
-addr_is (V6 x) (V4 y) h = absurd (false≢true h)
-addr_is (V6 x) (V6 y) h = ap V6 (eqb-true x y h)
 
 both : (a b : Bool) → (a && b) ≡ true → (a ≡ true) × (b ≡ true)
 both true b h = (refl, h)
@@ -71,7 +63,7 @@ end_at x p = record { addr = x; port = p }
 pub end_is : (a b : End) → same_end a b ≡ true → a ≡ b
 end_is a b h =
     let parts = both (same_addr a.addr b.addr) (eqb a.port b.port) h in
-    let addr : a.addr ≡ b.addr = addr_is a.addr b.addr parts.0 in
+    let addr : a.addr ≡ b.addr = same_addr-true a.addr b.addr parts.0 in
     let port : a.port ≡ b.port = eqb-true a.port b.port parts.1 in
     ap (λ (x : Addr). end_at x a.port) addr ∙ ap (end_at b.addr) port
 

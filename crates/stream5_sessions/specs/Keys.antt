@@ -8,15 +8,9 @@
 use Rattle.std.specs.Prelude.{Bool, true, false, not, ◌&&◌, ◌||◌, ◌==◌, nat_lt, if◌then◌else◌}
 use Rattle.edge_io.specs.declared.address.Addr.{Addr}
 use Rattle.edge_io.specs.declared.address.Addr.TheVariants.{V4, V6}
+use Rattle.edge_io.specs.Addresses.{same_addr}
 use Rattle.stream5_sessions.specs.declared.key.End.{End}
 use Rattle.stream5_sessions.specs.declared.key.Key.{Key}
-
--- the two addresses are one
-abbrev pub same_addr : Addr → Addr → Bool
-same_addr (V4 a) (V4 b) = a == b
-same_addr (V4 a) (V6 b) = false
-same_addr (V6 a) (V4 b) = false
-same_addr (V6 a) (V6 b) = a == b
 
 -- the two ends are one
 abbrev pub same_end : End → End → Bool

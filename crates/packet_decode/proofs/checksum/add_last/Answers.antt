@@ -1,5 +1,5 @@
 use Rattle.std.proofs.Common.{arith}
-use Rattle.packet_decode.proofs.Sums.{two, last, nothing}
+use Rattle.edge_io.proofs.Words.{two, last, nothing}
 use Rattle.packet_decode.proofs.checksum.add_last.Goals as goal
 
 pub loop-rest-preserved : goal.loop-rest-preserved

@@ -1,5 +1,5 @@
 use Rattle.std.proofs.Common.{◌≡◌, ◌+◌, ◌*◌, ◌<◌, ◌^◌, length}
-use Rattle.packet_decode.specs.Checksum.{word_sum}
+use Rattle.edge_io.specs.Bytes.{word_sum}
 use Rattle.packet_decode.proofs.checksum.add_last.Given as goal
 
 abbrev pub invariant-loop-rest : goal.invariant-loop-rest

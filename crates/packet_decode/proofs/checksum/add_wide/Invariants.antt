@@ -1,5 +1,6 @@
 use Rattle.std.proofs.Common.{◌≡◌, ◌+◌, ◌*◌, ◌<◌, ◌^◌, length}
-use Rattle.packet_decode.specs.Checksum.{word_sum, is_all_ones}
+use Rattle.edge_io.specs.Bytes.{word_sum}
+use Rattle.packet_decode.specs.Checksum.{is_all_ones}
 use Rattle.packet_decode.proofs.checksum.add_wide.Given as goal
 
 abbrev pub invariant-loop-rest : goal.invariant-loop-rest

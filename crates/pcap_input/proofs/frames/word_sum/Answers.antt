@@ -1,5 +1,5 @@
 use Rattle.std.proofs.Common.{arith}
-use Rattle.pcap_input.proofs.Words.{two, last, nothing}
+use Rattle.edge_io.proofs.Words.{two, last, nothing}
 use Rattle.pcap_input.proofs.frames.word_sum.Goals as goal
 
 pub loop-rest-preserved : goal.loop-rest-preserved

@@ -1,5 +1,5 @@
 use Rattle.std.proofs.Common.{◌≡◌, ◌+◌, ◌*◌, ◌≤◌, length}
-use Rattle.pcap_input.specs.Frames.{word_sum}
+use Rattle.edge_io.specs.Bytes.{word_sum}
 use Rattle.pcap_input.proofs.frames.word_sum.Given as goal
 
 abbrev pub invariant-loop-rest : goal.invariant-loop-rest
