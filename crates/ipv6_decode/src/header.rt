@@ -2,8 +2,9 @@ ghost use Rattle.std.specs.Prelude.{◌≡◌, ◌+◌, ◌/◌, ◌%◌, ◌≤
 ghost use Rattle.edge_io.specs.Bytes.{be16};
 ghost use Rattle.ipv6_decode.specs.Headers.{packet_stop, head_at};
 
-use crate::numbers::{be16, be128};
+use crate::numbers::be128;
 use edge_io::Addr;
+use packet_decode::numbers::be16;
 use packet_decode::{IpHead, Skip};
 
 /// The length of an IPv6 header.

@@ -1,7 +1,7 @@
 ghost use Rattle.std.specs.Prelude.{◌≡◌, ◌+◌, ◌≤◌, length, IfOk};
 ghost use Rattle.ipv6_decode.specs.Headers.{has_length_field, is_at_header, behind_length_field, fragment_head, behind_fragment_header, behind_header, most_headers, walk_end};
 
-use crate::numbers::{be16, be32};
+use packet_decode::numbers::{be16, be32};
 use packet_decode::{IpHead, Skip};
 
 const HOP_BY_HOP: u8 = 0;

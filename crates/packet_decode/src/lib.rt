@@ -15,7 +15,8 @@ mod checks;
 mod checksum;
 mod ipv4;
 mod item;
-mod numbers;
+#[doc(hidden)]
+pub mod numbers;
 mod packet;
 mod placed;
 mod records;
