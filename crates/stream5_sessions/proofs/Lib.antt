@@ -6,6 +6,7 @@ pub mod Recent
 pub mod Protocols
 pub mod Apart
 pub mod Eviction
+pub mod Bounds
 pub mod Standing
 pub mod Rising
 pub mod Numbers

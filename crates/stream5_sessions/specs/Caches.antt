@@ -1,6 +1,6 @@
 -- How the flows that live are kept: of each protocol the keys that live with their flows' numbers,
 -- the latest touched first.
-use Rattle.std.specs.Prelude.{◌≡◌, ℕ, ◌+◌, ◌-◌, ◌<◌, ◌≤◌, Bool, true, false, List, [], ◌∷◌, ◌++◌, Option, Some, None, take, slice_get, option_map, if◌then◌else◌}
+use Rattle.std.specs.Prelude.{◌≡◌, ℕ, ◌+◌, ◌-◌, ◌<◌, ◌≤◌, Bool, true, false, List, [], ◌∷◌, ◌++◌, Option, Some, None, length, take, slice_get, option_map, if◌then◌else◌}
 use Rattle.std.specs.Map.{lookup, remove_entry}
 use Rattle.stream5_sessions.specs.declared.key.Key.{Key}
 use Rattle.stream5_sessions.specs.declared.flows.Touch.{Touch}
@@ -14,9 +14,12 @@ pub record FlowsState : Type 0 where
   pub tcp : List (Key × ℕ)
   pub udp : List (Key × ℕ)
 
--- no key was touched
-abbrev pub no_flows : ℕ → ℕ → FlowsState
-no_flows max_tcp max_udp = record { max = record { tcp = max_tcp; udp = max_udp }; next = 0; tcp = []; udp = [] }
+-- a flow of each protocol may live, and no more keys are kept than flows of a protocol may live
+pub record IsBounded (flows : FlowsState) : Type 0 where
+  pub some_tcp : 0 < flows.max.tcp
+  pub some_udp : 0 < flows.max.udp
+  pub tcp : length flows.tcp ≤ flows.max.tcp
+  pub udp : length flows.udp ≤ flows.max.udp
 
 -- the keys of the protocol, each once, with their last flows' numbers, the latest touched first
 abbrev pub stretches : MaxFlows → Bool → List Key → List (Key × ℕ)

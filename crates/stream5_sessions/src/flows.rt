@@ -2,7 +2,7 @@ ghost use Rattle.std.specs.Prelude.{◌≡◌, ◌≤◌, ◌<◌, ◌+◌, ◌-
 ghost use Rattle.std.specs.Map.{lookup, values_of};
 ghost use Rattle.stream5_sessions.specs.Indexed.{lives_with};
 ghost use Rattle.stream5_sessions.specs.Keys.{same_key};
-ghost use Rattle.stream5_sessions.specs.Caches.{found_by, kept_by, found_in, touched_state, HasSeen, IsFound, SeesTouch, KeepsBounds, AppendsLive, IsKnown, looked_up};
+ghost use Rattle.stream5_sessions.specs.Caches.{found_by, kept_by, found_in, touched_state, HasSeen, IsFound, SeesTouch, IsBounded, KeepsBounds, AppendsLive, IsKnown, looked_up};
 ghost use Rattle.std.specs.List.Sorted.{IsPermutation, IsSorted};
 ghost use Rattle.std.specs.Ordering.{nat_cmp};
 
@@ -80,6 +80,7 @@ impl Flows {
         requires udp { 1 ≤ max_udp }
         ensures seen { IfOk result (λ flows. HasSeen flows []) }
         ensures most { IfOk result (λ flows. flows.max ≡ record { tcp = max_tcp; udp = max_udp }) }
+        ensures kept { IfOk result IsBounded }
     {
         Ok(Flows {
             tcp: Lives::new(alloc, max_tcp)?,
@@ -97,6 +98,7 @@ impl Flows {
         ensures most { self.new.max ≡ self.old.max }
         ensures next { self.new.next ≤ self.old.next + 1 }
         ensures bound { KeepsBounds self.new }
+        ensures kept { IsBounded self.old → IsBounded self.new }
         ensures known { IsKnown self.old key → IsOk result }
         ensures err { OnErr result (self.new ≡ self.old) }
     {

@@ -1,3 +1,4 @@
+use Rattle.stream5_sessions.proofs.Bounds.{bounded_of}
 use Rattle.stream5_sessions.proofs.Standing.{found_of, seen_of, looked_up-known}
 use Rattle.stream5_sessions.proofs.Numbers.{live_count-le}
 use Rattle.stream5_sessions.proofs.flows.Flows.touch.Goals as goal
@@ -10,6 +11,9 @@ returns-clause-seen c = seen_of c.touch_kept.result c.args.self.now c.touch_kept
 
 pub returns-clause-bound : goal.returns-clause-bound
 returns-clause-bound c = λ touches seen tcp. live_count-le c.touch_kept.new.self.max tcp touches
+
+pub returns-clause-kept : goal.returns-clause-kept
+returns-clause-kept c = λ bounded. bounded_of c.touch_kept.result c.args.self.now c.touch_kept.new.self c.args.key c.touch_kept.ensures.after c.touch_kept.ensures.err bounded
 
 pub returns-clause-known : goal.returns-clause-known
 returns-clause-known c = λ known. c.touch_kept.ensures.known (looked_up-known c.args.self.now c.args.key known)
