@@ -93,6 +93,7 @@ impl Sink for MemSink {
         let count = piece.len().min(self.step).min(spare);
         match self.written.extend_from_slice(&piece[..count]) {
             Ok(()) => Ok(count),
+            // There is room: it was reserved when the sink was made.
             Err(_) => unreachable!(),
         }
     }

@@ -154,6 +154,7 @@ fn counted_window(windows: &mut Windows, count: Count, moment: Moment) -> Window
     let window = next_window(count.line, None, moment.nanos);
     match windows.insert(count.key, window) {
         Ok(_) => window,
+        // There is room, as the caller has to see to.
         Err(_) => unreachable!(),
     }
 }

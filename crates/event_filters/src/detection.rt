@@ -50,6 +50,7 @@ pub(crate) fn push(out: &mut Vec<u32>, value: u32)
 {
     match out.push(value) {
         Ok(()) => {}
+        // There is room, as the caller has to see to.
         Err(_) => unreachable!(),
     }
 }

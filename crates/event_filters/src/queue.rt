@@ -122,6 +122,7 @@ fn join(order: Order<'_>, queue: &mut Vec<u32>, event: u32)
     let place = place_for(order, queue, event);
     match queue.insert(place, event) {
         Ok(()) => {}
+        // There is room, as the caller has to see to.
         Err(_) => unreachable!(),
     }
 }

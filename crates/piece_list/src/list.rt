@@ -66,6 +66,7 @@ impl<T: Drop> PieceList<T> {
         if self.chain.is_none() {
             let chain = Chain::take(self.alloc)?;
             if let Some(_chain) = self.chain.replace(chain) {
+                // There was none, as was just asked.
                 unreachable!();
             }
         }
@@ -168,6 +169,7 @@ impl<T: Drop> PieceList<T> {
         let room = self.spare.pop().unwrap();
         match &mut self.chain {
             Some(chain) => chain.insert(room.fill(value)),
+            // A node is spare only beside a chain (`IsHeld`).
             None => unreachable!(),
         }
     }
@@ -186,6 +188,7 @@ impl<T: Drop> PieceList<T> {
         let (value, room) = chain.remove().empty();
         match self.spare.push(room) {
             Ok(()) => Some(value),
+            // There is room: it was reserved for this node too (`IsHeld`).
             Err(_) => unreachable!(),
         }
     }

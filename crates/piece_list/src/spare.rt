@@ -21,6 +21,7 @@ pub(crate) fn add_rooms<T>(
         let room = Room::take(alloc)?;
         match spare.push(room) {
             Ok(()) => {}
+            // There is room for each, as the caller has to see to.
             Err(_) => unreachable!(),
         }
     }
