@@ -1,7 +1,9 @@
 -- The `config` lines, event filters and suppress lines keep a sound draft.
 use Rattle.std.proofs.Common.{ℕ, ◌≤◌, false, List, [], ◌∷◌, ◌++◌, length, Option, Some, None, Ok, Err}
-use Rattle.std.specs.Prelude.{IfSome, All, nat_le, is_some, not}
+use Rattle.std.specs.Prelude.{IfSome, All, nat_le, is_some, not, ◌||◌}
 use Rattle.std.proofs.lemmas.List.Elements.{All-push}
+use Rattle.edge_io.specs.Bytes.{trimmed}
+use Rattle.net_lists.specs.Addresses.{cut}
 use Rattle.net_lists.specs.Cutting.{first_word, behind_word, comma_parts}
 use Rattle.net_lists.specs.Folds.{draft_behind}
 use Rattle.net_lists.specs.Numbers.{number_in}
@@ -17,24 +19,14 @@ use Rattle.conf_parser.specs.declared.line.ConfKind.TheVariants.{BadValue, Limit
 use Rattle.conf_types.specs.Classes.{class_place}
 use Rattle.conf_parser.specs.Config.{class_of, with_class, classification, queue_setting, event_queue}
 use Rattle.conf_parser.specs.Events.{filter_name, once, filter_value, filter_part, no_parts, filter_of, has_filter, with_filter, read_filter, event_filter, with_suppress, read_suppress, suppress, is_source, names_rule_alone}
-use Rattle.conf_types.specs.Sound.{IsWithin, IsFilter, AreQueueLimits}
-use Rattle.conf_parser.specs.Values.{or_kind}
+use Rattle.conf_types.specs.Sound.{IsWithin, IsClass, IsFilter, AreQueueLimits}
+use Rattle.conf_parser.specs.Values.{or_kind, is_empty}
 use Rattle.conf_parser.proofs.Soundness.{Holds, Any, anything, given, refused, choice, unless, free, kinded, chained, changed, folded, ranged, numbered, set, pushed-few}
 
 -- ---- lists of at most 1024
 
 abbrev pub Few : {X : Type 0} → List X → Type 0
 Few xs = length xs ≤ 1024
-
-with_class-few : (classes : List Class) (class : Class) → Few classes → Holds Few (with_class classes class)
-unfolding with_class
-with_class-few classes class few =
-    choice Few (is_some (class_place classes class.name)) (Ok classes) _ (given Few classes few)
-    (unless Few (nat_le 1024 (length classes)) (Err Limit) (Ok (classes ++ class ∷ [])) (refused Few Limit) (λ room. given Few (classes ++ class ∷ []) (pushed-few classes class room)))
-
-pub classification-few : (classes : List Class) (value : List ℕ) → Few classes → Holds Few (classification classes value)
-unfolding classification
-classification-few classes value few = chained Any Few (class_of value) (with_class classes) (anything (class_of value)) (λ class any. with_class-few classes class few)
 
 with_suppress-few : (lines : List Suppress) (line : Suppress) → Holds Few (with_suppress lines line)
 unfolding with_suppress
@@ -43,6 +35,33 @@ with_suppress-few lines line = unless Few (nat_le 1024 (length lines)) (Err Limi
 pub suppress-few : (variables : Variables) (lines : List Suppress) (rest : List ℕ) → Holds Few (suppress variables lines rest)
 unfolding suppress
 suppress-few variables lines rest = chained Any Few (read_suppress variables rest) (with_suppress lines) (anything (read_suppress variables rest)) (λ line any. with_suppress-few lines line)
+
+-- ---- classes
+
+class_of-sound : (value : List ℕ) → Holds IsClass (class_of value)
+unfolding class_of
+class_of-sound value =
+    chained Any IsClass (or_kind BadValue (cut 44 value)) _ (anything _) (λ front any.
+    chained Any IsClass (or_kind BadValue (cut 44 front.1)) _ (anything _) (λ middle any.
+    chained (IsWithin 1 2147483647) IsClass (or_kind BadValue (number_in 1 2147483647 (trimmed middle.1))) _ (ranged BadValue 1 2147483647 (trimmed middle.1)) (λ priority within.
+    choice IsClass (is_empty (trimmed front.0) || is_empty (trimmed middle.0)) (Err BadValue) (Ok (record { name = trimmed front.0; text = trimmed middle.0; priority = priority }))
+    (refused IsClass BadValue) (given IsClass (record { name = trimmed front.0; text = trimmed middle.0; priority = priority }) (record { priority = within })))))
+
+-- the classes read so far
+pub record AreClasses (classes : List Class) : Type 0 where
+  pub count : length classes ≤ 1024
+  pub each : All IsClass classes
+
+with_class-sound : (classes : List Class) (class : Class) → AreClasses classes → IsClass class → Holds AreClasses (with_class classes class)
+unfolding with_class
+with_class-sound classes class sound one =
+    choice AreClasses (is_some (class_place classes class.name)) (Ok classes) _ (given AreClasses classes sound)
+    (unless AreClasses (nat_le 1024 (length classes)) (Err Limit) (Ok (classes ++ class ∷ [])) (refused AreClasses Limit)
+    (λ room. given AreClasses (classes ++ class ∷ []) (record { count = pushed-few classes class room; each = All-push IsClass classes class sound.each one })))
+
+pub classification-sound : (classes : List Class) (value : List ℕ) → AreClasses classes → Holds AreClasses (classification classes value)
+unfolding classification
+classification-sound classes value sound = chained IsClass AreClasses (class_of value) (with_class classes) (class_of-sound value) (λ class one. with_class-sound classes class sound one)
 
 -- ---- event_queue
 

@@ -25,19 +25,19 @@ use Rattle.conf_parser.specs.Events.{event_filter, suppress}
 use Rattle.conf_parser.specs.Frag3.{frag3_global, frag3_engine}
 use Rattle.conf_parser.specs.Names.{directive_named, config_name, preprocessor_name}
 use Rattle.conf_parser.specs.Settings.{first_draft, config_of}
-use Rattle.conf_types.specs.Sound.{IsFilter, AreQueueLimits, IsSound}
+use Rattle.conf_types.specs.Sound.{IsClass, IsFilter, AreQueueLimits, IsSound}
 use Rattle.conf_parser.specs.Spots.{Spot}
 use Rattle.conf_parser.specs.Stream5.{stream5_global, stream5_tcp, stream5_udp}
 use Rattle.conf_parser.specs.Values.{or_kind, mapped, name_of, behind_name, behind_colon}
 use Rattle.conf_parser.specs.Variables.{definition, include}
 use Rattle.conf_parser.proofs.Soundness.{Holds, Any, anything, given, refused, free, chained, changed}
-use Rattle.conf_parser.proofs.SoundnessConfig.{Few, classification-few, suppress-few, event_queue-sound, AreFilters, event_filter-sound}
+use Rattle.conf_parser.proofs.SoundnessConfig.{Few, AreClasses, classification-sound, suppress-few, event_queue-sound, AreFilters, event_filter-sound}
 use Rattle.conf_parser.proofs.SoundnessFrag3.{IsFragDraft, frag3_global-sound, frag3_engine-sound, first_frag-sound, frag_of-sound}
 use Rattle.conf_parser.proofs.SoundnessStream5.{IsStreamDraft, stream5_global-sound, stream5_udp-sound, stream5_tcp-sound, first_stream-sound, stream_of-sound}
 
 -- what the lines read so far say is sound
 pub record IsSoundDraft (draft : Draft) : Type 0 where
-  pub classes : Few draft.classes
+  pub classes : AreClasses draft.classes
   pub queue : AreQueueLimits draft.queue
   pub frag : IsFragDraft draft.frag
   pub stream : IsStreamDraft draft.stream
@@ -48,7 +48,7 @@ pub record IsSoundDraft (draft : Draft) : Type 0 where
 pub first_draft-sound : IsSoundDraft first_draft
 unfolding first_draft
 first_draft-sound = record {
-  classes = omega arith;
+  classes = record { count = omega arith; each = All-nil IsClass };
   queue = record { max_queue = (omega arith, omega arith); log = (omega arith, omega arith) };
   frag = first_frag-sound;
   stream = first_stream-sound;
@@ -60,7 +60,8 @@ first_draft-sound = record {
 pub config_of-sound : (draft : Draft) → IsSoundDraft draft → IsSound (config_of draft)
 unfolding config_of
 config_of-sound draft sound = record {
-  classes = sound.classes;
+  class_count = sound.classes.count;
+  classes = sound.classes.each;
   queue = sound.queue;
   frag = frag_of-sound draft.frag sound.frag;
   stream = stream_of-sound draft.stream sound.stream;
@@ -74,7 +75,7 @@ config_of-sound draft sound = record {
 module _ (draft : Draft) (sound : IsSoundDraft draft) where
   config_draft-sound : (name : ConfigName) (value : List ℕ) → Holds IsSoundDraft (config_draft draft name value)
   unfolding config_draft
-  config_draft-sound config.Classification value = changed Few IsSoundDraft _ (classification draft.classes value) (classification-few draft.classes value sound.classes) (λ classes few. record { classes = few; queue = sound.queue; frag = sound.frag; stream = sound.stream; filters = sound.filters; suppress = sound.suppress })
+  config_draft-sound config.Classification value = changed AreClasses IsSoundDraft _ (classification draft.classes value) (classification-sound draft.classes value sound.classes) (λ classes known. record { classes = known; queue = sound.queue; frag = sound.frag; stream = sound.stream; filters = sound.filters; suppress = sound.suppress })
   config_draft-sound config.ChecksumMode value = free IsSoundDraft _ (checksum_mode draft.checks value) (λ checks. record { classes = sound.classes; queue = sound.queue; frag = sound.frag; stream = sound.stream; filters = sound.filters; suppress = sound.suppress })
   config_draft-sound config.EventQueue value = changed AreQueueLimits IsSoundDraft _ (event_queue draft.queue value) (event_queue-sound draft.queue value sound.queue) (λ queue limits. record { classes = sound.classes; queue = limits; frag = sound.frag; stream = sound.stream; filters = sound.filters; suppress = sound.suppress })
   config_draft-sound config.Detection value = given IsSoundDraft (record draft { inserts = detection draft.inserts value }) (record { classes = sound.classes; queue = sound.queue; frag = sound.frag; stream = sound.stream; filters = sound.filters; suppress = sound.suppress })

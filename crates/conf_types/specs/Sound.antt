@@ -1,8 +1,10 @@
 -- When a configuration is sound: each number in it lies in its range, and nothing is more than its limit.
 --
--- (Snort Users Manual 2.9, sections 2.1.3, 2.2.1, 2.2.2 and 2.4.)
--- To try it on: a stream engine that queues 0 bytes is not sound, since 0 in a line is read as 1073741824.
+-- (Snort Users Manual 2.9, sections 2.1.3, 2.2.1, 2.2.2, 2.4 and 3.4.6.)
+-- To try it on: a stream engine that queues 0 bytes is not sound, since 0 in a line is read as 1073741824;
+-- nor is a class of the priority 0.
 use Rattle.std.specs.Prelude.{ℕ, ◌≤◌, List, length, IfSome, All}
+use Rattle.conf_types.specs.declared.classes.Class.{Class}
 use Rattle.conf_types.specs.declared.config.Config.{Config}
 use Rattle.conf_types.specs.declared.config.FragConfig.{FragConfig}
 use Rattle.conf_types.specs.declared.config.FragEngine.{FragEngine}
@@ -14,6 +16,10 @@ use Rattle.conf_types.specs.declared.filter.EventFilter.{EventFilter}
 -- a number from `least` to `most`
 abbrev pub IsWithin : ℕ → ℕ → ℕ → Type 0
 IsWithin least most number = (least ≤ number) × (number ≤ most)
+
+-- a class of rules
+pub record IsClass (class : Class) : Type 0 where
+  pub priority : IsWithin 1 2147483647 class.priority
 
 -- an engine of fragments
 pub record IsFragEngine (engine : FragEngine) : Type 0 where
@@ -53,7 +59,8 @@ pub record AreQueueLimits (queue : QueueLimits) : Type 0 where
 
 -- a configuration
 pub record IsSound (config : Config) : Type 0 where
-  pub classes : length config.classes ≤ 1024
+  pub class_count : length config.classes ≤ 1024
+  pub classes : All IsClass config.classes
   pub queue : AreQueueLimits config.queue
   pub frag : IfSome config.frag IsFragConfig
   pub stream : IsStreamConfig config.stream

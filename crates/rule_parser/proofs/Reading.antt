@@ -1,7 +1,10 @@
 -- What is known of a rule that is read.
-use Rattle.std.proofs.Common.{◌≡◌, ℕ, ◌+◌, ◌≤◌, Option, Some, None, Result, Ok, Err, List, length, refl, sym, inl, inr}
+use Rattle.std.proofs.Common.{◌≡◌, ℕ, ◌+◌, ◌≤◌, Option, Some, None, Result, Ok, Err, List, length, refl, sym, subst, inl, inr}
 use Rattle.std.specs.Prelude.{IfSome}
 use Rattle.conf_types.specs.declared.classes.Class.{Class}
+use Rattle.net_lists.specs.declared.part.AddrBounds.{AddrBounds}
+use Rattle.net_lists.specs.declared.part.Bounds.{Bounds}
+use Rattle.net_lists.specs.declared.part.Part.{Part}
 use Rattle.net_lists.specs.Variables.{Variables}
 use Rattle.net_lists.specs.declared.stop.Stop.{Stop}
 use Rattle.net_lists.specs.declared.stop.Stop.TheVariants.{NoMemory, Wrong}
@@ -14,12 +17,12 @@ use Rattle.rule_types.specs.declared.rule.Rule.{Rule}
 use Rattle.rule_parser.specs.Bits.{GivesWith, IsGivenWith}
 use Rattle.rule_parser.specs.Drafts.{empty_draft}
 use Rattle.rule_parser.specs.Faults.{stop_fault}
-use Rattle.rule_parser.specs.Headers.{IsGiven, IsHeader, behind_header}
+use Rattle.rule_parser.specs.Headers.{IsAddressWord, IsGiven, IsHeader, IsPortWord, behind_header, from_word}
 use Rattle.rule_parser.specs.RuleLine.{IsClassOf, rule_options, rule_body, IsRuleLine, IsAnswered}
 use Rattle.rule_types.specs.Sound.{IsSound}
 use Rattle.rule_parser.specs.Written.{outside, option_texts}
 use Rattle.rule_parser.proofs.SoundDrafts.{IsKnown, empty-sound}
-use Rattle.rule_parser.proofs.SoundOptions.{rule_options-sound, rule_body-sound}
+use Rattle.rule_parser.proofs.SoundOptions.{AreShort, rule_options-sound, rule_body-sound}
 
 -- a class that is known is one of the classes
 known-there : (count : ℕ) (class : Option ClassName) → IfSome class (IsKnown count) → IsClassOf count class
@@ -58,11 +61,47 @@ pub line-stopped : (variables : Variables) (classes : List Class) (names later :
 line-stopped variables classes names later line NoMemory is = inl refl
 line-stopped variables classes names later line (Wrong why) is = inr (why, is, refl)
 
+-- ---- the lists of a header
+
+ok_same : (x y : Header) (answer : Result Header Fault) → answer ≡ Ok x → answer ≡ Ok y → x ≡ y
+ok_same x y answer first second = cc
+
+-- a word that is read as a list has at most 1024 parts
+address-short : (variables : Variables) (text : List ℕ) (parts : List (Part AddrBounds)) → IsAddressWord variables text (Ok parts) → length parts ≤ 1024
+unfolding IsAddressWord
+address-short variables text parts (inl (word, whole, read)) = read.1
+address-short variables text parts (inr (why, is, never)) = cc
+
+port-short : (variables : Variables) (text : List ℕ) (parts : List (Part (Bounds ℕ))) → IsPortWord variables text (Ok parts) → length parts ≤ 1024
+unfolding IsPortWord
+port-short variables text parts (inl (word, whole, read)) = read.1
+port-short variables text parts (inr (why, is, never)) = cc
+
+-- so have the lists of a header that is read
+header-short : (variables : Variables) (line : List ℕ) (header : Header) → IsHeader variables line (Ok header) → AreShort header
+unfolding IsHeader
+header-short variables line header (inl (action, a, inl (proto, b, inl (src, c, inl (sports, d, inl (both, e, inl (dst, f, inl (dports, g, made)))))))) =
+    let read : Header = record { action = action; proto = proto; src = src; sports = sports; dst = dst; dports = dports; both = both } in
+    let short : AreShort read = record {
+      src = address-short variables (from_word 2 line) src c;
+      sports = port-short variables (from_word 3 line) sports d;
+      dst = address-short variables (from_word 5 line) dst f;
+      dports = port-short variables (from_word 6 line) dports g;
+    } in
+    subst AreShort (sym (ok_same header read (Ok header) refl made)) short
+header-short variables line header (inr (why, is, never)) = cc
+header-short variables line header (inl (action, a, inr (why, is, never))) = cc
+header-short variables line header (inl (action, a, inl (proto, b, inr (why, is, never)))) = cc
+header-short variables line header (inl (action, a, inl (proto, b, inl (src, c, inr (why, is, never))))) = cc
+header-short variables line header (inl (action, a, inl (proto, b, inl (src, c, inl (sports, d, inr (why, is, never)))))) = cc
+header-short variables line header (inl (action, a, inl (proto, b, inl (src, c, inl (sports, d, inl (both, e, inr (why, is, never))))))) = cc
+header-short variables line header (inl (action, a, inl (proto, b, inl (src, c, inl (sports, d, inl (both, e, inl (dst, f, inr (why, is, never)))))))) = cc
+
 -- a rule that is read is sound
 pub line-sound : (variables : Variables) (classes : List Class) (names later : List (List ℕ)) (line : List ℕ) (rule : Rule) → length names ≤ 1024
     → IsRuleLine variables classes names line (Ok (rule, later)) → IsSound classes rule
 unfolding IsRuleLine
 line-sound variables classes names later line rule few (inl (header, is, read)) =
-    let sound = rule_body-sound classes names header (behind_header line) few in
+    let sound = rule_body-sound classes names header (behind_header line) (header-short variables line header is) few in
     (rw (sym read) at sound).0
 line-sound variables classes names later line rule few (inr (why, is, never)) = cc

@@ -123,14 +123,22 @@ rule_options-sound classes (text ∷ next ∷ more) names draft left few sound =
     then_ok (IsSoundBeside (length classes)) (IsSoundBeside (length classes)) (rule_option classes names draft left text) _ (rule_option-sound classes draft sound names few left text)
     (λ behind h. rule_options-sound classes (next ∷ more) behind.1 behind.0 (left - (length text + 1)) h.1 h.0)
 
+-- the lists of a header have at most 1024 parts each
+pub record AreShort (header : Header) : Type 0 where
+  pub src : length header.src ≤ 1024
+  pub sports : length header.sports ≤ 1024
+  pub dst : length header.dst ≤ 1024
+  pub dports : length header.dports ≤ 1024
+
 -- a rule whose options are read is sound
-pub finished-sound : (classes : List Class) (header : Header) (draft : Draft) → IsSoundDraft (length classes) draft → IfOk (finished classes header draft) (IsSound classes)
+pub finished-sound : (classes : List Class) (header : Header) (draft : Draft) → AreShort header → IsSoundDraft (length classes) draft → IfOk (finished classes header draft) (IsSound classes)
 unfolding finished settled class_of
-finished-sound classes header draft sound =
+finished-sound classes header draft short_lists sound =
     then_ok (λ sid. 1 ≤ sid) (IsSound classes) (or_kind MissingSid draft.sid) _ (kind_ok (λ sid. 1 ≤ sid) MissingSid draft.sid sound.sid) (λ sid least.
     then_ok (λ place. IfSome place (λ place. place < length classes)) (IsSound classes) (class_of draft.class) _ (known draft.class sound.class) (λ place there. record {
       class = there;
       triable = record {
+        lists = record { src = short_lists.src; sports = short_lists.sports; dst = short_lists.dst; dports = short_lists.dports };
         options = settled-options draft.opts draft.held sound.kept.options sound.kept.held;
         count = fits (length (settled draft)) (length draft.opts) (count_held draft.held) (settled-length draft.opts draft.held sound.kept.held) sound.kept.count;
         fast = one (count_by is_fast (settled draft)) (count_by is_fast draft.opts) (fast_held draft.held) draft.fast (settled-fast draft.opts draft.held) sound.kept.chosen;
@@ -160,10 +168,10 @@ finished-sound classes header draft sound =
     first None h = omega arith
     first (Some gid) h = h
 
--- what stands behind a header gives a sound rule, beside at most 1024 flowbit names
-pub rule_body-sound : (classes : List Class) (names : List (List ℕ)) (header : Header) (body : List ℕ) → length names ≤ 1024 → IfOk (rule_body classes names header body) (λ found. IsSound classes found.0 × (length found.1 ≤ 1024))
+-- what stands behind a header with short lists gives a sound rule, beside at most 1024 flowbit names
+pub rule_body-sound : (classes : List Class) (names : List (List ℕ)) (header : Header) (body : List ℕ) → AreShort header → length names ≤ 1024 → IfOk (rule_body classes names header body) (λ found. IsSound classes found.0 × (length found.1 ≤ 1024))
 unfolding rule_body
-rule_body-sound classes names header body few =
+rule_body-sound classes names header body short_lists few =
     then_ok (λ _. Unit {0}) (λ found. IsSound classes found.0 × (length found.1 ≤ 1024)) (or_kind OptionSyntax (in_parentheses body)) _ (any_ok (or_kind OptionSyntax (in_parentheses body))) (λ inside _.
     then_ok (IsSoundBeside (length classes)) (λ found. IsSound classes found.0 × (length found.1 ≤ 1024)) (rule_options classes names empty_draft (length inside + 1) (option_texts outside inside)) _ (rule_options-sound classes (option_texts outside inside) names empty_draft (length inside + 1) few (empty-sound (length classes))) (λ behind h.
-    then_ok (IsSound classes) (λ found. IsSound classes found.0 × (length found.1 ≤ 1024)) (finished classes header behind.0) _ (finished-sound classes header behind.0 h.0) (λ rule is_sound. (is_sound, h.1))))
+    then_ok (IsSound classes) (λ found. IsSound classes found.0 × (length found.1 ≤ 1024)) (finished classes header behind.0) _ (finished-sound classes header behind.0 short_lists h.0) (λ rule is_sound. (is_sound, h.1))))

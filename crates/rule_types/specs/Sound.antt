@@ -152,8 +152,16 @@ abbrev pub is_fast : Opt → Bool
 is_fast (opt.Content content) = is_chosen content.fast
 is_fast _ = false
 
+-- the lists of a header: at most 1024 parts each
+pub record AreLists (rule : Rule) : Type 0 where
+  pub src : length rule.src ≤ 1024
+  pub sports : length rule.sports ≤ 1024
+  pub dst : length rule.dst ≤ 1024
+  pub dports : length rule.dports ≤ 1024
+
 -- a rule is sound, whatever the classes are
 pub record IsTriable (rule : Rule) : Type 0 where
+  pub lists : AreLists rule
   pub options : AreOptions [] rule.opts
   pub count : length rule.opts ≤ 64
   pub fast : count_by is_fast rule.opts ≤ 1
