@@ -9,12 +9,12 @@
 -- `snort --lanes 65 --help` is refused; `snort -V --help` asks for help; `snort --read-unified2 u` asks for the
 -- records of `u`, and `snort -q --read-unified2 u` is refused.
 use Rattle.std.specs.Prelude.{ℕ, ◌==◌, ◌&&◌, ◌||◌, Bool, true, false, not, List, [], ◌∷◌, Option, Some, None, drop, length, is_some, codes, if◌then◌else◌, option_map}
-use Rattle.std.specs.List.{list_all, list_any}
+use Rattle.std.specs.List.{list_any}
 use Rattle.std.specs.Str.{bytes_eq}
 use Rattle.edge_io.specs.OnOption.{◌>>=◌}
 use Rattle.net_lists.specs.Addresses.{cut}
 use Rattle.net_lists.specs.Numbers.{number_in}
-use Rattle.net_lists.specs.Variables.{begins_name, continues_name}
+use Rattle.net_lists.specs.Variables.{is_name}
 use Rattle.command_words.specs.Table.{table}
 use Rattle.command_words.specs.Uses.{uses_of, value_in}
 use Rattle.command_words.specs.declared.asked.ChecksumMode.{ChecksumMode}
@@ -159,14 +159,9 @@ values_by text_of = if is_console (text_of (codes "A")) then values_behind text_
 
 -- ---- the steps behind the reading
 
--- a variable's name: a letter or `_`, and then letters, digits and `_`
-abbrev pub is_variable : List ℕ → Bool
-is_variable [] = false
-is_variable (first ∷ rest) = begins_name first && list_all continues_name rest
-
 -- a variable's name, and a value of at least one byte
 abbrev pub named : List ℕ → List ℕ → Option Defined
-named name value = if is_variable name && not (length value == 0) then Some (record { name = name; value = value }) else None
+named name value = if is_name name && not (length value == 0) then Some (record { name = name; value = value }) else None
 
 -- a name, `=` (61) and a value; the first `=` ends the name
 abbrev pub definition : List ℕ → Option Defined

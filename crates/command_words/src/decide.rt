@@ -1,42 +1,17 @@
 //! What the values of a command's options and flags ask for.
-ghost use Rattle.std.specs.Prelude.{◌≡◌, ◌<◌, ◌==◌, IfSome, None, Some, length, option_map, position};
-ghost use Rattle.net_lists.specs.Addresses.{cut};
-ghost use Rattle.command_words.specs.CommandLine.{asked_by, asked_of, definition, has_its_capture, is_variable, named};
+ghost use Rattle.std.specs.Prelude.{◌≡◌, None, Some, option_map};
+ghost use Rattle.command_words.specs.CommandLine.{asked_by, asked_of, definition, has_its_capture, named};
 ghost use Rattle.command_words.specs.Told.{asked, defined_of, values_of};
 
 use crate::asked::{Command, Definition, Words};
 use crate::fields::Fields;
-use net_lists::is_name;
-
-/// Whether these bytes are a variable's name.
-fn is_variable(bytes: &[u8]) -> bool
-    ensures { result ≡ is_variable bytes.now }
-{
-    is_name(bytes)
-}
-
-/// The first place of `=`.
-fn place_of_equals(text: &[u8]) -> Option<usize>
-    ensures place { result ≡ position (λ byte. byte == 61) text.now }
-    ensures within { IfSome result (λ place. place < length text.now) }
-{
-    text.iter().position(|byte| *byte == b'=')
-}
-
-/// What stands before the first `=`, and what stands behind it.
-#[tactic(auto, unfolding(net_lists::specs::Addresses::cut))]
-fn parted(text: &[u8]) -> Option<(&[u8], &[u8])>
-    ensures { option_map (λ parts. (parts.0.now, parts.1.now)) result ≡ cut 61 text.now }
-{
-    let place = place_of_equals(text)?;
-    Some((&text[..place], &text[place + 1..]))
-}
+use net_lists::{cut, is_name};
 
 /// A variable of this name and value.
 fn named<'a>(name: &'a [u8], value: &'a [u8]) -> Option<Definition<'a>>
     ensures { option_map defined_of result ≡ named name.entry.now value.entry.now }
 {
-    if is_variable(name) && !value.is_empty() {
+    if is_name(name) && !value.is_empty() {
         Some(Definition { name, value })
     } else {
         None
@@ -47,7 +22,7 @@ fn named<'a>(name: &'a [u8], value: &'a [u8]) -> Option<Definition<'a>>
 fn definition(text: &[u8]) -> Option<Definition<'_>>
     ensures { option_map defined_of result ≡ definition text.now }
 {
-    let (name, value) = parted(text)?;
+    let (name, value) = cut(text, b'=')?;
     named(name, value)
 }
 

@@ -2,9 +2,10 @@
 use Rattle.std.proofs.Common.{◌≡◌, ℕ, ◌+◌, ◌<◌, arith, length, Bool, true, false, cond, List, [], ◌∷◌, ◌++◌, refl, sym, ap, ◌∙◌, append_assoc, append-nil}
 use Rattle.std.specs.Str.Lines.{lines}
 use Rattle.edge_io.specs.Bytes.{trimmed}
-use Rattle.conf_parser.proofs.FirstLine.{lines-some}
-use Rattle.conf_parser.specs.declared.lines.Numbered.{Numbered}
-use Rattle.conf_parser.specs.Lines.{numbered, is_open, without_last, joined_onto, joined_lines, has_content, bare_line, kept, kept_line}
+use Rattle.net_lists.proofs.FirstLine.{lines-some}
+use Rattle.net_lists.specs.declared.lines.Numbered.{Numbered}
+use Rattle.net_lists.specs.Lines.{numbered, has_content, bare_line, kept}
+use Rattle.conf_parser.specs.Lines.{is_open, without_last, joined_onto, joined_lines, kept_line}
 
 -- two fronts are one
 joined_onto-joined_onto : (n k : ℕ) (front line : List ℕ) (more : List Numbered) → joined_onto n front (joined_onto k line more) ≡ joined_onto n (front ++ line) more

@@ -8,7 +8,7 @@ use Rattle.conf_parser.specs.declared.given.Given.{Given}
 use Rattle.conf_parser.specs.declared.given.Given.TheVariants.{Nothing, Rule, Skipped, Include}
 use Rattle.conf_parser.specs.declared.given.Behind.{Behind}
 use Rattle.conf_parser.specs.declared.line.ConfKind.{ConfKind}
-use Rattle.conf_parser.specs.declared.lines.Numbered.{Numbered}
+use Rattle.net_lists.specs.declared.lines.Numbered.{Numbered}
 use Rattle.conf_parser.specs.declared.reading.At.{At}
 use Rattle.conf_parser.specs.declared.reading.Output.{Output}
 use Rattle.conf_parser.specs.declared.reading.Read.{Read}

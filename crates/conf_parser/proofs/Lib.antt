@@ -1,9 +1,7 @@
 pub mod ListKinds
-pub mod NamesAre
 pub mod StreamParts
 pub mod Pairs
 pub mod SettingSteps
-pub mod FirstLine
 pub mod Joining
 pub mod Included
 pub mod LineSteps

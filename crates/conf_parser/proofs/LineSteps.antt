@@ -6,7 +6,7 @@ use Rattle.net_lists.specs.declared.stop.Stop.TheVariants.{Wrong, NoMemory}
 use Rattle.net_lists.specs.Stops.{Gives}
 use Rattle.conf_parser.specs.declared.given.Behind.{Behind}
 use Rattle.conf_parser.specs.declared.line.ConfKind.{ConfKind}
-use Rattle.conf_parser.specs.declared.lines.Numbered.{Numbered}
+use Rattle.net_lists.specs.declared.lines.Numbered.{Numbered}
 use Rattle.conf_parser.specs.declared.reading.Next.{Next}
 use Rattle.conf_parser.specs.declared.reading.Read.{Read}
 use Rattle.conf_parser.specs.declared.reading.Source.{Source}

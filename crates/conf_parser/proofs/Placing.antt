@@ -15,7 +15,7 @@ use Rattle.conf_parser.specs.declared.line.Line.{Line}
 use Rattle.conf_parser.specs.declared.line.Warning.{Warning}
 use Rattle.conf_parser.specs.declared.line.LoadStop.{LoadStop}
 use Rattle.conf_parser.specs.declared.line.LoadStop.TheVariants as stop
-use Rattle.conf_parser.specs.declared.lines.Numbered.{Numbered}
+use Rattle.net_lists.specs.declared.lines.Numbered.{Numbered}
 use Rattle.conf_parser.specs.declared.loaded.Loaded.{Loaded}
 use Rattle.conf_parser.specs.declared.reading.At.{At}
 use Rattle.conf_parser.specs.declared.reading.Output.{Output}

@@ -1,19 +1,15 @@
--- The lines of a file: cut at line feeds, joined where a backslash stands at a line's end, without the blanks
--- at their ends; empty lines and comments are skipped.
+-- The lines of a file: cut at line feeds and joined where a backslash stands at a line's end; which of them are
+-- kept, and as what, is said by net_lists' specs/Lines.
 --
--- A carriage return before a line feed is dropped, and what follows the last line feed is a line if it is not
--- empty. A line whose last byte is a backslash is joined with the next one, without the backslash, and goes on
+-- A line whose last byte is a backslash is joined with the next one, without the backslash, and goes on
 -- only if that one ends in a backslash too. A joined line has the number of its first line, counted from 1.
 -- Joining comes before all else. (Snort Users Manual 2.9, section 2.1; the fine points are our own.)
 -- To try it on: the lines `a \`, ` b` and `# c` are one line `a  b` with the number 1.
-use Rattle.std.specs.Prelude.{ℕ, ◌+◌, ◌-◌, ◌==◌, ◌&&◌, not, Bool, true, false, List, [], ◌∷◌, ◌++◌, length, take, slice_index, filter, map, if◌then◌else◌}
+use Rattle.std.specs.Prelude.{ℕ, ◌+◌, ◌-◌, ◌==◌, Bool, List, [], ◌∷◌, ◌++◌, length, take, slice_index, if◌then◌else◌}
 use Rattle.std.specs.Str.Lines.{lines}
 use Rattle.edge_io.specs.Bytes.{trimmed}
-use Rattle.conf_parser.specs.declared.lines.Numbered.{Numbered}
-
--- a line with its number
-abbrev pub numbered : ℕ → List ℕ → Numbered
-numbered number text = record { number = number; text = text }
+use Rattle.net_lists.specs.declared.lines.Numbered.{Numbered}
+use Rattle.net_lists.specs.Lines.{numbered, has_content, bare_line, kept}
 
 -- the line ends in a backslash (92)
 abbrev pub is_open : List ℕ → Bool
@@ -35,20 +31,7 @@ joined_lines number (line ∷ rest) =
     if is_open line then joined_onto number (without_last line) (joined_lines (number + 1) rest)
     else numbered number line ∷ joined_lines (number + 1) rest
 
--- a line that is neither empty nor a comment, which begins with `#` (35)
-abbrev pub has_content : List ℕ → Bool
-has_content [] = false
-has_content (first ∷ rest) = not (first == 35)
-
--- the line without the blanks at its ends
-abbrev pub bare_line : Numbered → Numbered
-bare_line line = numbered line.number (trimmed line.text)
-
--- the lines without the blanks at their ends that are neither empty nor comments
-abbrev pub kept : List Numbered → List Numbered
-kept lines = filter (λ line. has_content line.text) (map bare_line lines)
-
--- the same of one line
+-- what is kept of one line
 abbrev pub kept_line : Numbered → List Numbered
 kept_line line = if has_content (trimmed line.text) then bare_line line ∷ [] else []
 

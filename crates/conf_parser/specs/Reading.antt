@@ -24,7 +24,7 @@ use Rattle.conf_parser.specs.declared.reading.Read.{Read}
 use Rattle.conf_parser.specs.declared.reading.At.{At}
 use Rattle.conf_parser.specs.declared.reading.Source.{Source}
 use Rattle.conf_parser.specs.Settings.{first_draft}
-use Rattle.conf_parser.specs.declared.lines.Numbered.{Numbered}
+use Rattle.net_lists.specs.declared.lines.Numbered.{Numbered}
 use Rattle.conf_parser.specs.Lines.{content_lines}
 use Rattle.conf_parser.specs.ConfLine.{conf_line}
 

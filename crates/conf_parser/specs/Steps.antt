@@ -9,7 +9,7 @@ use Rattle.conf_parser.specs.declared.given.Given.TheVariants.{Include}
 use Rattle.net_lists.specs.declared.stop.Stop.{Stop}
 use Rattle.net_lists.specs.declared.stop.Stop.TheVariants.{Wrong, NoMemory}
 use Rattle.conf_parser.specs.declared.line.ConfKind.{ConfKind}
-use Rattle.conf_parser.specs.declared.lines.Numbered.{Numbered}
+use Rattle.net_lists.specs.declared.lines.Numbered.{Numbered}
 use Rattle.conf_parser.specs.declared.reading.Next.{Next}
 use Rattle.conf_parser.specs.declared.reading.Next.TheVariants.{Onward, Included}
 use Rattle.conf_parser.specs.declared.reading.Output.{Output}

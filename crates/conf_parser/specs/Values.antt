@@ -6,12 +6,12 @@
 -- A value is expanded whole before it is read as a list, so a fault of its expansion comes first.
 -- (Snort Users Manual 2.9, section 2.1; the kinds are our own.)
 -- To try it on: without variables `[$A,10.0.0]` is refused as an unknown variable A, not as a bad list.
-use Rattle.std.specs.Prelude.{ℕ, ◌==◌, ◌&&◌, ◌||◌, not, Bool, true, false, Option, Some, None, Result, Ok, Err, List, [], ◌∷◌, length, take, drop, codes, bytes_eq, nat_le, if◌then◌else◌}
-use Rattle.std.specs.List.{prefix_len, list_all}
+use Rattle.std.specs.Prelude.{ℕ, ◌==◌, ◌||◌, not, Bool, true, false, Option, Some, None, Result, Ok, Err, List, [], ◌∷◌, length, take, drop, codes, bytes_eq, nat_le, if◌then◌else◌}
+use Rattle.std.specs.List.{prefix_len}
 use Rattle.edge_io.specs.Bytes.{is_blank, trimmed, slice}
 pub use Rattle.edge_io.specs.OnResult.{◌>>=◌}
 pub use Rattle.net_lists.specs.Stops.{or_kind}
-use Rattle.net_lists.specs.Variables.{Variables, begins_name, continues_name}
+use Rattle.net_lists.specs.Variables.{Variables}
 use Rattle.net_lists.specs.Expansion.{expansion}
 use Rattle.net_lists.specs.declared.fault.ExpandFault.{ExpandFault}
 use Rattle.net_lists.specs.declared.fault.ExpandFault.TheVariants as expand
@@ -41,11 +41,6 @@ is_word text word = bytes_eq text word
 abbrev pub is_empty : List ℕ → Bool
 is_empty [] = true
 is_empty (first ∷ rest) = false
-
--- a variable's name: a letter or `_`, and then letters, digits and `_`
-unfoldable pub is_name : List ℕ → Bool
-is_name [] = false
-is_name (first ∷ rest) = begins_name first && list_all continues_name rest
 
 -- The kind of an expansion's fault. (An expansion is never refused for want of memory.)
 abbrev pub expand_kind : List ℕ → ExpandFault → ConfKind

@@ -8,13 +8,13 @@
 use Rattle.std.specs.Prelude.{ℕ, ◌==◌, ◌&&◌, ◌++◌, ◌-◌, not, Bool, true, false, Option, Some, None, Result, Ok, Err, List, [], ◌∷◌, length, take, nat_le, if◌then◌else◌}
 use Rattle.std.specs.List.{suffix_len}
 use Rattle.std.specs.Str.{is_utf8}
-use Rattle.net_lists.specs.Variables.{Variables, defined}
+use Rattle.net_lists.specs.Variables.{Variables, defined, is_name}
 use Rattle.net_lists.specs.Cutting.{first_word, behind_word}
 use Rattle.conf_parser.specs.declared.variables.ValueForm.{ValueForm}
 use Rattle.conf_parser.specs.declared.variables.ValueForm.TheVariants.{Any, Addresses, Ports}
 use Rattle.conf_parser.specs.declared.line.ConfKind.{ConfKind}
 use Rattle.conf_parser.specs.declared.line.ConfKind.TheVariants.{BadValue, TooDeep, Limit}
-use Rattle.conf_parser.specs.Values.{◌>>=◌, mapped, is_name, is_empty, expanded, address_list, port_list}
+use Rattle.conf_parser.specs.Values.{◌>>=◌, mapped, is_empty, expanded, address_list, port_list}
 use Rattle.conf_parser.specs.Spots.{Spot}
 
 -- a value of this form stays as it is; any other is refused

@@ -1,7 +1,6 @@
 //! The `config` lines.
-ghost use Rattle.std.specs.Prelude.{◌≡◌, ◌+◌, ◌<◌, ◌==◌, false, length, option_map, option_copied, position, IfSome};
+ghost use Rattle.std.specs.Prelude.{◌≡◌, ◌==◌, false, length, option_copied};
 ghost use Rattle.net_lists.specs.Stops.{Gives};
-ghost use Rattle.net_lists.specs.Addresses.{cut};
 ghost use Rattle.conf_parser.specs.Config.{class_with, class_of, with_class, classification, checks_behind, checksum_mode, event_order, queue_setting, event_queue, stops_inserts, detection};
 ghost use Rattle.std.specs.List.{list_any};
 ghost use Rattle.net_lists.specs.Cutting.{settings};
@@ -11,26 +10,9 @@ use crate::options::{SettingStep, settings_behind};
 use crate::settings::{ALL_CHECKS, NO_CHECKS};
 use conf_types::{Class, Classes, MOST_CLASSES, QueueLimits};
 use edge_io::Text;
-use net_lists::{PartStep, Parts, Stop, number_in, trimmed};
+use net_lists::{PartStep, Parts, Stop, cut, number_in, trimmed};
 use packet_decode::Checks;
 use std::alloc::Global;
-
-/// The place of the first comma.
-fn comma_place(text: &[u8]) -> Option<usize>
-    ensures place { result ≡ position (λ byte. byte == 44) text.now }
-    ensures within { IfSome result (λ place. place < length text.now) }
-{
-    text.iter().position(|byte| *byte == b',')
-}
-
-/// The bytes before the first comma and those behind it.
-#[tactic(auto, unfolding(net_lists::specs::Addresses::cut))]
-fn cut_at_comma(text: &[u8]) -> Option<(&[u8], &[u8])>
-    ensures { option_map (λ parts. (parts.0.now, parts.1.now)) result ≡ cut 44 text.now }
-{
-    let place = comma_place(text)?;
-    Some((&text[..place], &text[place + 1..]))
-}
 
 /// A class of this name, text and priority.
 fn class_with(
@@ -58,8 +40,8 @@ fn class_with(
 fn class_of(alloc: Global, value: &[u8]) -> Result<Class, Stop<ConfKind>>
     ensures { Gives result (class_of value.now) }
 {
-    let (name, behind) = cut_at_comma(value).ok_or(ConfKind::BadValue)?;
-    let (text, priority) = cut_at_comma(behind).ok_or(ConfKind::BadValue)?;
+    let (name, behind) = cut(value, b',').ok_or(ConfKind::BadValue)?;
+    let (text, priority) = cut(behind, b',').ok_or(ConfKind::BadValue)?;
     let priority = number_in(1, 2147483647, trimmed(priority)).ok_or(ConfKind::BadValue)?;
     class_with(alloc, trimmed(name), trimmed(text), priority)
 }

@@ -1,41 +1,12 @@
 //! The lines of a file.
 ghost use Rattle.std.specs.Prelude.{◌≡◌, ◌+◌, ◌<◌, ◌≤◌, ◌^◌, ◌∷◌, ◌++◌, length, IfOk, if◌then◌else◌};
-ghost use Rattle.std.specs.Str.Lines.{lines, strip_carriage_return};
-ghost use Rattle.conf_parser.specs.Lines.{is_open, without_last, joined_lines, has_content, kept_line, content_lines, numbered};
+ghost use Rattle.std.specs.Str.Lines.{lines};
+ghost use Rattle.net_lists.specs.Lines.{numbered};
+ghost use Rattle.conf_parser.specs.Lines.{is_open, without_last, joined_lines, kept_line, content_lines};
 
 use edge_io::{Items, NoMemory, Text};
-use memchr::memchr;
-use net_lists::trimmed;
+use net_lists::{Numbered, cut_line, has_content, trimmed};
 use std::alloc::Global;
-
-/// A line with the number of its first part.
-#[derive(Drop)]
-pub struct Numbered {
-    pub number: u32,
-    pub text: Text,
-}
-
-/// The line without the carriage return at its end.
-fn without_return(line: &[u8]) -> &[u8]
-    ensures { result.now ≡ strip_carriage_return line.now }
-{
-    match line {
-        [front @ .., b'\r'] => front,
-        _ => line,
-    }
-}
-
-/// The first line of a text that is not empty, and what stands behind its line feed.
-fn first_line(text: &[u8]) -> (&[u8], &[u8])
-    requires { 0 < length text.now }
-    ensures cut { lines text.now ≡ result.0.now ∷ lines result.1.now }
-    ensures shorter { length result.1.now < length text.now }
-{
-    match memchr(b'\n', text) {
-        Some(end) => (without_return(&text[..end]), &text[end + 1..]),
-        None => (text, &text[text.len()..]),
-    }
-}
 
 /// Whether the line ends in a backslash.
 fn is_open(line: &[u8]) -> bool
@@ -79,7 +50,7 @@ fn joined_line<'a>(alloc: Global, text: &'a [u8], number: u32) -> Result<Joined<
     let mut rest = text;
     let mut next = number;
     'joining: while !rest.is_empty() {
-        let (line, behind) = first_line(rest);
+        let (line, behind) = cut_line(rest);
         let goes_on = is_open(line);
         joined = with_line(joined, line, goes_on)?;
         rest = behind;
@@ -116,16 +87,6 @@ fn with_content(
     let mut all = all;
     all.push(Numbered { number, text })?;
     Ok(all)
-}
-
-/// Whether the line is neither empty nor a comment.
-fn has_content(line: &[u8]) -> bool
-    ensures { result ≡ has_content line.now }
-{
-    match line {
-        [] => false,
-        [first, ..] => *first != b'#',
-    }
 }
 
 /// The lines of a file that are read, in order.

@@ -12,13 +12,13 @@ ghost use Rattle.conf_parser.specs.Loading.{GoesOn, HasCause, LoadsFile, StopsAt
 
 use crate::draft::Settings;
 use crate::line::{ConfFault, ConfKind, LoadStop};
-use crate::lines::{Numbered, content_lines};
+use crate::lines::content_lines;
 use crate::loaded::Loaded;
 use crate::reading::{At, Next, Opened, Output, Read, Source, Stopped};
 use crate::settings::{config_of, first_draft};
 use crate::steps::line_step;
 use edge_io::{Host, Items, LoadFault, NoMemory, Text};
-use net_lists::Vars;
+use net_lists::{Numbered, Vars};
 use std::alloc::Global;
 use std::mem;
 

@@ -2,8 +2,8 @@
 
 use crate::draft::Settings;
 use crate::line::{ConfFault, Line, Warning};
-use crate::lines::Numbered;
 use edge_io::{Items, NoMemory, Text};
+use net_lists::Numbered;
 
 /// What the lines read so far hand on.
 #[derive(Drop)]

@@ -8,10 +8,9 @@ use crate::conf_line::conf_line;
 use crate::draft::{Settings, Spot};
 use crate::given::Given;
 use crate::line::{ConfFault, ConfKind, Line, Warning};
-use crate::lines::Numbered;
 use crate::reading::{Next, Output, Read, Source, Stopped};
 use edge_io::{NoMemory, Text};
-use net_lists::Stop;
+use net_lists::{Numbered, Stop};
 use std::alloc::Global;
 
 /// One more rule line.

@@ -3,19 +3,12 @@ ghost use Rattle.std.specs.Prelude.{◌≡◌, ◌≤◌, not, length, position,
 ghost use Rattle.std.specs.List.{prefix_len};
 ghost use Rattle.net_lists.specs.Stops.{Gives};
 ghost use Rattle.edge_io.specs.Bytes.{slice};
-ghost use Rattle.conf_parser.specs.Values.{is_name, expanded, address_list, port_list, expanded_addresses, name_of, behind_name, behind_colon, setting_text, yes_or_no, in_name, mapped};
+ghost use Rattle.conf_parser.specs.Values.{expanded, address_list, port_list, expanded_addresses, name_of, behind_name, behind_colon, setting_text, yes_or_no, in_name, mapped};
 
 use crate::line::ConfKind;
 use edge_io::Text;
 use net_lists::{AddrList, ExpandFault, ListFault, PortList, Stop, Vars, trimmed};
 use std::alloc::Global;
-
-/// Whether the bytes are a variable's name.
-pub fn is_name(bytes: &[u8]) -> bool
-    ensures { result ≡ is_name bytes.now }
-{
-    net_lists::is_name(bytes)
-}
 
 /// The bytes from one place up to another, as far as they are there.
 fn slice(text: &[u8], from: usize, to: usize) -> &[u8]

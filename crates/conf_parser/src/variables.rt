@@ -7,9 +7,9 @@ ghost use Rattle.conf_parser.specs.Variables.{checked, value_of, named, definiti
 
 use crate::draft::Spot;
 use crate::line::ConfKind;
-use crate::value::{address_list, expanded, is_name, port_list};
+use crate::value::{address_list, expanded, port_list};
 use edge_io::Text;
-use net_lists::{Stop, Vars, first_word};
+use net_lists::{Stop, Vars, first_word, is_name};
 use std::alloc::Global;
 
 /// How deep includes may nest.
@@ -58,7 +58,7 @@ fn value_of(
 }
 
 /// The variables behind a definition with this name and text.
-#[tactic(auto, using(crate::proofs::NamesAre::is_name_so), unfolding(crate::specs::Variables::named))]
+#[tactic(auto, unfolding(crate::specs::Variables::named))]
 fn named(
     alloc: Global,
     vars: Vars,

@@ -5,6 +5,5 @@ pub mod Stages
 pub mod Tallies
 pub mod Running
 pub mod Queues
-pub mod Dropping
 pub mod Given
 pub mod Unmatched

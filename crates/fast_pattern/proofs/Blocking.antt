@@ -9,7 +9,7 @@ use Rattle.std.proofs.lemmas.Nat.{pow_pos}
 use Rattle.std.proofs.Math.Nat.{pow-suc}
 use Rattle.net_lists.specs.declared.part.Bounds.{Bounds}
 use Rattle.net_lists.specs.declared.part.Part.{Part}
-use Rattle.fast_pattern.specs.Candidates.{is_in, has_port}
+use Rattle.net_lists.specs.Membership.{is_in, has_port}
 use Rattle.fast_pattern.specs.Blocks.{number, half_with, lies_in, has_whole, meets, verdict, AddBlocks}
 
 pub doubled : (bits : ℕ) → 2 ^ suc bits ≡ 2 * 2 ^ bits

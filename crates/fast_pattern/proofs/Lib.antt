@@ -15,7 +15,6 @@ pub mod Needing
 pub mod Occurring
 pub mod Opening
 pub mod Ordering
-pub mod Ports
 pub mod Rowing
 pub mod Selecting
 pub mod Shallow

@@ -6,7 +6,8 @@ use Rattle.net_lists.specs.declared.part.Bounds.{Bounds}
 use Rattle.net_lists.specs.declared.part.Part.{Part}
 use Rattle.packet_decode.specs.declared.packet.Body.{Body}
 use Rattle.packet_decode.specs.declared.packet.Body.TheVariants as body
-use Rattle.fast_pattern.specs.Candidates.{has_port, header_fits, is_in, ports_fit, fits, occurs_if_any, is_candidate, places_from, candidates}
+use Rattle.net_lists.specs.Membership.{is_in, has_port}
+use Rattle.fast_pattern.specs.Candidates.{header_fits, ports_fit, fits, occurs_if_any, is_candidate, places_from, candidates}
 use Rattle.fast_pattern.specs.declared.header.Asked.{Asked}
 use Rattle.fast_pattern.specs.Grouping.{fits_at, asked_of, StandFor}
 use Rattle.fast_pattern.specs.FastPattern.{pattern_of}

@@ -18,7 +18,8 @@ use Rattle.fast_pattern.specs.declared.index.PortIndex.{PortIndex}
 use Rattle.fast_pattern.specs.declared.sides.Side.{Side}
 use Rattle.fast_pattern.specs.declared.sides.Side.TheVariants as side
 use Rattle.fast_pattern.specs.declared.sides.Sides.{Sides}
-use Rattle.fast_pattern.specs.Candidates.{has_port, ports_fit, header_fits}
+use Rattle.net_lists.specs.Membership.{has_port}
+use Rattle.fast_pattern.specs.Candidates.{ports_fit, header_fits}
 use Rattle.fast_pattern.specs.Blocks.{lies_in, has, is_filed, entries_of, AddBlocks, AreBlocks, IsChained, AddFiled}
 use Rattle.fast_pattern.specs.Words.{word_at}
 use Rattle.fast_pattern.specs.Kinds.{is_for_some, is_plain}

@@ -12,7 +12,7 @@ use Rattle.net_lists.specs.declared.part.Bounds.{Bounds}
 use Rattle.net_lists.specs.declared.part.Part.{Part}
 use Rattle.fast_pattern.specs.declared.index.Entry.{Entry}
 use Rattle.fast_pattern.specs.declared.index.PortIndex.{PortIndex}
-use Rattle.fast_pattern.specs.Candidates.{has_port}
+use Rattle.net_lists.specs.Membership.{has_port}
 use Rattle.fast_pattern.specs.Outputs.{AreOwned}
 
 -- the number of the block of 2 ^ bits ports from one on

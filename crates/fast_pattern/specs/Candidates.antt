@@ -5,12 +5,13 @@
 -- either case, or it has none. The definition looks for each pattern in the whole payload.
 -- To try it on: `alert tcp any any -> any 80 (content:"cab"; ..)` is a candidate for a TCP packet to port
 -- 80 with the payload `xCaBx`; it isn't for one from port 80, unless its direction is `<>`.
-use Rattle.std.specs.Prelude.{◌≡◌, ℕ, ◌+◌, Bool, true, false, not, ◌&&◌, ◌||◌, List, [], ◌∷◌, Option, Some, None, nat_le, slice_get, if◌then◌else◌}
-use Rattle.std.specs.List.{list_any, list_all}
+use Rattle.std.specs.Prelude.{◌≡◌, ℕ, ◌+◌, Bool, true, false, ◌&&◌, ◌||◌, List, [], ◌∷◌, Option, Some, None, slice_get, if◌then◌else◌}
+use Rattle.std.specs.List.{list_any}
 use Rattle.edge_io.specs.Matching.{begins, folded, tails}
 use Rattle.memchr.specs.Find.{OccursAt}
 use Rattle.net_lists.specs.declared.part.Bounds.{Bounds}
 use Rattle.net_lists.specs.declared.part.Part.{Part}
+use Rattle.net_lists.specs.Membership.{has_port}
 use Rattle.packet_decode.specs.declared.packet.Body.{Body}
 use Rattle.packet_decode.specs.declared.packet.Body.TheVariants as body
 use Rattle.rule_types.specs.declared.option.Content.{Content}
@@ -20,16 +21,6 @@ use Rattle.rule_types.specs.declared.rule.Proto.{Proto}
 use Rattle.rule_types.specs.declared.rule.Proto.TheVariants as proto
 use Rattle.rule_types.specs.declared.rule.Rule.{Rule}
 use Rattle.fast_pattern.specs.FastPattern.{pattern_of}
-
--- the port lies between the part's bounds
-abbrev pub is_in : ℕ → Part (Bounds ℕ) → Bool
-is_in port part = nat_le part.bounds.low port && nat_le port part.bounds.high
-
--- the list has the port: some part has it, or all parts are negated; and no negated part has it
-unfoldable pub has_port : List (Part (Bounds ℕ)) → ℕ → Bool
-has_port parts port =
-    (list_any (λ part. not part.negated && is_in port part) parts || list_all (λ part. part.negated) parts)
-    && not (list_any (λ part. part.negated && is_in port part) parts)
 
 -- the source and destination ports are listed; under `<>` they may be exchanged
 abbrev pub ports_fit : List (Part (Bounds ℕ)) → List (Part (Bounds ℕ)) → Bool → ℕ → ℕ → Bool

@@ -10,7 +10,8 @@ use Rattle.net_lists.specs.declared.part.Part.{Part}
 use Rattle.packet_decode.specs.declared.packet.Body.{Body}
 use Rattle.packet_decode.specs.declared.packet.Body.TheVariants as body
 use Rattle.fast_pattern.specs.declared.header.Asked.{Asked}
-use Rattle.fast_pattern.specs.Candidates.{has_port, header_fits, is_in}
+use Rattle.net_lists.specs.Membership.{is_in, has_port}
+use Rattle.fast_pattern.specs.Candidates.{header_fits}
 use Rattle.fast_pattern.specs.Windows.{slot_bit, table_words, KeepsSlots}
 
 -- the slot of all ports of a part, and that of one port

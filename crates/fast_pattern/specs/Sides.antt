@@ -20,7 +20,7 @@ use Rattle.fast_pattern.specs.declared.index.PortIndex.{PortIndex}
 use Rattle.fast_pattern.specs.declared.sides.Side.{Side}
 use Rattle.fast_pattern.specs.declared.sides.Side.TheVariants as side
 use Rattle.fast_pattern.specs.declared.sides.Sides.{Sides}
-use Rattle.fast_pattern.specs.Candidates.{has_port}
+use Rattle.net_lists.specs.Membership.{has_port}
 use Rattle.fast_pattern.specs.Kinds.{is_plain}
 use Rattle.fast_pattern.specs.Blocks.{lies_in, has, is_filed, AreBlocks, IsChained}
 

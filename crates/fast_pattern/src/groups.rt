@@ -1,12 +1,9 @@
 //! The rules in groups, and the candidates among them for an item.
 
-ghost use Rattle.std.specs.Prelude.{◌≡◌, ℕ, ◌≤◌, ◌<◌, List, true, length, map, filter, take, drop, slice_get, IfOk, OnOk, OnErr, IsTrue, ◌↔◌};
+ghost use Rattle.std.specs.Prelude.{◌≡◌, ℕ, ◌≤◌, ◌<◌, List, true, length, map, filter, take, drop, slice_get, IfOk, OnOk, OnErr};
 ghost use Rattle.rule_types.specs.declared.rule.Rule.{Rule};
 ghost use Rattle.fast_pattern.specs.FastPattern.{bytes_of, pattern_of};
-ghost use Rattle.net_lists.specs.declared.part.Bounds.{Bounds};
-ghost use Rattle.net_lists.specs.declared.part.Part.{Part};
-ghost use Rattle.net_lists.specs.Membership.{IsListed, Has};
-ghost use Rattle.fast_pattern.specs.Candidates.{occurs_if_any, has_port, ContentsOccur};
+ghost use Rattle.fast_pattern.specs.Candidates.{occurs_if_any, ContentsOccur};
 
 use crate::automaton::Automaton;
 use crate::choice::chosen;
@@ -208,10 +205,4 @@ impl Groups {
 pub fn matching_needs_the_fast_pattern()
     ensures { (rule : Rule) (payload : List ℕ) → ContentsOccur rule.opts payload
         → occurs_if_any (pattern_of rule.opts) payload ≡ true }
-{}
-
-/// A law for callers: a port is in a list, in the words of candidates, just where it is listed in those of the
-/// lists (`net_lists`).
-pub fn ports_are_as_listed()
-    ensures { (ports : List (Part (Bounds ℕ))) (port : ℕ) → IsTrue (has_port ports port) ↔ IsListed (Has port) ports }
 {}

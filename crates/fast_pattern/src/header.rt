@@ -1,7 +1,7 @@
 //! Whether a rule's header fits an item, addresses aside.
 
 ghost use Rattle.std.specs.Prelude.{◌≡◌, IfOk};
-ghost use Rattle.fast_pattern.specs.Candidates.{has_port, ports_fit, header_fits};
+ghost use Rattle.fast_pattern.specs.Candidates.{ports_fit, header_fits};
 
 use edge_io::NoMemory;
 use net_lists::PortList;
@@ -25,13 +25,6 @@ pub enum Kind {
     Udp,
     Icmp,
     Other,
-}
-
-/// Whether the list has the port.
-fn has_port(ports: &PortList, port: u16) -> bool
-    ensures { result ≡ has_port ports.now port }
-{
-    ports.contains(port)
 }
 
 /// A copy of the list.
@@ -77,8 +70,8 @@ impl Asked {
     fn has_ports(&self, sport: u16, dport: u16) -> bool
         ensures { result ≡ ports_fit self.now.sports self.now.dports self.now.both sport dport }
     {
-        let forth = has_port(&self.sports, sport) && has_port(&self.dports, dport);
-        let back = self.both && has_port(&self.sports, dport) && has_port(&self.dports, sport);
+        let forth = self.sports.contains(sport) && self.dports.contains(dport);
+        let back = self.both && self.sports.contains(dport) && self.dports.contains(sport);
         forth || back
     }
 

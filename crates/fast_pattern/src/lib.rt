@@ -33,4 +33,4 @@ mod trie;
 mod windows;
 
 pub use choice::{Fast, choose};
-pub use groups::{Groups, matching_needs_the_fast_pattern, ports_are_as_listed};
+pub use groups::{Groups, matching_needs_the_fast_pattern};

@@ -5,7 +5,7 @@ use Rattle.memchr.specs.Find.{OccursAt}
 use Rattle.edge_io.specs.Matching.{folded}
 use Rattle.net_lists.specs.declared.part.Bounds.{Bounds}
 use Rattle.net_lists.specs.declared.part.Part.{Part}
-use Rattle.net_lists.specs.Membership.{IsListed, Has}
+use Rattle.net_lists.specs.Membership.{IsListed, Has, has_port}
 use Rattle.packet_decode.specs.declared.item.ItemHead.{ItemHead}
 use Rattle.packet_decode.specs.declared.packet.Body.{Body}
 use Rattle.packet_decode.specs.declared.packet.Body.TheVariants as body
@@ -18,10 +18,10 @@ use Rattle.rule_types.specs.declared.rule.Rule.{Rule}
 use Rattle.header_eval.specs.Fields.{HeaderHolds, IsWay, PortHolds, destination_port, is_of, source_port}
 use Rattle.option_eval.specs.Numbers.{Standing}
 use Rattle.option_eval.specs.Places.{IsWay as IsWayThrough, Leads, Means, sought, start}
-use Rattle.fast_pattern.specs.Candidates.{fits, has_port, header_fits, is_candidate, occurs_if_any, ports_fit}
+use Rattle.fast_pattern.specs.Candidates.{fits, header_fits, is_candidate, occurs_if_any, ports_fit}
 use Rattle.fast_pattern.specs.FastPattern.{pattern_of}
 use Rattle.fast_pattern.proofs.Needing.{needs-pattern}
-use Rattle.fast_pattern.proofs.Ports.{has_port-from}
+use Rattle.net_lists.proofs.Ports.{has_port-from}
 use Rattle.flow_lanes.specs.Hits.{Bits, Item, RuleMatches}
 
 -- the ports of a way, and of the way back under `<>`

@@ -5,7 +5,7 @@ use Rattle.std.proofs.lemmas.Bool.Decides.{nat_tests}
 use Rattle.net_lists.specs.declared.part.Bounds.{Bounds}
 use Rattle.net_lists.specs.declared.part.Part.{Part}
 use Rattle.net_lists.specs.Parts.{one_port}
-use Rattle.fast_pattern.specs.Candidates.{has_port, is_in}
+use Rattle.net_lists.specs.Membership.{is_in, has_port}
 
 one_test : (port p : ℕ) → is_in port (one_port p) ≡ (p == port)
 one_test port p = grind (arith, nat_tests)

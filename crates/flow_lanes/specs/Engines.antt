@@ -11,7 +11,7 @@ use Rattle.net_lists.specs.declared.part.Part.{Part}
 use Rattle.conf_types.specs.declared.config.StreamConfig.{StreamConfig}
 use Rattle.conf_types.specs.declared.config.StreamEngine.{StreamEngine}
 use Rattle.conf_types.specs.Defaults.{stream_engine_at}
-use Rattle.fast_pattern.specs.Candidates.{has_port}
+use Rattle.net_lists.specs.Membership.{has_port}
 use Rattle.stream5_reassembly.specs.declared.limits.Limits.{Limits}
 
 -- what items are made by: the flush point, whether a packet whose data were queued is an item itself, and

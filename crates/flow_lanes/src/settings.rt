@@ -3,7 +3,7 @@
 ghost use Rattle.std.specs.Prelude.{◌≡◌, map};
 ghost use Rattle.flow_lanes.specs.Engines.{engine_for, is_listed, limits_to, timeout_to};
 ghost use Rattle.conf_types.specs.Defaults.{default_ports};
-ghost use Rattle.fast_pattern.specs.Candidates.{has_port};
+ghost use Rattle.net_lists.specs.Membership.{has_port};
 ghost use Rattle.net_lists.specs.Parts.{one_port};
 ghost use Rattle.flow_lanes.specs.Given.{making_of};
 
@@ -26,15 +26,8 @@ fn is_listed(ports: &Option<PortList>, port: u16) -> bool
 {
     match ports {
         None => false,
-        Some(ports) => has_port(ports, port),
+        Some(ports) => ports.contains(port),
     }
-}
-
-/// The list has the port.
-fn has_port(ports: &PortList, port: u16) -> bool
-    ensures { result ≡ has_port ports.now port }
-{
-    ports.contains(port)
 }
 
 /// The port is one of those for which an engine without settings puts the client's data together.

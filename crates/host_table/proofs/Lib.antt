@@ -1,4 +1,3 @@
-pub mod FirstLines
 pub mod Networks
 pub mod Places
 pub mod Longest

@@ -6,7 +6,9 @@ use Rattle.edge_io.specs.OnResult.{◌>>=◌}
 use Rattle.host_table.specs.declared.fault.HostFault.{HostFault}
 use Rattle.host_table.specs.declared.fault.HostFault.TheVariants.{BadLine, Twice, NoMemory}
 use Rattle.host_table.specs.declared.host_line.HostLine.{HostLine}
-use Rattle.host_table.specs.Lines.{Numbered, numbered, numbered_lines, has_content, kept}
+use Rattle.net_lists.specs.Lines.{numbered, has_content, kept}
+use Rattle.net_lists.specs.declared.lines.Numbered.{Numbered}
+use Rattle.host_table.specs.Lines.{numbered_lines}
 use Rattle.host_table.specs.HostLine.{host_line}
 use Rattle.host_table.specs.Hosts.{hosts_of, hosts_behind, Gives}
 

@@ -18,7 +18,7 @@ use Rattle.net_lists.specs.Cutting.{words}
 use Rattle.host_table.specs.declared.fault.HostFault.{HostFault}
 use Rattle.host_table.specs.declared.fault.HostFault.TheVariants.{BadLine, Twice}
 use Rattle.host_table.specs.declared.host_line.HostLine.{HostLine}
-use Rattle.host_table.specs.Lines.{Numbered}
+use Rattle.net_lists.specs.declared.lines.Numbered.{Numbered}
 use Rattle.edge_io.specs.Policies.{frag_policy, stream_policy}
 
 -- the same version, prefix length and address bits

@@ -15,7 +15,8 @@ use Rattle.net_lists.specs.Addresses.{network_at}
 use Rattle.host_table.specs.declared.fault.HostFault.{HostFault}
 use Rattle.host_table.specs.declared.fault.HostFault.TheVariants.{BadLine, Twice, NoMemory}
 use Rattle.host_table.specs.declared.host_line.HostLine.{HostLine}
-use Rattle.host_table.specs.Lines.{Numbered, content_lines}
+use Rattle.net_lists.specs.declared.lines.Numbered.{Numbered}
+use Rattle.host_table.specs.Lines.{content_lines}
 use Rattle.host_table.specs.HostLine.{same_network, host_line}
 
 -- the entries behind these lines, or the refusal of the first line that is refused

@@ -10,7 +10,6 @@ mod fault;
 mod host_line;
 mod hosts;
 mod key;
-mod lines;
 mod read;
 
 pub use edge_io::{FragPolicy, Preference, StreamPolicy};

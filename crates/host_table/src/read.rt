@@ -1,15 +1,14 @@
 //! Reading a host table.
 ghost use Rattle.std.specs.Prelude.{◌≡◌, ◌≤◌, length, false, IfOk};
 ghost use Rattle.net_lists.specs.Addresses.{IsNetwork};
-ghost use Rattle.host_table.specs.Lines.{numbered};
+ghost use Rattle.net_lists.specs.Lines.{numbered};
 ghost use Rattle.host_table.specs.HostLine.{host_line, is_given};
 ghost use Rattle.host_table.specs.Hosts.{hosts_of, Gives};
 
 use crate::fault::HostFault;
 use crate::host_line::HostLine;
 use crate::hosts::Hosts;
-use crate::lines::{first_line, has_content};
-use net_lists::trimmed;
+use net_lists::{first_line, has_content, trimmed};
 use std::alloc::Global;
 
 /// The most bytes that a host table has.

@@ -1,3 +1,4 @@
+pub mod FirstLine
 pub mod Fronts
 pub mod Ranges
 pub mod Cuts
@@ -10,6 +11,7 @@ pub mod Listed
 pub mod Compacted
 pub mod Entries
 pub mod Pieces
+pub mod Ports
 pub mod Appended
 pub mod Steps
 pub mod Accepted

@@ -1,5 +1,6 @@
 pub mod Numbers
 pub mod Cutting
+pub mod Lines
 pub mod Parted
 pub mod Stops
 pub mod Folds

@@ -3,7 +3,8 @@
 --
 -- To try it on: the parts 10.0.0.0 to 10.255.255.255 and, negated, 10.1.0.0 to 10.1.255.255 list
 -- 10.2.3.4 and neither 10.1.3.4 nor 11.0.0.1; negated parts alone list all that none of them has.
-use Rattle.std.specs.Prelude.{◌≡◌, ℕ, ◌≤◌, ◌⊎◌, List, All, Any, true, false}
+use Rattle.std.specs.Prelude.{◌≡◌, ℕ, ◌≤◌, ◌⊎◌, ◌&&◌, ◌||◌, Bool, List, All, Any, nat_le, not, true, false}
+use Rattle.std.specs.List.{list_any, list_all}
 use Rattle.edge_io.specs.declared.address.Addr.{Addr}
 use Rattle.edge_io.specs.declared.address.Addr.TheVariants as addr
 use Rattle.net_lists.specs.declared.part.Bounds.{Bounds}
@@ -33,3 +34,15 @@ HasAddress (addr.V4 value) (bounds.V4 within) = Has value within
 HasAddress (addr.V4 value) (bounds.V6 within) = ⊥
 HasAddress (addr.V6 value) (bounds.V4 within) = ⊥
 HasAddress (addr.V6 value) (bounds.V6 within) = Has value within
+
+-- The same of ports, as a test.
+
+-- the port lies between the part's bounds
+abbrev pub is_in : ℕ → Part (Bounds ℕ) → Bool
+is_in port part = nat_le part.bounds.low port && nat_le port part.bounds.high
+
+-- the list has the port: some part has it, or all parts are negated; and no negated part has it
+unfoldable pub has_port : List (Part (Bounds ℕ)) → ℕ → Bool
+has_port parts port =
+    (list_any (λ part. not part.negated && is_in port part) parts || list_all (λ part. part.negated) parts)
+    && not (list_any (λ part. part.negated && is_in port part) parts)

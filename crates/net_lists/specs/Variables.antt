@@ -4,8 +4,9 @@
 -- one, but for a variable that is fixed, as those of the command line are.
 -- (Snort Users Manual 2.9, "Variables".)
 -- To try it on: N defined as 7 and fixed, and then as 8, is 7.
-use Rattle.std.specs.Prelude.{ℕ, ◌==◌, ◌||◌, Bool, false, Option, Some, None, List, [], ◌∷◌, All, IsTrue, refl, if◌then◌else◌}
+use Rattle.std.specs.Prelude.{ℕ, ◌==◌, ◌&&◌, ◌||◌, Bool, false, Option, Some, None, List, [], ◌∷◌, IsTrue, refl, if◌then◌else◌}
 use Rattle.std.specs.Char.{is_ascii_alphabetic, is_ascii_alphanumeric}
+use Rattle.std.specs.List.{list_all}
 use Rattle.std.specs.Ordering.{nat_cmp}
 use Rattle.std.specs.Cmp.Lexicographic.{slice_cmp}
 use Rattle.std.specs.Coded.{Coded, code_by, coded×, coded_list, coded_ℕ, coded_bool}
@@ -20,9 +21,13 @@ abbrev pub continues_name : ℕ → Bool
 continues_name byte = is_ascii_alphanumeric byte || byte == 95
 
 -- a letter or `_`, and then letters, digits and `_`
+unfoldable pub is_name : List ℕ → Bool
+is_name [] = false
+is_name (first ∷ rest) = begins_name first && list_all continues_name rest
+
+-- the text is a variable's name
 abbrev pub IsName : List ℕ → Type 0
-IsName [] = ⊥
-IsName (first ∷ rest) = IsTrue (begins_name first) × All (λ byte. IsTrue (continues_name byte)) rest
+IsName text = IsTrue (is_name text)
 
 -- what a name stands for, and whether it stays so
 pub record Variable : Type 0 where

@@ -3,6 +3,7 @@ ghost use Rattle.net_lists.specs.declared.part.AddrBounds.{AddrBounds};
 ghost use Rattle.net_lists.specs.declared.part.Part.{Part};
 ghost use Rattle.net_lists.specs.Addresses.{address_bounds};
 ghost use Rattle.net_lists.specs.Membership.{IsListed, HasAddress};
+ghost use Rattle.net_lists.specs.Verdicts.{has_address, is_listed};
 ghost use Rattle.net_lists.specs.Lists.{IsList, IsAnswer, IsTooLong};
 
 use crate::address_parts::AddrParts;
@@ -67,7 +68,8 @@ impl AddrList {
 
     /// Whether the address is listed: a part has addresses of its own version alone. Takes no memory.
     pub fn contains(&self, addr: Addr) -> bool
-        ensures { IsTrue result ↔ IsListed (HasAddress addr) self.now }
+        ensures listed { IsTrue result ↔ IsListed (HasAddress addr) self.now }
+        ensures value { result ≡ is_listed (has_address addr) self.now }
     {
         self.stored.is_listed(addr)
     }

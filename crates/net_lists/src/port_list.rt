@@ -1,7 +1,7 @@
 ghost use Rattle.std.specs.Prelude.{◌≡◌, ◌↔◌, IsTrue, IfOk, IsErrOf, List, [], ℕ, map};
 ghost use Rattle.net_lists.specs.declared.part.Bounds.{Bounds};
 ghost use Rattle.net_lists.specs.declared.part.Part.{Part};
-ghost use Rattle.net_lists.specs.Membership.{IsListed, Has};
+ghost use Rattle.net_lists.specs.Membership.{IsListed, Has, has_port};
 ghost use Rattle.net_lists.specs.Parts.{port_bounds, one_port};
 ghost use Rattle.net_lists.specs.Lists.{IsList, IsAnswer, IsTooLong};
 
@@ -90,8 +90,14 @@ impl PortList {
 
     /// Whether the port is listed. Takes no memory.
     pub fn contains(&self, port: u16) -> bool
-        ensures { IsTrue result ↔ IsListed (Has port) self.now }
+        ensures listed { IsTrue result ↔ IsListed (Has port) self.now }
+        ensures value { result ≡ has_port self.now port }
     {
         member::is_listed(self.parts(), port)
     }
 }
+
+/// A law for callers: a list has a port, as a test, just where the port is listed.
+pub fn ports_are_as_listed()
+    ensures { (ports : List (Part (Bounds ℕ))) (port : ℕ) → IsTrue (has_port ports port) ↔ IsListed (Has port) ports }
+{}

@@ -1,16 +1,11 @@
--- Addresses that a line's list has, and the engines of addresses.
-use Rattle.std.proofs.Common.{◌≡◌, ℕ, ◌≤◌, Bool, true, false, cond, ltb, ◌↔◌, IsTrue, List, length, Option, Some, None, refl, sym, ap, ◌∙◌, arith}
+-- The engines of addresses.
+use Rattle.std.proofs.Common.{◌≡◌, ℕ, ◌≤◌, Bool, true, false, cond, ltb, List, length, Option, Some, None, refl, sym, ap, ◌∙◌, arith}
 use Rattle.std.specs.List.{find, position_or_len}
 use Rattle.std.specs.Option.{is_none, option_or, unwrap_or}
 use Rattle.std.proofs.lemmas.Bool.{ltb-true}
 use Rattle.edge_io.specs.declared.policy.FragPolicy.{FragPolicy}
 use Rattle.edge_io.specs.Policies.{frag_preference}
 use Rattle.edge_io.specs.declared.address.Addr.{Addr}
-use Rattle.net_lists.specs.declared.part.AddrBounds.{AddrBounds}
-use Rattle.net_lists.specs.declared.part.Part.{Part}
-use Rattle.net_lists.specs.Membership.{IsListed, HasAddress}
-use Rattle.net_lists.specs.Verdicts.{has_address, is_listed}
-use Rattle.net_lists.proofs.Listed.{listed, address_yes, address_no}
 use Rattle.host_table.specs.declared.host_line.HostLine.{HostLine}
 use Rattle.host_table.specs.Hosts.{frag_policy_at}
 use Rattle.conf_types.specs.declared.config.FragConfig.{FragConfig}
@@ -19,16 +14,6 @@ use Rattle.conf_types.specs.declared.config.StreamEngine.{StreamEngine}
 use Rattle.conf_types.specs.Defaults.{default_frag_engine}
 use Rattle.frag3_core.specs.declared.answer.FragRules.{FragRules}
 use Rattle.record_jobs.specs.Way.{frag_engine, frag_rules, is_bound, stream_place}
-
-same_bool : (s t : Bool) → (s ≡ true → t ≡ true) → (t ≡ true → s ≡ true) → s ≡ t
-same_bool true t there back = sym (there refl)
-same_bool false true there back = back refl
-same_bool false false there back = refl
-
-pub contains_is : (addr : Addr) (list : List (Part AddrBounds)) (b : Bool) → (IsTrue b ↔ IsListed (HasAddress addr) list) → b ≡ is_listed (has_address addr) list
-contains_is addr list b is =
-    let means = listed (has_address addr) (HasAddress addr) (address_yes addr) (address_no addr) list (is_listed (has_address addr) list) refl in
-    same_bool b (is_listed (has_address addr) list) (λ t. means.1 (is.0 t)) (λ t. is.1 (means.0 t))
 
 -- what goes by an engine, where the host table says this
 abbrev pub rules_by : Option FragPolicy → FragEngine → FragRules

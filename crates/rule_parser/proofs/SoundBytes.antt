@@ -21,7 +21,8 @@ use Rattle.rule_types.specs.declared.option.Opt.TheVariants as opt
 use Rattle.rule_parser.specs.ByteOptions.{Part, first_part, next_part, no_words, once_only, with_times, with_post, with_multiple, shared_word, jump_word, extract_word, word_of, words_of, lacks_string, fetch_of, jump_of, extract_of, Comparison, comparison_of, operator_of, offset_of, byte_test_option, byte_jump_option, with_name, byte_extract_option, data_words, parts_behind, isdataat_option}
 use Rattle.rule_parser.specs.Contents.{negation}
 use Rattle.rule_parser.specs.Drafts.{kept_count, kept}
-use Rattle.rule_parser.specs.Names.{is_name, place_among, number_or_named}
+use Rattle.net_lists.specs.Variables.{is_name}
+use Rattle.rule_parser.specs.Names.{place_among, number_or_named}
 use Rattle.rule_types.specs.Sound.{IsFetch, bytes_of_base, is_test}
 use Rattle.rule_parser.proofs.SoundDrafts.{AreNamed, IsSoundDraft, names_after, kept-more, kept-sound}
 use Rattle.rule_parser.proofs.SoundSteps.{then_ok, any_ok, kind_ok, if_ok, fold_ok}

@@ -8,7 +8,8 @@ use Rattle.net_lists.specs.Numbers.{whole_number, kept_in, number_in, signed_num
 use Rattle.rule_parser.specs.declared.fault.Fault.TheVariants.{OptionValue}
 use Rattle.rule_types.specs.declared.option.Num.{Num}
 use Rattle.rule_types.specs.declared.option.Num.TheVariants.{Value, Name}
-use Rattle.rule_parser.specs.Names.{is_name, place_among, name_at, named, or_named, as_signed, signed_or_named, number_or_named}
+use Rattle.net_lists.specs.Variables.{is_name}
+use Rattle.rule_parser.specs.Names.{place_among, name_at, named, or_named, as_signed, signed_or_named, number_or_named}
 use Rattle.rule_types.specs.Sound.{IsNum}
 use Rattle.rule_parser.proofs.SoundSteps.{if_ok}
 use Rattle.rule_parser.proofs.SoundDrafts.{AreNamed}

@@ -33,7 +33,8 @@ use Rattle.rule_types.specs.declared.option.Opt.{Opt}
 use Rattle.rule_types.specs.declared.option.Opt.TheVariants as opt
 use Rattle.rule_parser.specs.Contents.{negation}
 use Rattle.rule_parser.specs.Drafts.{kept}
-use Rattle.rule_parser.specs.Names.{is_name, place_among, signed_or_named, number_or_named}
+use Rattle.net_lists.specs.Variables.{is_name}
+use Rattle.rule_parser.specs.Names.{place_among, signed_or_named, number_or_named}
 
 -- A part of a value, with the number of the line's bytes that are left where it begins, and what stands
 -- behind its comma, if a comma (44) stands there.

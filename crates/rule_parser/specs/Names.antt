@@ -5,19 +5,13 @@
 -- 3.5.33). A name is a letter or `_`, followed by letters, digits and `_`.
 -- To try it on: from 0 to 9, where `n` alone was extracted, `5` is 5, `n` is the first name, `m` is unknown,
 -- and `10` and `x-y` are wrong values.
-use Rattle.std.specs.Prelude.{ℕ, ◌&&◌, Bool, false, ℤ, pos, Option, Some, None, Result, Ok, Err, List, [], ◌∷◌, length, bytes_eq, position, if◌then◌else◌}
-use Rattle.std.specs.List.{list_all}
+use Rattle.std.specs.Prelude.{ℕ, ℤ, pos, Option, Some, None, Result, Ok, Err, List, length, bytes_eq, position, if◌then◌else◌}
 use Rattle.net_lists.specs.Numbers.{number_in, signed_in}
-use Rattle.net_lists.specs.Variables.{begins_name, continues_name}
+use Rattle.net_lists.specs.Variables.{is_name}
 use Rattle.rule_parser.specs.declared.fault.Fault.{Fault}
 use Rattle.rule_parser.specs.declared.fault.Fault.TheVariants.{OptionValue, Unknown}
 use Rattle.rule_types.specs.declared.option.Num.{Num}
 use Rattle.rule_types.specs.declared.option.Num.TheVariants.{Value, Name}
-
--- whether a text has the form of a name
-abbrev pub is_name : List ℕ → Bool
-is_name [] = false
-is_name (first ∷ rest) = begins_name first && list_all continues_name rest
 
 -- the place of a text among these
 unfoldable pub place_among : List ℕ → List (List ℕ) → Option ℕ

@@ -3,7 +3,8 @@ ghost use Rattle.std.specs.Prelude.{◌≡◌, pos, negsuc, MatchResult, Ok, Err
 ghost use Rattle.std.specs.List.{prefix_len};
 ghost use Rattle.edge_io.specs.Bytes.{is_blank};
 ghost use Rattle.net_lists.specs.Stops.{Gives};
-ghost use Rattle.rule_parser.specs.Names.{is_name, place_among, signed_or_named};
+ghost use Rattle.net_lists.specs.Variables.{is_name};
+ghost use Rattle.rule_parser.specs.Names.{place_among, signed_or_named};
 ghost use Rattle.rule_parser.specs.ByteOptions.{seen, first_part, next_part, words_of, operator_of, seen_comparison, comparison_of, byte_test_option, byte_jump_option, byte_extract_option, with_name, data_word, data_words, parts_behind, isdataat_option};
 
 use crate::byte_words::{Which, Words};
@@ -12,10 +13,10 @@ use crate::draft::Draft;
 use crate::extracted::Extracted;
 use crate::fault::Fault;
 use crate::fields::place_of;
-use crate::number::{is_name, number_or_named, place_among, signed_or_named};
+use crate::number::{number_or_named, place_among, signed_or_named};
 use crate::{Cmp, Num, Opt};
 use edge_io::Text;
-use net_lists::{Parts, Stop, number_in, trimmed};
+use net_lists::{Parts, Stop, is_name, number_in, trimmed};
 use std::alloc::Global;
 
 /// A part of a value between commas, without the blanks around it.

@@ -1,41 +1,11 @@
 //! Numbers and extracted names in options.
 ghost use Rattle.std.specs.Prelude.{◌≡◌, ◌<◌, length, IfSome};
-ghost use Rattle.std.specs.List.{list_all};
-ghost use Rattle.net_lists.specs.Variables.{begins_name, continues_name};
-ghost use Rattle.rule_parser.specs.Names.{is_name, place_among, named, signed_or_named, number_or_named};
+ghost use Rattle.rule_parser.specs.Names.{place_among, named, signed_or_named, number_or_named};
 
 use crate::Num;
 use crate::fault::Fault;
 use edge_io::Text;
-use net_lists::{number_in, signed_in};
-
-fn begins_name(byte: u8) -> bool
-    ensures { result ≡ begins_name byte }
-{
-    byte.is_ascii_alphabetic() || byte == b'_'
-}
-
-fn continues_name(byte: u8) -> bool
-    ensures { result ≡ continues_name byte }
-{
-    byte.is_ascii_alphanumeric() || byte == b'_'
-}
-
-fn are_name_bytes(text: &[u8]) -> bool
-    ensures { result ≡ list_all continues_name text.now }
-{
-    text.iter().all(|byte| continues_name(*byte))
-}
-
-/// Whether a text has the form of a name.
-pub(crate) fn is_name(text: &[u8]) -> bool
-    ensures { result ≡ is_name text.now }
-{
-    match text {
-        [] => false,
-        [first, rest @ ..] => begins_name(*first) && are_name_bytes(rest),
-    }
-}
+use net_lists::{is_name, number_in, signed_in};
 
 /// The place of a text among these.
 #[tactic(auto, unfolding(crate::specs::Names::place_among))]

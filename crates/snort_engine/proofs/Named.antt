@@ -1,38 +1,28 @@
 -- What the words of a command say is in its form: a variable that they define has a name, and numbers lie in
 -- their ranges.
 use Rattle.std.proofs.Common.{◌≡◌, ℕ, ◌≤◌, Bool, true, false, cond, not, ◌&&◌, List, [], ◌∷◌, Option, Some, None, length, ◌==◌, refl, ap, subst, arith}
-use Rattle.std.specs.Prelude.{IsTrue, All, drop, nat_le, codes}
+use Rattle.std.specs.Prelude.{drop, nat_le, codes}
 use Rattle.std.proofs.lemmas.Bool.Decides.{nat_tests}
 use Rattle.std.specs.Option.{option_map, option_and_then}
-use Rattle.std.specs.List.{list_all}
 use Rattle.std.proofs.lemmas.Bool.{and_parts}
 use Rattle.std.proofs.lemmas.Option.{option_and_then_some, cond_some}
-use Rattle.std.proofs.lemmas.List.Elements.{All-nil, All-cons}
 use Rattle.net_lists.specs.Addresses.{cut}
 use Rattle.net_lists.specs.Numbers.{whole_number, kept_in, number_in}
-use Rattle.net_lists.specs.Variables.{begins_name, continues_name, IsName}
-use Rattle.command_words.specs.CommandLine.{Asked, help, version, records_of, run, asked_of, Run, Defined, Values, maybe, is_variable, named, definition, has_its_capture, is_console, mode_named, number_or, run_by, asked_by, values_behind, values_by, command_line}
+use Rattle.net_lists.specs.Variables.{IsName, is_name}
+use Rattle.command_words.specs.CommandLine.{Asked, help, version, records_of, run, asked_of, Run, Defined, Values, maybe, named, definition, has_its_capture, is_console, mode_named, number_or, run_by, asked_by, values_behind, values_by, command_line}
 use Rattle.command_words.specs.Table.{table}
 use Rattle.command_words.specs.Uses.{uses_of, value_in}
 use Rattle.snort_setup.specs.Words.{HasName}
 use Rattle.snort_engine.specs.Course.{definition_of, setup_words}
 use Rattle.snort_engine.specs.Detecting.{IsRanged}
 
-all_true : (p : ℕ → Bool) (xs : List ℕ) → list_all p xs ≡ true → All (λ x. IsTrue (p x)) xs
-all_true p [] is = All-nil (λ x. IsTrue (p x))
-all_true p (x ∷ xs) is = let both = and_parts (p x) (list_all p xs) is in All-cons (λ y. IsTrue (p y)) x xs both.0 (all_true p xs both.1)
-
-variable_named : (text : List ℕ) → is_variable text ≡ true → IsName text
-variable_named [] is = cc
-variable_named (first ∷ rest) is = let both = and_parts (begins_name first) (list_all continues_name rest) is in (both.0, all_true continues_name rest both.1)
-
 -- the name of a definition
 pair_named : (name value : List ℕ) (defined : Defined) → named name value ≡ Some defined → HasName (Some (definition_of defined))
 pair_named name value defined is =
-    let parts = cond_some (is_variable name && not (length value == 0)) _ defined is in
-    let known = (and_parts (is_variable name) (not (length value == 0)) parts.0).0 in
+    let parts = cond_some (is_name name && not (length value == 0)) _ defined is in
+    let known = (and_parts (is_name name) (not (length value == 0)) parts.0).0 in
     let P : Defined → Type 0 = λ d. IsName d.name in
-    subst P parts.1 (variable_named name known)
+    subst P parts.1 known
 
 definition_named : (text : List ℕ) (defined : Defined) → definition text ≡ Some defined → HasName (Some (definition_of defined))
 definition_named text defined is =

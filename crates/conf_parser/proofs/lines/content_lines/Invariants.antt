@@ -1,7 +1,8 @@
 -- The lines so far, and then those of what is left, are the lines of the file.
 use Rattle.std.proofs.Common.{◌≡◌, ◌+◌, ◌≤◌, ◌++◌, length}
 use Rattle.std.specs.Str.Lines.{lines}
-use Rattle.conf_parser.specs.Lines.{joined_lines, kept}
+use Rattle.net_lists.specs.Lines.{kept}
+use Rattle.conf_parser.specs.Lines.{joined_lines}
 use Rattle.conf_parser.proofs.lines.content_lines.Given as goal
 
 abbrev pub invariant-lines : goal.invariant-lines

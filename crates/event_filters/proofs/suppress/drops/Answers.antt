@@ -2,11 +2,10 @@ use Rattle.std.proofs.Common.{true, sym, ap, ◌∙◌}
 use Rattle.std.specs.Option.{option_map_or}
 use Rattle.net_lists.specs.Verdicts.{has_address, is_listed}
 use Rattle.event_filters.specs.Events.{address_of}
-use Rattle.event_filters.proofs.Dropping.{contains_is}
 use Rattle.event_filters.proofs.suppress.drops.Goals as goal
 
 pub returns-in-Some : goal.returns-in-Some
 returns-in-Some c =
-    contains_is c.address_of.result c.in-Some.list c.contains.result c.contains.ensures
+    c.contains.ensures.value
     ∙ ap (λ a. is_listed (has_address a) c.in-Some.list) c.address_of.ensures
     ∙ ap (λ o. option_map_or (λ t. is_listed (has_address (address_of t.0 c.args.head.now)) t.1) o true) (sym c.in-Some.is)

@@ -1,7 +1,8 @@
 use Rattle.std.proofs.Common.{◌+◌, sym, ap, ◌∙◌, arith}
 use Rattle.std.proofs.lemmas.Result.{err_from_is_err_and}
 use Rattle.std.specs.Str.Lines.{lines}
-use Rattle.host_table.specs.Lines.{kept, numbered_lines}
+use Rattle.net_lists.specs.Lines.{kept}
+use Rattle.host_table.specs.Lines.{numbered_lines}
 use Rattle.host_table.specs.Hosts.{hosts_of, hosts_behind}
 use Rattle.host_table.proofs.Turns.{given-fault, hosts_behind-nil, turn-skipped, turn-taken, turn-refused, hosts_of-lines}
 use Rattle.host_table.proofs.read.read_hosts.Goals as goal

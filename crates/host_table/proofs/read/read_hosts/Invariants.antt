@@ -1,6 +1,7 @@
 use Rattle.std.proofs.Common.{◌≡◌, ◌+◌, ◌≤◌, length}
 use Rattle.std.specs.Str.Lines.{lines}
-use Rattle.host_table.specs.Lines.{kept, numbered_lines}
+use Rattle.net_lists.specs.Lines.{kept}
+use Rattle.host_table.specs.Lines.{numbered_lines}
 use Rattle.host_table.specs.Hosts.{hosts_of, hosts_behind}
 use Rattle.host_table.proofs.read.read_hosts.Given as goal
 

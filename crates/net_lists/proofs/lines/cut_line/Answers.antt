@@ -1,5 +1,5 @@
-use Rattle.conf_parser.proofs.FirstLine.{lines_cut, lines_last}
-use Rattle.conf_parser.proofs.lines.first_line.Goals as goal
+use Rattle.net_lists.proofs.FirstLine.{lines_cut, lines_last}
+use Rattle.net_lists.proofs.lines.cut_line.Goals as goal
 
 pub returns-in-Some-clause-cut : goal.returns-in-Some-clause-cut
 returns-in-Some-clause-cut c = rw c.without_return.ensures (lines_cut c.args.text.now c.in-Some.end c.in-Some.ensures)

@@ -1,13 +1,16 @@
 -- A list has a port where the definition of lists says so.
-use Rattle.std.proofs.Common.{◌≡◌, ℕ, zero, suc, ◌<◌, Bool, true, not, ◌&&◌, ◌||◌, ◌↔◌, inl, inr, leb, IsTrue, List, [], ◌∷◌, length, get_or, All, Any, refl, sym, ap, ◌∙◌, arith, ⊎_elim}
+use Rattle.std.proofs.Common.{◌≡◌, ℕ, zero, suc, ◌<◌, Bool, true, false, not, ◌&&◌, ◌||◌, ◌↔◌, inl, inr, leb, IsTrue, List, [], ◌∷◌, length, get_or, All, Any, refl, sym, ap, ◌∙◌, arith, ⊎_elim}
 use Rattle.std.specs.List.{list_any, list_all}
 use Rattle.std.proofs.lemmas.Bool.{false≢true, leb-true, le-leb, and_parts, and_from, or_cases, or_left, or_right, not-true, not_from_false, false_from_ne_true}
 use Rattle.std.proofs.lemmas.List.{get_or_default}
 use Rattle.net_lists.specs.declared.part.Bounds.{Bounds}
 use Rattle.net_lists.specs.declared.part.Part.{Part}
-use Rattle.net_lists.specs.Membership.{IsPositive, IsNegated, IsListed, Has}
-use Rattle.fast_pattern.specs.Candidates.{is_in, has_port}
-use Rattle.fast_pattern.proofs.Words.{same_bools}
+use Rattle.net_lists.specs.Membership.{IsPositive, IsNegated, IsListed, Has, is_in, has_port}
+
+same_bools : (a b : Bool) → (a ≡ true → b ≡ true) → (b ≡ true → a ≡ true) → a ≡ b
+same_bools true b f g = sym (f refl)
+same_bools false true f g = g refl
+same_bools false false f g = refl
 
 module _ {X : Type 0} (test : X → Bool) (P : X → Type 0) (to : (x : X) → test x ≡ true → P x) (from : (x : X) → P x → test x ≡ true) where
   any-tells : (xs : List X) → list_any test xs ≡ true → Any P xs
