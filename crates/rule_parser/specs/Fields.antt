@@ -114,11 +114,6 @@ abbrev pub ttl_to : List ℕ → Option ℕ → Result Opt Fault
 ttl_to text None = signed_compare field.Ttl text
 ttl_to text (Some place) = ttl_range (take place text) (drop (place + 1) text)
 
--- a `<` in front, or none
-abbrev pub is_below : List ℕ → Bool
-is_below [] = false
-is_below (first ∷ rest) = first == 60
-
 -- what stands behind a `>` in front, if one does
 abbrev pub behind_above : List ℕ → Option (List ℕ)
 behind_above [] = None
