@@ -7,6 +7,7 @@ use crate::{
 };
 
 /// A gate that says no more than it must.
+#[derive(Clone, Copy)]
 struct Plain;
 
 impl Gate for Plain {
