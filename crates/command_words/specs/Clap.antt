@@ -1,7 +1,7 @@
 -- The command as clap has it, and what clap makes of words.
 --
--- Each option has the action `Set` and each flag `SetTrue`; clap's own help and version are off. The matches are clap's own function of a
--- command and words; the plain reading of `specs/Uses.antt` equals it.
+-- Each option has the action `Set` and each flag `SetTrue`; clap's own help and version are off. The matches are
+-- clap's own function of a command and words; the plain reading of `specs/Uses.antt` equals it.
 use Rattle.std.specs.Prelude.{ℕ, Bool, true, false, List, [], ◌∷◌, Option, Some, None, codes, fold}
 use Rattle.clap.specs.Walk.{Rule, Row, Text}
 use Rattle.clap.specs.Simple.{App, Shape, matches_of, new_app, new_rule, on_top, with_rule}

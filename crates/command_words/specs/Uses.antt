@@ -51,7 +51,8 @@ then_letters choice rest = record rest { uses = use_of choice (codes "true") ∷
 abbrev pub letter_uses : Option Choice → List ℕ → Option Reading → Option Reading
 letter_uses None rest next = None
 letter_uses (Some choice) rest next =
-    if choice.takes_value then Some (option_uses choice (attached_value (encode_utf8_all rest))) else option_map (then_letters choice) next
+    if choice.takes_value then Some (option_uses choice (attached_value (encode_utf8_all rest)))
+    else option_map (then_letters choice) next
 
 -- the characters of `-abc`
 abbrev pub letters_uses : List Choice → List ℕ → Option Reading
@@ -78,7 +79,8 @@ uses_in known None [] = Some []
 uses_in known (Some choice) [] = None
 uses_in known None (word ∷ rest) =
     if bytes_eq word (codes "--") then if_last rest
-    else word_uses known (long_of word) (short_of word) >>= λ reading. option_map (λ uses. reading.uses ++ uses) (uses_in known reading.waiting rest)
+    else word_uses known (long_of word) (short_of word) >>= λ reading.
+    option_map (λ uses. reading.uses ++ uses) (uses_in known reading.waiting rest)
 uses_in known (Some choice) (word ∷ rest) =
     if is_value word then option_map (λ uses. use_of choice word ∷ uses) (uses_in known None rest) else None
 

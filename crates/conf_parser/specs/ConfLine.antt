@@ -47,11 +47,13 @@ with_variables settings variables = record settings { vars = variables }
 
 -- behind a line that defines a variable
 unfoldable pub definition_line : Settings → ValueForm → List ℕ → Result Behind ConfKind
-definition_line settings form rest = mapped (λ variables. silent (with_variables settings variables)) (definition settings.vars form rest)
+definition_line settings form rest =
+    mapped (λ variables. silent (with_variables settings variables)) (definition settings.vars form rest)
 
 -- behind an include, before its file is read
 unfoldable pub include_line : Settings → Spot → List ℕ → Result Behind ConfKind
-include_line settings spot rest = mapped (λ name. record { settings = settings; given = Include name }) (include settings.vars spot rest)
+include_line settings spot rest = mapped (λ name. record { settings = settings; given = Include name })
+    (include settings.vars spot rest)
 
 -- behind a line that is skipped with a warning
 abbrev pub skipped : Settings → List ℕ → List ℕ → Behind
@@ -59,8 +61,10 @@ skipped settings word name = record { settings = settings; given = Skipped word 
 
 -- the draft behind a `config` line, by what stands behind its colon
 unfoldable pub config_draft : Draft → ConfigName → List ℕ → Result Draft ConfKind
-config_draft draft config.Classification value = mapped (λ classes. record draft { classes = classes }) (classification draft.classes value)
-config_draft draft config.ChecksumMode value = mapped (λ checks. record draft { checks = checks }) (checksum_mode draft.checks value)
+config_draft draft config.Classification value =
+    mapped (λ classes. record draft { classes = classes }) (classification draft.classes value)
+config_draft draft config.ChecksumMode value =
+    mapped (λ checks. record draft { checks = checks }) (checksum_mode draft.checks value)
 config_draft draft config.EventQueue value = mapped (λ queue. record draft { queue = queue }) (event_queue draft.queue value)
 config_draft draft config.Detection value = Ok (record draft { inserts = detection draft.inserts value })
 config_draft draft config.Unread value = Ok draft
@@ -75,36 +79,46 @@ abbrev pub behind_draft : Settings → Result Draft ConfKind → Result Behind C
 behind_draft settings read = mapped (λ draft. silent (drafted settings draft)) read
 
 -- behind a line of a name that may be one of those that are read, else skipped
-abbrev pub named_or_skipped : {N : Type 0} → Settings → List ℕ → List ℕ → Option N → (N → Result Draft ConfKind) → Result Behind ConfKind
+abbrev pub named_or_skipped : {N : Type 0} → Settings → List ℕ → List ℕ → Option N → (N → Result Draft ConfKind)
+    → Result Behind ConfKind
 named_or_skipped settings word name None read = Ok (skipped settings word name)
 named_or_skipped settings word name (Some known) read = behind_draft settings (read known)
 
 -- behind a `config` line, by what stands behind the word
 unfoldable pub config_line : Settings → List ℕ → List ℕ → Result Behind ConfKind
 config_line settings word rest =
-    named_or_skipped settings word (name_of rest) (config_name (name_of rest)) (λ name. config_value settings.draft name (behind_name rest))
+    named_or_skipped settings word (name_of rest) (config_name (name_of rest))
+    (λ name. config_value settings.draft name (behind_name rest))
 
 -- the draft behind a `preprocessor` line, by what stands behind its name
 unfoldable pub preprocessor_draft : Variables → Draft → PreprocessorName → List ℕ → Result Draft ConfKind
-preprocessor_draft variables draft preprocessor.FragGlobal rest = mapped (λ frag. record draft { frag = frag }) (frag3_global draft.frag rest)
-preprocessor_draft variables draft preprocessor.FragEngine rest = mapped (λ frag. record draft { frag = frag }) (frag3_engine variables draft.frag rest)
-preprocessor_draft variables draft preprocessor.StreamGlobal rest = mapped (λ stream. record draft { stream = stream }) (stream5_global draft.stream rest)
-preprocessor_draft variables draft preprocessor.StreamTcp rest = mapped (λ stream. record draft { stream = stream }) (stream5_tcp variables draft.stream rest)
-preprocessor_draft variables draft preprocessor.StreamUdp rest = mapped (λ stream. record draft { stream = stream }) (stream5_udp draft.stream rest)
+preprocessor_draft variables draft preprocessor.FragGlobal rest =
+    mapped (λ frag. record draft { frag = frag }) (frag3_global draft.frag rest)
+preprocessor_draft variables draft preprocessor.FragEngine rest =
+    mapped (λ frag. record draft { frag = frag }) (frag3_engine variables draft.frag rest)
+preprocessor_draft variables draft preprocessor.StreamGlobal rest =
+    mapped (λ stream. record draft { stream = stream }) (stream5_global draft.stream rest)
+preprocessor_draft variables draft preprocessor.StreamTcp rest =
+    mapped (λ stream. record draft { stream = stream }) (stream5_tcp variables draft.stream rest)
+preprocessor_draft variables draft preprocessor.StreamUdp rest =
+    mapped (λ stream. record draft { stream = stream }) (stream5_udp draft.stream rest)
 preprocessor_draft variables draft preprocessor.Outside rest = Err OutsideProfile
 
 -- behind a `preprocessor` line, by what stands behind the word
 unfoldable pub preprocessor_line : Settings → List ℕ → List ℕ → Result Behind ConfKind
 preprocessor_line settings word rest =
-    named_or_skipped settings word (name_of rest) (preprocessor_name (name_of rest)) (λ name. preprocessor_draft settings.vars settings.draft name (behind_name rest))
+    named_or_skipped settings word (name_of rest) (preprocessor_name (name_of rest))
+    (λ name. preprocessor_draft settings.vars settings.draft name (behind_name rest))
 
 -- behind an `event_filter` line
 unfoldable pub filter_line : Settings → List ℕ → Result Behind ConfKind
-filter_line settings rest = behind_draft settings (mapped (λ filters. record (settings.draft) { filters = filters }) (event_filter settings.draft.filters rest))
+filter_line settings rest = behind_draft settings (mapped (λ filters. record (settings.draft) { filters = filters })
+    (event_filter settings.draft.filters rest))
 
 -- behind a `suppress` line
 unfoldable pub suppress_line : Settings → List ℕ → Result Behind ConfKind
-suppress_line settings rest = behind_draft settings (mapped (λ lines. record (settings.draft) { suppress = lines }) (suppress settings.vars settings.draft.suppress rest))
+suppress_line settings rest = behind_draft settings (mapped (λ lines. record (settings.draft) { suppress = lines })
+    (suppress settings.vars settings.draft.suppress rest))
 
 -- the table of directives, by the first word and what stands behind it
 unfoldable pub directive_line : Spot → Settings → Directive → List ℕ → List ℕ → Result Behind ConfKind
@@ -122,4 +136,5 @@ directive_line spot settings directive.Outside word rest = Err OutsideProfile
 
 -- what a line means
 unfoldable pub conf_line : Spot → Settings → List ℕ → Result Behind ConfKind
-conf_line spot settings line = or_kind UnknownDirective (directive_named (first_word line)) >>= λ known. directive_line spot settings known (first_word line) (behind_word line)
+conf_line spot settings line = or_kind UnknownDirective (directive_named (first_word line)) >>= λ known.
+    directive_line spot settings known (first_word line) (behind_word line)

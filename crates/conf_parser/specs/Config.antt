@@ -70,9 +70,11 @@ event_order value =
 unfoldable pub queue_setting : QueueLimits → List ℕ → Option (List ℕ) → Result QueueLimits ConfKind
 queue_setting queue name None = Err BadValue
 queue_setting queue name (Some value) =
-    if is_word name (codes "max_queue") then mapped (λ n. record queue { max_queue = n }) (or_kind BadValue (number_in 1 1024 value))
+    if is_word name (codes "max_queue") then mapped (λ n. record queue { max_queue = n })
+    (or_kind BadValue (number_in 1 1024 value))
     else if is_word name (codes "log") then mapped (λ n. record queue { log = n }) (or_kind BadValue (number_in 1 1024 value))
-    else if is_word name (codes "order_events") then mapped (λ b. record queue { by_priority = b }) (or_kind BadValue (event_order value))
+    else if is_word name (codes "order_events") then mapped (λ b. record queue { by_priority = b })
+    (or_kind BadValue (event_order value))
     else Err BadValue
 
 -- `event_queue`: its settings, each with a value, on what the lines before left

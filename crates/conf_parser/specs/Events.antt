@@ -67,8 +67,10 @@ filter_value draft name.GenId value = mapped (λ n. record draft { gid = Some n 
 filter_value draft name.SigId value = mapped (λ n. record draft { sid = Some n }) (once draft.sid (number_in 0 4294967295 value))
 filter_value draft name.Type value = mapped (λ k. record draft { kind = Some k }) (once draft.kind (filter_kind value))
 filter_value draft name.Track value = mapped (λ t. record draft { track = Some t }) (once draft.track (track_of value))
-filter_value draft name.Count value = mapped (λ n. record draft { count = Some n }) (once draft.count (number_in 1 4294967295 value))
-filter_value draft name.Seconds value = mapped (λ n. record draft { seconds = Some n }) (once draft.seconds (number_in 1 4294967295 value))
+filter_value draft name.Count value =
+    mapped (λ n. record draft { count = Some n }) (once draft.count (number_in 1 4294967295 value))
+filter_value draft name.Seconds value =
+    mapped (λ n. record draft { seconds = Some n }) (once draft.seconds (number_in 1 4294967295 value))
 
 -- one part of an event filter
 unfoldable pub filter_part : FilterDraft → List ℕ → Result FilterDraft ConfKind
@@ -91,7 +93,14 @@ filter_of draft = do
   track ← or_kind BadValue draft.track
   count ← or_kind BadValue draft.count
   seconds ← or_kind BadValue draft.seconds
-  where_good (not (names_rule_alone gid sid)) (record { gid = gid; sid = sid; kind = kind; by_src = is_source track; count = count; seconds = seconds })
+  where_good (not (names_rule_alone gid sid)) (record {
+    gid = gid;
+    sid = sid;
+    kind = kind;
+    by_src = is_source track;
+    count = count;
+    seconds = seconds;
+  })
 
 -- a filter of this generator and rule is there
 unfoldable pub has_filter : List EventFilter → ℕ → ℕ → Bool
@@ -135,10 +144,14 @@ stands (Some wanted) word = is_word word wanted
 
 -- the value of the next part
 abbrev pub suppress_value : Variables → SuppressDraft → NextPart → List ℕ → Result SuppressDraft ConfKind
-suppress_value variables draft next.GenId value = mapped (λ n. record draft { gid = n }) (or_kind BadValue (number_in 0 4294967295 value))
-suppress_value variables draft next.SigId value = mapped (λ n. record draft { sid = n }) (or_kind BadValue (number_in 0 4294967295 value))
-suppress_value variables draft next.Track value = mapped (λ t. record draft { track = Some t }) (or_kind BadValue (track_of value))
-suppress_value variables draft next.Ip value = mapped (λ list. record draft { list = Some list }) (expanded_addresses variables value)
+suppress_value variables draft next.GenId value =
+    mapped (λ n. record draft { gid = n }) (or_kind BadValue (number_in 0 4294967295 value))
+suppress_value variables draft next.SigId value =
+    mapped (λ n. record draft { sid = n }) (or_kind BadValue (number_in 0 4294967295 value))
+suppress_value variables draft next.Track value =
+    mapped (λ t. record draft { track = Some t }) (or_kind BadValue (track_of value))
+suppress_value variables draft next.Ip value =
+    mapped (λ list. record draft { list = Some list }) (expanded_addresses variables value)
 suppress_value variables draft next.End value = Err BadValue
 
 -- the draft, with the part behind this one as the next

@@ -19,7 +19,8 @@ use Rattle.conf_parser.specs.Options.{settings_behind}
 
 -- settings of `frag3_global` that change nothing
 unfoldable pub is_unread_global : List ℕ → Bool
-is_unread_global name = is_word name (codes "memcap") || is_word name (codes "prealloc_memcap") || is_word name (codes "prealloc_frags")
+is_unread_global name =
+    is_word name (codes "memcap") || is_word name (codes "prealloc_memcap") || is_word name (codes "prealloc_frags")
 
 -- one setting of `frag3_global`: the greatest number of fragments behind it
 unfoldable pub global_setting : ℕ → List ℕ → Option (List ℕ) → Result ℕ ConfKind
@@ -46,16 +47,20 @@ stands_alone name = is_word name (codes "detect_anomalies")
 
 -- settings of an engine with a number that change nothing
 unfoldable pub is_unread : List ℕ → Bool
-is_unread name = is_word name (codes "overlap_limit") || is_word name (codes "min_fragment_length") || is_word name (codes "ttl_limit")
+is_unread name =
+    is_word name (codes "overlap_limit") || is_word name (codes "min_fragment_length") || is_word name (codes "ttl_limit")
 
 -- one setting of an engine
 unfoldable pub engine_setting : Variables → FragEngine → List ℕ → Option (List ℕ) → Result FragEngine ConfKind
 engine_setting variables engine name None = if stands_alone name then Ok engine else Err BadValue
 engine_setting variables engine name (Some value) =
     if is_word name (codes "policy") then mapped (λ p. record engine { policy = p }) (or_kind BadValue (frag_policy value))
-    else if is_word name (codes "timeout") then mapped (λ n. record engine { timeout = n }) (or_kind BadValue (number_in 1 3600 value))
-    else if is_word name (codes "min_ttl") then mapped (λ n. record engine { min_ttl = n }) (or_kind BadValue (number_in 1 255 value))
-    else if is_word name (codes "bind_to") then mapped (λ list. record engine { bind = Some list }) (expanded_addresses variables value)
+    else if is_word name (codes "timeout") then mapped (λ n. record engine { timeout = n })
+    (or_kind BadValue (number_in 1 3600 value))
+    else if is_word name (codes "min_ttl") then mapped (λ n. record engine { min_ttl = n })
+    (or_kind BadValue (number_in 1 255 value))
+    else if is_word name (codes "bind_to") then mapped (λ list. record engine { bind = Some list })
+    (expanded_addresses variables value)
     else if is_unread name then mapped (λ n. engine) (or_kind BadValue (number_in 0 4294967295 value))
     else Err BadValue
 

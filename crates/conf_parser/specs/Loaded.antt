@@ -10,4 +10,9 @@ nothing_loaded = record { config = config_of first_draft; files = []; rules = []
 
 -- what a whole reading hands out
 abbrev pub loaded_of : Read → Loaded
-loaded_of read = record { config = config_of read.settings.draft; files = read.output.files; rules = read.output.rules; warnings = read.output.warnings }
+loaded_of read = record {
+  config = config_of read.settings.draft;
+  files = read.output.files;
+  rules = read.output.rules;
+  warnings = read.output.warnings;
+}

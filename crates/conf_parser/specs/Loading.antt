@@ -50,7 +50,8 @@ pub record AsksFor (host : Option Files) (low : ℕ) (reading : Contents → End
   pub seen : Contents
   pub tells : Tells host seen
   pub later : low ≤ length output.files
-  pub asks : (contents : Contents) → AreSame low (length output.files) seen contents → contents (length output.files) name ≡ None → reading contents ≡ Asks name output
+  pub asks : (contents : Contents) → AreSame low (length output.files) seen contents → contents (length output.files) name ≡ None
+      → reading contents ≡ Asks name output
 
 -- a reading stops so; want of memory is free
 abbrev pub Stops : Option Files → ℕ → (Contents → Ended) → Stopped → Type 0
@@ -59,7 +60,8 @@ Stops host low reading (stopped.Refused fault output) = (high : ℕ) × Goes hos
 Stops host low reading (stopped.Asks name output) = AsksFor host low reading name output
 
 -- a reading goes on behind what was read, or stops
-abbrev pub GoesOn : {A : Type 0} → Option Files → ℕ → (A → ℕ) → (A → Contents → Ended) → (Contents → Ended) → Result A Stopped → Type 0
+abbrev pub GoesOn : {A : Type 0} → Option Files → ℕ → (A → ℕ) → (A → Contents → Ended) → (Contents → Ended) → Result A Stopped
+    → Type 0
 GoesOn host low count next reading (Ok x) = Goes host low (count x) reading (next x)
 GoesOn host low count next reading (Err stop) = Stops host low reading stop
 
@@ -108,7 +110,8 @@ output_before at name output = if nat_le 1 at.line then output else with_file ou
 
 -- why a reading stops at a file that is too large; want of memory is free
 abbrev pub StopsAtLarge : List ℕ → At → Output → Stopped → Type 0
-StopsAtLarge name at output (stopped.Refused fault before) = (fault ≡ fault_at at TooLarge) × (before ≡ output_before at name output)
+StopsAtLarge name at output (stopped.Refused fault before) =
+    (fault ≡ fault_at at TooLarge) × (before ≡ output_before at name output)
 StopsAtLarge name at output stopped.NoMemory = ⊤
 StopsAtLarge name at output (stopped.Asks other before) = ⊥
 
@@ -149,7 +152,8 @@ contents_met (Err (stop.HostFailed name)) out contents = first_files (length out
 contents_met result out contents = contents
 
 -- a loading is the reading over contents that the host may have
-pub record IsLoading {A : Type 0} (host : Option Files) (name : List ℕ) (before : Variables) (result : Result A LoadStop) (vars : Variables) (out : Loaded) : Type 0 where
+pub record IsLoading {A : Type 0} (host : Option Files) (name : List ℕ) (before : Variables) (result : Result A LoadStop)
+    (vars : Variables) (out : Loaded) : Type 0 where
   pub seen : Contents
   pub tells : Tells host seen
   pub ends : Ends (read_files (contents_met result out seen) name before) result vars out
@@ -157,7 +161,8 @@ pub record IsLoading {A : Type 0} (host : Option Files) (name : List ℕ) (befor
 -- Over files that are told, a loading answers as the reading over them ends; where a fault was counted, the host
 -- may have failed before.
 abbrev pub EndsUnlessFailed : {A : Type 0} → Type 0 → Ended → Result A LoadStop → Variables → Loaded → Type 0
-EndsUnlessFailed rose ended (Err (stop.HostFailed name)) vars out = rose ⊎ Ends {A = Unit {0}} ended (Err (stop.HostFailed name)) vars out
+EndsUnlessFailed rose ended (Err (stop.HostFailed name)) vars out =
+    rose ⊎ Ends {A = Unit {0}} ended (Err (stop.HostFailed name)) vars out
 EndsUnlessFailed rose ended result vars out = Ends ended result vars out
 
 -- what a stopped reading answers, and hands out

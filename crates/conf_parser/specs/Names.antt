@@ -16,7 +16,8 @@ use Rattle.conf_parser.specs.Values.{is_word}
 unfoldable pub is_action : List ℕ → Bool
 is_action word =
     is_word word (codes "alert") || is_word word (codes "pass") || is_word word (codes "log") || is_word word (codes "activate")
-    || is_word word (codes "dynamic") || is_word word (codes "drop") || is_word word (codes "reject") || is_word word (codes "sdrop")
+    || is_word word (codes "dynamic") || is_word word (codes "drop") || is_word word (codes "reject")
+    || is_word word (codes "sdrop")
 
 -- directives that are skipped with a warning
 unfoldable pub is_skipped : List ℕ → Bool
@@ -49,7 +50,8 @@ directive_named word =
 -- `config` lines that are read and change nothing
 unfoldable pub is_unread_config : List ℕ → Bool
 is_unread_config name =
-    is_word name (codes "reference") || is_word name (codes "pcre_match_limit") || is_word name (codes "pcre_match_limit_recursion")
+    is_word name (codes "reference") || is_word name (codes "pcre_match_limit")
+    || is_word name (codes "pcre_match_limit_recursion")
 
 -- the `config` lines; any other name is skipped with a warning
 unfoldable pub config_name : List ℕ → Option ConfigName

@@ -24,5 +24,7 @@ paired alone (name ∷ value ∷ rest) =
     if alone name then setting name None ∷ paired alone (value ∷ rest) else setting name (Some value) ∷ paired alone rest
 
 -- the draft behind all settings of a text, or the kind of the first that is refused
-abbrev pub settings_behind : {D : Type 0} → (List ℕ → Bool) → (D → List ℕ → Option (List ℕ) → Result D ConfKind) → D → List ℕ → Result D ConfKind
-settings_behind alone step draft text = draft_behind (λ d setting. step d setting.name setting.value) draft (paired alone (settings text))
+abbrev pub settings_behind : {D : Type 0} → (List ℕ → Bool) → (D → List ℕ → Option (List ℕ) → Result D ConfKind) → D → List ℕ
+    → Result D ConfKind
+settings_behind alone step draft text =
+    draft_behind (λ d setting. step d setting.name setting.value) draft (paired alone (settings text))

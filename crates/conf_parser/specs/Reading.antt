@@ -69,12 +69,22 @@ with_file output name = record output { files = output.files ++ name ∷ [] }
 
 -- one more rule line
 abbrev pub with_rule : Output → Source → Numbered → Output
-with_rule output source line = record output { rules = output.rules ++ record { file = source.place; line = line.number; text = line.text } ∷ [] }
+with_rule output source line = record output {
+  rules = output.rules
+      ++ record { file = source.place; line = line.number; text = line.text } ∷ [];
+}
 
 -- one more warning
 abbrev pub with_warning : Output → Source → Numbered → List ℕ → List ℕ → Output
 with_warning output source line directive name =
-    record output { warnings = output.warnings ++ record { file = source.place; line = line.number; directive = directive; name = name } ∷ [] }
+    record output {
+      warnings = output.warnings ++ record {
+        file = source.place;
+        line = line.number;
+        directive = directive;
+        name = name;
+      } ∷ [];
+    }
 
 -- these settings, and what was handed on
 abbrev pub read_with : Settings → Output → Read
@@ -88,7 +98,8 @@ Including = List ℕ → At → Read → Ended
 abbrev pub given_read : Including → Source → Numbered → Settings → Output → Given → Ended
 given_read including source line settings output Nothing = Whole (read_with settings output)
 given_read including source line settings output Rule = Whole (read_with settings (with_rule output source line))
-given_read including source line settings output (Skipped directive name) = Whole (read_with settings (with_warning output source line directive name))
+given_read including source line settings output (Skipped directive name) =
+    Whole (read_with settings (with_warning output source line directive name))
 given_read including source line settings output (Include name) = including name (line_at source line) (read_with settings output)
 
 -- behind the meaning of a line
@@ -99,7 +110,8 @@ meaning_read including source line output (Err kind) = Refused (fault_at (line_a
 -- behind one line
 unfoldable pub line_read : Including → Source → Numbered → Read → Ended
 line_read including source line read =
-    meaning_read including source line read.output (conf_line (record { file = source.name; depth = source.depth; files = file_count read }) read.settings line.text)
+    meaning_read including source line read.output (conf_line
+    (record { file = source.name; depth = source.depth; files = file_count read }) read.settings line.text)
 
 -- behind all lines of a file
 unfoldable pub lines_read : Including → Source → List Numbered → Read → Ended
@@ -119,17 +131,23 @@ unfoldable pub contents_read : Including → ℕ → List ℕ → At → Read �
 contents_read including depth name at read None = Asks name read.output
 contents_read including depth name at read (Some bytes) =
     if nat_le (length bytes) most_bytes
-    then lines_read including (record { name = name; place = file_count read; depth = depth }) (content_lines bytes) (read_with read.settings (with_file read.output name))
+    then lines_read including (record { name = name; place = file_count read; depth = depth }) (content_lines bytes)
+    (read_with read.settings (with_file read.output name))
     else too_large at name read.output
 
 -- Behind a file, where includes may nest so many times more. (Where none may, no line is an include.)
 unfoldable pub file_read : Contents → ℕ → List ℕ → At → Read → Ended
-file_read contents zero name at read = contents_read (λ inner place before. Whole before) 16 name at read (contents (file_count read) name)
-file_read contents (suc left) name at read = contents_read (file_read contents left) (15 - left) name at read (contents (file_count read) name)
+file_read contents zero name at read =
+    contents_read (λ inner place before. Whole before) 16 name at read (contents (file_count read) name)
+file_read contents (suc left) name at read =
+    contents_read (file_read contents left) (15 - left) name at read (contents (file_count read) name)
 
 -- before the first file
 abbrev pub nothing_read : Variables → Read
-nothing_read variables = record { settings = record { vars = variables; draft = first_draft }; output = record { files = []; rules = []; warnings = [] } }
+nothing_read variables = record {
+  settings = record { vars = variables; draft = first_draft };
+  output = record { files = []; rules = []; warnings = [] };
+}
 
 -- the reading of a configuration, from its first file and the variables that stand before it
 unfoldable pub read_files : Contents → List ℕ → Variables → Ended

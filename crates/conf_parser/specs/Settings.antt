@@ -50,7 +50,8 @@ is_none_of (x ∷ xs) = false
 
 -- frag3 works where an engine line stands
 unfoldable pub frag_of : FragDraft → Option FragConfig
-frag_of draft = if is_none_of draft.engines then None else Some (record { max_frags = unwrap_or draft.max_frags 8192; engines = draft.engines })
+frag_of draft = if is_none_of draft.engines then None
+    else Some (record { max_frags = unwrap_or draft.max_frags 8192; engines = draft.engines })
 
 -- a protocol is tracked where its line stands and `stream5_global` does not say no
 unfoldable pub stream_of : StreamDraft → StreamConfig

@@ -55,7 +55,9 @@ line_stop source line output NoMemory = stopped.NoMemory
 
 -- the answer for a line is how the reading goes on, or its fault; want of memory is free
 abbrev pub StepsTo : Source → Numbered → Read → Result Next Stopped → Type 0
-StepsTo source line read (Ok next) = (including : Including) → line_read including source line read ≡ next_read including source line next
-StepsTo source line read (Err (stopped.Refused fault output)) = (including : Including) → line_read including source line read ≡ Refused fault output
+StepsTo source line read (Ok next) =
+    (including : Including) → line_read including source line read ≡ next_read including source line next
+StepsTo source line read (Err (stopped.Refused fault output)) =
+    (including : Including) → line_read including source line read ≡ Refused fault output
 StepsTo source line read (Err stopped.NoMemory) = ⊤
 StepsTo source line read (Err (stopped.Asks name output)) = ⊥

@@ -57,7 +57,8 @@ whole partial = if partial.lacks then Err BadValue else Ok partial.draft
 unfoldable pub is_unread_global : List ℕ → Bool
 is_unread_global name =
     is_word name (codes "max_icmp") || is_word name (codes "max_ip") || is_word name (codes "memcap")
-    || is_word name (codes "flush_on_alert") || is_word name (codes "show_rebuilt_packets") || is_word name (codes "prune_log_max")
+    || is_word name (codes "flush_on_alert") || is_word name (codes "show_rebuilt_packets")
+    || is_word name (codes "prune_log_max")
     || is_word name (codes "max_active_responses") || is_word name (codes "min_response_seconds")
 
 -- the settings of `stream5_global`
@@ -83,8 +84,10 @@ abbrev pub global_value : StreamGlobal → GlobalName → List ℕ → Result St
 global_value values global.TrackTcp value = mapped (λ b. record values { track_tcp = b }) (or_kind BadValue (yes_or_no value))
 global_value values global.TrackUdp value = mapped (λ b. record values { track_udp = b }) (or_kind BadValue (yes_or_no value))
 global_value values global.TrackIcmp value = mapped (λ b. values) (track_icmp value)
-global_value values global.MaxTcp value = mapped (λ n. record values { max_tcp = n }) (or_kind BadValue (number_in 1 1048576 value))
-global_value values global.MaxUdp value = mapped (λ n. record values { max_udp = n }) (or_kind BadValue (number_in 1 1048576 value))
+global_value values global.MaxTcp value =
+    mapped (λ n. record values { max_tcp = n }) (or_kind BadValue (number_in 1 1048576 value))
+global_value values global.MaxUdp value =
+    mapped (λ n. record values { max_udp = n }) (or_kind BadValue (number_in 1 1048576 value))
 global_value values global.Unread value = Ok values
 
 -- the setting wants a value
@@ -99,7 +102,8 @@ named_global partial name value =
 
 -- one setting of `stream5_global`
 unfoldable pub global_part : Partial StreamGlobal → List ℕ → Result (Partial StreamGlobal) ConfKind
-global_part partial part = or_kind BadValue (global_name (first_word part)) >>= λ name. named_global partial name (behind_word part)
+global_part partial part =
+    or_kind BadValue (global_name (first_word part)) >>= λ name. named_global partial name (behind_word part)
 
 -- the values that the settings of a text give
 unfoldable pub global_values : List ℕ → Result StreamGlobal ConfKind
@@ -146,7 +150,8 @@ unfoldable pub is_unread_tcp : List ℕ → Bool
 is_unread_tcp name =
     is_word name (codes "overlap_limit") || is_word name (codes "max_window") || is_word name (codes "detect_anomalies")
     || is_word name (codes "check_session_hijacking") || is_word name (codes "use_static_footprint_sizes")
-    || is_word name (codes "dont_store_large_packets") || is_word name (codes "dont_reassemble_async") || is_word name (codes "small_segments")
+    || is_word name (codes "dont_store_large_packets") || is_word name (codes "dont_reassemble_async")
+    || is_word name (codes "small_segments")
     || is_word name (codes "ignore_any_rules") || is_word name (codes "flush_factor") || is_word name (codes "protocol")
     || is_word name (codes "log_asymmetric_traffic")
 
@@ -225,19 +230,26 @@ ports_value draft value = do
 
 -- the value of a setting other than `ports`
 abbrev pub engine_value : Variables → StreamEngine → TcpName → List ℕ → Result StreamEngine ConfKind
-engine_value variables engine tcp.Policy value = mapped (λ p. record engine { policy = p }) (or_kind BadValue (stream_policy value))
-engine_value variables engine tcp.Timeout value = mapped (λ n. record engine { timeout = n }) (or_kind BadValue (number_in 1 86400 value))
-engine_value variables engine tcp.BindTo value = mapped (λ list. record engine { bind = Some list }) (expanded_addresses variables value)
-engine_value variables engine tcp.Handshake value = mapped (λ n. record engine { handshake = Some n }) (or_kind BadValue (handshake_seconds value))
-engine_value variables engine tcp.QueuedBytes value = mapped (λ n. record engine { bytes_limit = n }) (or_kind BadValue (queue_limit 1024 value))
-engine_value variables engine tcp.QueuedSegs value = mapped (λ n. record engine { segs_limit = n }) (or_kind BadValue (queue_limit 2 value))
+engine_value variables engine tcp.Policy value =
+    mapped (λ p. record engine { policy = p }) (or_kind BadValue (stream_policy value))
+engine_value variables engine tcp.Timeout value =
+    mapped (λ n. record engine { timeout = n }) (or_kind BadValue (number_in 1 86400 value))
+engine_value variables engine tcp.BindTo value =
+    mapped (λ list. record engine { bind = Some list }) (expanded_addresses variables value)
+engine_value variables engine tcp.Handshake value =
+    mapped (λ n. record engine { handshake = Some n }) (or_kind BadValue (handshake_seconds value))
+engine_value variables engine tcp.QueuedBytes value =
+    mapped (λ n. record engine { bytes_limit = n }) (or_kind BadValue (queue_limit 1024 value))
+engine_value variables engine tcp.QueuedSegs value =
+    mapped (λ n. record engine { segs_limit = n }) (or_kind BadValue (queue_limit 2 value))
 engine_value variables engine tcp.Ports value = Ok engine
 engine_value variables engine tcp.Unread value = Ok engine
 
 -- the value of a setting
 abbrev pub tcp_value : Variables → TcpDraft → TcpName → List ℕ → Result TcpDraft ConfKind
 tcp_value variables draft tcp.Ports value = ports_value draft value
-tcp_value variables draft name value = mapped (λ engine. record draft { engine = engine }) (engine_value variables draft.engine name value)
+tcp_value variables draft name value =
+    mapped (λ engine. record draft { engine = engine }) (engine_value variables draft.engine name value)
 
 -- a `ports` setting without a side, or without ports behind one
 unfoldable pub lacks_ports : List ℕ → Bool
@@ -257,7 +269,8 @@ named_tcp variables partial name value =
 
 -- one setting of `stream5_tcp`
 unfoldable pub tcp_part : Variables → Partial TcpDraft → List ℕ → Result (Partial TcpDraft) ConfKind
-tcp_part variables partial part = or_kind BadValue (tcp_name (first_word part)) >>= λ name. named_tcp variables partial name (behind_word part)
+tcp_part variables partial part =
+    or_kind BadValue (tcp_name (first_word part)) >>= λ name. named_tcp variables partial name (behind_word part)
 
 -- an engine before its settings: its ports come behind the last of them
 abbrev pub first_engine : StreamEngine

@@ -42,7 +42,8 @@ struct Joined<'a> {
 fn joined_line<'a>(alloc: Global, text: &'a [u8], number: u32) -> Result<Joined<'a>, NoMemory>
     requires some { 0 < length text.now }
     requires few { number + length text.now < 2 ^ 32 }
-    ensures line { IfOk result (λ joined. joined_lines number (lines text.now) ≡ numbered number joined.text.items ∷ joined_lines joined.next (lines joined.rest.now)) }
+    ensures line { IfOk result (λ joined. joined_lines number (lines text.now)
+        ≡ numbered number joined.text.items ∷ joined_lines joined.next (lines joined.rest.now)) }
     ensures shorter { IfOk result (λ joined. length joined.rest.now < length text.now) }
     ensures few { IfOk result (λ joined. joined.next + length joined.rest.now ≤ number + length text.now) }
 {

@@ -32,7 +32,8 @@ const MOST_DEPTH: usize = 16;
 fn file_bytes<H: Host>(alloc: Global, host: &mut H, name: &[u8]) -> Result<Text, LoadFault>
     requires { is_utf8 name.now ≡ true }
     ensures loads { LoadsFile (Rose (H.faults host.old) (H.faults host.new)) (H.contents host.old) name.now result }
-    ensures same { (H.contents host.new ≡ H.contents host.old) × (H.left host.new ≡ H.left host.old) × (H.opens host.new ≡ H.opens host.old) }
+    ensures same { (H.contents host.new ≡ H.contents host.old) × (H.left host.new ≡ H.left host.old)
+        × (H.opens host.new ≡ H.opens host.old) }
     ensures later { H.faults host.old ≤ H.faults host.new }
 {
     let Ok(name) = str::from_utf8(name) else {
@@ -126,11 +127,13 @@ fn open_file<H: Host>(
 ) -> Result<Opened, Stopped>
     requires name { MayBeRead (file_count read) name }
     requires left { left ≤ 16 }
-    ensures goes { GoesOn (H.contents host.old) (file_count read) opened_count (opened_next left) (λ contents. file_read contents left name at read) result }
+    ensures goes { GoesOn (H.contents host.old) (file_count read) opened_count (opened_next left)
+        (λ contents. file_read contents left name at read) result }
     ensures text { IfOk result (λ opened. is_utf8 opened.source.name ≡ true) }
     ensures few { IfOk result (λ opened. file_count opened.read ≤ most_files) }
     ensures cause { IfErr result (HasCause (Rose (H.faults host.old) (H.faults host.new)) (H.contents host.old)) }
-    ensures same { (H.contents host.new ≡ H.contents host.old) × (H.left host.new ≡ H.left host.old) × (H.opens host.new ≡ H.opens host.old) }
+    ensures same { (H.contents host.new ≡ H.contents host.old) × (H.left host.new ≡ H.left host.old)
+        × (H.opens host.new ≡ H.opens host.old) }
     ensures later { H.faults host.old ≤ H.faults host.new }
 {
     match file_bytes(alloc, host, name.bytes()) {
@@ -155,10 +158,12 @@ fn read_lines<H: Host>(
     requires name { is_utf8 source.now.name ≡ true }
     requires few { file_count read ≤ most_files }
     requires left { left ≤ 16 }
-    ensures goes { GoesOn (H.contents host.old) (file_count read) file_count whole_next (λ contents. lines_read (inner contents left) source.now lines.now read) result }
+    ensures goes { GoesOn (H.contents host.old) (file_count read) file_count whole_next
+        (λ contents. lines_read (inner contents left) source.now lines.now read) result }
     ensures few { IfOk result (λ read. file_count read ≤ most_files) }
     ensures cause { IfErr result (HasCause (Rose (H.faults host.old) (H.faults host.new)) (H.contents host.old)) }
-    ensures same { (H.contents host.new ≡ H.contents host.old) × (H.left host.new ≡ H.left host.old) × (H.opens host.new ≡ H.opens host.old) }
+    ensures same { (H.contents host.new ≡ H.contents host.old) × (H.left host.new ≡ H.left host.old)
+        × (H.opens host.new ≡ H.opens host.old) }
     ensures later { H.faults host.old ≤ H.faults host.new }
 {
     let mut read = read;
@@ -183,10 +188,12 @@ fn read_line<H: Host>(
     requires name { is_utf8 source.now.name ≡ true }
     requires few { file_count read ≤ most_files }
     requires left { left ≤ 16 }
-    ensures goes { GoesOn (H.contents host.old) (file_count read) file_count whole_next (λ contents. line_read (inner contents left) source.now line.now read) result }
+    ensures goes { GoesOn (H.contents host.old) (file_count read) file_count whole_next
+        (λ contents. line_read (inner contents left) source.now line.now read) result }
     ensures few { IfOk result (λ read. file_count read ≤ most_files) }
     ensures cause { IfErr result (HasCause (Rose (H.faults host.old) (H.faults host.new)) (H.contents host.old)) }
-    ensures same { (H.contents host.new ≡ H.contents host.old) × (H.left host.new ≡ H.left host.old) × (H.opens host.new ≡ H.opens host.old) }
+    ensures same { (H.contents host.new ≡ H.contents host.old) × (H.left host.new ≡ H.left host.old)
+        × (H.opens host.new ≡ H.opens host.old) }
     ensures later { H.faults host.old ≤ H.faults host.new }
 {
     match line_step(alloc, source, line, read)? {
@@ -213,10 +220,12 @@ fn included<H: Host>(
 ) -> Result<Read, Stopped>
     requires name { MayBeRead (file_count read) name }
     requires left { left ≤ 16 }
-    ensures goes { GoesOn (H.contents host.old) (file_count read) file_count whole_next (λ contents. inner contents left name at read) result }
+    ensures goes { GoesOn (H.contents host.old) (file_count read) file_count whole_next
+        (λ contents. inner contents left name at read) result }
     ensures few { IfOk result (λ read. file_count read ≤ most_files) }
     ensures cause { IfErr result (HasCause (Rose (H.faults host.old) (H.faults host.new)) (H.contents host.old)) }
-    ensures same { (H.contents host.new ≡ H.contents host.old) × (H.left host.new ≡ H.left host.old) × (H.opens host.new ≡ H.opens host.old) }
+    ensures same { (H.contents host.new ≡ H.contents host.old) × (H.left host.new ≡ H.left host.old)
+        × (H.opens host.new ≡ H.opens host.old) }
     ensures later { H.faults host.old ≤ H.faults host.new }
 {
     if left == 0 {
@@ -237,10 +246,12 @@ fn read_file<H: Host>(
 ) -> Result<Read, Stopped>
     requires name { MayBeRead (file_count read) name }
     requires left { left ≤ 16 }
-    ensures goes { GoesOn (H.contents host.old) (file_count read) file_count whole_next (λ contents. file_read contents left name at read) result }
+    ensures goes { GoesOn (H.contents host.old) (file_count read) file_count whole_next
+        (λ contents. file_read contents left name at read) result }
     ensures few { IfOk result (λ read. file_count read ≤ most_files) }
     ensures cause { IfErr result (HasCause (Rose (H.faults host.old) (H.faults host.new)) (H.contents host.old)) }
-    ensures same { (H.contents host.new ≡ H.contents host.old) × (H.left host.new ≡ H.left host.old) × (H.opens host.new ≡ H.opens host.old) }
+    ensures same { (H.contents host.new ≡ H.contents host.old) × (H.left host.new ≡ H.left host.old)
+        × (H.opens host.new ≡ H.opens host.old) }
     ensures later { H.faults host.old ≤ H.faults host.new }
 {
     let opened = open_file(alloc, host, left, name, at, read)?;
@@ -318,7 +329,8 @@ pub fn load<H: Host>(
     // The answer is that of the reading, over contents that are the host's own where it tells them.
     ensures reading { IsLoading (H.contents host.old) name.now vars.old result vars.new out.new }
     ensures told { (files : Files) → H.contents host.old ≡ Some files
-        → EndsUnlessFailed (Rose (H.faults host.old) (H.faults host.new)) (read_files (told files) name.now vars.old) result vars.new out.new }
+        → EndsUnlessFailed (Rose (H.faults host.old) (H.faults host.new))
+        (read_files (told files) name.now vars.old) result vars.new out.new }
     ensures failed { IfErr result (HasFailed (Rose (H.faults host.old) (H.faults host.new)) (H.contents host.old)) }
     ensures sound { OnOk result (IsSound out.new.config) }
 
@@ -326,7 +338,8 @@ pub fn load<H: Host>(
     ensures places { StandInFiles result out.new }
 
     // The host is as before, but for its count.
-    ensures same { (H.contents host.new ≡ H.contents host.old) × (H.left host.new ≡ H.left host.old) × (H.opens host.new ≡ H.opens host.old) }
+    ensures same { (H.contents host.new ≡ H.contents host.old) × (H.left host.new ≡ H.left host.old)
+        × (H.opens host.new ≡ H.opens host.old) }
     ensures later { H.faults host.old ≤ H.faults host.new }
 {
     let Ok(first) = Text::copy(alloc, name.as_bytes()) else {

@@ -18,7 +18,8 @@ default_frag_engine = record { bind = None; policy = frag.Bsd; timeout = 60; min
 
 -- the ports of servers whose clients' data are put together
 abbrev pub default_ports : List ℕ
-default_ports = 21 ∷ 23 ∷ 25 ∷ 42 ∷ 53 ∷ 80 ∷ 110 ∷ 111 ∷ 135 ∷ 136 ∷ 137 ∷ 139 ∷ 143 ∷ 445 ∷ 513 ∷ 514 ∷ 1433 ∷ 1521 ∷ 2401 ∷ 3306 ∷ []
+default_ports =
+    21 ∷ 23 ∷ 25 ∷ 42 ∷ 53 ∷ 80 ∷ 110 ∷ 111 ∷ 135 ∷ 136 ∷ 137 ∷ 139 ∷ 143 ∷ 445 ∷ 513 ∷ 514 ∷ 1433 ∷ 1521 ∷ 2401 ∷ 3306 ∷ []
 
 -- an engine of streams
 unfoldable pub default_stream_engine : StreamEngine

@@ -17,7 +17,13 @@ pub record HeldBytes : Type 0 where
 
 -- nothing was written, and no write made or named
 abbrev pub nothing_written : ℕ → ℕ → HeldBytes
-nothing_written step room = record { written = []; step = step; room = room; faults = 0; calls = record { made = 0; failing = [] } }
+nothing_written step room = record {
+  written = [];
+  step = step;
+  room = room;
+  faults = 0;
+  calls = record { made = 0; failing = [] };
+}
 
 -- the next write fails: by its number, or since the room is used up
 abbrev pub refuses : HeldBytes → Bool

@@ -27,7 +27,8 @@ first_place nocase text bytes = position (begins nocase text) (tails bytes)
 
 -- the leftmost match of a literal text: its span, or none
 unfoldable pub literal_span : Bool → List ℕ → List ℕ → Option Span
-literal_span nocase text bytes = option_map (λ start. record { start = start; end = start + length text }) (first_place nocase text bytes)
+literal_span nocase text bytes = option_map (λ start. record { start = start; end = start + length text })
+    (first_place nocase text bytes)
 
 -- a text to find, and whether case is folded
 pub record LiteralText : Type 0 where

@@ -75,7 +75,8 @@ frag_policies = frag.First ∷ frag.Last ∷ frag.Bsd ∷ frag.BsdRight ∷ frag
 
 -- all stream policies
 abbrev pub stream_policies : List StreamPolicy
-stream_policies = stream.First ∷ stream.Last ∷ stream.Bsd ∷ stream.Linux ∷ stream.OldLinux ∷ stream.Windows ∷ stream.Win2003 ∷ stream.Vista ∷ stream.Solaris ∷ stream.Hpux ∷ stream.Hpux10 ∷ stream.Irix ∷ stream.Macos ∷ []
+stream_policies = stream.First ∷ stream.Last ∷ stream.Bsd ∷ stream.Linux ∷ stream.OldLinux ∷ stream.Windows ∷ stream.Win2003
+    ∷ stream.Vista ∷ stream.Solaris ∷ stream.Hpux ∷ stream.Hpux10 ∷ stream.Irix ∷ stream.Macos ∷ []
 
 -- the fragment policy of this name
 unfoldable pub frag_policy : List ℕ → Option FragPolicy

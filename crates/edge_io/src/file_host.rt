@@ -23,7 +23,8 @@ const LOAD_BLOCK: usize = 16384;
 /// It tells nothing of what they contain, since the system keeps that. Contracts see the open
 /// capture, with what the standard library says of its file, the bytes read ahead of it, and the
 /// counts of faults and of calls of `open`. Each failure of the system is counted, want of memory among them. The capture is
-/// read through a buffer, but into a large one of the caller's at once. A name is a path of the system, from the folder in which the process runs.
+/// read through a buffer, but into a large one of the caller's at once. A name is a path of the system, from the folder
+/// in which the process runs.
 #[derive(Drop)]
 pub struct FileHost<R: Files> {
     rt: R,
@@ -113,7 +114,8 @@ impl<R: Files> FileHost<R> {
         requires roomy { 0 < length buf.old }
         requires nothing_waits { self.old.pending ≡ [] }
         ensures within { IfOk result (λ count. count ≤ length buf.old) }
-        ensures taken { IfOk result (λ count. Consumes (coming R.File.remaining self.old) (coming R.File.remaining self.new) (take count buf.new)) }
+        ensures taken { IfOk result (λ count. Consumes (coming R.File.remaining self.old) (coming R.File.remaining self.new)
+            (take count buf.new)) }
         ensures ended { IfOk result (λ count. count ≡ 0 → IsAtEnd (coming R.File.remaining self.old)) }
         ensures nothing_taken { OnErr result (Keeps (coming R.File.remaining self.old) (coming R.File.remaining self.new)) }
         ensures failed { OnErr result (self.new.faults ≡ one_more self.old.faults) }
@@ -195,7 +197,8 @@ impl<R: Files> Host for FileHost<R> {
     fn read(&mut self, buf: &mut [u8]) -> Result<usize, Failed>
         requires { 0 < length buf.old }
         ensures within { IfOk result (λ count. count ≤ length buf.old) }
-        ensures taken { IfOk result (λ count. Consumes (coming R.File.remaining self.old) (coming R.File.remaining self.new) (take count buf.new)) }
+        ensures taken { IfOk result (λ count. Consumes (coming R.File.remaining self.old) (coming R.File.remaining self.new)
+            (take count buf.new)) }
         ensures ended { IfOk result (λ count. count ≡ 0 → IsAtEnd (coming R.File.remaining self.old)) }
         ensures failed { OnErr result (self.new.faults ≡ one_more self.old.faults) }
         ensures unfailed { OnOk result (self.new.faults ≡ self.old.faults) }

@@ -104,7 +104,10 @@ impl LiteralMaker {
 
     /// Keeps a text that is refused.
     fn refuse(&mut self, alloc: Global, text: &str, flags: PatternFlags) -> Result<(), NoMemory>
-        ensures kept { OnOk result (self.new ≡ record self.old { refusals = self.old.refusals ++ record { text = text.now; flags = flags } ∷ [] }) }
+        ensures kept { OnOk result (self.new ≡ record self.old {
+          refusals = self.old.refusals
+              ++ record { text = text.now; flags = flags } ∷ [];
+        }) }
         ensures unchanged { OnErr result (self.new ≡ self.old) }
     {
         let text = Text::copy(alloc, text.as_bytes())?;

@@ -26,7 +26,8 @@ pub record Matched : Type 0 where
 -- the matches at these places were counted, and those that stay were appended
 unfoldable pub Stays : List Rule → ItemHead → Matched → List ℕ → Matched → Type 0
 Stays rules head old places new =
-    AreSome (match_line rules) → (earlier : List Event) → StandFor (match_key rules) (match_line rules) earlier (window_at old.matches)
+    AreSome (match_line rules) → (earlier : List Event)
+    → StandFor (match_key rules) (match_line rules) earlier (window_at old.matches)
     → StandFor (match_key rules) (match_line rules) (earlier ++ events_of head places) (window_at new.matches)
     × (new.written ≡ old.written ++ places_of (trail_from (match_stays rules) earlier (events_of head places)))
 
@@ -65,7 +66,8 @@ unsuppressed lines head places = filter (λ place. not (is_suppressed lines.supp
 
 -- the windows stand for the events that came as far as the event filters
 pub record BothStand (lines : Lines) (events : List Event) (state : Filtered) : Type 0 where
-  pub own : StandFor (event_key (own_place lines.filters) lines.filters lines.rules) (event_line lines.filters) events (window_at state.own)
+  pub own : StandFor (event_key (own_place lines.filters) lines.filters lines.rules) (event_line lines.filters) events
+      (window_at state.own)
   pub global : StandFor (event_key (global_place lines.filters) lines.filters lines.rules) (event_line lines.filters)
       (trail (own_kept lines.filters lines.rules) events) (window_at state.global)
 
@@ -74,4 +76,5 @@ unfoldable pub Keeps : Lines → ItemHead → Filtered → List ℕ → Filtered
 Keeps lines head old places new =
     AreTables lines → AreSome (event_line lines.filters) → (earlier : List Event) → BothStand lines earlier old
     → BothStand lines (earlier ++ events_of head (unsuppressed lines head places)) new
-    × (new.written ≡ old.written ++ places_of (trail_from (filtered lines.filters lines.rules) earlier (events_of head (unsuppressed lines head places))))
+    × (new.written ≡ old.written ++ places_of (trail_from (filtered lines.filters lines.rules) earlier
+    (events_of head (unsuppressed lines head places))))

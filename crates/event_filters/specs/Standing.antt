@@ -43,7 +43,8 @@ IsMade config rules filters = IsSound config → All IsTriable rules → IsGiven
 -- the filters were given one item more, and of its events those that are kept were appended
 abbrev pub Passes : Config → List Rule → FiltersState → List ℕ → Item → FiltersState → List ℕ → Type 0
 Passes config rules old out item new written =
-    (before : List Item) → IsGiven config rules before old → IsGiven config rules (before ++ item ∷ []) new × (written ≡ out ++ kept config rules before item)
+    (before : List Item) → IsGiven config rules before old
+    → IsGiven config rules (before ++ item ∷ []) new × (written ≡ out ++ kept config rules before item)
 
 -- the same windows at every key, and the same tables
 pub record IsSame (old new : FiltersState) : Type 0 where

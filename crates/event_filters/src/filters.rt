@@ -39,7 +39,14 @@ impl Model for Filters {
 
     ghost Value = { FiltersState };
 
-    ghost view = { λ filters. record { sizes = filters.sizes.items; own_places = filters.own_places.items; global_places = filters.global_places.items; matches = filters.matches.entries; own = filters.own.entries; global = filters.global.entries } };
+    ghost view = { λ filters. record {
+      sizes = filters.sizes.items;
+      own_places = filters.own_places.items;
+      global_places = filters.global_places.items;
+      matches = filters.matches.entries;
+      own = filters.own.entries;
+      global = filters.global.entries;
+    } };
 }
 
 impl Filters {

@@ -85,7 +85,9 @@ entry_at entries at = slice_index_or entries at (record { block = 0; place = 0 }
 pub record IsFollowed (index : PortIndex) (block : ℕ) (old : List ℕ) (at : ℕ) (new : List ℕ) : Type 0 where
   pub within : IsChained index → at ≤ length index.entries.items
   pub here : IsChained index → 0 < at → (entry_at index.entries.items (at - 1)).block ≡ block
-  pub added : IsChained index → (place : ℕ) → (has new place || is_filed (λ other. other == block) (take at index.entries.items) place) ≡ (has old place || is_filed (λ other. other == block) index.entries.items place)
+  pub added : IsChained index → (place : ℕ) → (has new place
+      || is_filed (λ other. other == block) (take at index.entries.items) place)
+      ≡ (has old place || is_filed (λ other. other == block) index.entries.items place)
 
 -- an entry of the place at each block
 abbrev pub entries_of : ℕ → List ℕ → List Entry

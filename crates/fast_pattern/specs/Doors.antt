@@ -52,4 +52,5 @@ Opens ports part table = (port : ℕ) → has_port ports port ≡ true → is_op
 
 -- each item that a rule's header fits is let in
 abbrev pub LetsIn : Asked → List ℕ → Type 0
-LetsIn asked table = (carried : Body) → header_fits asked.proto asked.sports asked.dports asked.both carried ≡ true → lets_in table carried ≡ true
+LetsIn asked table =
+    (carried : Body) → header_fits asked.proto asked.sports asked.dports asked.both carried ≡ true → lets_in table carried ≡ true

@@ -28,7 +28,12 @@ size_of _ size = size
 
 -- a content at this place of the options, by what a fast pattern is of it
 abbrev pub sought_at : ℕ → Content → Sought
-sought_at place content = record { place = place; from = first_of content.fast; len = size_of content.fast (length content.bytes); marked = is_chosen content.fast }
+sought_at place content = record {
+  place = place;
+  from = first_of content.fast;
+  len = size_of content.fast (length content.bytes);
+  marked = is_chosen content.fast;
+}
 
 -- an option that is a content which isn't negated
 abbrev pub sought_of : ℕ → Opt → Option Sought

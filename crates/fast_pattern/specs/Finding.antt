@@ -25,11 +25,14 @@ is_ended patterns read place = nat_lt 0 (length (word_at patterns place)) && has
 
 -- where a pattern is marked, those that it ends in are
 abbrev pub IsClosedUnder : List (List ℕ) → Seen → Type 0
-IsClosedUnder patterns seen = (one other : ℕ) → one < length patterns → other < length patterns → is_marked seen other ≡ true → 0 < length (word_at patterns one) → begins (word_at patterns one) (word_at patterns other) ≡ true → is_marked seen one ≡ true
+IsClosedUnder patterns seen = (one other : ℕ) → one < length patterns → other < length patterns → is_marked seen other ≡ true
+    → 0 < length (word_at patterns one) → begins (word_at patterns one) (word_at patterns other) ≡ true
+    → is_marked seen one ≡ true
 
 -- behind each pattern the chain goes on as told
 abbrev pub AreChained : List (List ℕ) → List ℕ → Type 0
-AreChained patterns nexts = (place : ℕ) → place < length patterns → 0 < length (word_at patterns place) → IsNext patterns place (slice_index nexts place)
+AreChained patterns nexts =
+    (place : ℕ) → place < length patterns → 0 < length (word_at patterns place) → IsNext patterns place (slice_index nexts place)
 
 -- the chain may begin here
 abbrev pub MayBegin : List (List ℕ) → ℕ → Type 0
@@ -37,20 +40,26 @@ MayBegin patterns head = (head ≤ length patterns) × (0 < head → 0 < length 
 
 -- a chain's patterns were marked, and those that weren't marked before listed
 pub record Follows (nexts : List ℕ) (head : ℕ) (old : Seen) (old_hits : List ℕ) (new : Seen) (new_hits : List ℕ) : Type 0 where
-  pub marked : (patterns : List (List ℕ)) → length patterns ≡ length nexts → AreChained patterns nexts → IsClosedUnder patterns old → MayBegin patterns head
+  pub marked : (patterns : List (List ℕ)) → length patterns ≡ length nexts → AreChained patterns nexts
+      → IsClosedUnder patterns old → MayBegin patterns head
       → (place : ℕ) → place < length patterns → is_marked new place ≡ (is_marked old place || is_left patterns head place)
-  pub listed : IsPermutation (numbers (is_marked old) 0 (length nexts)) old_hits → IsPermutation (numbers (is_marked new) 0 (length nexts)) new_hits
+  pub listed : IsPermutation (numbers (is_marked old) 0 (length nexts)) old_hits
+      → IsPermutation (numbers (is_marked new) 0 (length nexts)) new_hits
 
 -- the same on the way, where the chain from a place on is left
-pub record IsFollowing (nexts : List ℕ) (head : ℕ) (old : Seen) (old_hits : List ℕ) (at : ℕ) (new : Seen) (new_hits : List ℕ) : Type 0 where
-  pub begins : (patterns : List (List ℕ)) → length patterns ≡ length nexts → AreChained patterns nexts → MayBegin patterns head → MayBegin patterns at
+pub record IsFollowing (nexts : List ℕ) (head : ℕ) (old : Seen) (old_hits : List ℕ) (at : ℕ) (new : Seen)
+    (new_hits : List ℕ) : Type 0 where
+  pub begins : (patterns : List (List ℕ)) → length patterns ≡ length nexts → AreChained patterns nexts → MayBegin patterns head
+      → MayBegin patterns at
   pub part : (patterns : List (List ℕ)) → length patterns ≡ length nexts → AreChained patterns nexts → MayBegin patterns head
       → (place : ℕ) → place < length patterns → is_left patterns at place ≡ true → is_left patterns head place ≡ true
   pub before : (patterns : List (List ℕ)) → length patterns ≡ length nexts → AreChained patterns nexts → MayBegin patterns head
       → (place : ℕ) → place < length patterns → is_left patterns at place ≡ true → is_marked new place ≡ is_marked old place
   pub marked : (patterns : List (List ℕ)) → length patterns ≡ length nexts → AreChained patterns nexts → MayBegin patterns head
-      → (place : ℕ) → place < length patterns → is_left patterns at place ≡ false → is_marked new place ≡ (is_marked old place || is_left patterns head place)
-  pub listed : IsPermutation (numbers (is_marked old) 0 (length nexts)) old_hits → IsPermutation (numbers (is_marked new) 0 (length nexts)) new_hits
+      → (place : ℕ) → place < length patterns → is_left patterns at place ≡ false
+      → is_marked new place ≡ (is_marked old place || is_left patterns head place)
+  pub listed : IsPermutation (numbers (is_marked old) 0 (length nexts)) old_hits
+      → IsPermutation (numbers (is_marked new) 0 (length nexts)) new_hits
 
 -- the patterns' words, by the letters
 abbrev pub words_in : List ℕ → List (List ℕ) → List (List ℕ)
@@ -72,7 +81,8 @@ pub record Finds (automaton : Automaton) (patterns : List (List ℕ)) : Type 0 w
   pub fits : automaton.dense * automaton.trie.width ≤ sparse
   pub rows : AreRows words automaton.trie.width automaton.entries.items automaton.table.items
   pub entries : AreEntries automaton.trie.width automaton.dense automaton.heads.items automaton.entries.items (length words)
-  pub chains : (state : ℕ) → state < length words → IsHead (words_in automaton.letters patterns) (word_at words state) (slice_index automaton.heads.items state)
+  pub chains : (state : ℕ) → state < length words → IsHead (words_in automaton.letters patterns) (word_at words state)
+      (slice_index automaton.heads.items state)
   pub nexts : AreChained (words_in automaton.letters patterns) automaton.nexts.items
   pub count : length automaton.nexts.items ≡ length patterns
   pub shallow : (state : ℕ) → state < length words → place_of automaton.trie.width automaton.dense state < automaton.shallow
@@ -81,34 +91,43 @@ pub record Finds (automaton : Automaton) (patterns : List (List ℕ)) : Type 0 w
 
 -- behind what was read, since when some patterns were marked, the walk stands at a state's row, and has marked and
 -- listed what has ended
-pub record IsWalked (automaton : Automaton) (patterns words : List (List ℕ)) (read : List ℕ) (at : ℕ) (old seen : Seen) (hits : List ℕ) : Type 0 where
+pub record IsWalked (automaton : Automaton) (patterns words : List (List ℕ)) (read : List ℕ) (at : ℕ) (old seen : Seen)
+    (hits : List ℕ) : Type 0 where
   pub state : ℕ
   pub within : state < length words
   pub row : at ≡ place_of automaton.trie.width automaton.dense state
   pub is : IsAt words read (word_at words state)
-  pub marked : (place : ℕ) → place < length patterns → is_marked seen place ≡ (is_marked old place || is_ended patterns read place)
+  pub marked : (place : ℕ) → place < length patterns → is_marked seen place
+      ≡ (is_marked old place || is_ended patterns read place)
   pub listed : IsPermutation (numbers (is_marked seen) 0 (length patterns)) hits
 
 -- a move from the state with a place
 pub record Steps (automaton : Automaton) (at letter entry : ℕ) : Type 0 where
-  pub stepped : (patterns : List (List ℕ)) (finds : Finds automaton patterns) (state : ℕ) → state < length finds.words → at ≡ place_of automaton.trie.width automaton.dense state → letter < automaton.trie.width → HasEntry finds.words automaton.entries.items state letter entry
+  pub stepped : (patterns : List (List ℕ)) (finds : Finds automaton patterns) (state : ℕ) → state < length finds.words
+      → at ≡ place_of automaton.trie.width automaton.dense state → letter < automaton.trie.width
+      → HasEntry finds.words automaton.entries.items state letter entry
 
 -- the same, from a state that has no row
 pub record StepsBack (automaton : Automaton) (state letter entry : ℕ) : Type 0 where
-  pub stepped : (patterns : List (List ℕ)) (finds : Finds automaton patterns) → state < length finds.words → letter < automaton.trie.width → HasEntry finds.words automaton.entries.items state letter entry
+  pub stepped : (patterns : List (List ℕ)) (finds : Finds automaton patterns) → state < length finds.words
+      → letter < automaton.trie.width → HasEntry finds.words automaton.entries.items state letter entry
 
 -- whatever the patterns are that the automaton finds, the walk is right so far
-pub record Walks (automaton : Automaton) (read : List ℕ) (at : ℕ) (old : Seen) (old_hits : List ℕ) (seen : Seen) (hits : List ℕ) : Type 0 where
+pub record Walks (automaton : Automaton) (read : List ℕ) (at : ℕ) (old : Seen) (old_hits : List ℕ) (seen : Seen)
+    (hits : List ℕ) : Type 0 where
   pub walked : (patterns : List (List ℕ)) (finds : Finds automaton patterns)
       → IsClosedUnder (words_in automaton.letters patterns) old
       → IsPermutation (numbers (is_marked old) 0 (length (words_in automaton.letters patterns))) old_hits
       → IsWalked automaton (words_in automaton.letters patterns) finds.words read at old seen hits
 
 -- no pattern but such as occur is marked, and each one is that begins before a place, wherever it ends
-pub record IsCovered (letters : List ℕ) (patterns : List (List ℕ)) (bytes : List ℕ) (done : ℕ) (seen : Seen) (hits : List ℕ) : Type 0 where
-  pub sound : (place : ℕ) → place < length patterns → is_marked seen place ≡ true → is_ended patterns (word_of letters bytes) place ≡ true
+pub record IsCovered (letters : List ℕ) (patterns : List (List ℕ)) (bytes : List ℕ) (done : ℕ) (seen : Seen)
+    (hits : List ℕ) : Type 0 where
+  pub sound : (place : ℕ) → place < length patterns → is_marked seen place ≡ true
+      → is_ended patterns (word_of letters bytes) place ≡ true
   pub whole : (place end : ℕ) → place < length patterns → 0 < length (word_at patterns place) → end ≤ length bytes
-      → end < done + length (word_at patterns place) → begins (word_at patterns place) (word_of letters (take end bytes)) ≡ true → is_marked seen place ≡ true
+      → end < done + length (word_at patterns place) → begins (word_at patterns place) (word_of letters (take end bytes)) ≡ true
+      → is_marked seen place ≡ true
   pub closed : IsClosedUnder patterns seen
   pub listed : IsPermutation (numbers (is_marked seen) 0 (length patterns)) hits
 
@@ -124,17 +143,26 @@ pub record CoversOn (automaton : Automaton) (bytes : List ℕ) (from : ℕ) (old
 
 -- the chain of a state was marked and listed
 pub record Marks (automaton : Automaton) (at : ℕ) (old : Seen) (old_hits : List ℕ) (new : Seen) (new_hits : List ℕ) : Type 0 where
-  pub marked : (patterns : List (List ℕ)) → 0 < automaton.trie.width → length patterns ≡ length automaton.nexts.items → AreChained patterns automaton.nexts.items → IsClosedUnder patterns old → MayBegin patterns (slice_index automaton.heads.items (state_of automaton.trie.width at))
-      → (place : ℕ) → place < length patterns → is_marked new place ≡ (is_marked old place || is_left patterns (slice_index automaton.heads.items (state_of automaton.trie.width at)) place)
-  pub listed : IsPermutation (numbers (is_marked old) 0 (length automaton.nexts.items)) old_hits → IsPermutation (numbers (is_marked new) 0 (length automaton.nexts.items)) new_hits
+  pub marked : (patterns : List (List ℕ)) → 0 < automaton.trie.width → length patterns ≡ length automaton.nexts.items
+      → AreChained patterns automaton.nexts.items → IsClosedUnder patterns old
+      → MayBegin patterns (slice_index automaton.heads.items (state_of automaton.trie.width at))
+      → (place : ℕ) → place < length patterns → is_marked new place
+      ≡ (is_marked old place || is_left patterns (slice_index automaton.heads.items (state_of automaton.trie.width at)) place)
+  pub listed : IsPermutation (numbers (is_marked old) 0 (length automaton.nexts.items)) old_hits
+      → IsPermutation (numbers (is_marked new) 0 (length automaton.nexts.items)) new_hits
 
 -- the hits are the patterns, not empty ones, that have ended somewhere in the bytes
 pub record AreHits (automaton : Automaton) (bytes hits : List ℕ) : Type 0 where
-  pub found : (patterns : List (List ℕ)) → Finds automaton patterns → IsPermutation (numbers (is_ended (words_in automaton.letters patterns) (word_of automaton.letters bytes)) 0 (length patterns)) hits
+  pub found : (patterns : List (List ℕ)) → Finds automaton patterns
+      → IsPermutation (numbers (is_ended (words_in automaton.letters patterns) (word_of automaton.letters bytes)) 0
+      (length patterns)) hits
 
 -- a move was noted: the chain of the state that it goes to, if it says that a pattern ends there
-pub record Notes (automaton : Automaton) (entry : ℕ) (old : Seen) (old_hits : List ℕ) (new : Seen) (new_hits : List ℕ) : Type 0 where
-  pub marked : (patterns : List (List ℕ)) (head : ℕ) → 0 < automaton.trie.width → length patterns ≡ length automaton.nexts.items → AreChained patterns automaton.nexts.items → IsClosedUnder patterns old → MayBegin patterns head
+pub record Notes (automaton : Automaton) (entry : ℕ) (old : Seen) (old_hits : List ℕ) (new : Seen)
+    (new_hits : List ℕ) : Type 0 where
+  pub marked : (patterns : List (List ℕ)) (head : ℕ) → 0 < automaton.trie.width → length patterns ≡ length automaton.nexts.items
+      → AreChained patterns automaton.nexts.items → IsClosedUnder patterns old → MayBegin patterns head
       → head ≡ slice_index automaton.heads.items (state_of automaton.trie.width (entry / 2)) → (entry % 2 ≡ 0 → head ≡ 0)
       → (place : ℕ) → place < length patterns → is_marked new place ≡ (is_marked old place || is_left patterns head place)
-  pub listed : IsPermutation (numbers (is_marked old) 0 (length automaton.nexts.items)) old_hits → IsPermutation (numbers (is_marked new) 0 (length automaton.nexts.items)) new_hits
+  pub listed : IsPermutation (numbers (is_marked old) 0 (length automaton.nexts.items)) old_hits
+      → IsPermutation (numbers (is_marked new) 0 (length automaton.nexts.items)) new_hits

@@ -60,7 +60,8 @@ pub record StandFor (groups : Groups) (rules : List Rule) : Type 0 where
 
 -- the rules without a pattern that are asked for by the item were added
 pub record AddDue (groups : Groups) (carried : Body) (old new : List ℕ) : Type 0 where
-  pub added : (rules : List Rule) → StandFor groups rules → (place : ℕ) → has new place ≡ (has old place || is_due_at groups.rules.items (texts_of rules) carried place)
+  pub added : (rules : List Rule) → StandFor groups rules → (place : ℕ)
+      → has new place ≡ (has old place || is_due_at groups.rules.items (texts_of rules) carried place)
 
 -- whatever rules the groups are of, their candidates for the item are appended
 pub record AppendCandidates (groups : Groups) (head : ItemHead) (payload old new : List ℕ) : Type 0 where

@@ -14,13 +14,17 @@ pub record EndsAt (words : List (List ℕ)) (letters bytes : List ℕ) (end : �
 -- all patterns end at their states, as far as they are this deep
 pub record AreAt (words : List (List ℕ)) (letters : List ℕ) (patterns : List (List ℕ)) (ends : List ℕ) (depth : ℕ) : Type 0 where
   pub count : length ends ≡ length patterns
-  pub each : (place : ℕ) → place < length patterns → EndsAt words letters (take depth (word_at patterns place)) (slice_index ends place)
+  pub each : (place : ℕ) → place < length patterns → EndsAt words letters (take depth (word_at patterns place))
+      (slice_index ends place)
 
 -- the first patterns end one letter deeper than the others
-pub record AreBetween (words : List (List ℕ)) (letters : List ℕ) (patterns : List (List ℕ)) (ends : List ℕ) (depth done : ℕ) : Type 0 where
+pub record AreBetween (words : List (List ℕ)) (letters : List ℕ) (patterns : List (List ℕ)) (ends : List ℕ)
+    (depth done : ℕ) : Type 0 where
   pub count : length ends ≡ length patterns
-  pub before : (place : ℕ) → place < done → place < length patterns → EndsAt words letters (take (depth + 1) (word_at patterns place)) (slice_index ends place)
-  pub behind : (place : ℕ) → done ≤ place → place < length patterns → EndsAt words letters (take depth (word_at patterns place)) (slice_index ends place)
+  pub before : (place : ℕ) → place < done → place < length patterns
+      → EndsAt words letters (take (depth + 1) (word_at patterns place)) (slice_index ends place)
+  pub behind : (place : ℕ) → done ≤ place → place < length patterns
+      → EndsAt words letters (take depth (word_at patterns place)) (slice_index ends place)
 
 -- a pattern ends one letter deeper
 pub record Advances (old : Trie) (letters pattern : List ℕ) (depth next : ℕ) (new : Trie) : Type 0 where
@@ -34,4 +38,5 @@ pub record AreGrown (letters : List ℕ) (patterns : List (List ℕ)) (grown : G
   pub deep : ℕ
   pub trie : IsTrie grown.trie deep
   pub count : length grown.ends.items ≡ length patterns
-  pub each : (place : ℕ) → place < length patterns → EndsAt (words_of grown.trie.steps.items) letters (word_at patterns place) (slice_index grown.ends.items place)
+  pub each : (place : ℕ) → place < length patterns → EndsAt (words_of grown.trie.steps.items) letters (word_at patterns place)
+      (slice_index grown.ends.items place)

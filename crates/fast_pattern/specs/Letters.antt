@@ -34,7 +34,8 @@ pub record AreFolded (lowered letters : List ℕ) (below : ℕ) : Type 0 where
 -- the letters below a byte, which are given to the marked bytes in their order
 pub record AreNumbered (used : List Bool) (letters : List ℕ) (below last : ℕ) : Type 0 where
   pub sized : length letters ≡ 256
-  pub rising : (one other : ℕ) → one < other → other < below → slice_index_or used one false ≡ true → slice_index_or used other false ≡ true → slice_index letters one < slice_index letters other
+  pub rising : (one other : ℕ) → one < other → other < below → slice_index_or used one false ≡ true
+      → slice_index_or used other false ≡ true → slice_index letters one < slice_index letters other
   pub some : (byte : ℕ) → byte < below → slice_index_or used byte false ≡ true → 0 < slice_index letters byte
   pub none : (byte : ℕ) → slice_index_or used byte false ≡ false → slice_index letters byte ≡ 0
   pub later : (byte : ℕ) → below ≤ byte → slice_index letters byte ≡ 0

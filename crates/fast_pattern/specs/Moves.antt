@@ -24,20 +24,25 @@ pub record IsBack (words : List (List ℕ)) (state letter at : ℕ) : Type 0 whe
 pub record IsReached (words : List (List ℕ)) (below state letter : ℕ) (reached : Reached) : Type 0 where
   pub back : IsBack words state letter reached.state
   pub none : 0 < below → reached.child ≡ 0 → reached.state < below
-  pub some : 0 < reached.child → (reached.child < length words) × (word_at words reached.child ≡ letter ∷ word_at words reached.state)
+  pub some : 0 < reached.child → (reached.child < length words)
+      × (word_at words reached.child ≡ letter ∷ word_at words reached.state)
 
 -- whatever the words are of whose trie these are the fails, the walk back comes there
 pub record Reaches (trie : Trie) (fails : List ℕ) (below state letter : ℕ) (reached : Reached) : Type 0 where
-  pub comes : (words : List (List ℕ)) (deep done : ℕ) → IsTrieOf words trie deep → AreFailing words fails done → done ≤ length words → state < done → IsReached words below state letter reached
+  pub comes : (words : List (List ℕ)) (deep done : ℕ) → IsTrieOf words trie deep → AreFailing words fails done
+      → done ≤ length words → state < done → IsReached words below state letter reached
 
 -- and has come so far
 pub record IsReaching (trie : Trie) (fails : List ℕ) (state letter at : ℕ) : Type 0 where
-  pub back : (words : List (List ℕ)) (deep done : ℕ) → IsTrieOf words trie deep → AreFailing words fails done → done ≤ length words → state < done → IsBack words state letter at
+  pub back : (words : List (List ℕ)) (deep done : ℕ) → IsTrieOf words trie deep → AreFailing words fails done
+      → done ≤ length words → state < done → IsBack words state letter at
 
 pub record Moves (trie : Trie) (fails : List ℕ) (state letter next : ℕ) : Type 0 where
-  pub moved : (words : List (List ℕ)) (deep done : ℕ) → IsTrieOf words trie deep → AreFailing words fails done → done ≤ length words → state < done → IsMove words state letter next
+  pub moved : (words : List (List ℕ)) (deep done : ℕ) → IsTrieOf words trie deep → AreFailing words fails done
+      → done ≤ length words → state < done → IsMove words state letter next
 
 -- where a state fails to, if those before it do
 pub record FailsTo (trie : Trie) (fails : List ℕ) (state fail : ℕ) : Type 0 where
   pub root : state ≡ 0 → fail ≡ 0
-  pub is : (words : List (List ℕ)) (deep : ℕ) → IsTrieOf words trie deep → AreFailing words fails state → state < length words → 0 < state → (fail < state) × IsFail words (word_at words state) (word_at words fail)
+  pub is : (words : List (List ℕ)) (deep : ℕ) → IsTrieOf words trie deep → AreFailing words fails state → state < length words
+      → 0 < state → (fail < state) × IsFail words (word_at words state) (word_at words fail)

@@ -16,7 +16,8 @@ ends_word patterns word place = nat_lt 0 (length (word_at patterns place)) && be
 -- the pattern stands in the chain from this place, plus one, on
 unfoldable pub is_left : List (List ℕ) → ℕ → ℕ → Bool
 is_left patterns at place =
-    nat_lt 0 at && (ends_word patterns (word_at patterns (at - 1)) place && (nat_lt (length (word_at patterns place)) (length (word_at patterns (at - 1))) || nat_lt place at))
+    nat_lt 0 at && (ends_word patterns (word_at patterns (at - 1)) place
+    && (nat_lt (length (word_at patterns place)) (length (word_at patterns (at - 1))) || nat_lt place at))
 
 -- the patterns are words: each at its state
 pub record AreWords (words patterns : List (List ℕ)) (ends : List ℕ) : Type 0 where
@@ -36,7 +37,8 @@ pub record AreOwned (ends : List ℕ) (states : ℕ) (firsts sames : List ℕ) (
   pub root : slice_index firsts 0 ≡ 0
   pub first : (state : ℕ) → 0 < state → state < states → IsLastOf ends below state (slice_index firsts state)
   pub count : length sames ≡ below
-  pub same : (place : ℕ) → place < below → 0 < slice_index ends place → IsLastOf ends place (slice_index ends place) (slice_index sames place)
+  pub same : (place : ℕ) → place < below → 0 < slice_index ends place
+      → IsLastOf ends place (slice_index ends place) (slice_index sames place)
 
 -- the first of the two that isn't 0
 abbrev pub either : ℕ → ℕ → ℕ
@@ -52,13 +54,15 @@ pub record IsHead (patterns : List (List ℕ)) (word : List ℕ) (head : ℕ) : 
 pub record IsNext (patterns : List (List ℕ)) (place next : ℕ) : Type 0 where
   pub within : next ≤ length patterns
   pub some : 0 < next → 0 < length (word_at patterns (next - 1))
-  pub left : (other : ℕ) → other < length patterns → is_left patterns (place + 1) other ≡ ((other == place) || is_left patterns next other)
+  pub left : (other : ℕ) → other < length patterns → is_left patterns (place + 1) other
+      ≡ ((other == place) || is_left patterns next other)
   pub past : is_left patterns next place ≡ false
 
 -- the states below one fail to earlier states
 pub record AreFailing (words : List (List ℕ)) (fails : List ℕ) (done : ℕ) : Type 0 where
   pub lower : (state : ℕ) → 0 < state → state < done → slice_index fails state < state
-  pub failing : (state : ℕ) → 0 < state → state < done → IsFail words (word_at words state) (word_at words (slice_index fails state))
+  pub failing : (state : ℕ) → 0 < state → state < done
+      → IsFail words (word_at words state) (word_at words (slice_index fails state))
 
 -- the states below one have their fails and chains
 pub record AreLinked (words patterns : List (List ℕ)) (fails heads : List ℕ) (done : ℕ) : Type 0 where
@@ -73,12 +77,15 @@ owned_by firsts end owner = if end == 0 then firsts else slice_set firsts end ow
 
 -- whatever the patterns are of whose words this is the trie, the states below one are linked
 pub record IsLinking (trie : Trie) (firsts fails heads : List ℕ) (done : ℕ) : Type 0 where
-  pub linked : (patterns : List (List ℕ)) (ends sames : List ℕ) (deep : ℕ) → IsTrie trie deep → AreWords (words_of trie.steps.items) patterns ends → AreOwned ends (length (words_of trie.steps.items)) firsts sames (length patterns)
+  pub linked : (patterns : List (List ℕ)) (ends sames : List ℕ) (deep : ℕ) → IsTrie trie deep
+      → AreWords (words_of trie.steps.items) patterns ends
+      → AreOwned ends (length (words_of trie.steps.items)) firsts sames (length patterns)
       → done ≤ length (words_of trie.steps.items) → AreLinked (words_of trie.steps.items) patterns fails heads done
 
 -- behind each pattern the chain goes on at the one before it of its state, else with that of the fail
 abbrev pub next_of : List ℕ → List ℕ → List ℕ → List ℕ → ℕ → ℕ
-next_of ends sames fails heads place = either (slice_index sames place) (slice_index heads (slice_index fails (slice_index ends place)))
+next_of ends sames fails heads place =
+    either (slice_index sames place) (slice_index heads (slice_index fails (slice_index ends place)))
 
 pub record AreNexts (ends sames fails heads nexts : List ℕ) (done : ℕ) : Type 0 where
   pub count : length nexts ≡ done

@@ -41,16 +41,20 @@ pub record HasEntry (words : List (List ℕ)) (entries : List ℕ) (state letter
 
 -- the moves of a table, as far as it goes
 pub record AreRows (words : List (List ℕ)) (width : ℕ) (entries table : List ℕ) : Type 0 where
-  pub each : (state letter : ℕ) → state < length words → letter < width → state * width + letter < length table → HasEntry words entries state letter (slice_index table (state * width + letter))
+  pub each : (state letter : ℕ) → state < length words → letter < width → state * width + letter < length table
+      → HasEntry words entries state letter (slice_index table (state * width + letter))
 
 -- the next move of a table that has all moves before it
 pub record IsNextEntry (trie : Trie) (fails entries table : List ℕ) (state letter entry : ℕ) : Type 0 where
-  pub holds : (words : List (List ℕ)) (deep : ℕ) → IsTrieOf words trie deep → AreFailing words fails (length words) → state < length words → letter < trie.width → length table ≡ state * trie.width + letter → AreRows words trie.width entries table → HasEntry words entries state letter entry
+  pub holds : (words : List (List ℕ)) (deep : ℕ) → IsTrieOf words trie deep → AreFailing words fails (length words)
+      → state < length words → letter < trie.width → length table ≡ state * trie.width + letter
+      → AreRows words trie.width entries table → HasEntry words entries state letter entry
 
 -- a table has the rows of the states below one, and so many moves of that state's row
 pub record HasRows (trie : Trie) (fails entries : List ℕ) (state letter : ℕ) (table : List ℕ) : Type 0 where
   pub long : length table ≡ state * trie.width + letter
-  pub rows : (words : List (List ℕ)) (deep : ℕ) → IsTrieOf words trie deep → AreFailing words fails (length words) → state ≤ length words → (0 < letter → state < length words) → AreRows words trie.width entries table
+  pub rows : (words : List (List ℕ)) (deep : ℕ) → IsTrieOf words trie deep → AreFailing words fails (length words)
+      → state ≤ length words → (0 < letter → state < length words) → AreRows words trie.width entries table
 
 -- the layout of the moves of a trie's states
 pub record IsLayout (trie : Trie) (fails heads : List ℕ) (laid : Rows) : Type 0 where

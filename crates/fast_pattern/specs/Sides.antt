@@ -59,19 +59,23 @@ abbrev pub stands_at : List Asked → List (List ℕ) → Kind → Side → ℕ 
 stands_at rules patterns kind of place = is_plain rules patterns kind place && stands_some of (slice_get rules place)
 
 -- the blocks are those at which the rule at a place is sought
-pub record AreSoughtAt (rules : List Asked) (patterns : List (List ℕ)) (kind : Kind) (of : Side) (place : ℕ) (blocks : List ℕ) : Type 0 where
+pub record AreSoughtAt (rules : List Asked) (patterns : List (List ℕ)) (kind : Kind) (of : Side) (place : ℕ)
+    (blocks : List ℕ) : Type 0 where
   pub within : All (λ block. (0 < block) × (block < 131072)) blocks
   pub exact : (port : ℕ) → port < 65536 → list_any (lies_in 16 0 port) blocks ≡ is_sought rules patterns kind of port place
 
 -- the rules below a place that are asked for at a port have entries at its blocks, and no others
-pub record AreFiled (rules : List Asked) (patterns : List (List ℕ)) (kind : Kind) (of : Side) (entries : List Entry) (count : ℕ) : Type 0 where
+pub record AreFiled (rules : List Asked) (patterns : List (List ℕ)) (kind : Kind) (of : Side) (entries : List Entry)
+    (count : ℕ) : Type 0 where
   pub blocks : AreBlocks entries
-  pub filed : (port : ℕ) → port < 65536 → (place : ℕ) → is_filed (lies_in 16 0 port) entries place ≡ (nat_lt place count && is_sought rules patterns kind of port place)
+  pub filed : (port : ℕ) → port < 65536 → (place : ℕ)
+      → is_filed (lies_in 16 0 port) entries place ≡ (nat_lt place count && is_sought rules patterns kind of port place)
 
 -- the index of a side has them
 pub record IsSide (rules : List Asked) (patterns : List (List ℕ)) (kind : Kind) (of : Side) (index : PortIndex) : Type 0 where
   pub chained : IsChained index
-  pub filed : (port : ℕ) → port < 65536 → (place : ℕ) → is_filed (lies_in 16 0 port) index.entries.items place ≡ is_sought rules patterns kind of port place
+  pub filed : (port : ℕ) → port < 65536 → (place : ℕ)
+      → is_filed (lies_in 16 0 port) index.entries.items place ≡ is_sought rules patterns kind of port place
 
 -- both sides have
 pub record AreSides (rules : List Asked) (patterns : List (List ℕ)) (kind : Kind) (sides : Sides) : Type 0 where
@@ -87,4 +91,6 @@ is_due _ asked = true
 
 -- the places of the sought rules of two ports were added
 pub record AddSought (sides : Sides) (sport dport : ℕ) (old new : List ℕ) : Type 0 where
-  pub added : (rules : List Asked) (patterns : List (List ℕ)) (kind : Kind) → AreSides rules patterns kind sides → (place : ℕ) → has new place ≡ (has old place || (is_sought rules patterns kind side.Source sport place || is_sought rules patterns kind side.Destination dport place))
+  pub added : (rules : List Asked) (patterns : List (List ℕ)) (kind : Kind) → AreSides rules patterns kind sides → (place : ℕ)
+      → has new place ≡ (has old place || (is_sought rules patterns kind side.Source sport place
+      || is_sought rules patterns kind side.Destination dport place))

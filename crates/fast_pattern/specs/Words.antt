@@ -39,7 +39,8 @@ IsAt words read word = (state : ℕ) → state < length words → begins (word_a
 -- the longest of the words which another word ends in
 pub record IsFail (words : List (List ℕ)) (word fail : List ℕ) : Type 0 where
   pub shorter : length fail < length word
-  pub same : (state : ℕ) → state < length words → length (word_at words state) < length word → begins (word_at words state) word ≡ begins (word_at words state) fail
+  pub same : (state : ℕ) → state < length words → length (word_at words state) < length word
+      → begins (word_at words state) word ≡ begins (word_at words state) fail
 
 -- the words of a trie: a letter behind an earlier word each, behind the words that there are
 unfoldable pub words_from : List (List ℕ) → List Step → List (List ℕ)
@@ -71,12 +72,16 @@ pub record IsTrieOf (words : List (List ℕ)) (trie : Trie) (deep : ℕ) : Type 
   pub count : length words ≡ length trie.steps.items + 1
   pub first_count : length trie.firsts.items ≡ length words
   pub root : word_at words 0 ≡ []
-  pub steps : (state : ℕ) → 0 < state → state < length words → (up : ℕ) × (by : ℕ) × (up < state) × (by < trie.width) × (word_at words state ≡ by ∷ word_at words up)
-  pub told : (number : ℕ) → number < length trie.steps.items → word_at words (number + 1) ≡ (step_at trie.steps.items number).by ∷ word_at words (step_at trie.steps.items number).up
+  pub steps : (state : ℕ) → 0 < state → state < length words
+      → (up : ℕ) × (by : ℕ) × (up < state) × (by < trie.width) × (word_at words state ≡ by ∷ word_at words up)
+  pub told : (number : ℕ) → number < length trie.steps.items
+      → word_at words (number + 1) ≡ (step_at trie.steps.items number).by ∷ word_at words (step_at trie.steps.items number).up
   pub ups : (number : ℕ) → number < length trie.steps.items → (step_at trie.steps.items number).up ≤ number
   pub bys : (number : ℕ) → number < length trie.steps.items → (step_at trie.steps.items number).by < trie.width
-  pub first : (state : ℕ) → state < length words → IsLastChild trie.steps.items (length trie.steps.items) state (slice_index trie.firsts.items state)
-  pub same : (number : ℕ) → number < length trie.steps.items → IsLastChild trie.steps.items number (step_at trie.steps.items number).up (step_at trie.steps.items number).same
+  pub first : (state : ℕ) → state < length words → IsLastChild trie.steps.items (length trie.steps.items) state
+      (slice_index trie.firsts.items state)
+  pub same : (number : ℕ) → number < length trie.steps.items
+      → IsLastChild trie.steps.items number (step_at trie.steps.items number).up (step_at trie.steps.items number).same
   pub apart : (one other : ℕ) → one < length words → other < length words → word_at words one ≡ word_at words other → one ≡ other
   pub levels : (one other : ℕ) → one ≤ other → other < length words → length (word_at words one) ≤ length (word_at words other)
   pub deepest : (state : ℕ) → state < length words → length (word_at words state) ≤ deep
@@ -99,13 +104,16 @@ pub record HasChild (old : Trie) (state letter child : ℕ) (new : Trie) : Type 
 
 -- which word is a state's with a letter behind it, of whatever words this is the trie
 pub record FindsChild (trie : Trie) (state letter child : ℕ) : Type 0 where
-  pub found : (words : List (List ℕ)) (deep : ℕ) → IsTrieOf words trie deep → state < length words → IsChild words state letter child
+  pub found : (words : List (List ℕ)) (deep : ℕ) → IsTrieOf words trie deep → state < length words
+      → IsChild words state letter child
 
 -- the state is still sought among those up to a number that are another's with a letter behind it
 pub record IsSought (steps : List Step) (state letter at : ℕ) : Type 0 where
   pub within : at ≤ length steps
   pub own : 0 < at → (step_at steps (at - 1)).up ≡ state
-  pub rest : (number : ℕ) → number < length steps → (step_at steps number).up ≡ state → (step_at steps number).by ≡ letter → number < at
+  pub rest : (number : ℕ) → number < length steps → (step_at steps number).up ≡ state → (step_at steps number).by ≡ letter
+      → number < at
 
 pub record IsSeeking (trie : Trie) (state letter at : ℕ) : Type 0 where
-  pub sought : (words : List (List ℕ)) (deep : ℕ) → IsTrieOf words trie deep → state < length words → IsSought trie.steps.items state letter at
+  pub sought : (words : List (List ℕ)) (deep : ℕ) → IsTrieOf words trie deep → state < length words
+      → IsSought trie.steps.items state letter at

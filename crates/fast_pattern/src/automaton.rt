@@ -45,7 +45,8 @@ pub struct Automaton {
 /// Marks a place below a count, and answers whether it is one that wasn't marked before.
 fn mark(seen: &mut Seen, count: usize, at: u32) -> Result<bool, AllocError>
     ensures answer { IfOk result (λ fresh. fresh ≡ (nat_lt at count && not (is_marked seen.old at))) }
-    ensures marked { IfOk result (λ fresh. (place : ℕ) → is_marked seen.new place ≡ (is_marked seen.old place || (fresh && (place == at)))) }
+    ensures marked { IfOk result (λ fresh. (place : ℕ)
+        → is_marked seen.new place ≡ (is_marked seen.old place || (fresh && (place == at)))) }
 {
     if count <= at as usize {
         return Ok(false);

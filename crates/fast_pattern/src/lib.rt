@@ -10,8 +10,8 @@
 //! is allocated before the first pattern has ended. What tries rules on items stands on this crate.
 //!
 //! The automaton takes at most 124 bytes a byte of a pattern: rows of moves for the first states, and for the others
-//! the states that are longer by a letter. The sieve takes 128 KB. The four indexes take half a megabyte each, and twelve bytes for each
-//! block of ports of a rule.
+//! the states that are longer by a letter. The sieve takes 128 KB. The four indexes take half a megabyte each, and
+//! twelve bytes for each block of ports of a rule.
 #![tactic(auto)]
 
 mod automaton;

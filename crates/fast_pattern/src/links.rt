@@ -61,7 +61,8 @@ impl Links {
 
     /// Links the states of a trie in their order.
     pub fn of(alloc: Global, trie: &Trie, firsts: &[u32]) -> Result<Links, NoMemory>
-        ensures { IfOk result (λ links. IsLinking trie.now firsts.now links.fails.items links.heads.items (length trie.now.steps.items + 1)) }
+        ensures { IfOk result (λ links. IsLinking trie.now firsts.now links.fails.items links.heads.items
+            (length trie.now.steps.items + 1)) }
     {
         let Ok(states) = u32::try_from(trie.steps.len() + 1) else {
             return Err(NoMemory);
@@ -84,7 +85,8 @@ pub fn nexts(
     sames: &[u32],
     links: &Links,
 ) -> Result<Vec<u32>, NoMemory>
-    ensures { IfOk result (λ nexts. AreNexts ends.now sames.now links.now.fails.items links.now.heads.items nexts.items (length ends.now)) }
+    ensures { IfOk result (λ nexts. AreNexts ends.now sames.now links.now.fails.items links.now.heads.items nexts.items
+        (length ends.now)) }
 {
     let mut nexts = Vec::new(alloc);
     for (place, end) in ends.iter().enumerate() {

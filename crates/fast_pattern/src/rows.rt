@@ -99,7 +99,8 @@ fn push_row(
     state: u32,
     table: &mut Vec<u32>,
 ) -> Result<(), AllocError>
-    ensures { OnOk result (HasRows trie.now fails.now entries.now state 0 table.old.items → HasRows trie.now fails.now entries.now (state + 1) 0 table.new.items) }
+    ensures { OnOk result (HasRows trie.now fails.now entries.now state 0 table.old.items
+        → HasRows trie.now fails.now entries.now (state + 1) 0 table.new.items) }
 {
     for letter in 0..trie.width {
         let entry = next_entry(trie, fails, entries, table, state, letter);

@@ -97,7 +97,8 @@ impl Trie {
     /// Adds the state behind `up` that is longer by the letter.
     fn grow(&mut self, up: u32, by: u16) -> Result<u32, NoMemory>
         ensures state { IfOk result (λ state. state ≡ length self.old.steps.items + 1) }
-        ensures steps { OnOk result (self.new.steps.items ≡ self.old.steps.items ++ record { up = up; by = by; same = slice_index self.old.firsts.items up } ∷ []) }
+        ensures steps { OnOk result (self.new.steps.items
+            ≡ self.old.steps.items ++ record { up = up; by = by; same = slice_index self.old.firsts.items up } ∷ []) }
         ensures firsts { IfOk result (λ state. self.new.firsts.items ≡ slice_set (self.old.firsts.items ++ 0 ∷ []) up state) }
         ensures width { OnOk result (self.new.width ≡ self.old.width) }
     {

@@ -42,47 +42,58 @@ found_of all d before job = record {
 
 -- a job of a lane is searched: whatever jobs the lane stood for, what is found is the definition's, and the lane
 -- stands for those and this job
-pub record IsSearched (all : Bool) (d : Detection) (before : List Job) (job : Job) (found : JobFound) (new : LaneState) : Type 0 where
+pub record IsSearched (all : Bool) (d : Detection) (before : List Job) (job : Job) (found : JobFound)
+    (new : LaneState) : Type 0 where
   pub right : found ≡ found_of all d before job
   pub short : AreShort job (within same_flow (items d) before job)
   pub stands : Stands d new (before ++ job ∷ [])
 
-abbrev pub SearchesJob : {P : Type 0} → (P → List ℕ → Option Span) → StreamConfig → Rules P → Bool → LaneState → Job → JobFound → LaneState → Type 0
+abbrev pub SearchesJob : {P : Type 0} → (P → List ℕ → Option Span) → StreamConfig → Rules P → Bool → LaneState → Job → JobFound
+    → LaneState → Type 0
 SearchesJob finds stream set all old job found new =
-    (means : Means) (d : Detection) (before : List Job) → DetectsBy finds means stream set d → Stands d old before → IsSearched all d before job found new
+    (means : Means) (d : Detection) (before : List Job) → DetectsBy finds means stream set d → Stands d old before
+    → IsSearched all d before job found new
 
 -- the same with the job's number
 abbrev pub numbered_out : Bool → Detection → List Job → Job → Numbered JobFound
 numbered_out all d before job = record { number = job.number; value = found_of all d before job }
 
 -- a lane that stood for some jobs has done these
-pub record HasDoneJobs (all : Bool) (d : Detection) (before jobs : List Job) (outs : List (Numbered JobFound)) (new : LaneState) : Type 0 where
+pub record HasDoneJobs (all : Bool) (d : Detection) (before jobs : List Job) (outs : List (Numbered JobFound))
+    (new : LaneState) : Type 0 where
   pub right : outs ≡ along_from (numbered_out all d) before jobs
   pub stands : Stands d new (before ++ jobs)
 
 -- a lane has gone on with these jobs: whatever it stood for, its answers are the definition's; it has learnt
 -- of the jobs; and the answers bear the numbers of the jobs
-pub record GoesOn {P : Type 0} (finds : P → List ℕ → Option Span) (stream : StreamConfig) (set : Rules P) (all : Bool) (old : LaneState) (jobs : List Job) (outs : List (Numbered JobFound)) (new : LaneState) : Type 0 where
-  pub right : (means : Means) (d : Detection) (before : List Job) → DetectsBy finds means stream set d → Stands d old before → HasDoneJobs all d before jobs outs new
+pub record GoesOn {P : Type 0} (finds : P → List ℕ → Option Span) (stream : StreamConfig) (set : Rules P) (all : Bool)
+    (old : LaneState) (jobs : List Job) (outs : List (Numbered JobFound)) (new : LaneState) : Type 0 where
+  pub right : (means : Means) (d : Detection) (before : List Job) → DetectsBy finds means stream set d → Stands d old before
+      → HasDoneJobs all d before jobs outs new
   pub known : (other : Job) → known_of new other ≡ facts_after (known_of old other) (filter (same_flow other) jobs)
   pub numbers : map (λ (out : Numbered JobFound). out.number) outs ≡ map (λ (job : Job). job.number) jobs
 
 -- a job more is answered, whatever the lane has gone on with before
-abbrev pub AddsOut : {P : Type 0} → (P → List ℕ → Option Span) → StreamConfig → Rules P → Bool → Job → LaneState → List (Numbered JobFound) → LaneState → List (Numbered JobFound) → Type 0
+abbrev pub AddsOut : {P : Type 0} → (P → List ℕ → Option Span) → StreamConfig → Rules P → Bool → Job → LaneState
+    → List (Numbered JobFound) → LaneState → List (Numbered JobFound) → Type 0
 AddsOut finds stream set all job old outs new more =
-    (start : LaneState) (jobs : List Job) → GoesOn finds stream set all start jobs outs old → GoesOn finds stream set all start (jobs ++ job ∷ []) more new
+    (start : LaneState) (jobs : List Job) → GoesOn finds stream set all start jobs outs old
+    → GoesOn finds stream set all start (jobs ++ job ∷ []) more new
 
 -- the same of a lane among so many, with which only its own jobs go on
-abbrev pub AddsOwn : {P : Type 0} → (P → List ℕ → Option Span) → StreamConfig → Rules P → Bool → ℕ → ℕ → Job → LaneState → List (Numbered JobFound) → LaneState → List (Numbered JobFound) → Type 0
+abbrev pub AddsOwn : {P : Type 0} → (P → List ℕ → Option Span) → StreamConfig → Rules P → Bool → ℕ → ℕ → Job → LaneState
+    → List (Numbered JobFound) → LaneState → List (Numbered JobFound) → Type 0
 AddsOwn finds stream set all count place job old outs new more =
     (start : LaneState) (front : List Job) → GoesOn finds stream set all start (own_jobs count place front) outs old
     → GoesOn finds stream set all start (own_jobs count place (front ++ job ∷ [])) more new
 
 -- the lanes have gone on with the jobs of a batch, each with its own: a part of the answers for each lane
-pub record AreParts {P : Type 0} (finds : P → List ℕ → Option Span) (stream : StreamConfig) (set : Rules P) (all : Bool) (olds : List LaneState) (jobs : List Job) (parts : List (List (Numbered JobFound))) (news : List LaneState) : Type 0 where
+pub record AreParts {P : Type 0} (finds : P → List ℕ → Option Span) (stream : StreamConfig) (set : Rules P) (all : Bool)
+    (olds : List LaneState) (jobs : List Job) (parts : List (List (Numbered JobFound))) (news : List LaneState) : Type 0 where
   pub news_count : length news ≡ length olds
   pub parts_count : length parts ≡ length olds
-  pub each : (place : ℕ) (old new : LaneState) (part : List (Numbered JobFound)) → slice_get olds place ≡ Some old → slice_get parts place ≡ Some part → slice_get news place ≡ Some new
+  pub each : (place : ℕ) (old new : LaneState) (part : List (Numbered JobFound)) → slice_get olds place ≡ Some old
+      → slice_get parts place ≡ Some part → slice_get news place ≡ Some new
       → GoesOn finds stream set all old (own_jobs (length olds) place jobs) part new
 
 -- the lanes of workers
@@ -92,37 +103,46 @@ lanes_of workers = map (λ (worker : Worker). worker.lane) workers
 -- the jobs of each worker's lane are sound
 abbrev pub AreSoundAmong : ℕ → List Worker → List Job → Type 0
 AreSoundAmong engines workers jobs =
-    (place : ℕ) (d : Worker) → place < length workers → AreSoundIn engines (length workers) place (slice_index_or workers place d).lane jobs
+    (place : ℕ) (d : Worker) → place < length workers → AreSoundIn engines (length workers) place
+    (slice_index_or workers place d).lane jobs
 
 -- each worker has gone on with its own jobs, where it has answers
-abbrev pub AllGoOn : {P : Type 0} → (P → List ℕ → Option Span) → StreamConfig → Rules P → Bool → List Worker → List Job → List Worker → Type 0
+abbrev pub AllGoOn : {P : Type 0} → (P → List ℕ → Option Span) → StreamConfig → Rules P → Bool → List Worker → List Job
+    → List Worker → Type 0
 AllGoOn finds stream set all olds jobs news =
     (place : ℕ) (d : Worker) → place < length olds
     → IfOk (slice_index_or news place d).outs
-    (λ outs. GoesOn finds stream set all (slice_index_or olds place d).lane (own_jobs (length olds) place jobs) outs.items (slice_index_or news place d).lane)
+    (λ outs. GoesOn finds stream set all (slice_index_or olds place d).lane (own_jobs (length olds) place jobs) outs.items
+    (slice_index_or news place d).lane)
 
 -- the jobs of a batch are searched: what is found of each is the definition's, in the order of the jobs, and the
 -- lanes stand for the earlier jobs and the batch
-pub record AreSearched (all : Bool) (d : Detection) (before jobs : List Job) (found : List (Numbered JobFound)) (new : LanesState) : Type 0 where
+pub record AreSearched (all : Bool) (d : Detection) (before jobs : List Job) (found : List (Numbered JobFound))
+    (new : LanesState) : Type 0 where
   pub right : found ≡ along_from (numbered_out all d) before jobs
   pub stands : LanesStand d new (before ++ jobs)
 
 -- lanes have searched a batch, whatever else is known of them: what is found is the definition's
-abbrev pub HaveSearched : {P : Type 0} → (P → List ℕ → Option Span) → StreamConfig → Rules P → Bool → List LaneState → List Job → List (Numbered JobFound) → List LaneState → Type 0
+abbrev pub HaveSearched : {P : Type 0} → (P → List ℕ → Option Span) → StreamConfig → Rules P → Bool → List LaneState → List Job
+    → List (Numbered JobFound) → List LaneState → Type 0
 HaveSearched finds stream set all olds jobs found news =
     (old new : LanesState) → old.lanes ≡ olds → new.lanes ≡ news
-    → (means : Means) (d : Detection) (before : List Job) → DetectsBy finds means stream set d → LanesStand d old before → AreSearched all d before jobs found new
+    → (means : Means) (d : Detection) (before : List Job) → DetectsBy finds means stream set d → LanesStand d old before
+    → AreSearched all d before jobs found new
 
 -- so the batch is answered, or its matches are told
-abbrev pub HaveAnswered : {P : Type 0} → (P → List ℕ → Option Span) → StreamConfig → Rules P → List LaneState → List Job → BatchOut → List LaneState → Type 0
+abbrev pub HaveAnswered : {P : Type 0} → (P → List ℕ → Option Span) → StreamConfig → Rules P → List LaneState → List Job
+    → BatchOut → List LaneState → Type 0
 HaveAnswered finds stream set olds jobs out news =
     (old new : LanesState) → old.lanes ≡ olds → new.lanes ≡ news → AnswersBatch finds stream set old jobs out new
 
-abbrev pub HaveMatched : {P : Type 0} → (P → List ℕ → Option Span) → StreamConfig → Rules P → List LaneState → List Job → Matches → List LaneState → Type 0
+abbrev pub HaveMatched : {P : Type 0} → (P → List ℕ → Option Span) → StreamConfig → Rules P → List LaneState → List Job → Matches
+    → List LaneState → Type 0
 HaveMatched finds stream set olds jobs out news =
     (old new : LanesState) → old.lanes ≡ olds → new.lanes ≡ news → SearchesBatch finds stream set old jobs out new
 
 -- lanes have learnt of the jobs of a batch, whatever else is known of them
 pub record HaveLearnt (olds : List LaneState) (jobs : List Job) (news : List LaneState) : Type 0 where
   pub count : length news ≡ length olds
-  pub known : (old new : LanesState) → old.lanes ≡ olds → new.lanes ≡ news → (other : Job) → known_in new other ≡ facts_after (known_in old other) (filter (same_flow other) jobs)
+  pub known : (old new : LanesState) → old.lanes ≡ olds → new.lanes ≡ news → (other : Job)
+      → known_in new other ≡ facts_after (known_in old other) (filter (same_flow other) jobs)

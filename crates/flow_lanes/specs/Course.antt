@@ -29,7 +29,18 @@ plain_packet = record {
   head = record {
     kind = kind.Packet;
     moment = record { nanos = 0 };
-    ip = record { src = addr.V4 1; dst = addr.V4 2; protocol = 17; ttl = 64; tos = 0; id = 7; reserved = false; dont = false; more = false; offset = 0 };
+    ip = record {
+      src = addr.V4 1;
+      dst = addr.V4 2;
+      protocol = 17;
+      ttl = 64;
+      tos = 0;
+      id = 7;
+      reserved = false;
+      dont = false;
+      more = false;
+      offset = 0;
+    };
     body = body.Udp 1000 2000;
     session = record { tracked = false; established = false; from_client = None; sizes = None };
   };

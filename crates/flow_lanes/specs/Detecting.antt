@@ -18,7 +18,8 @@ use Rattle.flow_lanes.specs.Sessions.{Packet, session_of}
 use Rattle.flow_lanes.specs.Working.{items_on}
 
 -- the items that are told with all rules that match them, and what the flow's next job finds
-pub record DetectsOn (all : Bool) (trying : Trying) (items : JobItems) (found : Option FlowState) (hits : List Hits) (state : Option FlowState) : Type 0 where
+pub record DetectsOn (all : Bool) (trying : Trying) (items : JobItems) (found : Option FlowState) (hits : List Hits)
+    (state : Option FlowState) : Type 0 where
   pub hits_are : hits ≡ told all (hits_in trying items found)
   pub state_is : state ≡ state_after trying items found
 
@@ -27,7 +28,8 @@ abbrev pub bits_now : Bool → Option FlowState → Option Bits
 bits_now tracked found = if tracked then Some (unwrap_or (bits_at_hand found) empty) else None
 
 -- the items of the session at hand are tried, and it is then as their rules ask, unless it ends
-pub record SettlesBy (all : Bool) (trying : Trying) (items : List Item) (tracked ends : Bool) (old new : Option FlowState) (hits_old hits_new : List Hits) : Type 0 where
+pub record SettlesBy (all : Bool) (trying : Trying) (items : List Item) (tracked ends : Bool) (old new : Option FlowState)
+    (hits_old hits_new : List Hits) : Type 0 where
   pub hits_are : hits_new ≡ hits_old ++ told all (hits_of trying (bits_now tracked old) items)
   pub state_is : new ≡ option_map (λ session. record {
     session = steered trying.rules (hits_of trying (bits_now tracked old) items) session;
@@ -39,9 +41,12 @@ abbrev pub bits_on : Step → Option FlowState → Option Bits
 bits_on step found = if step.tracked then Some (if step.begun then empty else unwrap_or (bits_at_hand found) empty) else None
 
 -- the packet's session begins, or goes on from this one: its items with their rules, and what it is then
-pub record GoesOn (all : Bool) (trying : Trying) (making : Making) (p : Packet) (step : Step) (state : State) (old new : Option FlowState) (hits_old hits_new : List Hits) : Type 0 where
-  pub hits_are : hits_new ≡ hits_old ++ told all (hits_of trying (bits_on step old) (items_on making p step state (session_at_hand old)))
+pub record GoesOn (all : Bool) (trying : Trying) (making : Making) (p : Packet) (step : Step) (state : State)
+    (old new : Option FlowState) (hits_old hits_new : List Hits) : Type 0 where
+  pub hits_are : hits_new ≡ hits_old ++ told all (hits_of trying (bits_on step old)
+      (items_on making p step state (session_at_hand old)))
   pub state_is : new ≡ option_map (λ session. record {
-    session = steered trying.rules (hits_of trying (bits_on step old) (items_on making p step state (session_at_hand old))) session;
+    session = steered trying.rules (hits_of trying (bits_on step old) (items_on making p step state (session_at_hand old)))
+        session;
     bits = unwrap_or (bits_after_items trying (bits_on step old) (items_on making p step state (session_at_hand old))) empty;
   }) (if step.ends then None else session_behind p step (session_of making p (session_at_hand old) step state))

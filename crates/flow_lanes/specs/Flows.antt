@@ -57,7 +57,8 @@ bits_at_hand found = option_map (λ (s : FlowState). s.bits) found
 
 -- the bits that the packet's items find: those of its session, and none set where it begins one
 abbrev pub bits_found : JobItems → Option FlowState → Option Bits
-bits_found items found = if items.tracked then Some (if items.begun then empty else unwrap_or (bits_at_hand found) empty) else None
+bits_found items found =
+    if items.tracked then Some (if items.begun then empty else unwrap_or (bits_at_hand found) empty) else None
 
 -- What rules ask of reassembly.
 
@@ -73,7 +74,8 @@ sides_behind sides option = sides
 
 -- the sides behind a rule that matches, and behind all rules that match an item
 abbrev pub sides_after_rule : List Rule → SidesOn → ℕ → SidesOn
-sides_after_rule rules sides place = option_map_or (λ (rule : Rule). fold sides_behind sides rule.opts) (slice_get rules place) sides
+sides_after_rule rules sides place =
+    option_map_or (λ (rule : Rule). fold sides_behind sides rule.opts) (slice_get rules place) sides
 
 abbrev pub sides_after_hit : List Rule → SidesOn → Hits → SidesOn
 sides_after_hit rules sides hit = fold (sides_after_rule rules) sides hit.rules
@@ -92,7 +94,8 @@ all_items items = items.ended ++ items.current
 
 -- the same with all rules that match: a session that has ended sees its own bits to its last item
 unfoldable pub hits_in : Trying → JobItems → Option FlowState → List Hits
-hits_in trying items found = hits_of trying (bits_at_hand found) items.ended ++ hits_of trying (bits_found items found) items.current
+hits_in trying items found =
+    hits_of trying (bits_at_hand found) items.ended ++ hits_of trying (bits_found items found) items.current
 
 -- what the flow's next job finds
 unfoldable pub state_after : Trying → JobItems → Option FlowState → Option FlowState
@@ -121,12 +124,14 @@ items d earlier job = all_items (work_items d.making job.moment job.work (sessio
 unfoldable pub hits : Detection → List Job → Job → JobHits
 hits d earlier job = record {
   number = job.number;
-  items = hits_in d.trying (work_items d.making job.moment job.work (session_at_hand (flow_state d earlier))) (flow_state d earlier);
+  items = hits_in d.trying (work_items d.making job.moment job.work (session_at_hand (flow_state d earlier)))
+      (flow_state d earlier);
 }
 
 -- how many candidates its items have: how many rules are worth being tried
 unfoldable pub tries : Detection → List Job → Job → ℕ
-tries d earlier job = sum_by (λ (item : Item). length (candidates d.trying.rules item.head.body item.payload)) (items d earlier job)
+tries d earlier job =
+    sum_by (λ (item : Item). length (candidates d.trying.rules item.head.body item.payload)) (items d earlier job)
 
 -- The answer to a job, behind all earlier jobs.
 

@@ -41,7 +41,18 @@ abbrev pub head_between : End → End → Bool → Moment → ℕ × ℕ → Ite
 head_between from to of_client moment sizes = record {
   kind = kind.Stream;
   moment = moment;
-  ip = record { src = from.addr; dst = to.addr; protocol = 6; ttl = 0; tos = 0; id = 0; reserved = false; dont = false; more = false; offset = 0 };
+  ip = record {
+    src = from.addr;
+    dst = to.addr;
+    protocol = 6;
+    ttl = 0;
+    tos = 0;
+    id = 0;
+    reserved = false;
+    dont = false;
+    more = false;
+    offset = 0;
+  };
   body = body.Stream from.port to.port;
   session = record { tracked = true; established = true; from_client = Some of_client; sizes = Some sizes };
 }
@@ -71,7 +82,8 @@ held_items = both_sides held_payloads
 
 -- the items of a session that has ended: they tell its last sizes
 unfoldable pub closing_items : Session → Moment → List Item
-closing_items session moment = left_items session moment (sizes_of session) ++ held_items (settled session) moment (sizes_of session)
+closing_items session moment =
+    left_items session moment (sizes_of session) ++ held_items (settled session) moment (sizes_of session)
 
 -- Items of a packet.
 
@@ -95,13 +107,15 @@ is_queued p step (Some session) = step.takes_data && queues (sending_side step s
 
 -- the packet, unless its data were queued and such packets are no items
 abbrev pub own_items : Making → Packet → Step → Option Session → Option Session → List Item
-own_items making p step session after = if is_queued p step session && not making.inserts then [] else packet_item p step after ∷ []
+own_items making p step session after =
+    if is_queued p step session && not making.inserts then [] else packet_item p step after ∷ []
 
 -- the streams that its acknowledgement flushes
 abbrev pub acked_items : Packet → Step → Session → ℕ × ℕ → List Item
 acked_items p step session sizes =
     if step.counts_ack
-    then stream_items (acked_side step session) (not (unwrap_or step.from_client true)) p.moment sizes (acked_payloads (acked_side step session) (ack_of p))
+    then stream_items (acked_side step session) (not (unwrap_or step.from_client true)) p.moment sizes
+    (acked_payloads (acked_side step session) (ack_of p))
     else []
 
 -- the session behind the packet, and before an end

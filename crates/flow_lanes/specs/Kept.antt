@@ -30,10 +30,12 @@ IsKept flow = IsKeptBy flow.facts (session_at_hand flow.found)
 
 -- a flow's session stays of its protocol and comes no further; or it comes as far as one packet allows
 abbrev pub KeepsFound : Option FlowState → Option FlowState → Type 0
-KeepsFound old new = (tcp : Bool) (places : ℕ) → IsFound tcp places (session_at_hand old) → IsFound tcp places (session_at_hand new)
+KeepsFound old new =
+    (tcp : Bool) (places : ℕ) → IsFound tcp places (session_at_hand old) → IsFound tcp places (session_at_hand new)
 
 abbrev pub GrowsFound : Option FlowState → Option FlowState → Type 0
-GrowsFound old new = (tcp : Bool) (places : ℕ) → IsFound tcp places (session_at_hand old) → IsFound tcp (places + 2 ^ 31) (session_at_hand new)
+GrowsFound old new =
+    (tcp : Bool) (places : ℕ) → IsFound tcp places (session_at_hand old) → IsFound tcp (places + 2 ^ 31) (session_at_hand new)
 
 -- what is known of a flow behind one more of its packets
 abbrev pub facts_after_packet : Packet → Option FlowFacts → FlowFacts

@@ -11,7 +11,8 @@ use Rattle.flow_lanes.specs.Hits.{Bits, Item, Test, bits_after, bits_seen}
 
 -- the rule at a place matches
 abbrev pub matches_at : Test → List Rule → Item → Option Bits → ℕ → Bool
-matches_at test rules item bits place = option_map_or (λ (rule : Rule). test rule item (bits_seen bits)) (slice_get rules place) false
+matches_at test rules item bits place =
+    option_map_or (λ (rule : Rule). test rule item (bits_seen bits)) (slice_get rules place) false
 
 -- the bits behind the rule at a place, which matches
 abbrev pub bits_behind_at : List Rule → Option Bits → ℕ → Option Bits
@@ -38,11 +39,13 @@ abbrev pub ChangesKnownBits : Rule → Type 0
 ChangesKnownBits rule = All IsKnownChange rule.opts
 
 -- one more place is tried: it is picked and its changes are made where its rule matches
-pub record Picks (test : Test) (rules : List Rule) (item : Item) (place : ℕ) (old new : Option Bits) (found_old found_new : List ℕ) : Type 0 where
+pub record Picks (test : Test) (rules : List Rule) (item : Item) (place : ℕ) (old new : Option Bits)
+    (found_old found_new : List ℕ) : Type 0 where
   pub found : found_new ≡ (if matches_at test rules item old place then found_old ++ place ∷ [] else found_old)
   pub bits : new ≡ (if matches_at test rules item old place then bits_behind_at rules old place else old)
 
 -- places are tried one after another: those of them are picked at which the rule matches
-pub record PicksAll (test : Test) (rules : List Rule) (item : Item) (places : List ℕ) (old new : Option Bits) (kept : List ℕ) : Type 0 where
+pub record PicksAll (test : Test) (rules : List Rule) (item : Item) (places : List ℕ) (old new : Option Bits)
+    (kept : List ℕ) : Type 0 where
   pub found : kept ≡ picked test rules item old places
   pub bits : new ≡ bits_after_all rules old kept

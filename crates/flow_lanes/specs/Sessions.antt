@@ -72,10 +72,12 @@ session_rules making p found = record {
 
 -- what the packet tells of its session, and where the session stands behind it
 unfoldable pub step_of : Making → Packet → Option Session → Step
-step_of making p found = (session_step (state_found p found) (segment_of p.head.ip p.head.body (length p.payload) p.moment) (session_rules making p found)).step
+step_of making p found = (session_step (state_found p found) (segment_of p.head.ip p.head.body (length p.payload) p.moment)
+    (session_rules making p found)).step
 
 unfoldable pub state_of : Making → Packet → Option Session → State
-state_of making p found = (session_step (state_found p found) (segment_of p.head.ip p.head.body (length p.payload) p.moment) (session_rules making p found)).state
+state_of making p found = (session_step (state_found p found) (segment_of p.head.ip p.head.body (length p.payload) p.moment)
+    (session_rules making p found)).state
 
 -- the client sent the packet. Where no client is known, neither data nor acknowledgements count
 abbrev pub is_from_client : Step → Bool
@@ -92,13 +94,15 @@ server_end p step = if is_from_client step then receiver p else sender p
 abbrev pub client_at_begin : Making → Packet → End → End → Side
 client_at_begin making p client server =
     let to : Toward = toward p server in
-    side_at_begin client server (limits_to making to.engine) to.preference (is_listed (engine_for making to.engine).client_ports server.port)
+    side_at_begin client server (limits_to making to.engine) to.preference
+    (is_listed (engine_for making to.engine).client_ports server.port)
 
 -- the server's side: its data go to the client, and count by the server's port as well
 abbrev pub server_at_begin : Making → Packet → End → End → Side
 server_at_begin making p client server =
     let to : Toward = toward p client in
-    side_at_begin server client (limits_to making to.engine) to.preference (is_listed (engine_for making to.engine).server_ports server.port)
+    side_at_begin server client (limits_to making to.engine) to.preference
+    (is_listed (engine_for making to.engine).server_ports server.port)
 
 -- a session that the packet begins
 unfoldable pub begun_session : Making → Packet → Step → State → Session

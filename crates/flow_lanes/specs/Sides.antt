@@ -70,7 +70,8 @@ queues side seq bytes = side.on && is_held (segment_fate (started_by side.direct
 
 -- what an acknowledgement of the side's data flushes
 unfoldable pub acked_payloads : Side → ℕ → List (List ℕ)
-acked_payloads side ack = if ack_flushes side.direction ack then flushed_payloads side.direction (ack_place side.direction ack) else []
+acked_payloads side ack =
+    if ack_flushes side.direction ack then flushed_payloads side.direction (ack_place side.direction ack) else []
 
 -- the side behind an acknowledgement
 unfoldable pub side_after_ack : Side → ℕ → Side

@@ -28,7 +28,11 @@ abbrev pub key_of_packet : Packet → Key
 key_of_packet p = key_of (is_tcp p.head.body) (sender p) (receiver p)
 
 abbrev pub ends_of : Packet → FlowEnds
-ends_of p = record { key = key_of_packet p; low = way_of (toward p (key_of_packet p).low); high = way_of (toward p (key_of_packet p).high) }
+ends_of p = record {
+  key = key_of_packet p;
+  low = way_of (toward p (key_of_packet p).low);
+  high = way_of (toward p (key_of_packet p).high);
+}
 
 -- what is known of the flow behind one more job
 abbrev pub facts_behind_work : Option FlowFacts → Moment → Work → Option FlowFacts

@@ -59,7 +59,8 @@ is_of_flow flow job = same_number (Some flow) (flow_of job)
 
 -- what is kept of a flow behind one more of its jobs: nothing behind its end
 abbrev pub kept_behind : Detection → Option KeptFlow → Job → Option KeptFlow
-kept_behind d kept job = option_map (λ facts. record { facts = facts; found = state_behind d (state_kept kept) job }) (facts_behind (facts_kept kept) job)
+kept_behind d kept job = option_map (λ facts. record { facts = facts; found = state_behind d (state_kept kept) job })
+    (facts_behind (facts_kept kept) job)
 
 -- what is kept behind these jobs of one flow
 abbrev pub kept_after : Detection → List Job → Option KeptFlow
@@ -73,7 +74,8 @@ pub record Stands (d : Detection) (lane : LaneState) (before : List Job) : Type 
 
 -- what is detected by is this configuration and these rules, and it is told which of them match, where
 -- `finds` says what the made patterns find and `means` what their texts mean
-pub record DetectsBy {P : Type 0} (finds : P → List ℕ → Option Span) (means : Means) (stream : StreamConfig) (set : Rules P) (d : Detection) : Type 0 where
+pub record DetectsBy {P : Type 0} (finds : P → List ℕ → Option Span) (means : Means) (stream : StreamConfig) (set : Rules P)
+    (d : Detection) : Type 0 where
   pub config : d.making.stream ≡ stream
   pub rules : d.trying.rules ≡ set.rules
   pub made : FindWhatIsMeant finds means set
@@ -88,7 +90,8 @@ is_stretch carried = false
 
 -- the stream items of a job of a flow are short
 abbrev pub AreShort : Job → List Item → Type 0
-AreShort job items = IsSome (flow_of job) → All (λ (item : Item). is_stretch item.head.body ≡ true → length item.payload ≤ item_size) items
+AreShort job items =
+    IsSome (flow_of job) → All (λ (item : Item). is_stretch item.head.body ≡ true → length item.payload ≤ item_size) items
 
 -- a job of a lane is answered: whatever jobs the lane stood for, the entry is the definition's, and the
 -- lane stands for those and this job
@@ -97,24 +100,29 @@ pub record IsAnswered (d : Detection) (before : List Job) (job : Job) (entry : J
   pub short : AreShort job (within same_flow (items d) before job)
   pub stands : Stands d new (before ++ job ∷ [])
 
-abbrev pub AnswersJob : {P : Type 0} → (P → List ℕ → Option Span) → StreamConfig → Rules P → LaneState → Job → JobHits → LaneState → Type 0
+abbrev pub AnswersJob : {P : Type 0} → (P → List ℕ → Option Span) → StreamConfig → Rules P → LaneState → Job → JobHits → LaneState
+    → Type 0
 AnswersJob finds stream set old job entry new =
-    (means : Means) (d : Detection) (before : List Job) → DetectsBy finds means stream set d → Stands d old before → IsAnswered d before job entry new
+    (means : Means) (d : Detection) (before : List Job) → DetectsBy finds means stream set d → Stands d old before
+    → IsAnswered d before job entry new
 
 -- the number of candidates of a job is told: whatever jobs the lane stood for, it is the definition's
 abbrev pub CountsTries : {P : Type 0} → (P → List ℕ → Option Span) → StreamConfig → Rules P → LaneState → Job → ℕ → Type 0
 CountsTries finds stream set old job tries =
-    (means : Means) (d : Detection) (before : List Job) → DetectsBy finds means stream set d → Stands d old before → tries ≡ answer_tries d before job
+    (means : Means) (d : Detection) (before : List Job) → DetectsBy finds means stream set d → Stands d old before
+    → tries ≡ answer_tries d before job
 
 -- the lane has done a job, by what it keeps: the flow of the job has one job more, and no other flow changes
 pub record HasDone (d : Detection) (old : LaneState) (job : Job) (new : LaneState) : Type 0 where
   pub flush : new.flush ≡ old.flush
   pub inserts : new.inserts ≡ old.inserts
-  pub flows : (flow : ℕ) → kept_of new flow ≡ (if is_of_flow flow job then kept_behind d (kept_of old flow) job else kept_of old flow)
+  pub flows : (flow : ℕ) → kept_of new flow ≡ (if is_of_flow flow job then kept_behind d (kept_of old flow) job
+      else kept_of old flow)
 
 -- what the lane knows of any job's flow behind a job: it has learnt of that job's own
 abbrev pub LearnsJob : LaneState → Job → LaneState → Type 0
-LearnsJob old job new = (other : Job) → known_of new other ≡ facts_after (known_of old other) (filter (same_flow other) (job ∷ []))
+LearnsJob old job new =
+    (other : Job) → known_of new other ≡ facts_after (known_of old other) (filter (same_flow other) (job ∷ []))
 
 -- Lanes.
 
@@ -134,7 +142,11 @@ is_in_lane count lane job = lane_of count (flow_of job) == lane
 
 -- so many lanes that stand for no job
 abbrev pub AreNew : ℕ → ℕ → Bool → LanesState → Type 0
-AreNew count flush inserts lanes = lanes ≡ record { lanes = replicate count (new_lane flush inserts); greatest = None; failed = false }
+AreNew count flush inserts lanes = lanes ≡ record {
+  lanes = replicate count (new_lane flush inserts);
+  greatest = None;
+  failed = false;
+}
 
 -- the lanes stand for these jobs: each lane for those of its flows, and for no others
 pub record LanesStand (d : Detection) (lanes : LanesState) (before : List Job) : Type 0 where
@@ -144,12 +156,14 @@ pub record LanesStand (d : Detection) (lanes : LanesState) (before : List Job) :
 
 -- what the lanes know of the flow of a job
 abbrev pub known_in : LanesState → Job → Option FlowFacts
-known_in lanes job = option_and_then (λ (lane : LaneState). known_of lane job) (slice_get lanes.lanes (lane_of (length lanes.lanes) (flow_of job)))
+known_in lanes job =
+    option_and_then (λ (lane : LaneState). known_of lane job) (slice_get lanes.lanes (lane_of (length lanes.lanes) (flow_of job)))
 
 -- each job of a batch is sound, behind what the lanes know and the batch's earlier jobs of its flow
 abbrev pub AreSoundFor : ℕ → LanesState → List Job → Type 0
 AreSoundFor engines lanes jobs =
-    (front : List Job) (job : Job) (rest : List Job) → jobs ≡ front ++ job ∷ rest → IsSoundFor engines (facts_after (known_in lanes job) (filter (same_flow job) front)) job
+    (front : List Job) (job : Job) (rest : List Job) → jobs ≡ front ++ job ∷ rest
+    → IsSoundFor engines (facts_after (known_in lanes job) (filter (same_flow job) front)) job
 
 -- the numbers of a batch ascend, and are above all earlier ones
 pub record AreNext (lanes : LanesState) (jobs : List Job) : Type 0 where
@@ -169,9 +183,11 @@ pub record IsBatchAnswered (d : Detection) (before jobs : List Job) (out : Batch
   pub tries : out.tries ≡ sum (along_from (answer_tries d) before jobs)
   pub stands : LanesStand d new (before ++ jobs)
 
-abbrev pub AnswersBatch : {P : Type 0} → (P → List ℕ → Option Span) → StreamConfig → Rules P → LanesState → List Job → BatchOut → LanesState → Type 0
+abbrev pub AnswersBatch : {P : Type 0} → (P → List ℕ → Option Span) → StreamConfig → Rules P → LanesState → List Job → BatchOut
+    → LanesState → Type 0
 AnswersBatch finds stream set old jobs out new =
-    (means : Means) (d : Detection) (before : List Job) → DetectsBy finds means stream set d → LanesStand d old before → IsBatchAnswered d before jobs out new
+    (means : Means) (d : Detection) (before : List Job) → DetectsBy finds means stream set d → LanesStand d old before
+    → IsBatchAnswered d before jobs out new
 
 -- a batch is searched: whatever jobs the lanes stood for, there is one entry a job in their order, with those of
 -- its items that a rule matches; all items are counted, and all candidates; and the lanes stand for those jobs
@@ -182,9 +198,11 @@ pub record IsBatchSearched (d : Detection) (before jobs : List Job) (out : Match
   pub tries : out.tries ≡ sum (along_from (answer_tries d) before jobs)
   pub stands : LanesStand d new (before ++ jobs)
 
-abbrev pub SearchesBatch : {P : Type 0} → (P → List ℕ → Option Span) → StreamConfig → Rules P → LanesState → List Job → Matches → LanesState → Type 0
+abbrev pub SearchesBatch : {P : Type 0} → (P → List ℕ → Option Span) → StreamConfig → Rules P → LanesState → List Job → Matches
+    → LanesState → Type 0
 SearchesBatch finds stream set old jobs out new =
-    (means : Means) (d : Detection) (before : List Job) → DetectsBy finds means stream set d → LanesStand d old before → IsBatchSearched d before jobs out new
+    (means : Means) (d : Detection) (before : List Job) → DetectsBy finds means stream set d → LanesStand d old before
+    → IsBatchSearched d before jobs out new
 
 -- memory was lacking: from then on no batch is answered
 abbrev pub HasFailed : LanesState → Type 0
@@ -200,4 +218,5 @@ answers_of_flow d flow jobs = map (λ p. p.1) (filter (λ p. is_of_flow flow p.0
 abbrev pub AreLaneAnswers : Detection → List Job → List Job → List (List JobHits) → Type 0
 AreLaneAnswers d before jobs parts =
     (place : ℕ) (other : List JobHits) → place < length parts
-    → slice_index_or parts place other ≡ along_from (answer d) (filter (is_in_lane (length parts) place) before) (filter (is_in_lane (length parts) place) jobs)
+    → slice_index_or parts place other ≡ along_from (answer d) (filter (is_in_lane (length parts) place) before)
+    (filter (is_in_lane (length parts) place) jobs)

@@ -13,18 +13,21 @@ use Rattle.flow_lanes.specs.Hits.{Bits, Item, Tells}
 use Rattle.flow_lanes.specs.ItemHits.{Trying, bits_after_item, bits_after_items, hit, hits_of, told}
 
 -- the rules of the set are tried, and it is told which of them match
-pub record TriesBy {P : Type 0} (finds : P → List ℕ → Option Span) (means : Means) (set : Rules P) (trying : Trying) : Type 0 where
+pub record TriesBy {P : Type 0} (finds : P → List ℕ → Option Span) (means : Means) (set : Rules P)
+    (trying : Trying) : Type 0 where
   pub rules : trying.rules ≡ set.rules
   pub made : FindWhatIsMeant finds means set
   pub told : Tells means trying.matches
 
 -- an item is tried: it stands behind the others with its rules, if it is told, and these leave these bits
-pub record TriesOne (all : Bool) (trying : Trying) (item : Item) (old new : Option Bits) (hits_old hits_new : List Hits) : Type 0 where
+pub record TriesOne (all : Bool) (trying : Trying) (item : Item) (old new : Option Bits)
+    (hits_old hits_new : List Hits) : Type 0 where
   pub hits : hits_new ≡ hits_old ++ told all (hit trying old item ∷ [])
   pub bits : new ≡ bits_after_item trying old item
 
 -- items of one session are tried, in order
-pub record TriesAll (all : Bool) (trying : Trying) (items : List Item) (old new : Option Bits) (hits_old hits_new : List Hits) : Type 0 where
+pub record TriesAll (all : Bool) (trying : Trying) (items : List Item) (old new : Option Bits)
+    (hits_old hits_new : List Hits) : Type 0 where
   pub hits : hits_new ≡ hits_old ++ told all (hits_of trying old items)
   pub bits : new ≡ bits_after_items trying old items
 

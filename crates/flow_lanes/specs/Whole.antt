@@ -38,14 +38,20 @@ kept_by making trying moment w kept =
     }) (facts_behind_work (facts_kept kept) moment w)
 
 -- the job is done with these rules: its items that are told, and what is then kept of each flow
-pub record IsDoneBy (all : Bool) (making : Making) (trying : Trying) (moment : Moment) (w : Work) (old new : List (ℕ × KeptFlow)) (given : List Hits) : Type 0 where
+pub record IsDoneBy (all : Bool) (making : Making) (trying : Trying) (moment : Moment) (w : Work) (old new : List (ℕ × KeptFlow))
+    (given : List Hits) : Type 0 where
   pub hits : given ≡ told all (hits_in trying (items_for making moment w old) (found_for old w))
-  pub flows : (flow : ℕ) → kept_in new flow ≡ (if same_number (Some flow) (flow_of_work w) then kept_by making trying moment w (kept_in old flow) else kept_in old flow)
+  pub flows : (flow : ℕ) → kept_in new flow ≡ (if same_number (Some flow) (flow_of_work w)
+      then kept_by making trying moment w (kept_in old flow) else kept_in old flow)
 
 -- the job is done: by any rules that tell what the set's patterns find; its items and their candidates are
 -- counted; and it is known what the job says of its flow
-pub record IsDone {P : Type 0} (finds : P → List ℕ → Option Span) (set : Rules P) (all : Bool) (making : Making) (moment : Moment) (w : Work) (old new : List (ℕ × KeptFlow)) (tally : Tally) : Type 0 where
-  pub done : (means : Means) (trying : Trying) → TriesBy finds means set trying → IsDoneBy all making trying moment w old new tally.hits.items
+pub record IsDone {P : Type 0} (finds : P → List ℕ → Option Span) (set : Rules P) (all : Bool) (making : Making) (moment : Moment)
+    (w : Work) (old new : List (ℕ × KeptFlow)) (tally : Tally) : Type 0 where
+  pub done : (means : Means) (trying : Trying) → TriesBy finds means set trying
+      → IsDoneBy all making trying moment w old new tally.hits.items
   pub items : tally.items ≡ length (all_items (items_for making moment w old))
   pub tries : tally.tries ≡ candidates_of set.rules (all_items (items_for making moment w old))
-  pub facts : (flow : ℕ) → facts_kept (kept_in new flow) ≡ (if same_number (Some flow) (flow_of_work w) then facts_behind_work (facts_kept (kept_in old flow)) moment w else facts_kept (kept_in old flow))
+  pub facts : (flow : ℕ) → facts_kept (kept_in new flow)
+      ≡ (if same_number (Some flow) (flow_of_work w) then facts_behind_work (facts_kept (kept_in old flow)) moment w
+      else facts_kept (kept_in old flow))

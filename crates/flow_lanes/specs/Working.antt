@@ -28,12 +28,16 @@ stretch_of side payloads = record { from = side.from; to = side.to; payloads = p
 
 -- those of both sides
 abbrev pub stretches_of : (Side → List (List ℕ)) → Session → Stretches
-stretches_of payloads session = record { client = stretch_of session.client (payloads session.client); server = stretch_of session.server (payloads session.server) }
+stretches_of payloads session = record {
+  client = stretch_of session.client (payloads session.client);
+  server = stretch_of session.server (payloads session.server);
+}
 
 -- the stream items of a stretch
 abbrev pub stretch_items : Bool → Moment → ℕ × ℕ → Stretch → List Item
 stretch_items of_client moment sizes stretch =
-    map (λ payload. record { head = head_between stretch.from stretch.to of_client moment sizes; payload = payload }) stretch.payloads
+    map (λ payload. record { head = head_between stretch.from stretch.to of_client moment sizes; payload = payload })
+    stretch.payloads
 
 -- those of both sides, the client's first
 abbrev pub stretches_items : Moment → ℕ × ℕ → Stretches → List Item
@@ -53,7 +57,8 @@ TellsLeft session left = (moment : Moment) (sizes : ℕ × ℕ) → maybe_items 
 
 -- the same of the session at hand, if there is one
 abbrev pub TellsLeftAt : Option Session → Option Stretches → Type 0
-TellsLeftAt found left = (moment : Moment) (sizes : ℕ × ℕ) → maybe_items moment sizes left ≡ option_map_or (λ s. left_items s moment sizes) found []
+TellsLeftAt found left =
+    (moment : Moment) (sizes : ℕ × ℕ) → maybe_items moment sizes left ≡ option_map_or (λ s. left_items s moment sizes) found []
 
 -- how far the data of a session reach, if there is one
 abbrev pub sizes_behind : Option Session → ℕ × ℕ

@@ -34,7 +34,8 @@ fn part_at(alloc: Global, bytes: &[u8], part: usize) -> Result<Text, NoMemory>
 /// Appends the first so many parts.
 fn cut_parts(alloc: Global, bytes: &[u8], count: usize, out: &mut Vec<Text>) -> Result<(), NoMemory>
     requires { count ≡ (length bytes.now + (item_size - 1)) / item_size }
-    ensures { OnOk result (out.new.items ≡ out.old.items ++ map (λ part. take item_size (drop (part * item_size) bytes.now)) (range_with_len 0 count)) }
+    ensures { OnOk result (out.new.items ≡ out.old.items
+        ++ map (λ part. take item_size (drop (part * item_size) bytes.now)) (range_with_len 0 count)) }
 {
     for part in 0..count {
         let text = part_at(alloc, bytes, part)?;

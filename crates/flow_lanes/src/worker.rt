@@ -98,7 +98,8 @@ fn answer_own<P: Pattern>(
     requires config { IsStreamConfig detector.now.stream.now }
     requires groups { StandFor detector.now.groups.now detector.now.set.now.rules }
     requires triable { All IsTriable detector.now.set.now.rules }
-    ensures { OnOk result (AddsOwn P.finds detector.now.stream.now detector.now.set.now detector.now.all share.count share.place job.now
+    ensures { OnOk result (AddsOwn P.finds detector.now.stream.now detector.now.set.now detector.now.all share.count share.place
+        job.now
         lane.old outs.old.items lane.new outs.new.items) }
 {
     if lane_of(share.count, flow_of(job)) == share.place {

@@ -37,7 +37,8 @@ is_first key (first ∷ later) = same_key key first.0
 -- is not dropped for the room of this fragment
 abbrev pub is_kept : ℕ → Trackers → DatagramKey → ℕ → Bool
 is_kept most trackers key moment =
-    option_map_or (λ (t : TrackerState). not (is_timed_out moment t) && not (nat_le most (held_count trackers) && is_first key trackers))
+    option_map_or (λ (t : TrackerState). not (is_timed_out moment t)
+    && not (nat_le most (held_count trackers) && is_first key trackers))
     (lookup (same_key key) trackers) false
 
 -- a fragment joined the tracker of this key, where there is one, and these are the bytes of its datagram
@@ -57,7 +58,8 @@ settled key whole trackers = if whole then remove_entry (same_key key) trackers 
 -- a tracker that stands takes a fragment, with room for it
 abbrev pub Grows : ℕ → Trackers → DatagramKey → IpHead → List ℕ → Trackers → Option (List ℕ) → Type 0
 Grows most old key ip part new bytes = (t : TrackerState) → lookup (same_key key) old ≡ Some t
-    → (new ≡ settled key (is_some (datagram_of (joined ip part t))) (roomy (most + 1) (set_value (same_key key) old (joined ip part t))))
+    → (new ≡ settled key (is_some (datagram_of (joined ip part t)))
+    (roomy (most + 1) (set_value (same_key key) old (joined ip part t))))
     × (bytes ≡ datagram_of (joined ip part t))
 
 -- a tracker that a fragment began stands last, with room for it, in the stead of any that has its key
@@ -69,7 +71,8 @@ placed most key t whole trackers =
 -- a fragment begins a tracker
 abbrev pub Begins : ℕ → Trackers → TrackerState → IpHead → List ℕ → Trackers → Option (List ℕ) → Type 0
 Begins most old t ip part new bytes =
-    (new ≡ placed most (key_of ip) (joined ip part t) (is_some (datagram_of (joined ip part t))) old) × (bytes ≡ datagram_of (joined ip part t))
+    (new ≡ placed most (key_of ip) (joined ip part t) (is_some (datagram_of (joined ip part t))) old)
+    × (bytes ≡ datagram_of (joined ip part t))
 
 -- a fragment that is not ignored is taken
 abbrev pub Takes : ℕ → Trackers → Fragment → Trackers → Option (List ℕ) → Type 0

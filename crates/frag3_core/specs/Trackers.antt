@@ -95,7 +95,8 @@ is_timed_out moment t = nat_lt (t.first + t.timeout * 1000000000) moment
 -- without the fragment's own tracker, if that has timed out
 abbrev pub in_time : Fragment → Trackers → Trackers
 in_time f trackers =
-    if option_map_or (is_timed_out f.moment) (tracker_of (key_of f.ip) trackers) false then without (key_of f.ip) trackers else trackers
+    if option_map_or (is_timed_out f.moment) (tracker_of (key_of f.ip) trackers) false then without (key_of f.ip) trackers
+    else trackers
 
 -- while one fragment more would be more than `most`, the first tracker is dropped
 abbrev pub with_room : ℕ → Trackers → Trackers

@@ -90,7 +90,8 @@ IsWay rule from to = IsEnd rule.proto rule.src rule.sports from × IsEnd rule.pr
 -- the header holds: `<>` takes either way
 unfoldable pub HeaderHolds : Rule → ItemHead → Type 0
 HeaderHolds rule head =
-    (is_of rule.proto head.body ≡ true) × (IsWay rule (source_of head) (destination_of head) ⊎ ((rule.both ≡ true) × IsWay rule (destination_of head) (source_of head)))
+    (is_of rule.proto head.body ≡ true) × (IsWay rule (source_of head) (destination_of head)
+    ⊎ ((rule.both ≡ true) × IsWay rule (destination_of head) (source_of head)))
 
 -- The values of fields: none where the item lacks the field.
 

@@ -24,7 +24,18 @@ abbrev pub tcp_head : ℕ → ℕ → ℕ → ℕ → ℕ → ℕ → ℕ → It
 tcp_head src sport dst dport flags seq ack = record {
   kind = kind.Packet;
   moment = record { nanos = 0 };
-  ip = record { src = addr.V4 src; dst = addr.V4 dst; protocol = 6; ttl = 64; tos = 0; id = 7; reserved = false; dont = false; more = false; offset = 0 };
+  ip = record {
+    src = addr.V4 src;
+    dst = addr.V4 dst;
+    protocol = 6;
+    ttl = 64;
+    tos = 0;
+    id = 7;
+    reserved = false;
+    dont = false;
+    more = false;
+    offset = 0;
+  };
   body = body.Tcp (record { sport = sport; dport = dport; seq = seq; ack = ack; flags = flags; window = 0 });
   session = record { tracked = false; established = false; from_client = None; sizes = None };
 }
@@ -44,7 +55,13 @@ dialogue_ends preference = record {
 pub record IsTurnHead (head : ItemHead) : Type 0 where
   pub protocol : HasSessions head.body
   pub ends : (preference : Preference) (needed : Bool) (payload : List ℕ) (moment : Moment)
-      → ends_of (record { head = head; payload = payload; moment = moment; to_dst = by_both preference needed; to_src = by_both preference needed }) ≡ dialogue_ends preference
+      → ends_of (record {
+        head = head;
+        payload = payload;
+        moment = moment;
+        to_dst = by_both preference needed;
+        to_src = by_both preference needed;
+      }) ≡ dialogue_ends preference
 
 -- a turn of the dialogue
 pub record IsTurn (preference : Preference) (flow : ℕ) (p : Packet) : Type 0 where

@@ -75,7 +75,8 @@ groups_value groups = fold (λ value group. value * 65536 + group) 0 groups
 -- the place of the first `::`
 unfoldable pub gap_place : List ℕ → Option ℕ
 gap_place [] = None
-gap_place (byte ∷ rest) = if starts_with nat_eq (byte ∷ rest) (codes "::") then Some 0 else option_map (λ place. 1 + place) (gap_place rest)
+gap_place (byte ∷ rest) =
+    if starts_with nat_eq (byte ∷ rest) (codes "::") then Some 0 else option_map (λ place. 1 + place) (gap_place rest)
 
 -- what stands before the first `::` and behind it
 unfoldable pub gap : List ℕ → Option (List ℕ × List ℕ)

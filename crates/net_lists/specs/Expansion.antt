@@ -40,7 +40,8 @@ pieces variables text place (suc passed) (byte ∷ rest) = pieces variables text
 pieces variables text place zero (byte ∷ rest) =
     if byte == 36 then elim (form_at text (place + 1)) [
       | None ↦ Bytes (byte ∷ []) ∷ pieces variables text (place + 1) 0 rest
-      | Some form ↦ piece_of text form (variable_of variables text form) ∷ pieces variables text (place + 1) (form.end - (place + 1)) rest
+      | Some form ↦ piece_of text form (variable_of variables text form) ∷ pieces variables text (place + 1)
+          (form.end - (place + 1)) rest
     ]
     else Bytes (byte ∷ []) ∷ pieces variables text (place + 1) 0 rest
 
@@ -70,5 +71,7 @@ Expands (Err TooLong) appended expanded = expanded ≡ Err TooLong
 -- a piece of the text at a place, with the place behind it, or what an undefined variable shows there
 abbrev pub GivesPiece : Variables → List ℕ → ℕ → Result (Bor (List ℕ) × ℕ) Span → Type 0
 GivesPiece variables text place (Ok found) =
-    (place < found.1) × (found.1 ≤ length text) × (pieces variables text place 0 (drop place text) ≡ Bytes found.0.now ∷ pieces variables text found.1 0 (drop found.1 text))
-GivesPiece variables text place (Err span) = (rest : List Piece) × (pieces variables text place 0 (drop place text) ≡ Missing span ∷ rest)
+    (place < found.1) × (found.1 ≤ length text) × (pieces variables text place 0 (drop place text)
+    ≡ Bytes found.0.now ∷ pieces variables text found.1 0 (drop found.1 text))
+GivesPiece variables text place (Err span) =
+    (rest : List Piece) × (pieces variables text place 0 (drop place text) ≡ Missing span ∷ rest)

@@ -44,8 +44,10 @@ unfoldable pub named_form : List ℕ → Span → Option Form
 named_form text name =
     let behind = drop name.end text in
     if starts_with nat_eq behind (codes ")") then Some (record { name = name; end = name.end + 1; otherwise = Refused name })
-    else if starts_with nat_eq behind (codes ":-") then option_map (form_to name (λ shown. Default shown)) (closed text (name.end + 2))
-    else if starts_with nat_eq behind (codes ":?") then option_map (form_to name (λ shown. Refused shown)) (closed text (name.end + 2))
+    else if starts_with nat_eq behind (codes ":-") then option_map (form_to name (λ shown. Default shown))
+    (closed text (name.end + 2))
+    else if starts_with nat_eq behind (codes ":?") then option_map (form_to name (λ shown. Refused shown))
+    (closed text (name.end + 2))
     else None
 
 -- the form in parentheses whose name begins at this place
@@ -58,7 +60,11 @@ parenthesized text place =
 unfoldable pub bare : List ℕ → ℕ → Option Form
 bare text place =
     let len = name_len (drop place text) in
-    if len == 0 then None else Some (record { name = span place (place + len); end = place + len; otherwise = Refused (span place (place + len)) })
+    if len == 0 then None else Some (record {
+      name = span place (place + len);
+      end = place + len;
+      otherwise = Refused (span place (place + len));
+    })
 
 -- the form whose `$` stands right before this place
 unfoldable pub form_at : List ℕ → ℕ → Option Form

@@ -31,7 +31,8 @@ joined groups (piece ∷ pieces) = group piece >>= λ next. with_group groups ne
 -- these groups, if there are at most eight
 abbrev pub groups_upto : Option (List ℕ) → Option Groups
 groups_upto None = None
-groups_upto (Some groups) = if nat_le (length groups) 8 then Some (record { count = length groups; value = groups_value groups }) else None
+groups_upto (Some groups) = if nat_le (length groups) 8 then Some (record { count = length groups; value = groups_value groups })
+    else None
 
 -- the number of eight groups
 abbrev pub whole : Groups → Option ℕ

@@ -25,17 +25,23 @@ pub data Rule : Type 0 where
 -- argument says so. `reads` says which words are parts.
 pub data Derives {B : Type 0} (reads : List ℕ → Option B) : Rule → Bool → List Symbol → List (Part B) → Type 0 where
   -- an operand is a part,
-  part : {negated : Bool} {word : List ℕ} {bounds : B} → reads word ≡ Some bounds → Derives reads Operand negated (Word word ∷ []) (signed negated bounds ∷ [])
+  part : {negated : Bool} {word : List ℕ} {bounds : B} → reads word ≡ Some bounds
+      → Derives reads Operand negated (Word word ∷ []) (signed negated bounds ∷ [])
   -- or a group in brackets;
-  bracket : {negated : Bool} {inner : List Symbol} {parts : List (Part B)} → Derives reads Group negated inner parts → Derives reads Operand negated (Open ∷ (inner ++ Close ∷ [])) parts
+  bracket : {negated : Bool} {inner : List Symbol} {parts : List (Part B)} → Derives reads Group negated inner parts
+      → Derives reads Operand negated (Open ∷ (inner ++ Close ∷ [])) parts
   -- an item is an operand,
-  plain : {negated : Bool} {operand : List Symbol} {parts : List (Part B)} → Derives reads Operand negated operand parts → Derives reads Item negated operand parts
+  plain : {negated : Bool} {operand : List Symbol} {parts : List (Part B)} → Derives reads Operand negated operand parts
+      → Derives reads Item negated operand parts
   -- or a `!` and a negated operand, where it does not stand in a negated bracket;
-  negation : {operand : List Symbol} {parts : List (Part B)} → Derives reads Operand true operand parts → Derives reads Item false (Not ∷ operand) parts
+  negation : {operand : List Symbol} {parts : List (Part B)} → Derives reads Operand true operand parts
+      → Derives reads Item false (Not ∷ operand) parts
   -- a group is an item,
-  one : {negated : Bool} {item : List Symbol} {parts : List (Part B)} → Derives reads Item negated item parts → Derives reads Group negated item parts
+  one : {negated : Bool} {item : List Symbol} {parts : List (Part B)} → Derives reads Item negated item parts
+      → Derives reads Group negated item parts
   -- or a group, a comma and an item
-  more : {negated : Bool} {front item : List Symbol} {before parts : List (Part B)} → Derives reads Group negated front before → Derives reads Item negated item parts → Derives reads Group negated (front ++ (Comma ∷ item)) (before ++ parts)
+  more : {negated : Bool} {front item : List Symbol} {before parts : List (Part B)} → Derives reads Group negated front before
+      → Derives reads Item negated item parts → Derives reads Group negated (front ++ (Comma ∷ item)) (before ++ parts)
 
 -- This text is a list, and spells these parts.
 pub data IsList {B : Type 0} (reads : List ℕ → Option B) : List ℕ → List (Part B) → Type 0 where
@@ -44,11 +50,14 @@ pub data IsList {B : Type 0} (reads : List ℕ → Option B) : List ℕ → List
   -- a part,
   single : {text : List ℕ} {bounds : B} → reads text ≡ Some bounds → IsList reads text (signed false bounds ∷ [])
   -- a part behind a `!`,
-  single_negated : (text : List ℕ) {bounds : B} → reads text ≡ Some bounds → IsList reads (codes "!" ++ text) (signed true bounds ∷ [])
+  single_negated : (text : List ℕ) {bounds : B} → reads text ≡ Some bounds
+      → IsList reads (codes "!" ++ text) (signed true bounds ∷ [])
   -- a group in brackets,
-  brackets : (inner : List ℕ) {parts : List (Part B)} → Derives reads Group false (symbols inner) parts → IsList reads (codes "[" ++ (inner ++ codes "]")) parts
+  brackets : (inner : List ℕ) {parts : List (Part B)} → Derives reads Group false (symbols inner) parts
+      → IsList reads (codes "[" ++ (inner ++ codes "]")) parts
   -- or a group in brackets behind a `!`
-  brackets_negated : (inner : List ℕ) {parts : List (Part B)} → Derives reads Group true (symbols inner) parts → IsList reads (codes "![" ++ (inner ++ codes "]")) parts
+  brackets_negated : (inner : List ℕ) {parts : List (Part B)} → Derives reads Group true (symbols inner) parts
+      → IsList reads (codes "![" ++ (inner ++ codes "]")) parts
 
 -- what is answered for a text that spells these parts: they, where they are at most 1024
 abbrev pub IsAnswer : {B : Type 0} → List (Part B) → Result (List (Part B)) ListFault → Type 0

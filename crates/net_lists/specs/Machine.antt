@@ -40,7 +40,10 @@ start negated = at wanted.Item 0 (if negated then 1 else 0)
 unfoldable pub behind_word : {B : Type 0} → (List ℕ → Option B) → Place → List ℕ → Option (Step B)
 behind_word reads place word =
     if wants_operand place
-    then option_map (λ bounds. record { place = at wanted.Separator place.depth place.negated; part = Some (signed (is_negated place) bounds) }) (reads word)
+    then option_map (λ bounds. record {
+      place = at wanted.Separator place.depth place.negated;
+      part = Some (signed (is_negated place) bounds);
+    }) (reads word)
     else None
 
 -- behind a mark, which is no part
@@ -50,12 +53,14 @@ no_part place = record { place = place; part = None }
 -- behind a `[`
 unfoldable pub behind_open : {B : Type 0} → Place → Option (Step B)
 behind_open place =
-    if wants_operand place then Some (no_part (at wanted.Item (place.depth + 1) (if is_negated place then place.negated + 1 else 0))) else None
+    if wants_operand place then Some (no_part (at wanted.Item (place.depth + 1) (if is_negated place then place.negated + 1
+    else 0))) else None
 
 -- behind a `]`
 unfoldable pub behind_close : {B : Type 0} → Place → Option (Step B)
 behind_close place =
-    if wants_operand place || place.depth == 0 then None else Some (no_part (at wanted.Separator (place.depth - 1) (place.negated - 1)))
+    if wants_operand place || place.depth == 0 then None
+    else Some (no_part (at wanted.Separator (place.depth - 1) (place.negated - 1)))
 
 -- behind a `,`
 unfoldable pub behind_comma : {B : Type 0} → Place → Option (Step B)
@@ -101,7 +106,8 @@ group_parts reads negated inner = run reads (start negated) (symbols inner)
 -- what stands between a `[` (91) in front and a `]` (93) at the end
 unfoldable pub bracketed : List ℕ → Option (List ℕ)
 bracketed text =
-    if (nat_le 2 (length text) && get_or text 0 0 == 91) && get_or text (length text - 1) 0 == 93 then Some (take (length text - 2) (drop 1 text)) else None
+    if (nat_le 2 (length text) && get_or text 0 0 == 91) && get_or text (length text - 1) 0 == 93
+    then Some (take (length text - 2) (drop 1 text)) else None
 
 -- the parts of a part or of a group in brackets, with this sign
 unfoldable pub operand_parts : {B : Type 0} → (List ℕ → Option B) → Bool → List ℕ → Option (List (Part B))
@@ -113,7 +119,8 @@ operand_parts reads negated text = elim (bracketed text) [
 -- the parts of a list behind a `!` (33), if one stands in front
 unfoldable pub signed_parts : {B : Type 0} → (List ℕ → Option B) → List ℕ → Option (List (Part B))
 signed_parts reads [] = operand_parts reads false []
-signed_parts reads (first ∷ rest) = if first == 33 then operand_parts reads true rest else operand_parts reads false (first ∷ rest)
+signed_parts reads (first ∷ rest) =
+    if first == 33 then operand_parts reads true rest else operand_parts reads false (first ∷ rest)
 
 -- the parts of a list
 unfoldable pub list_parts : {B : Type 0} → (List ℕ → Option B) → List ℕ → Option (List (Part B))

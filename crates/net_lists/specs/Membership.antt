@@ -22,7 +22,8 @@ IsNegated part = part.negated ≡ true
 
 -- some positive part has it, or there is no positive part; and no negated part has it
 abbrev pub IsListed : {B : Type 0} → (B → Type 0) → List (Part B) → Type 0
-IsListed has parts = (Any (λ part. IsPositive part × has part.bounds) parts ⊎ All IsNegated parts) × All (λ part. IsNegated part → ¬ has part.bounds) parts
+IsListed has parts = (Any (λ part. IsPositive part × has part.bounds) parts ⊎ All IsNegated parts)
+    × All (λ part. IsNegated part → ¬ has part.bounds) parts
 
 -- the value lies from the lowest to the highest
 abbrev pub Has : ℕ → Bounds ℕ → Type 0

@@ -17,7 +17,8 @@ pub data Symbol : Type 0 where
 
 -- the symbol that the byte is by itself: `[`, `]`, `,` or `!`
 abbrev pub mark : ℕ → Option Symbol
-mark byte = if byte == 91 then Some Open else if byte == 93 then Some Close else if byte == 44 then Some Comma else if byte == 33 then Some Not else None
+mark byte = if byte == 91 then Some Open else if byte == 93 then Some Close else if byte == 44 then Some Comma
+    else if byte == 33 then Some Not else None
 
 -- neither a blank nor a mark
 abbrev pub is_word_byte : ℕ → Bool

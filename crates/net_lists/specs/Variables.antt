@@ -37,7 +37,8 @@ pub record Variable : Type 0 where
 -- a variable is stored as the pair of its fields
 abbrev pub variable_code : Coded Variable
 variable_code =
-    code_by (List ℕ × Bool) (coded× (coded_list coded_ℕ) coded_bool) (λ v. (v.value, v.fixed)) (λ p. record { value = p.0; fixed = p.1 }) (λ _. refl)
+    code_by (List ℕ × Bool) (coded× (coded_list coded_ℕ) coded_bool) (λ v. (v.value, v.fixed))
+    (λ p. record { value = p.0; fixed = p.1 }) (λ _. refl)
 
 -- from names to what they stand for
 abbrev pub Variables : Type 0

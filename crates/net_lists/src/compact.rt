@@ -52,7 +52,8 @@ fn without_version(part: AddrPart) -> Option<Addr4Part>
 /// The parts without their versions, if all are of version 4.
 #[tactic(auto, using(crate::proofs::Compacted::keeping))]
 fn without_versions(alloc: Global, parts: &[AddrPart]) -> Result<Option<Vec<Addr4Part>>, AllocError>
-    ensures { IfOk result (λ all. MatchOption all (Any IsOfVersion6 parts.now) (λ compact. map with_version compact.items ≡ parts.now)) }
+    ensures { IfOk result (λ all. MatchOption all (Any IsOfVersion6 parts.now) (λ compact. map with_version compact.items
+        ≡ parts.now)) }
 {
     let mut compact = Vec::new(alloc);
     for part in parts {

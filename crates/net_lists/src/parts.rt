@@ -76,7 +76,8 @@ fn skipped_len(text: &[u8], cut: Cut) -> usize
 
 /// The first word and what stands behind it, if there is a word.
 fn next_word(text: &[u8], cut: Cut) -> Option<(&[u8], &[u8])>
-    ensures { MatchOption result (words_between (cuts cut) text.now ≡ []) (λ found. words_between (cuts cut) text.now ≡ found.0.now ∷ words_between (cuts cut) found.1.now) }
+    ensures { MatchOption result (words_between (cuts cut) text.now ≡ []) (λ found. words_between (cuts cut) text.now
+        ≡ found.0.now ∷ words_between (cuts cut) found.1.now) }
 {
     let text = &text[skipped_len(text, cut)..];
     if text.is_empty() {

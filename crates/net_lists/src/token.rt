@@ -17,7 +17,8 @@ pub enum Token<'a> {
 
 /// The first token of a text and the bytes behind it, or None where only blanks are left.
 pub fn next_token(text: &[u8]) -> Option<(Token<'_>, &[u8])>
-    ensures token { MatchOption result (symbols text.now ≡ []) (λ found. symbols text.now ≡ symbol_of found.0 ∷ symbols found.1.now) }
+    ensures token { MatchOption result (symbols text.now ≡ []) (λ found. symbols text.now
+        ≡ symbol_of found.0 ∷ symbols found.1.now) }
     ensures behind { IfSome result (λ found. length found.1.now < length text.now) }
 {
     let text = skip_blanks(text);

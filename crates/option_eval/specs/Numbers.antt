@@ -56,7 +56,8 @@ text_number radix text =
 
 -- the number in bytes
 unfoldable pub bytes_number : Base → List ℕ → Option ℕ
-bytes_number (base.Binary little) bytes = Some (if little then little_from 0 (length bytes) bytes else big_from 0 (length bytes) bytes)
+bytes_number (base.Binary little) bytes =
+    Some (if little then little_from 0 (length bytes) bytes else big_from 0 (length bytes) bytes)
 bytes_number base.Dec bytes = text_number 10 bytes
 bytes_number base.Hex bytes = text_number 16 bytes
 bytes_number base.Oct bytes = text_number 8 bytes
@@ -68,7 +69,8 @@ place_of (negsuc before) = None
 
 -- so many bytes of the payload from a place on; none if they don't all lie in it
 abbrev pub bytes_from : List ℕ → ℕ → ℕ → Option (List ℕ)
-bytes_from payload count start = if nat_le (start + count) (length payload) then Some (slice payload start (start + count)) else None
+bytes_from payload count start =
+    if nat_le (start + count) (length payload) then Some (slice payload start (start + count)) else None
 
 -- a number that was fetched, and the place after its bytes
 pub record Fetched : Type 0 where

@@ -107,11 +107,14 @@ jump times align number = rounded_up (if align then 4 else 0) (number * times)
 -- that asks nothing of the payload leads nowhere else
 unfoldable pub Leads : Means → List ℕ → Opt → Standing → Standing → Type 0
 Leads means payload (opt.Content content) before after = ContentLeads content payload before after
-Leads means payload (opt.Pcre text flags relative negated) before after = PatternLeads (means text flags) relative negated payload before after
+Leads means payload (opt.Pcre text flags relative negated) before after =
+    PatternLeads (means text flags) relative negated payload before after
 Leads means payload (opt.ByteTest fetch not cmp value) before after =
-    (read : Fetched) × (fetched payload fetch before ≡ Some read) × Unless not (Compares cmp read.number (number_of before.values value)) × (after ≡ before)
+    (read : Fetched) × (fetched payload fetch before ≡ Some read)
+    × Unless not (Compares cmp read.number (number_of before.values value)) × (after ≡ before)
 Leads means payload (opt.ByteJump fetch times align beginning post) before after =
-    (read : Fetched) × (fetched payload fetch before ≡ Some read) × (after.values ≡ before.values) × (after.place ≤ length payload)
+    (read : Fetched) × (fetched payload fetch before ≡ Some read) × (after.values ≡ before.values)
+    × (after.place ≤ length payload)
     × (pos after.place ≡ (pos ((if beginning then 0 else read.stop) + jump times align read.number) +ℤ post))
 Leads means payload (opt.ByteExtract fetch name times align) before after =
     (read : Fetched) × (fetched payload fetch before ≡ Some read)
@@ -123,7 +126,8 @@ Leads means payload _ before after = after ≡ before
 -- a way through the options: the standings behind each of them
 abbrev pub IsWay : Means → List ℕ → List Opt → Standing → List Standing → Type 0
 IsWay means payload [] before [] = Unit {0}
-IsWay means payload (option ∷ options) before (after ∷ later) = Leads means payload option before after × IsWay means payload options after later
+IsWay means payload (option ∷ options) before (after ∷ later) =
+    Leads means payload option before after × IsWay means payload options after later
 IsWay means payload [] before (after ∷ later) = ⊥
 IsWay means payload (option ∷ options) before [] = ⊥
 

@@ -51,7 +51,8 @@ Occurs nocase payload bytes i = OccursAt (folded nocase payload) (folded nocase 
 -- bytes end at a place, and stand within reach of some place of the set
 abbrev pub IsHitFrom : Bool → List ℕ → List ℕ → Reach → List ℕ → ℕ → Type 0
 IsHitFrom nocase payload bytes reach places q =
-    (p : ℕ) × (i : ℕ) × Contains places p × IsWithin reach (length bytes) p i × Occurs nocase payload bytes i × (q ≡ i + length bytes)
+    (p : ℕ) × (i : ℕ) × Contains places p × IsWithin reach (length bytes) p i × Occurs nocase payload bytes i
+    × (q ≡ i + length bytes)
 
 -- bytes end at a place, and stand from one place on and below another
 abbrev pub IsHitIn : Bool → List ℕ → List ℕ → ℕ → ℕ → ℕ → Type 0

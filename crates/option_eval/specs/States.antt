@@ -37,19 +37,23 @@ state_count states = held_count states.held
 
 -- some state has a standing of this kind
 abbrev pub SomeState : (List ℕ → ℕ → Type 0) → States → Type 0
-SomeState P states = (values : List ℕ) × (places : List ℕ) × (places_at states values ≡ Some places) × (p : ℕ) × Contains places p × P values p
+SomeState P states =
+    (values : List ℕ) × (places : List ℕ) × (places_at states values ≡ Some places) × (p : ℕ) × Contains places p × P values p
 
 -- each state's values are of one kind, and each of its places of another
 abbrev pub EachState : (List ℕ → Type 0) → (List ℕ → ℕ → Type 0) → States → Type 0
-EachState K R states = (values places : List ℕ) → places_at states values ≡ Some places → K values × ((p : ℕ) → Contains places p → R values p)
+EachState K R states =
+    (values places : List ℕ) → places_at states values ≡ Some places → K values × ((p : ℕ) → Contains places p → R values p)
 
 -- some way leads through the options from some state
 abbrev pub MatchesFromSome : Means → List ℕ → List Opt → States → Type 0
-MatchesFromSome means payload options states = SomeState (λ values p. MatchesFrom means payload options (standing values p)) states
+MatchesFromSome means payload options states =
+    SomeState (λ values p. MatchesFrom means payload options (standing values p)) states
 
 -- the list has the values of each state, and those that are kept behind each of the options
 abbrev pub HaveValues : Means → List ℕ → List (List ℕ) → List Opt → States → Type 0
-HaveValues means payload lists options states = EachState (Contains lists) (λ values p. HasValues means payload lists options (standing values p)) states
+HaveValues means payload lists options states =
+    EachState (Contains lists) (λ values p. HasValues means payload lists options (standing values p)) states
 
 -- each place is one of a payload of so many bytes, or its end
 abbrev pub AreWithin : ℕ → States → Type 0
@@ -57,17 +61,25 @@ AreWithin size states = EachState (λ values. ⊤) (λ values p. p ≤ size) sta
 
 -- the states behind an extraction where ways lead on: those that were there, and those that the options give
 -- from these places; and their values, where a list has those before
-pub record Leaves (means : Means) (payload : List ℕ) (options : List Opt) (values places : List ℕ) (old new : States) : Type 0 where
-  pub sound : MatchesFromSome means payload (behind_extraction options) new → MatchesFromSome means payload (behind_extraction options) old ⊎ MatchesFromOne means payload options values places
-  pub kept : MatchesFromSome means payload (behind_extraction options) old → MatchesFromSome means payload (behind_extraction options) new
-  pub complete : MatchesFromOne means payload options values places → MatchesFromSome means payload (behind_extraction options) new
+pub record Leaves (means : Means) (payload : List ℕ) (options : List Opt) (values places : List ℕ)
+    (old new : States) : Type 0 where
+  pub sound : MatchesFromSome means payload (behind_extraction options) new
+      → MatchesFromSome means payload (behind_extraction options) old ⊎ MatchesFromOne means payload options values places
+  pub kept : MatchesFromSome means payload (behind_extraction options) old
+      → MatchesFromSome means payload (behind_extraction options) new
+  pub complete : MatchesFromOne means payload options values places
+      → MatchesFromSome means payload (behind_extraction options) new
   pub have : (lists : List (List ℕ)) → ((p : ℕ) → Contains places p → HasValues means payload lists options (standing values p))
-      → HaveValues means payload lists (behind_extraction options) old → HaveValues means payload lists (behind_extraction options) new
+      → HaveValues means payload lists (behind_extraction options) old
+      → HaveValues means payload lists (behind_extraction options) new
 
 -- the same from each of some states
 pub record LeavesOf (means : Means) (payload : List ℕ) (options : List Opt) (from old new : States) : Type 0 where
-  pub sound : MatchesFromSome means payload (behind_extraction options) new → MatchesFromSome means payload (behind_extraction options) old ⊎ MatchesFromSome means payload options from
-  pub kept : MatchesFromSome means payload (behind_extraction options) old → MatchesFromSome means payload (behind_extraction options) new
+  pub sound : MatchesFromSome means payload (behind_extraction options) new
+      → MatchesFromSome means payload (behind_extraction options) old ⊎ MatchesFromSome means payload options from
+  pub kept : MatchesFromSome means payload (behind_extraction options) old
+      → MatchesFromSome means payload (behind_extraction options) new
   pub complete : MatchesFromSome means payload options from → MatchesFromSome means payload (behind_extraction options) new
   pub have : (lists : List (List ℕ)) → HaveValues means payload lists options from
-      → HaveValues means payload lists (behind_extraction options) old → HaveValues means payload lists (behind_extraction options) new
+      → HaveValues means payload lists (behind_extraction options) old
+      → HaveValues means payload lists (behind_extraction options) new

@@ -12,7 +12,8 @@ MatchesFrom means payload options before = (way : List Standing) × IsWay means 
 
 -- and from some place of a set, with these values
 abbrev pub MatchesFromOne : Means → List ℕ → List Opt → List ℕ → List ℕ → Type 0
-MatchesFromOne means payload options values places = (p : ℕ) × Contains places p × MatchesFrom means payload options (standing values p)
+MatchesFromOne means payload options values places =
+    (p : ℕ) × Contains places p × MatchesFrom means payload options (standing values p)
 
 -- no option extracts a value
 abbrev pub ExtractsNothing : List Opt → Type 0
@@ -36,7 +37,8 @@ behind_extraction (option ∷ options) = if is_extract option then options else 
 abbrev pub HasValues : Means → List ℕ → List (List ℕ) → List Opt → Standing → Type 0
 HasValues means payload lists [] before = Unit {0}
 HasValues means payload lists (option ∷ options) before =
-    (after : Standing) → Leads means payload option before after → Contains lists (kept_values options after.values) × HasValues means payload lists options after
+    (after : Standing) → Leads means payload option before after
+    → Contains lists (kept_values options after.values) × HasValues means payload lists options after
 
 -- the list has what later options still read of the values behind each option of each way from the payload's
 -- start, and the values there

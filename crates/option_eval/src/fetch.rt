@@ -110,7 +110,8 @@ pub(crate) fn fetched_number(
     values: &Values,
 ) -> Option<Fetched>
     requires { IsShort fetch.now.base fetch.now.bytes }
-    ensures value { option_map (λ f. record { number = f.number; stop = f.stop }) result ≡ fetched payload.now fetch.now (standing values.now place) }
+    ensures value { option_map (λ f. record { number = f.number; stop = f.stop }) result
+        ≡ fetched payload.now fetch.now (standing values.now place) }
     ensures small { IfSome result (λ f. f.number < 2 ^ 41) }
     ensures within { IfSome result (λ f. f.stop ≤ length payload.now) }
 {

@@ -240,7 +240,8 @@ fn pattern_is_absent<P: Pattern>(
     requires { place ≤ length payload.now }
     ensures { (text : List ℕ) → (flags : PatternFlags) → (means : Means) → (values : List ℕ)
         → IsMade P.finds means (opt.Pcre text flags relative true) (pattern_of made.now)
-        → IfOk result (λ holds. IsTrue holds ↔ LeadsFrom means payload.now values (opt.Pcre text flags relative true) place place) }
+        → IfOk result (λ holds. IsTrue holds ↔ LeadsFrom means payload.now values
+        (opt.Pcre text flags relative true) place place) }
 {
     match made {
         Made::Pattern(pattern) => Ok(pattern_finds(pattern, relative, payload, place)?.is_none()),

@@ -85,7 +85,8 @@ pub(crate) fn make_all<M: PatternMaker>(
 ) -> Result<Vec<Made<M::Made>>, PushFault>
     requires { All IsInRange options.now }
     ensures ready { IfOk result (λ made. AllZip IsReady options.now made.items) }
-    ensures found { IfOk result (λ made. AllZip (IsMade M.Made.finds (M.means maker.old)) options.now (map pattern_of made.items)) }
+    ensures found { IfOk result (λ made. AllZip (IsMade M.Made.finds (M.means maker.old)) options.now
+        (map pattern_of made.items)) }
     ensures made_unrefused { OnOk result (M.refusals maker.new ≡ M.refusals maker.old) }
     ensures refused { result ≡ Err PushFault.Refused → RefusesOneOf options.now (M.refusals maker.old) (M.refusals maker.new) }
     ensures no_memory { result ≡ Err PushFault.NoMemory → M.refusals maker.new ≡ M.refusals maker.old }

@@ -87,7 +87,8 @@ fn tested<P: Pattern, L: Ledger>(
     requires test { is_test option.now ≡ true }
     requires asked { 0 < length places.now }
     requires rising { IsRising 0 places.now (length payload.now + 1) }
-    ensures found { (means : Means) → (every : Bool) → IsMade P.finds means option.now (pattern_of made.now) → IfOk result (λ next.
+    ensures found { (means : Means) → (every : Bool) → IsMade P.finds means option.now (pattern_of made.now)
+        → IfOk result (λ next.
         Gathers every (IsLedTo (LeadsFrom means payload.now values.now option.now) places.now) (next_set next places.now)) }
     ensures rising { IfOk result (λ next. IsRising 0 (next_set next places.now) (length payload.now + 1)) }
     ensures apart { is_relative option.now ≡ false → IfOk result (IsForAll option.now) }
@@ -118,7 +119,8 @@ fn places_kept<P: Pattern, L: Ledger>(
     requires test { is_test option.now ≡ true }
     requires relative { is_relative option.now ≡ true }
     requires rising { IsRising 0 places.now (length payload.now + 1) }
-    ensures found { (means : Means) → (every : Bool) → IsMade P.finds means option.now (pattern_of made.now) → IfOk result (λ next.
+    ensures found { (means : Means) → (every : Bool) → IsMade P.finds means option.now (pattern_of made.now)
+        → IfOk result (λ next.
         Gathers every (IsLedTo (LeadsFrom means payload.now values.now option.now) places.now) next.items) }
     ensures rising { IfOk result (λ next. IsRising 0 next.items (length payload.now + 1)) }
     ensures bounded { visits.new ≤ visits.old + length places.now }
@@ -145,7 +147,8 @@ fn kept_places<P: Pattern, L: Ledger>(
     requires ready { IsReady option.now made.now }
     requires test { is_test option.now ≡ true }
     requires rising { IsRising 0 places.now (length payload.now + 1) }
-    ensures found { (means : Means) → (every : Bool) → IsMade P.finds means option.now (pattern_of made.now) → IfOk result (λ next.
+    ensures found { (means : Means) → (every : Bool) → IsMade P.finds means option.now (pattern_of made.now)
+        → IfOk result (λ next.
         Gathers every (IsLedTo (LeadsFrom means payload.now values.now option.now) places.now) next.items) }
     ensures rising { IfOk result (λ next. IsRising 0 next.items (length payload.now + 1)) }
     ensures bounded { visits.new ≤ visits.old + length places.now }
@@ -229,7 +232,8 @@ fn jumped<P: Pattern, L: Ledger>(
     requires jumps { IsJump option.now }
     requires asked { 0 < length places.now }
     requires rising { IsRising 0 places.now (length payload.now + 1) }
-    ensures found { (means : Means) → (every : Bool) → IsMade P.finds means option.now (pattern_of made.now) → IfOk result (λ next.
+    ensures found { (means : Means) → (every : Bool) → IsMade P.finds means option.now (pattern_of made.now)
+        → IfOk result (λ next.
         Gathers every (IsLedTo (LeadsFrom means payload.now values.now option.now) places.now) next.items) }
     ensures rising { IfOk result (λ next. IsRising 0 next.items (length payload.now + 1)) }
     ensures bounded { visits.new ≤ visits.old + (length payload.now + 1) }

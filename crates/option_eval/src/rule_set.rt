@@ -57,7 +57,10 @@ impl<P> RuleSet<P> {
     where
         P: Drop,
         requires { AllZip IsReady rule.opts made.items }
-        ensures pushed { OnOk result (self.new ≡ record { rules = self.old.rules ++ rule ∷ []; patterns = self.old.patterns ++ map pattern_of made.items ∷ [] }) }
+        ensures pushed { OnOk result (self.new ≡ record {
+          rules = self.old.rules ++ rule ∷ [];
+          patterns = self.old.patterns ++ map pattern_of made.items ∷ [];
+        }) }
         ensures unchanged { result ≡ Err PushFault.NoMemory → self.new ≡ self.old }
         ensures no_memory { IsOkUnless result PushFault.NoMemory }
     {
@@ -93,7 +96,8 @@ impl<P: Pattern> RuleSet<P> {
     ) -> Result<(), PushFault>
         requires { IsTriable rule }
         ensures pushed { OnOk result (self.new.rules ≡ self.old.rules ++ rule ∷ []) }
-        ensures found { OnOk result (FindWhatIsMeant P.finds (M.means maker.old) self.old → FindWhatIsMeant P.finds (M.means maker.old) self.new) }
+        ensures found { OnOk result (FindWhatIsMeant P.finds (M.means maker.old) self.old
+            → FindWhatIsMeant P.finds (M.means maker.old) self.new) }
         ensures unchanged { OnErr result (self.new ≡ self.old) }
         ensures refused { result ≡ Err PushFault.Refused → RefusesOneOf rule.opts (M.refusals maker.old) (M.refusals maker.new) }
         ensures pushed_unrefused { OnOk result (M.refusals maker.new ≡ M.refusals maker.old) }
@@ -124,7 +128,8 @@ pub fn payload_matches<P: Pattern, L: Ledger>(
         → IfOk result (λ matches. IsTrue matches ↔ PayloadMatches means chosen payload.now) }
     ensures bounded { (chosen : Rule) → IsRuleAt set.now rule chosen → ExtractsNothing chosen.opts
         → visits.new ≤ visits.old + visits_of chosen.opts (length payload.now) }
-    ensures bounded_by_values { (means : Means) → (chosen : Rule) → (lists : List (List ℕ)) → FindWhatIsMeant P.finds means set.now
+    ensures bounded_by_values { (means : Means) → (chosen : Rule) → (lists : List (List ℕ))
+        → FindWhatIsMeant P.finds means set.now
         → IsRuleAt set.now rule chosen → HasEachValueList means payload.now chosen.opts lists
         → visits.new ≤ visits.old + length lists * visits_of chosen.opts (length payload.now) }
 {

@@ -51,7 +51,8 @@ pub(crate) fn is_passed<P: Pattern, L: Ledger>(
     ensures right { (means : Means) → AllZip (IsMade P.finds means) options.now (map pattern_of made.now)
         → IfOk result (λ passed. IsTrue passed ↔ MatchesFromOne means payload.now options.now (0 ∷ 0 ∷ []) (0 ∷ [])) }
     ensures bounded { ExtractsNothing options.now → visits.new ≤ visits.old + visits_of options.now (length payload.now) }
-    ensures bounded_by_values { (means : Means) → (lists : List (List ℕ)) → AllZip (IsMade P.finds means) options.now (map pattern_of made.now)
+    ensures bounded_by_values { (means : Means) → (lists : List (List ℕ))
+        → AllZip (IsMade P.finds means) options.now (map pattern_of made.now)
         → HasEachValueList means payload.now options.now lists
         → visits.new ≤ visits.old + length lists * visits_of options.now (length payload.now) }
 {
@@ -89,7 +90,8 @@ fn is_passed_behind<P: Pattern, L: Ledger>(
     ensures right { (means : Means) → AllZip (IsMade P.finds means) options.now (map pattern_of made.now)
         → IfOk result (λ passed. IsTrue passed ↔ MatchesFromSome means payload.now (behind_extraction options.now) states) }
     ensures unvisited { ExtractsNothing options.now → visits.new ≡ visits.old }
-    ensures bounded { (means : Means) → (lists : List (List ℕ)) → AllZip (IsMade P.finds means) options.now (map pattern_of made.now)
+    ensures bounded { (means : Means) → (lists : List (List ℕ))
+        → AllZip (IsMade P.finds means) options.now (map pattern_of made.now)
         → HaveValues means payload.now lists (behind_extraction options.now) states
         → visits.new ≤ visits.old + length lists * visits_of (behind_extraction options.now) (length payload.now) }
 {
@@ -137,7 +139,8 @@ fn behind_extraction<'a, 'b, P>(
     ensures options { IfSome result (λ behind. behind.0.now ≡ behind_extraction options.now) }
     ensures fewer { IfSome result (λ behind. length behind.0.now < length options.now) }
     ensures ready { IfSome result (λ behind. AllZip IsReady behind.0.now behind.1.now) }
-    ensures made { (finds : P → List ℕ → Option Span) → (means : Means) → AllZip (IsMade finds means) options.now (map pattern_of made.now)
+    ensures made { (finds : P → List ℕ → Option Span) → (means : Means)
+        → AllZip (IsMade finds means) options.now (map pattern_of made.now)
         → IfSome result (λ behind. AllZip (IsMade finds means) behind.0.now (map pattern_of behind.1.now)) }
 {
     let [option, later @ ..] = options else {
@@ -174,7 +177,8 @@ fn is_any_walked<P: Pattern, L: Ledger>(
     ensures within { AreWithin (length payload.now) behind.old.states
         → IfOk result (λ walked. AreWithin (length payload.now) behind.new.states) }
     ensures nowhere { ExtractsNothing options.now → behind.new.states ≡ behind.old.states }
-    ensures bounded { (means : Means) → (lists : List (List ℕ)) → AllZip (IsMade P.finds means) options.now (map pattern_of made.now)
+    ensures bounded { (means : Means) → (lists : List (List ℕ))
+        → AllZip (IsMade P.finds means) options.now (map pattern_of made.now)
         → HaveValues means payload.now lists options.now states
         → visits.new ≤ visits.old + length lists * visits_of (upto_extraction options.now) (length payload.now) }
 {

@@ -17,5 +17,6 @@ end_of_run run = run.start + length run.bytes
 -- bytes behind runs: added to the last, where that ends at their start
 abbrev pub with_run : List Run → ℕ → List ℕ → List Run
 with_run [] start bytes = record { start = start; bytes = bytes } ∷ []
-with_run (run ∷ []) start bytes = if nat_eq (end_of_run run) start then record { start = run.start; bytes = run.bytes ++ bytes } ∷ [] else run ∷ record { start = start; bytes = bytes } ∷ []
+with_run (run ∷ []) start bytes = if nat_eq (end_of_run run) start
+    then record { start = run.start; bytes = run.bytes ++ bytes } ∷ [] else run ∷ record { start = start; bytes = bytes } ∷ []
 with_run (run ∷ next ∷ runs) start bytes = run ∷ with_run (next ∷ runs) start bytes

@@ -55,4 +55,5 @@ kept_in (piece ∷ pieces) place = if has_place piece place then Some (kept_of p
 -- from the floor on, the pieces have the places that a segment covers and no others, and at each of
 -- them the byte and the whole bounds of the segment that is chosen there
 abbrev pub HoldChosen : Preference → List Segment → ℕ → List Piece → Type 0
-HoldChosen preference segments floor pieces = (place : ℕ) → floor ≤ place → kept_in pieces place ≡ option_map (kept_at place) (chosen_segment preference segments place)
+HoldChosen preference segments floor pieces =
+    (place : ℕ) → floor ≤ place → kept_in pieces place ≡ option_map (kept_at place) (chosen_segment preference segments place)

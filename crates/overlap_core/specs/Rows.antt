@@ -19,7 +19,8 @@ right_part at piece = record { start = at; bytes = drop (at - piece.start) piece
 
 -- the place lies inside the piece, with a byte on each side
 abbrev pub parts : ℕ → Piece → List Piece
-parts at piece = if nat_lt piece.start at && nat_lt at (piece_end piece) then left_part at piece ∷ right_part at piece ∷ [] else piece ∷ []
+parts at piece =
+    if nat_lt piece.start at && nat_lt at (piece_end piece) then left_part at piece ∷ right_part at piece ∷ [] else piece ∷ []
 
 -- the pieces, cut at a place
 abbrev pub cut_row : ℕ → List Piece → List Piece
@@ -50,12 +51,14 @@ gap_piece new low high = if nat_lt low high then part_of new low high ∷ [] els
 
 -- a piece within the segment, with the segment's bytes where that wins
 abbrev pub overlaid : Preference → Segment → Piece → Piece
-overlaid preference new piece = if nat_le new.start piece.start && nat_le (piece_end piece) (end_of new) && wins preference piece.whole (bounds_of new) then part_of new piece.start (piece_end piece) else piece
+overlaid preference new piece = if nat_le new.start piece.start && nat_le (piece_end piece) (end_of new)
+    && wins preference piece.whole (bounds_of new) then part_of new piece.start (piece_end piece) else piece
 
 -- the pieces from a place on, with the segment laid over them: it fills the gaps, and takes what it wins
 abbrev pub laid : Preference → Segment → ℕ → List Piece → List Piece
 laid preference new low [] = gap_piece new low (end_of new)
-laid preference new low (piece ∷ pieces) = gap_piece new low (min piece.start (end_of new)) ++ (overlaid preference new piece ∷ laid preference new (piece_end piece) pieces)
+laid preference new low (piece ∷ pieces) = gap_piece new low (min piece.start (end_of new))
+    ++ (overlaid preference new piece ∷ laid preference new (piece_end piece) pieces)
 
 -- the lengths of the gaps from one place on and below another
 abbrev pub gap_size : ℕ → ℕ → List ℕ
@@ -84,7 +87,8 @@ pub record IsReady (pieces : Pieces Piece) (gaps : List (List ℕ)) (low high : 
 -- the pieces from a later floor on
 abbrev pub raised : ℕ → List Piece → List Piece
 raised below [] = []
-raised below (piece ∷ pieces) = if nat_le (piece_end piece) below then raised below pieces else (if nat_lt piece.start below then right_part below piece ∷ pieces else piece ∷ pieces)
+raised below (piece ∷ pieces) = if nat_le (piece_end piece) below then raised below pieces
+    else (if nat_lt piece.start below then right_part below piece ∷ pieces else piece ∷ pieces)
 
 -- the bounds of the first piece, if it begins below a place; nothing if there is none that does
 abbrev pub NextBelow : List Piece → ℕ → Option Bounds → Type 0
@@ -97,7 +101,8 @@ NextBelow (piece ∷ pieces) high (Some next) = (next.start ≡ piece.start) × 
 pub record IsRoomFor (floor : ℕ) (bounds : Bounds) (pieces : Pieces Piece) (gaps : List (List ℕ)) : Type 0 where
   pub begins : IsCutAt (max floor bounds.start) pieces.list
   pub ends : IsCutAt bounds.end pieces.list
-  pub sizes : (front rest : List Piece) → pieces.list ≡ front ++ rest → BeginBelow (max floor bounds.start) front → BeginFrom (max floor bounds.start) rest
+  pub sizes : (front rest : List Piece) → pieces.list ≡ front ++ rest → BeginBelow (max floor bounds.start) front
+      → BeginFrom (max floor bounds.start) rest
       → map length gaps ≡ gap_sizes (max floor bounds.start) bounds.end rest
   pub nodes : length gaps ≤ pieces.spare
 

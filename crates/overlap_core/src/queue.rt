@@ -153,7 +153,8 @@ impl Queue {
     /// `out` holds these bytes. Otherwise the bytes of `out` are open. Takes no memory.
     pub fn fill(&self, out: &mut [u8]) -> bool
         requires { self.now.floor + length out.old < 2 ^ 64 }
-        ensures whole { IsTrue result ↔ ((k : ℕ) → k < length out.old → IsSome (chosen_byte self.now.preference self.now.segments (self.now.floor + k))) }
+        ensures whole { IsTrue result ↔ ((k : ℕ) → k < length out.old
+            → IsSome (chosen_byte self.now.preference self.now.segments (self.now.floor + k))) }
         ensures bytes { OnTrue result (AreBytes (chosen_byte self.now.preference self.now.segments) self.now.floor out.new) }
     {
         filled(&self.pieces, self.floor, out)
@@ -168,7 +169,8 @@ impl Queue {
         out: &mut Vec<Run>,
     ) -> Result<(), NoMemory>
         requires { self.old.floor ≤ below }
-        ensures runs { OnOk result (AppendsRuns (chosen_byte self.old.preference self.old.segments) self.old.floor below out.old.items out.new.items) }
+        ensures runs { OnOk result (AppendsRuns (chosen_byte self.old.preference self.old.segments) self.old.floor below
+            out.old.items out.new.items) }
         ensures floor { OnOk result (self.new ≡ from_floor self.old below) }
         ensures err { OnErr result (self.new ≡ self.old) }
         ensures unchanged { OnErr result (out.new.items ≡ out.old.items) }

@@ -14,7 +14,8 @@ use std::collections::VecDeque;
 
 /// Whether the list stands at a piece that begins at `at` or behind it.
 fn begins_from(pieces: &PieceList<Piece>, at: u64) -> bool
-    ensures yes_at { IsTrue result → (piece : Kept) × (slice_get pieces.now.list pieces.now.place ≡ Some piece) × (at ≤ piece.start) }
+    ensures yes_at { IsTrue result → (piece : Kept) × (slice_get pieces.now.list pieces.now.place ≡ Some piece)
+        × (at ≤ piece.start) }
     ensures no_at { (piece : Kept) → slice_get pieces.now.list pieces.now.place ≡ Some piece → at ≤ piece.start → IsTrue result }
 {
     match pieces.peek() {
@@ -44,7 +45,8 @@ pub fn seek(pieces: &mut PieceList<Piece>, at: u64)
 /// an error only the place has changed.
 fn cut_before(alloc: Global, pieces: &mut PieceList<Piece>, at: u64) -> Result<(), NoMemory>
     requires { 0 < pieces.old.spare }
-    ensures ok { OnOk result ((front rest : List Kept) (last : Kept) → StandsAt pieces.old (front ++ last ∷ []) rest → pieces.new.list ≡ front ++ (parts at last ++ rest)) }
+    ensures ok { OnOk result ((front rest : List Kept) (last : Kept) → StandsAt pieces.old (front ++ last ∷ []) rest
+        → pieces.new.list ≡ front ++ (parts at last ++ rest)) }
     ensures first { OnOk result (pieces.old.place ≡ 0 → pieces.new.list ≡ pieces.old.list) }
     ensures err { OnErr result (pieces.new.list ≡ pieces.old.list) }
 {
@@ -112,7 +114,8 @@ pub fn buffers_for(
     high: u64,
 ) -> Result<VecDeque<Text>, NoMemory>
     ensures list { pieces.new.list ≡ pieces.old.list }
-    ensures sizes { IfOk result (λ buffers. (front rest : List Kept) (top : ℕ) → StandsAt pieces.old front rest → IsRow low rest top → map length buffers.items ≡ gap_sizes low high rest) }
+    ensures sizes { IfOk result (λ buffers. (front rest : List Kept) (top : ℕ) → StandsAt pieces.old front rest
+        → IsRow low rest top → map length buffers.items ≡ gap_sizes low high rest) }
 {
     let mut buffers = VecDeque::new(alloc);
     let mut low = low;
@@ -137,8 +140,10 @@ fn fill_gap(
     requires to { high ≤ end_of new.now }
     requires ready { (sizes : List ℕ) × (map length buffers.old.items ≡ gap_size low high ++ sizes) }
     requires nodes { length buffers.old.items ≤ pieces.old.spare }
-    ensures list { (front rest : List Kept) → StandsAt pieces.old front rest → StandsAt pieces.new (front ++ gap_piece new.now low high) rest }
-    ensures sizes { (sizes : List ℕ) → map length buffers.old.items ≡ gap_size low high ++ sizes → map length buffers.new.items ≡ sizes }
+    ensures list { (front rest : List Kept) → StandsAt pieces.old front rest
+        → StandsAt pieces.new (front ++ gap_piece new.now low high) rest }
+    ensures sizes { (sizes : List ℕ) → map length buffers.old.items ≡ gap_size low high ++ sizes
+        → map length buffers.new.items ≡ sizes }
     ensures left { length buffers.new.items ≤ pieces.new.spare }
 {
     if low < high
@@ -151,7 +156,8 @@ fn fill_gap(
 
 /// Lays the new segment over the piece at the place, and stands behind it.
 fn overlay(pieces: &mut PieceList<Piece>, preference: Preference, new: &Arriving<'_>)
-    ensures list { (front rest : List Kept) (piece : Kept) → StandsAt pieces.old front (piece ∷ rest) → StandsAt pieces.new (front ++ overlaid preference new.now piece ∷ []) rest }
+    ensures list { (front rest : List Kept) (piece : Kept) → StandsAt pieces.old front (piece ∷ rest)
+        → StandsAt pieces.new (front ++ overlaid preference new.now piece ∷ []) rest }
     ensures spare { pieces.old.spare ≤ pieces.new.spare }
 {
     if let Some(piece) = pieces.remove_here() {
@@ -170,7 +176,8 @@ pub fn lay(
 )
     requires from { new.now.start ≤ low }
     requires ready { IsReady pieces.old buffers.items low (end_of new.now) }
-    ensures { (front rest : List Kept) → StandsAt pieces.old front rest → pieces.new.list ≡ front ++ laid preference new.now low rest }
+    ensures { (front rest : List Kept) → StandsAt pieces.old front rest
+        → pieces.new.list ≡ front ++ laid preference new.now low rest }
 {
     let (mut buffers, mut low) = (buffers, low);
     let high = new.bounds().end;
@@ -191,7 +198,8 @@ pub fn buffers_for_room(
     bounds: Bounds,
 ) -> Result<VecDeque<Text>, NoMemory>
     ensures recut { (low high : ℕ) → IsRow low pieces.old.list high → IsRecut low high pieces.old.list pieces.new.list }
-    ensures room { IfOk result (λ buffers. (top : ℕ) → IsRow floor pieces.old.list top → IsRoomFor floor bounds pieces.new buffers.items) }
+    ensures room { IfOk result (λ buffers. (top : ℕ) → IsRow floor pieces.old.list top
+        → IsRoomFor floor bounds pieces.new buffers.items) }
 {
     let low = floor.max(bounds.start);
     cut(alloc, pieces, low)?;
@@ -213,7 +221,8 @@ pub fn lay_over(
     requires row { (top : ℕ) × IsRow floor pieces.old.list top }
     requires room { IsRoomFor floor (bounds_of new.now) pieces.old buffers.items }
     ensures row { (top : ℕ) → IsRow floor pieces.old.list top → IsRow floor pieces.new.list (max top (end_of new.now)) }
-    ensures holds { (top : ℕ) (segments : List Segment) → IsRow floor pieces.old.list top → HoldChosen preference segments floor pieces.old.list
+    ensures holds { (top : ℕ) (segments : List Segment) → IsRow floor pieces.old.list top
+        → HoldChosen preference segments floor pieces.old.list
         → HoldChosen preference (segments ++ new.now ∷ []) floor pieces.new.list }
 {
     let low = floor.max(new.bounds().start);

@@ -27,8 +27,10 @@ pub fn byte_of(pieces: &PieceList<Piece>, place: u64) -> Option<u8>
 /// holds these bytes.
 pub fn filled(pieces: &PieceList<Piece>, floor: u64, out: &mut [u8]) -> bool
     requires fits { floor + length out.old < 2 ^ 64 }
-    ensures whole { (top : ℕ) → IsRow floor pieces.now.list top → IsTrue result ↔ ((k : ℕ) → k < length out.old → IsSome (byte_in pieces.now.list (floor + k))) }
-    ensures bytes { (top : ℕ) → IsRow floor pieces.now.list top → OnTrue result (AreBytes (byte_in pieces.now.list) floor out.new) }
+    ensures whole { (top : ℕ) → IsRow floor pieces.now.list top → IsTrue result
+        ↔ ((k : ℕ) → k < length out.old → IsSome (byte_in pieces.now.list (floor + k))) }
+    ensures bytes { (top : ℕ) → IsRow floor pieces.now.list top
+        → OnTrue result (AreBytes (byte_in pieces.now.list) floor out.new) }
 {
     let mut rest = pieces.iter();
     let mut done = 0;
@@ -54,7 +56,8 @@ pub fn append_runs(
     below: u64,
     out: &mut Vec<Run>,
 ) -> Result<(), NoMemory>
-    ensures ok { OnOk result ((floor top : ℕ) → IsRow floor pieces.now.list top → floor ≤ below → AppendsRuns (byte_in pieces.now.list) floor below out.old.items out.new.items) }
+    ensures ok { OnOk result ((floor top : ℕ) → IsRow floor pieces.now.list top → floor ≤ below
+        → AppendsRuns (byte_in pieces.now.list) floor below out.old.items out.new.items) }
     ensures err { OnErr result (out.new.items ≡ out.old.items) }
 {
     let mut runs = joined(alloc, pieces, below)?;
@@ -64,7 +67,8 @@ pub fn append_runs(
 
 /// The maximal runs of places that the pieces have below a place, in order.
 fn joined(alloc: Global, pieces: &PieceList<Piece>, below: u64) -> Result<Vec<Run>, NoMemory>
-    ensures { IfOk result (λ runs. (floor top : ℕ) → IsRow floor pieces.now.list top → floor ≤ below → AreRuns (byte_in pieces.now.list) floor below runs.items) }
+    ensures { IfOk result (λ runs. (floor top : ℕ) → IsRow floor pieces.now.list top → floor ≤ below
+        → AreRuns (byte_in pieces.now.list) floor below runs.items) }
 {
     let mut runs = Vec::new(alloc);
     let mut rest = pieces.iter();

@@ -153,7 +153,11 @@ udp_at ip bytes start stop check =
     let has_checksum = not (be16 bytes (start + 6) == 0) in
     if nat_lt len 8 || nat_lt stop (start + len) then Err Malformed
     else (if check && has_checksum && not (is_segment_right ip (slice bytes start (start + len))) then Err Checksum
-    else Ok (record { ip = ip; body = Udp (be16 bytes start) (be16 bytes (start + 2)); payload = slice bytes (start + 8) (start + len) })))
+    else Ok (record {
+      ip = ip;
+      body = Udp (be16 bytes start) (be16 bytes (start + 2));
+      payload = slice bytes (start + 8) (start + len);
+    })))
 
 -- The checksum over a control message is right: it has a pseudo header over version 6 (RFC 4443,
 -- section 2.3), and none over version 4 (RFC 792).

@@ -60,10 +60,34 @@ first_session s = record { client = 1000 * s; server = 500000; turn = Syn }
 -- what session `s` sends at its turn: the flags are SYN 2, PSH 8, ACK 16
 unfoldable pub segment_at : ℕ → ℕ → ℕ → Turn → Segment
 segment_at s client server Syn = record { source = client_of s; destination = web_server; seq = client; ack = 0; flags = 2 }
-segment_at s client server SynAck = record { source = web_server; destination = client_of s; seq = server; ack = client; flags = 18 }
-segment_at s client server Established = record { source = client_of s; destination = web_server; seq = client; ack = server; flags = 16 }
-segment_at s client server Data = record { source = client_of s; destination = web_server; seq = client; ack = server; flags = 24 }
-segment_at s client server DataAck = record { source = web_server; destination = client_of s; seq = server; ack = client; flags = 16 }
+segment_at s client server SynAck = record {
+  source = web_server;
+  destination = client_of s;
+  seq = server;
+  ack = client;
+  flags = 18;
+}
+segment_at s client server Established = record {
+  source = client_of s;
+  destination = web_server;
+  seq = client;
+  ack = server;
+  flags = 16;
+}
+segment_at s client server Data = record {
+  source = client_of s;
+  destination = web_server;
+  seq = client;
+  ack = server;
+  flags = 24;
+}
+segment_at s client server DataAck = record {
+  source = web_server;
+  destination = client_of s;
+  seq = server;
+  ack = client;
+  flags = 16;
+}
 
 -- a sequence number behind so many bytes: they go round at 2 ^ 32
 abbrev pub seq_behind : ℕ → ℕ → ℕ

@@ -32,14 +32,16 @@ GivesOne (Err fault.Failed) next = ⊤
 GivesOne (Err why) next = next ≡ Ends (Refused why)
 
 -- exactly the captured bytes behind this header were taken
-pub record TakesBytes (head : CaptureHead) (number place : ℕ) (header : List ℕ) (given : Record) (old new : Option (List ℕ)) : Type 0 where
+pub record TakesBytes (head : CaptureHead) (number place : ℕ) (header : List ℕ) (given : Record)
+    (old new : Option (List ℕ)) : Type 0 where
   pub taken : List ℕ
   pub took : old ≡ before taken new
   pub size : length taken ≡ length given.bytes
   pub goes : (more : List ℕ) → next_behind head number place header (taken ++ more) ≡ Stands given more
 
 -- fewer than the captured bytes behind this header were taken, and they show the refusal
-pub record TakesFewer (head : CaptureHead) (number place : ℕ) (header : List ℕ) (why : CaptureFault) (old new : Option (List ℕ)) : Type 0 where
+pub record TakesFewer (head : CaptureHead) (number place : ℕ) (header : List ℕ) (why : CaptureFault)
+    (old new : Option (List ℕ)) : Type 0 where
   pub taken : List ℕ
   pub took : old ≡ before taken new
   pub shows : Shows why (next_behind head number place header taken)

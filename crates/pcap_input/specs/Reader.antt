@@ -57,7 +57,8 @@ Tells None name bytes = ⊥
 Tells (Some files) name bytes = get files name ≡ Some bytes
 
 -- at most 24 bytes were taken off the front of what the name held, and the answer is theirs
-pub record TakesHead (contents : Option Files) (name : List ℕ) (answer : Result Reading CaptureFault) (left : Option (List ℕ)) : Type 0 where
+pub record TakesHead (contents : Option Files) (name : List ℕ) (answer : Result Reading CaptureFault)
+    (left : Option (List ℕ)) : Type 0 where
   pub whole : Option (List ℕ)
   pub opened : IsOpened contents name whole
   pub taken : List ℕ

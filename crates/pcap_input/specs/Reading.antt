@@ -38,7 +38,8 @@ pub record AreWhole (first : Reading) (given : List Record) (left_first left : O
 
 -- where the bytes that were left are told, these are all their records, and this is their ending
 abbrev pub EndsWith : Reading → List Record → Option (List ℕ) → Ending → Type 0
-EndsWith first given left_first ending = (whole : List ℕ) → left_first ≡ Some whole → cut_for first whole ≡ record { records = given; ending = ending }
+EndsWith first given left_first ending = (whole : List ℕ) → left_first ≡ Some whole
+    → cut_for first whole ≡ record { records = given; ending = ending }
 
 -- a refusal is the ending of what was left, unless the host failed or memory lacked
 abbrev pub IsRefusedBy : Reading → List Record → Option (List ℕ) → CaptureFault → Type 0

@@ -160,6 +160,10 @@ pub record Capture : Type 0 where
 unfoldable pub savefile : List ℕ → Option ℕ → Result Capture CaptureFault
 savefile bytes limit =
     elim (head_of bytes) [
-      | Ok head ↦ Ok (record { head = head; cut = first_records limit (records_left head 0 file_header (drop file_header bytes)) })
+      | Ok head ↦ Ok (record {
+        head = head;
+        cut = first_records limit
+            (records_left head 0 file_header (drop file_header bytes));
+      })
       | Err fault ↦ Err fault
     ]

@@ -173,7 +173,12 @@ packet_of walk block interface moment original captured =
           if nat_lt (inner_length block) captured then Err (bad_block walk) else
           elim moment [
             | None ↦ Err (bad_block walk)
-            | Some moment ↦ Ok (content.Packet (record { link = link; moment = moment; original = original; captured = captured }))
+            | Some moment ↦ Ok (content.Packet (record {
+              link = link;
+              moment = moment;
+              original = original;
+              captured = captured;
+            }))
           ]
     ]
 
@@ -242,7 +247,8 @@ given_by walk block content.Skipped inner more = Skips (behind_block walk block)
 given_by walk block (content.Interface link snaplen) inner more =
     elim (resolution_told walk.section.swapped inner) [
       | None ↦ refused (bad_block walk)
-      | Some resolution ↦ Skips (behind_interface walk block (record { link = link; snaplen = snaplen; resolution = resolution })) more
+      | Some resolution ↦ Skips (behind_interface walk block (record { link = link; snaplen = snaplen; resolution = resolution }))
+          more
     ]
 given_by walk block (content.Packet packet) inner more =
     Gives (record_of walk packet (take packet.captured inner)) (behind_packet walk block packet) more

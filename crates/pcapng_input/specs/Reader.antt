@@ -40,7 +40,8 @@ ShowsHead (Err fault.NoMemory) taken = HoldsNone (opening taken)
 ShowsHead (Err why) taken = opening taken ≡ Stops (Refused why)
 
 -- some bytes were taken off the front of what the name held, and they show the answer
-pub record TakesHead (contents : Option Files) (name : List ℕ) (answer : Result Reading NgFault) (left : Option (List ℕ)) : Type 0 where
+pub record TakesHead (contents : Option Files) (name : List ℕ) (answer : Result Reading NgFault)
+    (left : Option (List ℕ)) : Type 0 where
   pub whole : Option (List ℕ)
   pub opened : IsOpened contents name whole
   pub taken : List ℕ
@@ -103,12 +104,14 @@ pub record TakesNone (reader : Reading) (why : NgFault) (left_old left_new : Opt
 -- what a call on a walk says of what stands next by the bytes that it took, and where the walk then stands
 abbrev pub GoesBy : Walk → Walk → Result (Option NgRecord) NgFault → List ℕ → Option (List ℕ) → Type 0
 GoesBy old new (Ok None) taken left =
-    ((more : List ℕ) → next_of old (taken ++ more) ≡ next_of new more) × ((rest : List ℕ) → left ≡ Some rest → next_of old (taken ++ rest) ≡ Ends Clean)
+    ((more : List ℕ) → next_of old (taken ++ more) ≡ next_of new more)
+    × ((rest : List ℕ) → left ≡ Some rest → next_of old (taken ++ rest) ≡ Ends Clean)
 GoesBy old new (Ok (Some given)) taken left = (more : List ℕ) → next_of old (taken ++ more) ≡ Stands given new more
 GoesBy old new (Err fault.Failed) taken left = (ending : Ending) × (next_of old taken ≡ Ends ending)
 GoesBy old new (Err fault.NoMemory) taken left = (ending : Ending) × (next_of old taken ≡ Ends ending)
 GoesBy old new (Err why) taken left =
-    (next_of old taken ≡ Ends (Refused why)) × ((rest : List ℕ) → left ≡ Some rest → next_of old (taken ++ rest) ≡ Ends (Refused why))
+    (next_of old taken ≡ Ends (Refused why)) × ((rest : List ℕ) → left ≡ Some rest
+    → next_of old (taken ++ rest) ≡ Ends (Refused why))
 
 pub record Goes (old new : Walk) (answer : Result (Option NgRecord) NgFault) (left_old left_new : Option (List ℕ)) : Type 0 where
   pub taken : List ℕ

@@ -66,7 +66,8 @@ pub record EndsBy (stage : List ℕ → Step) (step : Step) (taken : List ℕ) (
 
 -- what an answer, and where the walk then stands, say of a stage by the bytes taken
 abbrev pub ShowsBy : (List ℕ → Step) → Walk → Result BlockRead NgFault → List ℕ → Option (List ℕ) → Type 0
-ShowsBy stage walk (Ok read.End) taken new = EndsBy stage (Stops Clean) taken new × ((more : List ℕ) → stage (taken ++ more) ≡ step_of walk more)
+ShowsBy stage walk (Ok read.End) taken new =
+    EndsBy stage (Stops Clean) taken new × ((more : List ℕ) → stage (taken ++ more) ≡ step_of walk more)
 ShowsBy stage walk (Ok read.Skipped) taken new = (more : List ℕ) → stage (taken ++ more) ≡ Skips walk more
 ShowsBy stage walk (Ok (read.Record given)) taken new = (more : List ℕ) → stage (taken ++ more) ≡ Gives given walk more
 ShowsBy stage walk (Err fault.Failed) taken new = HoldsNone (stage taken)
@@ -74,7 +75,8 @@ ShowsBy stage walk (Err fault.NoMemory) taken new = HoldsNone (stage taken)
 ShowsBy stage walk (Err why) taken new = EndsBy stage (refused why) taken new
 
 -- some bytes were taken, and this is what they show
-pub record Shows (stage : List ℕ → Step) (walk : Walk) (answer : Result BlockRead NgFault) (old new : Option (List ℕ)) : Type 0 where
+pub record Shows (stage : List ℕ → Step) (walk : Walk) (answer : Result BlockRead NgFault)
+    (old new : Option (List ℕ)) : Type 0 where
   pub taken : List ℕ
   pub took : old ≡ before taken new
   pub shows : ShowsBy stage walk answer taken new

@@ -90,7 +90,8 @@ module _ (V : RattleType) where
 
   -- what of the sentinels is in no edge
   abbrev pub sentinels_own : Ptr → Ptr → Fml
-  sentinels_own head tail = fsep (fsep (room_for ty_ptr (prev_of head)) (vacant_owns head)) (fsep (room_for ty_ptr (next_of tail)) (vacant_owns tail))
+  sentinels_own head tail =
+      fsep (fsep (room_for ty_ptr (prev_of head)) (vacant_owns head)) (fsep (room_for ty_ptr (next_of tail)) (vacant_owns tail))
 
   abbrev pub ring_owns : Ptr → List (Linked V.Denot) → Ptr → Fml
   ring_owns head ns tail = fsep (path head (places ns ++ tail ∷ [])) (fsep (nodes_own ns) (sentinels_own head tail))

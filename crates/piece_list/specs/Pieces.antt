@@ -17,4 +17,5 @@ module _ {T : Type 0} where
   pieces list place spare = record { list = list; place = place; spare = spare }
 
   abbrev pub pieces_code : Coded T → Coded (Pieces T)
-  pieces_code t = code_by (List T × (ℕ × ℕ)) (coded× (coded_list t) (coded× coded_ℕ coded_ℕ)) (λ p. (p.list, (p.place, p.spare))) (λ p. pieces p.0 p.1.0 p.1.1) (λ _. refl)
+  pieces_code t = code_by (List T × (ℕ × ℕ)) (coded× (coded_list t) (coded× coded_ℕ coded_ℕ)) (λ p. (p.list, (p.place, p.spare)))
+      (λ p. pieces p.0 p.1.0 p.1.1) (λ _. refl)

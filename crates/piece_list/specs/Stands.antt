@@ -6,7 +6,8 @@ use denote.RawPtr.{Ptr}
 use Rattle.piece_list.specs.Linked.{Linked, first_place}
 
 -- the pointers lead to the sentinels and to the node at the place, and the length is right
-pub record Stands {T : Type 0} (head tail : Ptr) (nodes : List (Linked T)) (to_head to_tail here : Ptr) (len at : ℕ) : Type 0 where
+pub record Stands {T : Type 0} (head tail : Ptr) (nodes : List (Linked T)) (to_head to_tail here : Ptr)
+    (len at : ℕ) : Type 0 where
   pub heads : to_head ≡ head
   pub tails : to_tail ≡ tail
   pub counts : len ≡ length nodes

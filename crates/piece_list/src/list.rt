@@ -178,7 +178,8 @@ impl<T: Drop> PieceList<T> {
     /// None, without a change, at the end.
     pub fn remove_here(&mut self) -> Option<T>
         ensures taken { result ≡ slice_get self.old.list self.old.place }
-        ensures left { OnSome result (self.new ≡ pieces (remove self.old.list self.old.place) self.old.place (self.old.spare + 1)) }
+        ensures left { OnSome result (self.new ≡ pieces (remove self.old.list self.old.place) self.old.place
+            (self.old.spare + 1)) }
         ensures unchanged { IfNone result (self.new ≡ self.old) }
     {
         let chain = self.chain.as_mut()?;

@@ -60,7 +60,8 @@ impl<T> Ring<T> {
     pub(crate) fn unlink(&mut self, node: NodePtr<T>) -> Detached<T>
         requires { IsAt self.old.nodes node.ptr }
         ensures sentinels { (self.new.head ≡ self.old.head) × (self.new.tail ≡ self.old.tail) }
-        ensures nodes { AtNode self.old.nodes node.ptr (λ xs n ys. (self.new.nodes ≡ xs ++ ys) × (n ≡ linked result.ptr result.value)) }
+        ensures nodes { AtNode self.old.nodes node.ptr (λ xs n ys. (self.new.nodes ≡ xs ++ ys)
+            × (n ≡ linked result.ptr result.value)) }
     {
         let node = node.ptr;
         unsafe {
@@ -99,7 +100,8 @@ impl<T> Ring<T> {
 
     pub(crate) fn prev(&self, node: NodePtr<T>) -> NodePtr<T>
         requires { (before : Ptr) × HasPrev (ring self.now.head self.now.nodes self.now.tail) node.ptr before }
-        ensures { (before : Ptr) → HasPrev (ring self.now.head self.now.nodes self.now.tail) node.ptr before → result.ptr ≡ before }
+        ensures { (before : Ptr) → HasPrev (ring self.now.head self.now.nodes self.now.tail) node.ptr before
+            → result.ptr ≡ before }
     {
         NodePtr {
             ptr: unsafe { (*node.ptr).prev },

@@ -39,7 +39,8 @@ pub record StandsFor (way : Way) (front : FrontState) (before : List LinkedRecor
   pub short : All HasShortData (trail (jobs way) before)
 
 -- a record was taken behind these records: its jobs were added, and the front stands for one record more
-pub record HasTaken (way : Way) (before : List LinkedRecord) (r : LinkedRecord) (new : FrontState) (jobs_old jobs_new : List Job) : Type 0 where
+pub record HasTaken (way : Way) (before : List LinkedRecord) (r : LinkedRecord) (new : FrontState)
+    (jobs_old jobs_new : List Job) : Type 0 where
   pub added : jobs_new ≡ jobs_old ++ jobs way before r
   pub stands : StandsFor way new (before ++ r ∷ [])
 

@@ -52,7 +52,8 @@ alone item = work.Alone item.head item.payload
 unfoldable pub flow_packet : Way → Time → Item → ℕ → Work
 flow_packet way time item flow =
     let tcp : Bool = is_tcp item.head.body in
-    work.Packet flow item.head item.payload (toward_address way tcp time item.head.ip.dst) (toward_address way tcp time item.head.ip.src)
+    work.Packet flow item.head item.payload (toward_address way tcp time item.head.ip.dst)
+    (toward_address way tcp time item.head.ip.src)
 
 -- a packet that found this of its flow, if it has one
 abbrev pub packet_work : Way → Time → Option Touch → Item → Work
@@ -78,7 +79,8 @@ works way before r = works_by way (time_of before r) (touch_in way before r) (fr
 -- jobs at one moment, numbered from this number on
 abbrev pub numbered : ℕ → Moment → List Work → List Job
 numbered number moment [] = []
-numbered number moment (todo ∷ later) = record { number = number; moment = moment; work = todo } ∷ numbered (number + 1) moment later
+numbered number moment (todo ∷ later) = record { number = number; moment = moment; work = todo } ∷ numbered
+    (number + 1) moment later
 
 -- how many jobs these records have
 unfoldable pub job_count : Way → List LinkedRecord → ℕ
@@ -91,4 +93,5 @@ jobs way before r = numbered (job_count way before) r.captured.moment (works way
 -- the jobs behind all records: each flow that lives ends
 unfoldable pub finishes : Way → List LinkedRecord → List Job
 finishes way records =
-    numbered (job_count way records) (end_of records) (map (λ flow. work.Finish flow) (live_flows (most_flows way.stream) (touches way records)))
+    numbered (job_count way records) (end_of records) (map (λ flow. work.Finish flow)
+    (live_flows (most_flows way.stream) (touches way records)))

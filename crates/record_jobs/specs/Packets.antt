@@ -77,7 +77,8 @@ fragments way config records = filter_map (fragment_in way config) records
 
 -- the fragments that wait for their datagrams behind these records; none are kept where no line gives an engine
 unfoldable pub frag3_behind : Way → List LinkedRecord → Option Frag3State
-frag3_behind way records = option_map (λ (config : FragConfig). state_after config.max_frags (fragments way config records)) way.frag
+frag3_behind way records =
+    option_map (λ (config : FragConfig). state_after config.max_frags (fragments way config records)) way.frag
 
 -- the datagram, where there is one
 abbrev pub whole_of : Taken → Option Datagram
@@ -119,7 +120,8 @@ packet_in way before r = packet_from way r.captured.moment (datagram_in way befo
 
 -- why the record, or the datagram that it made whole, is skipped
 abbrev pub skip_from : Way → Option Datagram → Result Fields Skip → Option Skip
-skip_from way datagram said = option_or (result_err said) (option_and_then (λ d. result_err (datagram_said way.checks d)) datagram)
+skip_from way datagram said =
+    option_or (result_err said) (option_and_then (λ d. result_err (datagram_said way.checks d)) datagram)
 
 unfoldable pub skip_in : Way → List LinkedRecord → LinkedRecord → Option Skip
 skip_in way before r = skip_from way (datagram_in way before r) (said_by way r)

@@ -29,7 +29,8 @@ all_jobs way records = trail (jobs way) records ++ finishes way records
 -- each of these jobs is sound behind the earlier ones, where there are so many engines
 abbrev pub AreSound : ℕ → List Job → Type 0
 AreSound engines xs =
-    (front : List Job) (job : Job) (rest : List Job) → xs ≡ front ++ job ∷ rest → IsSoundFor engines (facts_after None (filter (same_flow job) front)) job
+    (front : List Job) (job : Job) (rest : List Job) → xs ≡ front ++ job ∷ rest
+    → IsSoundFor engines (facts_after None (filter (same_flow job) front)) job
 
 -- each job's number is its place
 abbrev pub AreNumbered : List Job → Type 0
@@ -50,4 +51,5 @@ pub record AreReady (engines : ℕ) (lanes : LanesState) (batch : List Job) : Ty
 -- all jobs of at most 2 ^ 32 records are numbered by their places, and sound where their data are short
 pub record AreInOrder (way : Way) (records : List LinkedRecord) : Type 0 where
   pub numbered : AreNumbered (all_jobs way records)
-  pub sound : length records ≤ 2 ^ 32 → All HasShortData (trail (jobs way) records) → AreSound (length way.stream.engines) (all_jobs way records)
+  pub sound : length records ≤ 2 ^ 32 → All HasShortData (trail (jobs way) records)
+      → AreSound (length way.stream.engines) (all_jobs way records)

@@ -84,7 +84,8 @@ caught_by way waiting r = said_caught way waiting r.captured.moment (said_by way
 -- the fragments that wait behind a fragment
 unfoldable pub waiting_after_part : Way → Option Frag3State → Moment → Fields → Option Frag3State
 waiting_after_part way waiting moment fields =
-    option_map (λ (frag3 : Frag3State). option_map_or (λ (config : FragConfig). after frag3 (fragment_of way config moment fields)) way.frag frag3) waiting
+    option_map (λ (frag3 : Frag3State). option_map_or (λ (config : FragConfig). after frag3
+    (fragment_of way config moment fields)) way.frag frag3) waiting
 
 -- the fragments that wait behind what was read
 abbrev pub waiting_from : Way → Option Frag3State → Moment → Result Fields Skip → Option Frag3State
@@ -161,7 +162,8 @@ AreFew counts = AreUpTo counts.records counts.records counts
 -- ---- jobs
 
 -- what is done was added behind the old list, numbered from this number on
-pub record Adds (number : ℕ) (moment : Moment) (todo : List Work) (jobs_old : List Job) (next : ℕ) (jobs_new : List Job) : Type 0 where
+pub record Adds (number : ℕ) (moment : Moment) (todo : List Work) (jobs_old : List Job) (next : ℕ)
+    (jobs_new : List Job) : Type 0 where
   pub number_is : next ≡ number + length todo
   pub added : jobs_new ≡ jobs_old ++ numbered number moment todo
 
@@ -172,7 +174,8 @@ abbrev pub caught_works : Way → Option Moment → LinkedRecord → Option Touc
 caught_works way begin r touch caught = works_by way (time_by begin r) touch caught.fragment caught.whole.packet
 
 -- a front takes a record, by what it keeps, where the record's touch found this
-pub record Steps (way : Way) (old : FrontState) (r : LinkedRecord) (touch : Option Touch) (new : FrontState) (jobs_old jobs_new : List Job) : Type 0 where
+pub record Steps (way : Way) (old : FrontState) (r : LinkedRecord) (touch : Option Touch) (new : FrontState)
+    (jobs_old jobs_new : List Job) : Type 0 where
   pub found : FindsTouch old.flows (whole_key way (caught_by way old.frag3 r).whole) touch
   pub sees : SeesKey old.flows (whole_key way (caught_by way old.frag3 r).whole) new.flows
   pub most : new.flows.max ≡ old.flows.max
@@ -180,5 +183,7 @@ pub record Steps (way : Way) (old : FrontState) (r : LinkedRecord) (touch : Opti
   pub begin : new.begin ≡ Some (time_by old.begin r).first
   pub last : new.last ≡ r.captured.moment
   pub counts : new.counts ≡ counts_after old.counts (caught_by way old.frag3 r) touch
-  pub added : Adds old.next r.captured.moment (caught_works way old.begin r touch (caught_by way old.frag3 r)) jobs_old new.next jobs_new
-  pub short : IfSome (datagram_from way old.frag3 r.captured.moment (said_by way r)) IsShortDatagram → IsShortWhole (caught_by way old.frag3 r).whole
+  pub added : Adds old.next r.captured.moment (caught_works way old.begin r touch (caught_by way old.frag3 r)) jobs_old new.next
+      jobs_new
+  pub short : IfSome (datagram_from way old.frag3 r.captured.moment (said_by way r)) IsShortDatagram
+      → IsShortWhole (caught_by way old.frag3 r).whole

@@ -35,4 +35,5 @@ are_six src dst = false
 
 -- what a datagram says that was put together from fragments, or why it is skipped
 unfoldable pub rebuilt_decoded : IpHead → List ℕ → Checks → Result Fields Skip
-rebuilt_decoded ip bytes checks = if are_six ip.src ip.dst then datagram_decoded6 ip bytes checks else datagram_decoded ip bytes checks
+rebuilt_decoded ip bytes checks =
+    if are_six ip.src ip.dst then datagram_decoded6 ip bytes checks else datagram_decoded ip bytes checks

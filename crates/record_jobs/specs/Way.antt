@@ -60,7 +60,8 @@ is_bound addr (Some list) = is_listed (has_address addr) list
 -- the engine of an address
 unfoldable pub frag_engine : List FragEngine → Addr → FragEngine
 frag_engine engines addr =
-    unwrap_or (option_or (find (λ engine. is_bound addr engine.bind) engines) (find (λ engine. is_none engine.bind) engines)) default_frag_engine
+    unwrap_or (option_or (find (λ engine. is_bound addr engine.bind) engines) (find (λ engine. is_none engine.bind) engines))
+    default_frag_engine
 
 -- what a fragment to this address is taken by
 unfoldable pub frag_rules : List HostLine → FragConfig → Addr → FragRules
@@ -75,12 +76,14 @@ frag_rules hosts config addr = let engine : FragEngine = frag_engine config.engi
 -- the place of the engine of an address; the number of engines where the defaults hold
 unfoldable pub stream_place : List StreamEngine → Addr → ℕ
 stream_place engines addr =
-    unwrap_or (option_or (position (λ engine. is_bound addr engine.bind) engines) (position (λ engine. is_none engine.bind) engines)) (length engines)
+    unwrap_or (option_or (position (λ engine. is_bound addr engine.bind) engines)
+    (position (λ engine. is_none engine.bind) engines)) (length engines)
 
 -- how data sent to this address are put together
 unfoldable pub stream_preference_at : Way → Addr → Preference
 stream_preference_at way addr =
-    stream_preference (unwrap_or (stream_policy_at way.hosts addr) (stream_engine_at way.stream.engines (stream_place way.stream.engines addr)).policy)
+    stream_preference (unwrap_or (stream_policy_at way.hosts addr)
+    (stream_engine_at way.stream.engines (stream_place way.stream.engines addr)).policy)
 
 -- so many seconds have gone by since the capture's first record, where a handshake is asked for after them
 abbrev pub is_due : Time → Option ℕ → Bool

@@ -271,7 +271,8 @@ pub(crate) fn add_packet(
     requires engines { length by.now.config.now.stream.engines ≤ 1024 }
     requires room { number + 2 < 2 ^ 64 }
     ensures added { IfOk result (λ next. Adds number time.now
-        (works_by (way_of by.now) time touch None (Some (read_item time.now read.now payload))) out.old.items next out.new.items) }
+        (works_by (way_of by.now) time touch None (Some (read_item time.now read.now payload)))
+        out.old.items next out.new.items) }
     ensures few { IfOk result (λ next. next ≤ number + 2) }
     ensures err { OnErr result (take (length out.old.items) out.new.items ≡ out.old.items) }
 {
@@ -292,7 +293,8 @@ pub(crate) fn add_finishes(
     flows: &[u64],
 ) -> Result<(), NoMemory>
     requires { number ≤ 2 ^ 34 }
-    ensures ok { OnOk result (out.new.items ≡ out.old.items ++ numbered number moment (map (λ flow. Work.Finish flow) flows.now)) }
+    ensures ok { OnOk result (out.new.items ≡ out.old.items
+        ++ numbered number moment (map (λ flow. Work.Finish flow) flows.now)) }
     ensures err { OnErr result (take (length out.old.items) out.new.items ≡ out.old.items) }
 {
     let mut number = number;

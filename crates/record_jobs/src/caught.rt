@@ -181,7 +181,8 @@ pub(crate) fn caught(
     requires { IsReadAsFour link captured.now.bytes by.now.checks four }
     ensures caught { IfOk result (λ caught. caught ≡ caught_by (way_of by.now) frag3.old (linked link captured.now)) }
     ensures after { OnOk result (frag3.new ≡ waiting_after (way_of by.now) frag3.old (linked link captured.now)) }
-    ensures short { IfSome (datagram_from (way_of by.now) frag3.old captured.now.moment (said_by (way_of by.now) (linked link captured.now))) IsShortDatagram
+    ensures short { IfSome (datagram_from (way_of by.now) frag3.old captured.now.moment
+        (said_by (way_of by.now) (linked link captured.now))) IsShortDatagram
         → IfOk result (λ caught. IsShortWhole caught.whole) }
 {
     match record_packet(four, link, captured.bytes.bytes(), by.checks) {

@@ -25,9 +25,11 @@ pub fn records_are_counted()
 /// New lanes know that there was no job; lanes that know the earlier jobs may run the next ones, and know these
 /// too then.
 pub fn lanes_may_run()
-    ensures new { (count flush : ℕ) (inserts : Bool) (lanes : LanesState) → AreNew count flush inserts lanes → HaveLearnt lanes [] }
+    ensures new { (count flush : ℕ) (inserts : Bool) (lanes : LanesState) → AreNew count flush inserts lanes
+        → HaveLearnt lanes [] }
     ensures ready { (engines : ℕ) (lanes : LanesState) (earlier batch rest : List Job) → HaveLearnt lanes earlier
-        → AreSound engines (earlier ++ (batch ++ rest)) → AreNumbered (earlier ++ (batch ++ rest)) → AreReady engines lanes batch }
+        → AreSound engines (earlier ++ (batch ++ rest)) → AreNumbered (earlier ++ (batch ++ rest))
+        → AreReady engines lanes batch }
     ensures learn { (old new : LanesState) (earlier batch : List Job) → HaveLearnt old earlier
         → LearnsBatch old batch new → HaveLearnt new (earlier ++ batch) }
 {}

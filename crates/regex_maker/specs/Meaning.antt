@@ -46,4 +46,5 @@ span_in re bytes = if are_bytes bytes then option_map span_of (find re bytes 0) 
 
 -- what a text with flags finds; a text that is no pattern finds nothing
 unfoldable pub regex_span : List ℕ → PatternFlags → List ℕ → Option Span
-regex_span text flags bytes = option_and_then (λ (re, names). span_in re.value bytes) (read (options_of flags) (chars (pattern_text text)))
+regex_span text flags bytes =
+    option_and_then (λ (re, names). span_in re.value bytes) (read (options_of flags) (chars (pattern_text text)))

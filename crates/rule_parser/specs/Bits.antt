@@ -14,7 +14,8 @@ GivesWith (Err NoMemory) names meant = ⊤
 GivesWith (Err (Wrong why)) names meant = meant ≡ Err why
 
 -- the same where what is meant is a relation
-abbrev pub IsGivenWith : {X : Type 0} → Result X (Stop Fault) → List (List ℕ) → (Result (X × List (List ℕ)) Fault → Type 0) → Type 0
+abbrev pub IsGivenWith : {X : Type 0} → Result X (Stop Fault) → List (List ℕ) → (Result (X × List (List ℕ)) Fault → Type 0)
+    → Type 0
 IsGivenWith (Ok x) names IsMeant = IsMeant (Ok (x, names))
 IsGivenWith (Err NoMemory) names IsMeant = ⊤
 IsGivenWith (Err (Wrong why)) names IsMeant = IsMeant (Err why)

@@ -55,7 +55,12 @@ comma text = position (λ b. b == 44) text
 -- the first part of a text
 abbrev pub part_to : ℕ → List ℕ → Option ℕ → Part
 part_to left text None = record { text = trimmed text; left = left - prefix_len is_blank text; behind = None; left_behind = 0 }
-part_to left text (Some place) = record { text = trimmed (take place text); left = left - prefix_len is_blank text; behind = Some (drop (place + 1) text); left_behind = left - (place + 1) }
+part_to left text (Some place) = record {
+  text = trimmed (take place text);
+  left = left - prefix_len is_blank text;
+  behind = Some (drop (place + 1) text);
+  left_behind = left - (place + 1);
+}
 
 unfoldable pub first_part : ℕ → List ℕ → Part
 first_part left text = part_to left text (comma text)
@@ -68,7 +73,17 @@ next_part part = do
 
 -- no words
 abbrev pub no_words : Words
-no_words = record { relative = false; big = false; little = false; string = false; base = None; times = None; align = None; beginning = false; post = None }
+no_words = record {
+  relative = false;
+  big = false;
+  little = false;
+  string = false;
+  base = None;
+  times = None;
+  align = None;
+  beginning = false;
+  post = None;
+}
 
 -- a word that stands once
 abbrev pub once_only : Bool → Words → Result Words Fault
@@ -141,11 +156,13 @@ lacks_string bytes words = not words.string && (is_some words.base || not (nat_l
 -- which bytes are read
 unfoldable pub fetch_of : ℕ → Num → Words → Result Fetch Fault
 fetch_of bytes offset words =
-    if lacks_string bytes words then Err OptionValue else Ok (record { bytes = bytes; offset = offset; relative = words.relative; base = base_of words })
+    if lacks_string bytes words then Err OptionValue else Ok
+    (record { bytes = bytes; offset = offset; relative = words.relative; base = base_of words })
 
 -- a byte_jump with these words, and a byte_extract with them under the name of this place
 abbrev pub jump_of : Fetch → Words → Opt
-jump_of fetch words = opt.ByteJump fetch (unwrap_or words.times 1) (is_some words.align) words.beginning (unwrap_or words.post (pos 0))
+jump_of fetch words =
+    opt.ByteJump fetch (unwrap_or words.times 1) (is_some words.align) words.beginning (unwrap_or words.post (pos 0))
 
 abbrev pub extract_of : Fetch → ℕ → Words → Opt
 extract_of fetch name words = opt.ByteExtract fetch name (unwrap_or words.times 1) (unwrap_or words.align 0)
@@ -176,7 +193,12 @@ pub record Comparison : Type 0 where
 
 -- what is seen of a comparison that the code lends
 abbrev pub seen_comparison : LentComparison → Comparison
-seen_comparison comparison = record { negated = comparison.negated; cmp = comparison.cmp; value = comparison.value; part = seen comparison.part }
+seen_comparison comparison = record {
+  negated = comparison.negated;
+  cmp = comparison.cmp;
+  value = comparison.value;
+  part = seen comparison.part;
+}
 
 -- the comparison behind the first part
 unfoldable pub comparison_of : List (List ℕ) → Part → Result Comparison Fault
@@ -230,7 +252,8 @@ byte_extract_option draft left value = do
 
 -- one word behind the number of isdataat: whether it is `relative`
 abbrev pub data_word : List ℕ → Result Bool Fault
-data_word word = if bytes_eq word (codes "relative") then Ok true else if bytes_eq word (codes "rawbytes") then Ok false else Err OptionValue
+data_word word =
+    if bytes_eq word (codes "relative") then Ok true else if bytes_eq word (codes "rawbytes") then Ok false else Err OptionValue
 
 -- what may follow the number of isdataat: `relative`, and then `rawbytes`
 unfoldable pub data_words : List (List ℕ) → Result Bool Fault

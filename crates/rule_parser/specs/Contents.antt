@@ -36,20 +36,35 @@ negation (first ∷ rest) = if first == 33 then (true, rest) else (false, first 
 
 -- a content before its modifiers
 abbrev pub plain_content : Bool → List ℕ → Content
-plain_content negated bytes = record { bytes = bytes; negated = negated; nocase = false; relative = false; from = None; room = None; fast = fast.No }
+plain_content negated bytes = record {
+  bytes = bytes;
+  negated = negated;
+  nocase = false;
+  relative = false;
+  from = None;
+  room = None;
+  fast = fast.No;
+}
 
 -- the draft with the last content in its place, and this one apart
 abbrev pub with_content : Draft → Content → Draft
 with_content draft content = record draft {
   opts = settled draft;
-  held = Some (record { content = content; place = length (settled draft); known = length draft.names; raw = false; placeless = false });
+  held = Some (record {
+    content = content;
+    place = length (settled draft);
+    known = length draft.names;
+    raw = false;
+    placeless = false;
+  });
 }
 
 -- the draft with a content of these bytes, where there are some, not too many, and there is room
 abbrev pub with_bytes : Draft → Bool → List ℕ → Result Draft Fault
 with_bytes draft negated bytes =
     if length bytes == 0 then Err OptionValue
-    else if nat_le (length bytes) 2048 && not (nat_le 64 (kept_count draft)) then Ok (with_content draft (plain_content negated bytes))
+    else if nat_le (length bytes) 2048 && not (nat_le 64 (kept_count draft))
+    then Ok (with_content draft (plain_content negated bytes))
     else Err Limit
 
 -- `content:[!]"text"`
@@ -67,7 +82,8 @@ with_last draft held = record draft { held = Some held }
 unfoldable pub nocase_option : Draft → Option (List ℕ) → Result Draft Fault
 nocase_option draft value = do
   held ← or_kind Misplaced draft.held
-  if held.content.nocase then Err Misplaced else if is_some value then Err OptionValue else Ok (with_last draft (record held { content = record held.content { nocase = true } }))
+  if held.content.nocase then Err Misplaced else if is_some value then Err OptionValue
+      else Ok (with_last draft (record held { content = record held.content { nocase = true } }))
 
 -- `rawbytes`, which changes nothing
 unfoldable pub rawbytes_option : Draft → Option (List ℕ) → Result Draft Fault
@@ -155,4 +171,11 @@ unfoldable pub fast_pattern_option : Draft → Option (List ℕ) → Result Draf
 fast_pattern_option draft value = do
   held ← if draft.fast then Err Misplaced else or_kind Misplaced draft.held
   mode ← fast_mode (length held.content.bytes) value
-  if bars_fast mode held.content then Err OptionValue else Ok (record draft { fast = true; held = Some (record held { placeless = is_only mode || held.content.negated; content = record held.content { fast = fast_on held.content.negated mode } }) })
+  if bars_fast mode held.content then Err OptionValue
+      else Ok (record draft {
+        fast = true;
+        held = Some (record held {
+          placeless = is_only mode || held.content.negated;
+          content = record held.content { fast = fast_on held.content.negated mode };
+        });
+      })

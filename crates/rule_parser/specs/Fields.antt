@@ -35,7 +35,8 @@ above_sign (second ∷ rest) = if second == 61 then (From, rest) else (Above, se
 unfoldable pub sign_of : List ℕ → Sign × List ℕ
 sign_of [] = (Plain, [])
 sign_of (first ∷ rest) =
-    if first == 60 then below_sign rest else if first == 62 then above_sign rest else if first == 61 then (Equal, rest) else if first == 33 then (Not, rest) else (Plain, first ∷ rest)
+    if first == 60 then below_sign rest else if first == 62 then above_sign rest else if first == 61 then (Equal, rest)
+    else if first == 33 then (Not, rest) else (Plain, first ∷ rest)
 
 -- how a sign compares
 abbrev pub cmp_of : Sign → Cmp
@@ -84,7 +85,8 @@ against field cmp number = opt.Compare field cmp number number
 -- a number, a sign before it perhaps
 unfoldable pub signed_compare : Field → List ℕ → Result Opt Fault
 signed_compare field text = do
-  number ← if allows field (sign_of text).0 then or_kind OptionValue (number_in 0 (most_of field) (sign_of text).1) else Err OptionValue
+  number ← if allows field (sign_of text).0 then or_kind OptionValue (number_in 0 (most_of field) (sign_of text).1)
+      else Err OptionValue
   Ok (against field (cmp_of (sign_of text).0) number)
 
 -- an end of a range, or what stands for one that lacks

@@ -33,9 +33,12 @@ first_of_group stands next = if stands then Err OptionValue else Ok next
 -- a word on the session: the first group
 unfoldable pub session_word : FlowOpt → List ℕ → Result FlowOpt Fault
 session_word flow word =
-    if bytes_eq word (codes "established") then first_of_group (is_some flow.established || flow.stateless) (record flow { established = Some true })
-    else if bytes_eq word (codes "not_established") then first_of_group (is_some flow.established || flow.stateless) (record flow { established = Some false })
-    else if bytes_eq word (codes "stateless") then first_of_group (is_some flow.established || flow.stateless) (record flow { stateless = true })
+    if bytes_eq word (codes "established") then first_of_group (is_some flow.established || flow.stateless)
+    (record flow { established = Some true })
+    else if bytes_eq word (codes "not_established") then first_of_group (is_some flow.established || flow.stateless)
+    (record flow { established = Some false })
+    else if bytes_eq word (codes "stateless") then first_of_group (is_some flow.established || flow.stateless)
+    (record flow { stateless = true })
     else Err OptionValue
 
 -- a word on how the item came to be: the third and the fourth group, and else the first
@@ -50,8 +53,10 @@ item_word flow word =
 -- a word on the side that sent the item: the second group, and else the others
 unfoldable pub flow_word : FlowOpt → List ℕ → Result FlowOpt Fault
 flow_word flow word =
-    if bytes_eq word (codes "to_server") || bytes_eq word (codes "from_client") then first_of_group (is_some flow.from_client) (record flow { from_client = Some true })
-    else if bytes_eq word (codes "to_client") || bytes_eq word (codes "from_server") then first_of_group (is_some flow.from_client) (record flow { from_client = Some false })
+    if bytes_eq word (codes "to_server") || bytes_eq word (codes "from_client")
+    then first_of_group (is_some flow.from_client) (record flow { from_client = Some true })
+    else if bytes_eq word (codes "to_client") || bytes_eq word (codes "from_server")
+    then first_of_group (is_some flow.from_client) (record flow { from_client = Some false })
     else item_word flow word
 
 -- `flow:w,..`, which stands at most once
@@ -66,7 +71,8 @@ no_letters = record { mode = None; bits = 0; any = false }
 
 -- the sign that a byte is: `!` (33), `*` (42), `+` (43)
 abbrev pub mode_of : ℕ → Option Mode
-mode_of byte = if byte == 33 then Some mode.NoneSet else if byte == 42 then Some mode.Any else if byte == 43 then Some mode.All else None
+mode_of byte =
+    if byte == 33 then Some mode.NoneSet else if byte == 42 then Some mode.Any else if byte == 43 then Some mode.All else None
 
 -- the bit of a letter of TCP flags: F S R P A U E C are 1 to 128; `1` is C, `2` is E, and `0` is no bit
 abbrev pub flag_bit : ℕ → Option ℕ

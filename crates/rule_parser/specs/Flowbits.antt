@@ -32,7 +32,8 @@ is_joining byte = byte == 38 || byte == 124
 -- a name of a bit
 unfoldable pub bit_name : List ℕ → Result (List ℕ) Fault
 bit_name text =
-    if list_any is_joining text then Err OutsideProfile else if not (length text == 0) && list_all is_bit_byte text then Ok text else Err OptionValue
+    if list_any is_joining text then Err OutsideProfile else if not (length text == 0) && list_all is_bit_byte text then Ok text
+    else Err OptionValue
 
 -- the option of a word at a bit
 abbrev pub bit_option : BitWord → ℕ → Opt
@@ -83,7 +84,8 @@ noalert draft first = if is_some first.behind then Err OptionValue else Ok (reco
 -- by the first part of the value
 unfoldable pub flowbits_parts : List (List ℕ) → Draft → Part → Result (Draft × List (List ℕ)) Fault
 flowbits_parts names draft first =
-    if bytes_eq first.text (codes "noalert") then with_names names (noalert draft first) else bit_word first.text >>= bit_parts names draft first
+    if bytes_eq first.text (codes "noalert") then with_names names (noalert draft first)
+    else bit_word first.text >>= bit_parts names draft first
 
 -- `flowbits:..`; `names` are those of this rule so far and of the rules before
 unfoldable pub flowbits_option : List (List ℕ) → Draft → List ℕ → Result (Draft × List (List ℕ)) Fault

@@ -40,7 +40,8 @@ words_text (word ∷ more) rest = word ++ 32 ∷ words_text more rest
 
 -- the line from each word on
 abbrev pub word_texts : HeaderTexts → List (List ℕ)
-word_texts texts = texts.action.now ∷ texts.proto.now ∷ texts.src.now ∷ texts.sports.now ∷ texts.direction.now ∷ texts.dst.now ∷ texts.dports.now ∷ []
+word_texts texts = texts.action.now ∷ texts.proto.now ∷ texts.src.now ∷ texts.sports.now ∷ texts.direction.now ∷ texts.dst.now
+    ∷ texts.dports.now ∷ []
 
 -- a line that is written of seven words and what stands behind them is cut into these
 pub record AreCutInto (texts : HeaderTexts) (words : List (List ℕ)) (rest : List ℕ) : Type 0 where

@@ -55,7 +55,8 @@ proto_of word =
 
 -- whether source and destination may be exchanged
 unfoldable pub direction_of : List ℕ → Result Bool Fault
-direction_of word = if bytes_eq word (codes "->") then Ok false else if bytes_eq word (codes "<>") then Ok true else Err fault.Direction
+direction_of word =
+    if bytes_eq word (codes "->") then Ok false else if bytes_eq word (codes "<>") then Ok true else Err fault.Direction
 
 -- what a text is as a list, with this fault where it is none
 abbrev pub IsReadAs : {B : Type 0} → (List ℕ → Option B) → Fault → List ℕ → Result (List (Part B)) Fault → Type 0
@@ -100,7 +101,15 @@ IsHeader variables line =
     After (IsWord direction_of (from_word 4 line)) (λ both.
     After (IsAddressWord variables (from_word 5 line)) (λ dst.
     After (IsPortWord variables (from_word 6 line)) (λ dports answer.
-    answer ≡ Ok (record { action = action; proto = proto; src = src; sports = sports; dst = dst; dports = dports; both = both }))))))))
+    answer ≡ Ok (record {
+      action = action;
+      proto = proto;
+      src = src;
+      sports = sports;
+      dst = dst;
+      dports = dports;
+      both = both;
+    }))))))))
 
 -- what stands behind the header
 abbrev pub behind_header : List ℕ → List ℕ

@@ -48,7 +48,12 @@ flags_of flags (letter ∷ rest) = with_flag flags letter >>= λ next. flags_of 
 
 -- the flags that the maker of patterns is told
 abbrev pub pattern_flags : Flags → PatternFlags
-pattern_flags flags = record { nocase = flags.nocase; dot_all = flags.dot_all; multi_line = flags.multi_line; extended = flags.extended }
+pattern_flags flags = record {
+  nocase = flags.nocase;
+  dot_all = flags.dot_all;
+  multi_line = flags.multi_line;
+  extended = flags.extended;
+}
 
 -- whether a byte is ASCII
 abbrev pub is_ascii : ℕ → Bool
@@ -80,4 +85,5 @@ pcre_option draft value = do
   halves ← or_kind OptionValue (slashed parts.0)
   text ← expression_of halves.0
   flags ← flags_of no_flags halves.1
-  if not (length parts.1 == 0) then Err OptionValue else if nat_lt 4096 (length text) then Err Limit else kept draft (opt.Pcre text (pattern_flags flags) flags.relative (negation value).0)
+  if not (length parts.1 == 0) then Err OptionValue else if nat_lt 4096 (length text) then Err Limit
+      else kept draft (opt.Pcre text (pattern_flags flags) flags.relative (negation value).0)

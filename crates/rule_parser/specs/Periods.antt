@@ -18,7 +18,8 @@ behind_key key part = if bytes_eq (first_word part) key then Ok (behind_word par
 
 -- the address by which matches are counted: the source?
 unfoldable pub tracked : List ℕ → Result Bool Fault
-tracked side = if bytes_eq side (codes "by_src") then Ok true else if bytes_eq side (codes "by_dst") then Ok false else Err OptionValue
+tracked side =
+    if bytes_eq side (codes "by_src") then Ok true else if bytes_eq side (codes "by_dst") then Ok false else Err OptionValue
 
 -- a number behind its word, at least 1
 unfoldable pub counted : List ℕ → List ℕ → Result ℕ Fault

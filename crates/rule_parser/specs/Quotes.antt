@@ -77,7 +77,8 @@ escaped_step style byte = if frees style byte then giving Plain byte else giving
 -- between bars,
 unfoldable pub bars_step : ℕ → Option Step
 bars_step byte =
-    if byte == 124 then Some (silent Plain) else if is_blank byte then Some (silent Bars) else if is_some (hex_value byte) then Some (silent (Half byte)) else None
+    if byte == 124 then Some (silent Plain) else if is_blank byte then Some (silent Bars)
+    else if is_some (hex_value byte) then Some (silent (Half byte)) else None
 
 -- behind the first digit of a pair,
 unfoldable pub half_step : ℕ → ℕ → Option Step

@@ -32,7 +32,8 @@ use Rattle.rule_parser.specs.Written.{outside, option_texts}
 -- What stands between a `(` (40) in front and the last byte, a `)` (41), of what is left of the line.
 unfoldable pub in_parentheses : List ℕ → Option (List ℕ)
 in_parentheses text =
-    if (nat_le 2 (length text) && slice_index text 0 == 40) && slice_index text (length text - 1) == 41 then Some (take (length text - 2) (drop 1 text)) else None
+    if (nat_le 2 (length text) && slice_index text 0 == 40) && slice_index text (length text - 1) == 41
+    then Some (take (length text - 2) (drop 1 text)) else None
 
 -- The draft and the flowbit names behind all options, of which these texts are left; so many bytes of the
 -- line are left where the first of them begins. Behind the last `;` only blanks may stand.
@@ -40,7 +41,8 @@ unfoldable pub rule_options : List Class → List (List ℕ) → Draft → ℕ �
 rule_options classes names draft left [] = Ok (draft, names)
 rule_options classes names draft left (text ∷ []) = if list_all is_blank text then Ok (draft, names) else Err OptionSyntax
 rule_options classes names draft left (text ∷ next ∷ more) =
-    rule_option classes names draft left text >>= λ behind. rule_options classes behind.1 behind.0 (left - (length text + 1)) (next ∷ more)
+    rule_option classes names draft left text >>= λ behind.
+    rule_options classes behind.1 behind.0 (left - (length text + 1)) (next ∷ more)
 
 -- the draft and the names behind these texts of options, which are those of what stands between the parentheses
 abbrev pub options_of : List Class → List (List ℕ) → List ℕ → List (List ℕ) → Result (Draft × List (List ℕ)) Fault
@@ -104,9 +106,11 @@ IsRuleLine variables classes names line =
 -- fault; or want of memory, for any line.
 abbrev pub IsAnswered : ℕ → Result Rule RuleFault → List (List ℕ) → (Result (Rule × List (List ℕ)) Fault → Type 0) → Type 0
 IsAnswered len (Ok rule) names IsLine = IsLine (Ok (rule, names))
-IsAnswered len (Err fault) names IsLine = (fault ≡ plain NoMemory) ⊎ ((why : Fault) × IsLine (Err why) × (fault ≡ rule_fault len why))
+IsAnswered len (Err fault) names IsLine =
+    (fault ≡ plain NoMemory) ⊎ ((why : Fault) × IsLine (Err why) × (fault ≡ rule_fault len why))
 
 -- the answer is what this meaning says: a line that is a rule gives it, and one that has a fault gives that
 abbrev pub AnswersAs : ℕ → Result Rule RuleFault → List (List ℕ) → Result (Rule × List (List ℕ)) Fault → Type 0
 AnswersAs len (Ok rule) names meant = meant ≡ Ok (rule, names)
-AnswersAs len (Err fault) names meant = (fault ≡ plain NoMemory) ⊎ ((why : Fault) × (meant ≡ Err why) × (fault ≡ rule_fault len why))
+AnswersAs len (Err fault) names meant =
+    (fault ≡ plain NoMemory) ⊎ ((why : Fault) × (meant ≡ Err why) × (fault ≡ rule_fault len why))

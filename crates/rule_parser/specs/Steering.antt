@@ -31,7 +31,8 @@ side_of text =
 
 -- the sides whose sizes are compared
 unfoldable pub sized_side : List ℕ → Result Side Fault
-sized_side text = if bytes_eq text (codes "either") then Ok side.Either else if bytes_eq text (codes "fastpath") then Err OptionValue else side_of text
+sized_side text = if bytes_eq text (codes "either") then Ok side.Either
+    else if bytes_eq text (codes "fastpath") then Err OptionValue else side_of text
 
 -- how sizes are compared
 unfoldable pub size_cmp : List ℕ → Result Cmp Fault
@@ -63,7 +64,8 @@ stream_size_option draft value = size_parts draft (comma_parts value)
 -- on or off
 unfoldable pub switched : List ℕ → Result Bool Fault
 switched text =
-    if bytes_eq text (codes "enable") then Ok true else if bytes_eq text (codes "disable") then Ok false else if bytes_eq text (codes "fastpath") then Err OutsideProfile else Err OptionValue
+    if bytes_eq text (codes "enable") then Ok true else if bytes_eq text (codes "disable") then Ok false
+    else if bytes_eq text (codes "fastpath") then Err OutsideProfile else Err OptionValue
 
 -- no part stands behind the last
 unfoldable pub quiet_end : List (List ℕ) → Result Bool Fault
@@ -74,7 +76,8 @@ quiet_end (next ∷ more) = if bytes_eq next (codes "fastpath") then Err Outside
 unfoldable pub quiet : List (List ℕ) → Result Bool Fault
 quiet [] = Ok false
 quiet (first ∷ rest) =
-    if bytes_eq first (codes "fastpath") then Err OutsideProfile else if bytes_eq first (codes "noalert") then quiet_end rest else Err OptionValue
+    if bytes_eq first (codes "fastpath") then Err OutsideProfile else if bytes_eq first (codes "noalert") then quiet_end rest
+    else Err OptionValue
 
 -- the parts of a reassembly
 unfoldable pub reassemble_parts : Draft → List (List ℕ) → Result Draft Fault

@@ -60,7 +60,8 @@ unfoldable pub msg_option : Draft → List ℕ → Result Draft Fault
 msg_option draft value = do
   inside ← quoted_whole value
   msg ← or_kind OptionValue (meaning Message Plain inside)
-  if is_some draft.msg then Err OptionValue else if nat_le (length msg) 1024 then Ok (record draft { msg = Some msg }) else Err Limit
+  if is_some draft.msg then Err OptionValue else if nat_le (length msg) 1024 then Ok (record draft { msg = Some msg })
+      else Err Limit
 
 -- the class of this name among the configuration's
 abbrev pub class_named : Option ℕ → ClassName
@@ -70,4 +71,5 @@ class_named (Some place) = class.Known place
 -- `classtype:name`, where `find` is the look-up of the configuration's classes
 unfoldable pub classtype_option : (List ℕ → Option ℕ) → Draft → List ℕ → Result Draft Fault
 classtype_option find draft value =
-    if length value == 0 || is_some draft.class then Err OptionValue else Ok (record draft { class = Some (class_named (find value)) })
+    if length value == 0 || is_some draft.class then Err OptionValue
+    else Ok (record draft { class = Some (class_named (find value)) })

@@ -30,7 +30,8 @@ ends_option at byte = (not at.quoted && not at.escaped) && byte == 59
 -- how many bytes stand before the `;` that ends the first option
 unfoldable pub option_len : Quoting → List ℕ → Option ℕ
 option_len at [] = None
-option_len at (byte ∷ rest) = if ends_option at byte then Some 0 else option_map (λ len. len + 1) (option_len (behind_byte at byte) rest)
+option_len at (byte ∷ rest) =
+    if ends_option at byte then Some 0 else option_map (λ len. len + 1) (option_len (behind_byte at byte) rest)
 
 -- the texts of the options, and behind them what stands behind the last `;`
 unfoldable pub option_texts : Quoting → List ℕ → List (List ℕ)

@@ -73,7 +73,8 @@ pub(crate) fn first_part(left: usize, text: &[u8]) -> LentPart<'_>
 /// The part behind one, where one stands there.
 #[tactic(auto, unfolding(crate::specs::ByteOptions::next_part))]
 pub(crate) fn next_part<'a>(part: &LentPart<'a>) -> Result<LentPart<'a>, Fault>
-    ensures { MatchResult result (λ next. next_part (seen part.now) ≡ Ok (seen next)) (λ why. next_part (seen part.now) ≡ Err why) }
+    ensures { MatchResult result (λ next. next_part (seen part.now) ≡ Ok (seen next)) (λ why. next_part (seen part.now)
+        ≡ Err why) }
 {
     let text = part.behind.ok_or(Fault::OptionValue)?;
     Ok(first_part(part.left_behind, text))
@@ -167,7 +168,8 @@ pub(crate) struct LentComparison<'a> {
 /// The comparison behind the first part.
 #[tactic(auto, unfolding(crate::specs::ByteOptions::comparison_of))]
 fn comparison_of<'a>(names: &Extracted, count: &LentPart<'a>) -> Result<LentComparison<'a>, Fault>
-    ensures { MatchResult result (λ found. comparison_of names.now (seen count.now) ≡ Ok (seen_comparison found)) (λ why. comparison_of names.now (seen count.now) ≡ Err why) }
+    ensures { MatchResult result (λ found. comparison_of names.now (seen count.now) ≡ Ok (seen_comparison found))
+        (λ why. comparison_of names.now (seen count.now) ≡ Err why) }
 {
     let operator = next_part(count)?;
     let (negated, sign) = negation(operator.text);

@@ -161,7 +161,8 @@ pub(crate) fn rawbytes_option(draft: Draft, value: Option<&[u8]>) -> Result<Draf
 
 /// The value of a modifier that tells a place or a room, where it may stand.
 fn place_text(bars: bool, placeless: bool, value: Option<&[u8]>) -> Result<&[u8], Fault>
-    ensures { MatchResult result (λ text. place_text bars placeless (option_copied value.entry) ≡ Ok text.now) (λ why. place_text bars placeless (option_copied value.entry) ≡ Err why) }
+    ensures { MatchResult result (λ text. place_text bars placeless (option_copied value.entry) ≡ Ok text.now)
+        (λ why. place_text bars placeless (option_copied value.entry) ≡ Err why) }
 {
     if bars {
         return Err(Fault::Misplaced);

@@ -11,7 +11,8 @@ use net_lists::{Parts, first_word, number_in};
 /// What stands behind this word in a part.
 #[tactic(auto, unfolding(crate::specs::Periods::behind_key))]
 fn behind_key<'a>(key: &[u8], part: &'a [u8]) -> Result<&'a [u8], Fault>
-    ensures { MatchResult result (λ rest. behind_key key.now part.now ≡ Ok rest.now) (λ fault. behind_key key.now part.now ≡ Err fault) }
+    ensures { MatchResult result (λ rest. behind_key key.now part.now ≡ Ok rest.now) (λ fault. behind_key key.now part.now
+        ≡ Err fault) }
 {
     let (word, rest) = first_word(part);
     if word == key {

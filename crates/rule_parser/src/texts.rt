@@ -73,7 +73,8 @@ pub(crate) fn priority_option(draft: Draft, value: &[u8]) -> Result<Draft, Fault
 /// What stands between quotes behind which nothing stands.
 #[tactic(auto, unfolding(crate::specs::Texts::quoted_whole))]
 pub(crate) fn quoted_whole(value: &[u8]) -> Result<&[u8], Fault>
-    ensures { MatchResult result (λ inside. quoted_whole value.now ≡ Ok inside.now) (λ fault. quoted_whole value.now ≡ Err fault) }
+    ensures { MatchResult result (λ inside. quoted_whole value.now ≡ Ok inside.now) (λ fault. quoted_whole value.now
+        ≡ Err fault) }
 {
     let (inside, behind) = quoted(value).ok_or(Fault::OptionValue)?;
     if !behind.is_empty() {

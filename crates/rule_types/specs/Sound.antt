@@ -46,7 +46,8 @@ IsFast content (fast.Part from len) = (1 ≤ len) × (from + len ≤ length cont
 -- a content of 1 to 2048 bytes with its place and its room
 abbrev pub IsContent : List ℕ → Content → Type 0
 IsContent names content =
-    ((1 ≤ length content.bytes) × (length content.bytes ≤ 2048)) × IfSome content.from (IsOffset names) × IfSome content.room (IsNum names (pos (length content.bytes)) (pos 65535)) × IsFast content content.fast
+    ((1 ≤ length content.bytes) × (length content.bytes ≤ 2048)) × IfSome content.from (IsOffset names)
+    × IfSome content.room (IsNum names (pos (length content.bytes)) (pos 65535)) × IsFast content content.fast
 
 -- 1 to 4 bytes of a number, or 1 to 10 of a text
 abbrev pub bytes_of_base : Base → ℕ
@@ -119,14 +120,18 @@ is_named_side _ = true
 abbrev pub IsOption : List ℕ → Opt → Type 0
 IsOption names (opt.Content content) = IsContent names content
 IsOption names (opt.Pcre text flags relative negated) = (length text ≤ 4096) × All (λ byte. byte < 128) text
-IsOption names (opt.ByteTest fetch not cmp value) = IsFetch names fetch × IsNum names (pos 0) (pos 4294967295) value × IsTrue (is_test cmp)
-IsOption names (opt.ByteJump fetch times align beginning post) = IsFetch names fetch × (times ≤ 65535) × (negsuc 65534 ≤ℤ post) × (post ≤ℤ pos 65535)
-IsOption names (opt.ByteExtract fetch name times align) = IsFetch names fetch × (name < 2) × (times ≤ 65535) × IsTrue (align == 0 || (align == 2 || align == 4))
+IsOption names (opt.ByteTest fetch not cmp value) =
+    IsFetch names fetch × IsNum names (pos 0) (pos 4294967295) value × IsTrue (is_test cmp)
+IsOption names (opt.ByteJump fetch times align beginning post) =
+    IsFetch names fetch × (times ≤ 65535) × (negsuc 65534 ≤ℤ post) × (post ≤ℤ pos 65535)
+IsOption names (opt.ByteExtract fetch name times align) =
+    IsFetch names fetch × (name < 2) × (times ≤ 65535) × IsTrue (align == 0 || (align == 2 || align == 4))
 IsOption names (opt.IsDataAt at relative negated) = IsNum names (pos 0) (pos 65535) at
 IsOption names (opt.Flow flow) = ⊤
 IsOption names (opt.Flags mode bits mask) = (bits < 256) × (mask < 256)
 IsOption names (opt.FragBits mode bits) = bits < 8
-IsOption names (opt.Compare field cmp low high) = (low ≤ most_of field) × (high ≤ most_of field) × IsTrue (compares field cmp) × AreEnds cmp low high
+IsOption names (opt.Compare field cmp low high) =
+    (low ≤ most_of field) × (high ≤ most_of field) × IsTrue (compares field cmp) × AreEnds cmp low high
 IsOption names opt.SameIp = ⊤
 IsOption names (opt.BitTest bit want) = bit < 1024
 IsOption names (opt.BitDo change bit) = bit < 1024

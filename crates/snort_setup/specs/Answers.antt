@@ -29,7 +29,8 @@ IsPattern refusal _ = ⊥
 
 -- a pattern of the rule is among these
 abbrev pub HasPatternOf : List Refusal → Rule → Type 0
-HasPatternOf grown rule = (refusal : Refusal) × (option : Opt) × Contains grown refusal × Contains rule.opts option × IsPattern refusal option
+HasPatternOf grown rule =
+    (refusal : Refusal) × (option : Opt) × Contains grown refusal × Contains rule.opts option × IsPattern refusal option
 
 -- the rule line at this place, behind some names of flowbits, is a rule with a pattern among these
 abbrev pub IsRefusedLine : Frame → List Line → List Refusal → ℕ → Type 0
@@ -45,7 +46,8 @@ pub record AreRefused (frame : Frame) (lines : List Line) (refused : List ℕ) (
 
 -- the same of a configuration whose reading ends so: one that is refused has no refused lines
 abbrev pub AreRefusedBy : Words → Ended → List ℕ → List Refusal → Type 0
-AreRefusedBy words (Whole read) refused grown = AreRefused (frame_of words.skips read.settings.vars (loaded_of read)) (loaded_of read).rules refused grown
+AreRefusedBy words (Whole read) refused grown =
+    AreRefused (frame_of words.skips read.settings.vars (loaded_of read)) (loaded_of read).rules refused grown
 AreRefusedBy words (RefusedAt fault output) refused grown = refused ≡ []
 AreRefusedBy words (Asks name output) refused grown = refused ≡ []
 
@@ -54,14 +56,16 @@ AreRefusedBy words (Asks name output) refused grown = refused ≡ []
 -- an answer, with the warnings told, is that of the setup; want of memory is for any
 abbrev pub Gives : {A : Type 0} → (A → Ready) → Words → Files → List ℕ → Type 0 → Result A SetupStop → List (List ℕ) → Type 0
 Gives view words files refused rose (Ok x) warnings = IsSetup words files refused (warned warnings (Ok (view x)))
-Gives view words files refused rose (Err (stop.Refused message)) warnings = IsSetup words files refused (warned warnings (Err (Refused message)))
+Gives view words files refused rose (Err (stop.Refused message)) warnings =
+    IsSetup words files refused (warned warnings (Err (Refused message)))
 Gives view words files refused rose (Err (stop.CannotRead name)) warnings =
     IsSetup words files refused (warned warnings (Err (LacksName name))) ⊎ (rose × IsReading words files refused name warnings)
 Gives view words files refused rose (Err stop.NoMemory) warnings = ⊤
 
 -- the answer of a setup over these files, which tells these warnings, where the maker's refusals grew by these and
 -- the host's count rose or did not
-pub record SetsUp {A : Type 0} (view : A → Ready) (words : Words) (files : Files) (rose : Type 0) (grown : List Refusal) (answer : Result A SetupStop) (warnings : List (List ℕ)) : Type 0 where
+pub record SetsUp {A : Type 0} (view : A → Ready) (words : Words) (files : Files) (rose : Type 0) (grown : List Refusal)
+    (answer : Result A SetupStop) (warnings : List (List ℕ)) : Type 0 where
   pub refused : List ℕ
   pub are_refused : AreRefusedBy words (conf_read words (told files)) refused grown
   pub gives : Gives view words files refused rose answer warnings
@@ -73,4 +77,5 @@ HasCause rose host stop = ⊤
 
 -- words, files and refused lines have one setup
 abbrev pub HasOneSetup : Type 0
-HasOneSetup = (words : Words) (files : Files) (refused : List ℕ) (a b : Warned Ready) → IsSetup words files refused a → IsSetup words files refused b → a ≡ b
+HasOneSetup = (words : Words) (files : Files) (refused : List ℕ) (a b : Warned Ready) → IsSetup words files refused a
+    → IsSetup words files refused b → a ≡ b

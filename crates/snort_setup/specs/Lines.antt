@@ -16,7 +16,12 @@ use Rattle.snort_setup.specs.Steps.{refused_one, IsJudged}
 -- ---- what the code's values stand for
 
 abbrev pub lines_frame : lines.LinesIn → Frame
-lines_frame lines = record { variables = lines.vars.now; classes = lines.classes.now; files = lines.files.now; skips = lines.skips }
+lines_frame lines = record {
+  variables = lines.vars.now;
+  classes = lines.classes.now;
+  files = lines.files.now;
+  skips = lines.skips;
+}
 
 abbrev pub standing_of : {P : Type 0} → progress.Progress P → Standing
 standing_of progress = record { names = progress.names; rules = progress.accepted.rules; warnings = progress.warnings }
@@ -43,12 +48,14 @@ IsRead frame before text is_refused behind fault =
 -- where the maker refused something, it is a pattern of the rule that the line is
 abbrev pub AsksOf : Frame → List (List ℕ) → List ℕ → List Refusal → List Refusal → Type 0
 AsksOf frame names text old new =
-    OnTrue (refused_one old new) ((rule : Rule) × (later : List (List ℕ)) × IsRule frame names text rule later × RefusesOneOf rule.opts old new)
+    OnTrue (refused_one old new) ((rule : Rule) × (later : List (List ℕ)) × IsRule frame names text rule later
+    × RefusesOneOf rule.opts old new)
 
 -- a step as stated: it goes on with what stands then, or ends with this error where what counts stands as before
 abbrev pub IsStep : Standing → Result Standing (List ℕ) → Standing → Option (List ℕ) → Type 0
 IsStep before (Ok behind) standing refusal = (standing ≡ behind) × (refusal ≡ None)
-IsStep before (Err message) standing refusal = (standing.rules ≡ before.rules) × (standing.warnings ≡ before.warnings) × (refusal ≡ Some message)
+IsStep before (Err message) standing refusal =
+    (standing.rules ≡ before.rules) × (standing.warnings ≡ before.warnings) × (refusal ≡ Some message)
 
 -- what stands behind a line that is none for this fault, and the error, if it ends there
 abbrev pub Skips : Frame → Line → Standing → RuleFault → Standing → Option (List ℕ) → Type 0
@@ -57,12 +64,14 @@ Skips frame line before fault behind refusal = IsStep before (behind_fault frame
 -- what stands behind a line, and the error, if it ends there
 abbrev pub StepGives : Frame → Line → Standing → Bool → Standing → Option (List ℕ) → Type 0
 StepGives frame line before is_refused behind refusal =
-    (verdict : Verdict) × LineGives frame before is_refused line.text verdict × IsStep before (behind_line frame line before verdict) behind refusal
+    (verdict : Verdict) × LineGives frame before is_refused line.text verdict
+    × IsStep before (behind_line frame line before verdict) behind refusal
 
 -- ---- all lines
 
 -- how all lines end, with those whose patterns the maker refused
-pub record RulesAnswer (frame : Frame) (lines : List Line) (warnings : List (List ℕ)) (grown : List Refusal) (end : RulesEnd) : Type 0 where
+pub record RulesAnswer (frame : Frame) (lines : List Line) (warnings : List (List ℕ)) (grown : List Refusal)
+    (end : RulesEnd) : Type 0 where
   pub refused : List ℕ
   pub are_refused : AreRefused frame lines refused grown
   pub gives : RulesGive frame refused 0 (nothing_stands warnings) lines end

@@ -69,18 +69,22 @@ judged rules is_refused rule =
 
 -- the line is this rule, with these names of flowbits behind it
 abbrev pub IsRule : Frame → List (List ℕ) → List ℕ → Rule → List (List ℕ) → Type 0
-IsRule frame names text rule later = IsAnswered (length text) (Ok rule) later (IsRuleLine frame.variables frame.classes names text)
+IsRule frame names text rule later =
+    IsAnswered (length text) (Ok rule) later (IsRuleLine frame.variables frame.classes names text)
 
 -- the line is none, for this fault
 abbrev pub IsFaulty : Frame → List (List ℕ) → List ℕ → RuleFault → Type 0
 IsFaulty frame names text fault =
-    IsAnswered (length text) (Err fault) names (IsRuleLine frame.variables frame.classes names text) × (fault ≢ plain kind.NoMemory)
+    IsAnswered (length text) (Err fault) names (IsRuleLine frame.variables frame.classes names text)
+    × (fault ≢ plain kind.NoMemory)
 
 -- what a line gives, where its pattern is refused or is not
 unfoldable pub LineGives : Frame → Standing → Bool → List ℕ → Verdict → Type 0
 LineGives frame standing is_refused text verdict =
-    ((rule : Rule) × (later : List (List ℕ)) × IsRule frame standing.names text rule later × (verdict ≡ record { rule = judged standing.rules is_refused rule; names = later }))
-    ⊎ ((fault : RuleFault) × IsFaulty frame standing.names text fault × (verdict ≡ record { rule = Err fault; names = standing.names }))
+    ((rule : Rule) × (later : List (List ℕ)) × IsRule frame standing.names text rule later
+    × (verdict ≡ record { rule = judged standing.rules is_refused rule; names = later }))
+    ⊎ ((fault : RuleFault) × IsFaulty frame standing.names text fault
+    × (verdict ≡ record { rule = Err fault; names = standing.names }))
 
 -- ---- and what then stands
 
@@ -107,7 +111,8 @@ with_warning standing warning = record standing { warnings = standing.warnings +
 
 -- what stands behind a line that is none for this fault, or the error that ends the setup
 unfoldable pub behind_fault : Frame → Line → Standing → RuleFault → Result Standing (List ℕ)
-behind_fault frame line standing fault = if frame.skips && is_skippable fault.kind then Ok (with_warning standing (rule_warning frame line fault)) else Err (rule_error frame line fault)
+behind_fault frame line standing fault = if frame.skips && is_skippable fault.kind
+    then Ok (with_warning standing (rule_warning frame line fault)) else Err (rule_error frame line fault)
 
 -- what stands behind a line that gives this, or the error
 unfoldable pub behind_line : Frame → Line → Standing → Verdict → Result Standing (List ℕ)
@@ -138,4 +143,5 @@ unfoldable pub RulesGive : Frame → List ℕ → ℕ → Standing → List Line
 RulesGive frame refused place standing [] end = end ≡ end_at standing None
 RulesGive frame refused place standing (line ∷ rest) end =
     (verdict : Verdict) × LineGives frame standing (is_among refused place) line.text verdict
-    × MatchResult (behind_line frame line standing verdict) (λ behind. RulesGive frame refused (place + 1) behind rest end) (λ message. end ≡ end_at standing (Some message))
+    × MatchResult (behind_line frame line standing verdict) (λ behind. RulesGive frame refused (place + 1) behind rest end)
+    (λ message. end ≡ end_at standing (Some message))

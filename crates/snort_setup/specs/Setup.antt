@@ -64,11 +64,20 @@ conf_warnings files warnings = map (conf_warning files) warnings
 
 -- what the rule lines of a configuration stand in, with the variables behind all its lines
 abbrev pub frame_of : Bool → Variables → Loaded → Frame
-frame_of skips variables loaded = record { variables = variables; classes = loaded.config.classes; files = loaded.files; skips = skips }
+frame_of skips variables loaded = record {
+  variables = variables;
+  classes = loaded.config.classes;
+  files = loaded.files;
+  skips = skips;
+}
 
 -- what the end of the rule lines gives, behind these settings
 abbrev pub ruled : Config → RulesEnd → Result Ruled Halt
-ruled config end = elim end.refusal [ None ↦ Ok (record { config = config; rules = end.rules }) | Some message ↦ Err (Refused message) ]
+ruled config end = elim end.refusal [
+  | None ↦ Ok (record { config = config; rules = end.rules })
+  | Some message ↦ Err
+      (Refused message)
+]
 
 -- the same with all warnings
 abbrev pub ruled_by : Loaded → RulesEnd → Warned Ruled
@@ -77,9 +86,11 @@ ruled_by loaded end = warned end.warnings (ruled loaded.config end)
 -- what the lines of a configuration give whose reading ends so, where these rule lines' patterns are refused
 unfoldable pub IsRuledBy : Words → List ℕ → Ended → Warned Ruled → Type 0
 IsRuledBy words refused (Whole read) given =
-    (end : RulesEnd) × RulesGive (frame_of words.skips read.settings.vars (loaded_of read)) refused 0 (nothing_stands (conf_warnings (loaded_of read).files (loaded_of read).warnings)) (loaded_of read).rules end
+    (end : RulesEnd) × RulesGive (frame_of words.skips read.settings.vars (loaded_of read)) refused 0
+    (nothing_stands (conf_warnings (loaded_of read).files (loaded_of read).warnings)) (loaded_of read).rules end
     × (given ≡ ruled_by (loaded_of read) end)
-IsRuledBy words refused (RefusedAt fault output) given = given ≡ warned (conf_warnings output.files output.warnings) (Err (Refused (conf_error output.files fault)))
+IsRuledBy words refused (RefusedAt fault output) given =
+    given ≡ warned (conf_warnings output.files output.warnings) (Err (Refused (conf_error output.files fault)))
 IsRuledBy words refused (Asks name output) given = given ≡ warned (conf_warnings output.files output.warnings) (Err (Lacks name))
 
 -- the same over files that are told
@@ -100,7 +111,8 @@ table_read name (Err fault) = Err (Refused (host_error name fault))
 -- the host table of this name with these contents, which is refused at line 0 where it is too long
 abbrev pub table_in : List ℕ → Option (List ℕ) → Result (List HostLine) Halt
 table_in name None = Err (Lacks name)
-table_in name (Some bytes) = if nat_le (length bytes) most_bytes then table_read name (hosts_of bytes) else Err (Refused (error_line name 0 (codes "file is too large")))
+table_in name (Some bytes) = if nat_le (length bytes) most_bytes then table_read name (hosts_of bytes)
+    else Err (Refused (error_line name 0 (codes "file is too large")))
 
 -- the host table of the words: no hosts where none is named
 unfoldable pub table_of : Option (List ℕ) → Files → Result (List HostLine) Halt
@@ -114,11 +126,13 @@ abbrev pub ready : Ruled → List HostLine → Ready
 ready ruled hosts = record { config = ruled.config; rules = ruled.rules; hosts = hosts }
 
 unfoldable pub with_table : Words → Files → Warned Ruled → Warned Ready
-with_table words files given = warned given.warnings (given.outcome >>= λ ruled. table_of words.host_table files >>= λ hosts. Ok (ready ruled hosts))
+with_table words files given =
+    warned given.warnings (given.outcome >>= λ ruled. table_of words.host_table files >>= λ hosts. Ok (ready ruled hosts))
 
 -- The setup of these words over these files, where the patterns of the rule lines at these places are refused.
 abbrev pub IsSetup : Words → Files → List ℕ → Warned Ready → Type 0
-IsSetup words files refused setup = (given : Warned Ruled) × IsRuled words files refused given × (setup ≡ with_table words files given)
+IsSetup words files refused setup =
+    (given : Warned Ruled) × IsRuled words files refused given × (setup ≡ with_table words files given)
 
 -- ---- its readings
 
@@ -138,4 +152,5 @@ IsTableReading words files refused name warnings =
 
 -- one of the files that the setup reads, and the warnings that stand before it
 abbrev pub IsReading : Words → Files → List ℕ → List ℕ → List (List ℕ) → Type 0
-IsReading words files refused name warnings = IsConfReading words files name warnings ⊎ IsTableReading words files refused name warnings
+IsReading words files refused name warnings =
+    IsConfReading words files name warnings ⊎ IsTableReading words files refused name warnings

@@ -29,21 +29,24 @@ StopsAs files conf.NoMemory answer = answer ≡ stop.NoMemory
 -- the configuration was read whole
 abbrev pub IsConfigured : Configured → List (List ℕ) → Ended → Type 0
 IsConfigured configured warnings (Whole read) =
-    (configured.vars ≡ read.settings.vars) × (configured.loaded ≡ loaded_of read) × (warnings ≡ conf_warnings configured.loaded.files configured.loaded.warnings)
+    (configured.vars ≡ read.settings.vars) × (configured.loaded ≡ loaded_of read)
+    × (warnings ≡ conf_warnings configured.loaded.files configured.loaded.warnings)
 IsConfigured configured warnings (RefusedAt fault output) = ⊥
 IsConfigured configured warnings (Asks name output) = ⊥
 
 -- a line of it is refused with this message
 abbrev pub IsConfError : List ℕ → List (List ℕ) → Ended → Type 0
 IsConfError message warnings (Whole read) = ⊥
-IsConfError message warnings (RefusedAt fault output) = (message ≡ conf_error output.files fault) × (warnings ≡ conf_warnings output.files output.warnings)
+IsConfError message warnings (RefusedAt fault output) =
+    (message ≡ conf_error output.files fault) × (warnings ≡ conf_warnings output.files output.warnings)
 IsConfError message warnings (Asks name output) = ⊥
 
 -- what is answered where the reading of the configuration ends so
 abbrev pub ConfEnds : Words → Files → Type 0 → Result Configured SetupStop → List (List ℕ) → Ended → Type 0
 ConfEnds words files rose (Ok configured) warnings ended = IsConfigured configured warnings ended
 ConfEnds words files rose (Err (stop.Refused message)) warnings ended = IsConfError message warnings ended
-ConfEnds words files rose (Err (stop.CannotRead name)) warnings ended = AsksFor name warnings ended ⊎ (rose × IsConfReading words files name warnings)
+ConfEnds words files rose (Err (stop.CannotRead name)) warnings ended =
+    AsksFor name warnings ended ⊎ (rose × IsConfReading words files name warnings)
 ConfEnds words files rose (Err stop.NoMemory) warnings ended = ⊤
 
 -- ---- the host table
@@ -74,5 +77,6 @@ StopsAtTable name load.NoMemory answer = answer ≡ stop.NoMemory
 abbrev pub TableGives : Option (List ℕ) → Files → Type 0 → Result (List HostLine) SetupStop → Type 0
 TableGives name files rose (Ok hosts) = table_of name files ≡ Ok hosts
 TableGives name files rose (Err (stop.Refused message)) = table_of name files ≡ Err (Refused message)
-TableGives name files rose (Err (stop.CannotRead asked)) = (table_of name files ≡ Err (LacksName asked)) ⊎ (rose × (name ≡ Some asked))
+TableGives name files rose (Err (stop.CannotRead asked)) =
+    (table_of name files ≡ Err (LacksName asked)) ⊎ (rose × (name ≡ Some asked))
 TableGives name files rose (Err stop.NoMemory) = ⊤

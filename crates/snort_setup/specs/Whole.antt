@@ -25,12 +25,14 @@ IsRulesStop stop.NoMemory = ⊤
 -- an answer is what the lines give; want of memory is for any
 abbrev pub RuledAs : {A : Type 0} → (A → Ruled) → Words → List ℕ → Ended → Result A SetupStop → List (List ℕ) → Type 0
 RuledAs view words refused ended (Ok x) warnings = IsRuledBy words refused ended (warned warnings (Ok (view x)))
-RuledAs view words refused ended (Err (stop.Refused message)) warnings = IsRuledBy words refused ended (warned warnings (Err (Refused message)))
+RuledAs view words refused ended (Err (stop.Refused message)) warnings =
+    IsRuledBy words refused ended (warned warnings (Err (Refused message)))
 RuledAs view words refused ended (Err (stop.CannotRead name)) warnings = ⊥
 RuledAs view words refused ended (Err stop.NoMemory) warnings = ⊤
 
 -- the same, with the lines whose patterns are refused
-pub record RuledGives {A : Type 0} (view : A → Ruled) (words : Words) (ended : Ended) (grown : List Asked) (answer : Result A SetupStop) (warnings : List (List ℕ)) : Type 0 where
+pub record RuledGives {A : Type 0} (view : A → Ruled) (words : Words) (ended : Ended) (grown : List Asked)
+    (answer : Result A SetupStop) (warnings : List (List ℕ)) : Type 0 where
   pub refused : List ℕ
   pub are_refused : AreRefusedBy words ended refused grown
   pub gives : RuledAs view words refused ended answer warnings

@@ -86,7 +86,8 @@ impl<P: Pattern> Accepted<P> {
         maker: &mut M,
     ) -> Result<(Accepted<P>, Option<RuleFault>), NoMemory>
         requires { IsTriable rule }
-        ensures added { IfOk result (λ behind. IsAdded self.rules rule (refused_one (M.refusals maker.old) (M.refusals maker.new)) behind.0.rules behind.1) }
+        ensures added { IfOk result (λ behind. IsAdded self.rules rule
+            (refused_one (M.refusals maker.old) (M.refusals maker.new)) behind.0.rules behind.1) }
         ensures refuses { IfOk result (λ _. Refuses rule.opts (M.refusals maker.old) (M.refusals maker.new)) }
         ensures grows { Grows (M.refusals maker.old) (M.refusals maker.new) }
         ensures meant { FindWhatIsMeant P.finds (M.means maker.old) self

@@ -88,7 +88,8 @@ fn read_line<M: PatternMaker>(
 ) -> Result<(Progress<M::Made>, Option<RuleFault>), NoMemory>
     ensures read { IfOk result (λ behind. IsRead (lines_frame lines.now) (standing_of progress) text.now
         (refused_one (M.refusals maker.old) (M.refusals maker.new)) (standing_of behind.0) behind.1) }
-    ensures asks { IfOk result (λ _. AsksOf (lines_frame lines.now) progress.names text.now (M.refusals maker.old) (M.refusals maker.new)) }
+    ensures asks { IfOk result (λ _. AsksOf (lines_frame lines.now) progress.names text.now (M.refusals maker.old)
+        (M.refusals maker.new)) }
     ensures grows { Grows (M.refusals maker.old) (M.refusals maker.new) }
     ensures sound { All (IsSound lines.now.classes.now) progress.accepted.rules
         → IfOk result (λ behind. All (IsSound lines.now.classes.now) behind.0.accepted.rules) }
@@ -144,7 +145,8 @@ fn refused_line<P: Pattern>(
     line: &Line,
     fault: RuleFault,
 ) -> Result<RulesEnd<P>, NoMemory>
-    ensures gives { IfOk result (λ end. Skips (lines_frame lines.now) line.now (standing_of progress) fault (standing_of end.progress) end.refusal) }
+    ensures gives { IfOk result (λ end. Skips (lines_frame lines.now) line.now (standing_of progress) fault
+        (standing_of end.progress) end.refusal) }
     ensures same_rules { IfOk result (λ end. end.progress.accepted ≡ progress.accepted) }
 {
     let file = file_at(lines.files, line.file);
@@ -183,7 +185,8 @@ fn line_end<M: PatternMaker>(
 ) -> Result<RulesEnd<M::Made>, NoMemory>
     ensures gives { IfOk result (λ end. StepGives (lines_frame lines.now) line.now (standing_of progress)
         (refused_one (M.refusals maker.old) (M.refusals maker.new)) (standing_of end.progress) end.refusal) }
-    ensures asks { IfOk result (λ _. AsksOf (lines_frame lines.now) progress.names line.now.text (M.refusals maker.old) (M.refusals maker.new)) }
+    ensures asks { IfOk result (λ _. AsksOf (lines_frame lines.now) progress.names line.now.text (M.refusals maker.old)
+        (M.refusals maker.new)) }
     ensures grows { Grows (M.refusals maker.old) (M.refusals maker.new) }
     ensures sound { All (IsSound lines.now.classes.now) progress.accepted.rules
         → IfOk result (λ end. All (IsSound lines.now.classes.now) end.progress.accepted.rules) }

@@ -51,7 +51,8 @@ IsKnown flows key = (touches : List Key) × HasSeen flows touches × (is_live fl
 
 -- behind whatever touches the value stands for, no more flows of a protocol live than may
 abbrev pub KeepsBounds : FlowsState → Type 0
-KeepsBounds flows = (touches : List Key) → HasSeen flows touches → (tcp : Bool) → live_count flows.max tcp touches ≤ max_for flows.max tcp
+KeepsBounds flows =
+    (touches : List Key) → HasSeen flows touches → (tcp : Bool) → live_count flows.max tcp touches ≤ max_for flows.max tcp
 
 -- behind whatever touches the value stands for, the flows that live are appended
 abbrev pub AppendsLive : FlowsState → List ℕ → List ℕ → Type 0
@@ -60,7 +61,11 @@ AppendsLive flows old new = (touches : List Key) → HasSeen flows touches → n
 -- what a touch finds, where the look-up gave this
 abbrev pub found_by : List (Key × ℕ) → ℕ → ℕ → Option ℕ → Touch
 found_by entries cap next (Some flow) = record { flow = flow; fresh = false; evicted = None }
-found_by entries cap next None = record { flow = next; fresh = true; evicted = option_map (λ entry. entry.1) (slice_get entries (cap - 1)) }
+found_by entries cap next None = record {
+  flow = next;
+  fresh = true;
+  evicted = option_map (λ entry. entry.1) (slice_get entries (cap - 1));
+}
 
 -- what is kept behind a touch, where the look-up gave this
 abbrev pub kept_by : List (Key × ℕ) → ℕ → ℕ → Key → Option ℕ → List (Key × ℕ)

@@ -39,8 +39,10 @@ fn begun(lives: &mut Lives, key: Key, next: u64) -> Result<Touch, NoMemory>
 
 /// Touches a key, whose flow has the number `next` if it begins.
 fn touched(lives: &mut Lives, key: Key, next: u64) -> Result<Touch, NoMemory>
-    ensures value { IfOk result (λ touch. touch ≡ found_by lives.old.entries lives.old.cap next (lookup (same_key key) lives.old.entries)) }
-    ensures after { OnOk result (lives.new ≡ lives_with (kept_by lives.old.entries lives.old.cap next key (lookup (same_key key) lives.old.entries)) lives.old.cap) }
+    ensures value { IfOk result (λ touch. touch ≡ found_by lives.old.entries lives.old.cap next
+        (lookup (same_key key) lives.old.entries)) }
+    ensures after { OnOk result (lives.new ≡ lives_with
+        (kept_by lives.old.entries lives.old.cap next key (lookup (same_key key) lives.old.entries)) lives.old.cap) }
     ensures err { OnErr result (lives.new ≡ lives.old) }
     ensures known { IsSome (lookup (same_key key) lives.old.entries) → IsOk result }
 {
@@ -70,7 +72,12 @@ impl Model for Flows {
 
     ghost Value = { FlowsState };
 
-    ghost view = { λ flows. record { max = record { tcp = flows.tcp.cap; udp = flows.udp.cap }; next = flows.next; tcp = flows.tcp.entries; udp = flows.udp.entries } };
+    ghost view = { λ flows. record {
+      max = record { tcp = flows.tcp.cap; udp = flows.udp.cap };
+      next = flows.next;
+      tcp = flows.tcp.entries;
+      udp = flows.udp.entries;
+    } };
 }
 
 impl Flows {
@@ -117,7 +124,8 @@ impl Flows {
 
     /// The numbers that are kept, in ascending order.
     fn numbers(&self, alloc: Global) -> Result<Vec<u64>, NoMemory>
-        ensures permutation { IfOk result (λ flows. IsPermutation (values_of self.now.tcp ++ values_of self.now.udp) flows.items) }
+        ensures permutation { IfOk result (λ flows. IsPermutation
+            (values_of self.now.tcp ++ values_of self.now.udp) flows.items) }
         ensures sorted { IfOk result (λ flows. IsSorted nat_cmp flows.items) }
     {
         let mut flows = self.tcp.flows(alloc)?;
