@@ -20,7 +20,7 @@ end_parts (V4 x) (V6 y) p q = refl
 end_parts (V6 x) (V4 y) p q = refl
 end_parts (V6 x) (V6 y) p q = refl
 
-bools : (a b : Bool) → beq a b ≡ cond a b (not b)
+pub bools : (a b : Bool) → beq a b ≡ cond a b (not b)
 bools true true = refl
 bools true false = refl
 bools false true = refl

@@ -1,4 +1,5 @@
 pub mod KeyLaws
+pub mod TreeLaws
 pub mod StepLaws
 pub mod StayLaws
 pub mod EndOrder

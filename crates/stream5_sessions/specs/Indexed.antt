@@ -1,14 +1,13 @@
 -- How the keys of one protocol that live are kept: a tree has the number of each key's flow, and a cache, which
 -- hashes those numbers, has the keys by their last touches.
 use Rattle.std.specs.Prelude.{◌≡◌, ℕ, Bool, false, List, Option, Some, None, map}
-use Rattle.std.specs.BTreeMap.{BTreeMap, get, is_at}
 use Rattle.std.specs.List.{AllByRecursion, IsDistinct}
 use Rattle.std.specs.Map.{keys_of, lookup}
-use Rattle.std.specs.declared.cmp.Ordering.{Ordering}
-use Rattle.stream5_sessions.specs.contracts.key.KeyOrd.TheImpl as ord
+use Rattle.stream5_sessions.specs.declared.flow_numbers.FlowNumbers.{FlowNumbers}
 use Rattle.stream5_sessions.specs.declared.key.Key.{Key}
 use Rattle.stream5_sessions.specs.declared.lives.Numbered.{Numbered}
 use Rattle.stream5_sessions.specs.Keys.{same_key}
+use Rattle.stream5_sessions.specs.Trees.{number_in}
 
 -- the keys that live with their flows' numbers, the latest touched first, and how many there may be
 pub record LivesState : Type 0 where
@@ -18,21 +17,17 @@ pub record LivesState : Type 0 where
 abbrev pub lives_with : List (Key × ℕ) → ℕ → LivesState
 lives_with entries cap = record { entries = entries; cap = cap }
 
--- how two keys compare, by the order that is derived
-abbrev pub key_cmp : Key → Key → Ordering
-key_cmp = (ord.ghosts).cmp
-
 -- the entries of the cache by their keys
 abbrev pub entries_of : List (Numbered × ℕ) → List (Key × ℕ)
 entries_of es = map (λ (e : Numbered × ℕ). (e.0.key, e.1)) es
 
 -- the tree has the number of the key of each entry and of no other key, and no two keys are one
-pub record IsIndexed (numbers : BTreeMap Key ℕ) (es : List (Numbered × ℕ)) : Type 0 where
-  pub found : AllByRecursion (λ (e : Numbered × ℕ). get key_cmp numbers e.0.key ≡ Some e.0.number) es
-  pub only : (q : Key) → lookup (same_key q) (entries_of es) ≡ None → get key_cmp numbers q ≡ None
+pub record IsIndexed (numbers : FlowNumbers) (es : List (Numbered × ℕ)) : Type 0 where
+  pub found : AllByRecursion (λ (e : Numbered × ℕ). number_in numbers e.0.key ≡ Some e.0.number) es
+  pub only : (q : Key) → lookup (same_key q) (entries_of es) ≡ None → number_in numbers q ≡ None
   pub apart : IsDistinct same_key (keys_of (entries_of es))
 
 -- the entry that goes has this key
 abbrev pub is_gone : Option (Numbered × ℕ) → Key → Bool
 is_gone None q = false
-is_gone (Some e) q = is_at (key_cmp e.0.key) q
+is_gone (Some e) q = same_key e.0.key q

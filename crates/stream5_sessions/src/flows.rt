@@ -24,10 +24,10 @@ pub struct Touch {
 }
 
 /// Begins the flow with the number `next` of a key that doesn't live.
-fn begun(lives: &mut Lives, key: Key, next: u64) -> Result<Touch, NoMemory>
-    requires { lookup (same_key key) lives.old.entries ≡ None }
+fn begun(lives: &mut Lives, key: &Key, next: u64) -> Result<Touch, NoMemory>
+    requires { lookup (same_key key.now) lives.old.entries ≡ None }
     ensures value { IfOk result (λ touch. touch ≡ found_by lives.old.entries lives.old.cap next None) }
-    ensures after { OnOk result (lives.new ≡ lives_with (kept_by lives.old.entries lives.old.cap next key None) lives.old.cap) }
+    ensures after { OnOk result (lives.new ≡ lives_with (kept_by lives.old.entries lives.old.cap next key.now None) lives.old.cap) }
     ensures err { OnErr result (lives.new ≡ lives.old) }
 {
     Ok(Touch {
@@ -38,13 +38,13 @@ fn begun(lives: &mut Lives, key: Key, next: u64) -> Result<Touch, NoMemory>
 }
 
 /// Touches a key, whose flow has the number `next` if it begins.
-fn touched(lives: &mut Lives, key: Key, next: u64) -> Result<Touch, NoMemory>
+fn touched(lives: &mut Lives, key: &Key, next: u64) -> Result<Touch, NoMemory>
     ensures value { IfOk result (λ touch. touch ≡ found_by lives.old.entries lives.old.cap next
-        (lookup (same_key key) lives.old.entries)) }
+        (lookup (same_key key.now) lives.old.entries)) }
     ensures after { OnOk result (lives.new ≡ lives_with
-        (kept_by lives.old.entries lives.old.cap next key (lookup (same_key key) lives.old.entries)) lives.old.cap) }
+        (kept_by lives.old.entries lives.old.cap next key.now (lookup (same_key key.now) lives.old.entries)) lives.old.cap) }
     ensures err { OnErr result (lives.new ≡ lives.old) }
-    ensures known { IsSome (lookup (same_key key) lives.old.entries) → IsOk result }
+    ensures known { IsSome (lookup (same_key key.now) lives.old.entries) → IsOk result }
 {
     match lives.again(key) {
         Some(flow) => Ok(Touch {
@@ -72,12 +72,7 @@ impl Model for Flows {
 
     ghost Value = { FlowsState };
 
-    ghost view = { λ flows. record {
-      max = record { tcp = flows.tcp.cap; udp = flows.udp.cap };
-      next = flows.next;
-      tcp = flows.tcp.entries;
-      udp = flows.udp.entries;
-    } };
+    ghost view = { λ flows. record { max = record { tcp = flows.tcp.cap; udp = flows.udp.cap }; next = flows.next; tcp = flows.tcp.entries; udp = flows.udp.entries } };
 }
 
 impl Flows {
@@ -109,7 +104,7 @@ impl Flows {
         ensures known { IsKnown self.old key → IsOk result }
         ensures err { OnErr result (self.new ≡ self.old) }
     {
-        self.touch_kept(key)
+        self.touch_kept(&key)
     }
 
     /// Appends the numbers of the flows that live, in ascending order. Without memory `out` stays.
@@ -124,8 +119,7 @@ impl Flows {
 
     /// The numbers that are kept, in ascending order.
     fn numbers(&self, alloc: Global) -> Result<Vec<u64>, NoMemory>
-        ensures permutation { IfOk result (λ flows. IsPermutation
-            (values_of self.now.tcp ++ values_of self.now.udp) flows.items) }
+        ensures permutation { IfOk result (λ flows. IsPermutation (values_of self.now.tcp ++ values_of self.now.udp) flows.items) }
         ensures sorted { IfOk result (λ flows. IsSorted nat_cmp flows.items) }
     {
         let mut flows = self.tcp.flows(alloc)?;
@@ -136,12 +130,12 @@ impl Flows {
     }
 
     /// Touches a key, by the keys that are kept.
-    fn touch_kept(&mut self, key: Key) -> Result<Touch, NoMemory>
+    fn touch_kept(&mut self, key: &Key) -> Result<Touch, NoMemory>
         requires { self.old.next < 2 ^ 63 }
-        ensures value { IfOk result (λ touch. touch ≡ found_in self.old key) }
-        ensures after { OnOk result (self.new ≡ touched_state self.old key) }
+        ensures value { IfOk result (λ touch. touch ≡ found_in self.old key.now) }
+        ensures after { OnOk result (self.new ≡ touched_state self.old key.now) }
         ensures err { OnErr result (self.new ≡ self.old) }
-        ensures known { IsSome (looked_up self.old key) → IsOk result }
+        ensures known { IsSome (looked_up self.old key.now) → IsOk result }
     {
         let touch = if key.tcp {
             touched(&mut self.tcp, key, self.next)?

@@ -2,7 +2,6 @@ ghost use Rattle.std.specs.Prelude.{◌≡◌};
 ghost use Rattle.stream5_sessions.specs.Keys.{same_end, key_of};
 
 use edge_io::Addr;
-use std::hash::{Hash, Hasher};
 
 /// An end of a flow: an address and a port.
 #[derive(Clone, Copy, Debug, PartialEq, Eq, PartialOrd, Ord)]
@@ -27,28 +26,8 @@ impl End {
     }
 }
 
-impl Hash for End {
-    ghost use Rattle.std.specs.Prelude.{◌++◌};
-    ghost use Rattle.std.specs.Hash as fed;
-    ghost use Rattle.std.proofs.Common.{rules};
-    ghost use Rattle.std.specs.Cmp.Rules.{hashing};
-    ghost use Rattle.stream5_sessions.specs.Hashing.{addr_input};
-
-    ghost hash_input = { λ end. addr_input end.addr ++ fed.u16 end.port };
-
-    ghost respects_eq = { Prim.search (hashing, rules) };
-
-    fn hash<H: Hasher>(&self, state: &mut H) {
-        match self.addr {
-            Addr::V4(addr) => addr.hash(state),
-            Addr::V6(addr) => addr.hash(state),
-        }
-        self.port.hash(state);
-    }
-}
-
 /// What names a flow: the protocol, TCP or UDP, and the two ends, the lower one first.
-#[derive(Clone, Copy, Debug, PartialEq, Eq, PartialOrd, Ord, Hash)]
+#[derive(Clone, Copy, Debug, PartialEq, Eq)]
 pub struct Key {
     pub tcp: bool,
     pub low: End,

@@ -8,6 +8,7 @@
 //! sessions stand on what it tells.
 #![tactic(auto)]
 
+mod flow_numbers;
 mod flows;
 mod key;
 mod lives;

@@ -4,19 +4,19 @@
 //! hashed: a tree has the number of each key's flow, and the cache hashes that number alone, which counts up.
 ghost use Rattle.std.specs.Prelude.{◌≡◌, ◌≤◌, ◌-◌, [], None, slice_get, option_map, if◌then◌else◌};
 ghost use Rattle.std.specs.Prelude.{IfOk, OnOk, OnErr};
-ghost use Rattle.std.specs.BTreeMap.{get};
 ghost use Rattle.std.specs.Map.{lookup, values_of};
 ghost use Rattle.lru.specs.LruCache.{promoted};
 ghost use Rattle.stream5_sessions.specs.Keys.{same_key};
 ghost use Rattle.stream5_sessions.specs.Caches.{kept_by};
-ghost use Rattle.stream5_sessions.specs.Indexed.{lives_with, key_cmp, is_gone};
+ghost use Rattle.stream5_sessions.specs.Indexed.{lives_with, is_gone};
+ghost use Rattle.stream5_sessions.specs.Trees.{number_in};
 ghost use Rattle.stream5_sessions.specs.declared.key.Key.{Key};
 
 use crate::Key;
+use crate::flow_numbers::FlowNumbers;
 use edge_io::NoMemory;
 use lru::LruCache;
 use std::alloc::Global;
-use std::collections::BTreeMap;
 use std::hash::{Hash, Hasher};
 use std::marker::Model;
 use std::num::NonZeroUsize;
@@ -47,7 +47,7 @@ impl Hash for Numbered {
 #[derive(Drop)]
 pub(crate) struct Lives {
     /// The number of each key's flow.
-    numbers: BTreeMap<Key, u64>,
+    numbers: FlowNumbers,
     cache: LruCache<Numbered, u64>,
 }
 
@@ -69,42 +69,43 @@ impl Lives {
     {
         let most = NonZeroUsize::new(most as usize).unwrap();
         Ok(Lives {
-            numbers: BTreeMap::new(alloc),
+            numbers: FlowNumbers::new(alloc),
             cache: LruCache::sparse(alloc, most)?,
         })
     }
 
     /// The flow of a key that lives, which becomes the latest touched.
-    pub fn again(&mut self, key: Key) -> Option<u64>
-        ensures value { result ≡ lookup (same_key key) self.old.entries }
-        ensures after { self.new ≡ lives_with (promoted (same_key key) self.old.entries) self.old.cap }
+    pub fn again(&mut self, key: &Key) -> Option<u64>
+        ensures value { result ≡ lookup (same_key key.now) self.old.entries }
+        ensures after { self.new ≡ lives_with (promoted (same_key key.now) self.old.entries) self.old.cap }
     {
-        match self.numbers.get(&key) {
-            Some(number) => {
-                let number = *number;
-                self.cache.get(&Numbered { key, number }).copied()
-            }
+        match self.numbers.get(key) {
+            Some(number) => self.cache.get(&Numbered { key: *key, number }).copied(),
             None => None,
         }
     }
 
     /// Begins the flow with the number `next` of a key that doesn't live; gives the flow whose life that ends.
-    pub fn begin(&mut self, key: Key, next: u64) -> Result<Option<u64>, NoMemory>
-        requires { lookup (same_key key) self.old.entries ≡ None }
+    pub fn begin(&mut self, key: &Key, next: u64) -> Result<Option<u64>, NoMemory>
+        requires { lookup (same_key key.now) self.old.entries ≡ None }
         ensures value { IfOk result (λ evicted.
             evicted ≡ option_map (λ entry. entry.1) (slice_get self.old.entries (self.old.cap - 1))) }
         ensures after { OnOk result
-            (self.new ≡ lives_with (kept_by self.old.entries self.old.cap next key None) self.old.cap) }
+            (self.new ≡ lives_with (kept_by self.old.entries self.old.cap next key.now None) self.old.cap) }
         ensures err { OnErr result (self.new ≡ self.old) }
     {
         // The cache is never beyond its capacity: a key that isn't among those before its last place is the last.
         let is_within = self.cache.len() <= self.cache.cap().get();
         prove!(is_within);
         self.numbers.insert(key, next)?;
-        match self.cache.push(Numbered { key, number: next }, next) {
+        let entry = Numbered {
+            key: *key,
+            number: next,
+        };
+        match self.cache.push(entry, next) {
             Ok(evicted) => Ok(forget(&mut self.numbers, evicted)),
             Err(_) => {
-                self.numbers.remove(&key);
+                self.numbers.remove(key);
                 Err(NoMemory)
             }
         }
@@ -126,10 +127,10 @@ fn flows_of(alloc: Global, cache: &LruCache<Numbered, u64>) -> Result<Vec<u64>, 
 }
 
 /// Takes the number of the evicted key out of the tree, and gives its flow.
-fn forget(numbers: &mut BTreeMap<Key, u64>, evicted: Option<(Numbered, u64)>) -> Option<u64>
+fn forget(numbers: &mut FlowNumbers, evicted: Option<(Numbered, u64)>) -> Option<u64>
     ensures flow { result ≡ option_map (λ e. e.1) evicted }
-    ensures gone { (q : Key) → get key_cmp numbers.new q
-        ≡ (if is_gone evicted q then None else get key_cmp numbers.old q) }
+    ensures gone { (q : Key) → number_in numbers.new q
+        ≡ (if is_gone evicted q then None else number_in numbers.old q) }
 {
     let (last, flow) = evicted?;
     numbers.remove(&last.key);

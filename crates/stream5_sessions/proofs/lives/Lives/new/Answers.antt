@@ -5,4 +5,4 @@ use Rattle.stream5_sessions.proofs.Living.{indexed-none}
 use Rattle.stream5_sessions.proofs.lives.Lives.new.Goals as goal
 
 pub invariant_of-result : goal.invariant_of-result
-invariant_of-result c = indexed-none c.new-2.result _ c.new-2.ensures.empty (ap (λ (x : LruCache Numbered _). x.entries) c.in_ok-sparse.ensures)
+invariant_of-result c = indexed-none c.new-2.result _ c.new-2.ensures (ap (λ (x : LruCache Numbered _). x.entries) c.in_ok-sparse.ensures)

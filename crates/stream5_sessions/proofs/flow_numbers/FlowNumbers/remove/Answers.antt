@@ -1,0 +1,8 @@
+use Rattle.std.proofs.Common.{None}
+use Rattle.stream5_sessions.specs.Trees.{number_in}
+use Rattle.stream5_sessions.proofs.TreeLaws.{tree_puts}
+use Rattle.stream5_sessions.proofs.flow_numbers.FlowNumbers.remove.Goals as goal
+
+pub returns : goal.returns
+unfolding number_in
+returns c = tree_puts c.args.self.now.tree c.remove.new.self c.args.key.now c.of.result None c.of.ensures c.remove.ensures.updates.0
