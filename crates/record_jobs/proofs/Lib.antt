@@ -1,4 +1,5 @@
 pub mod Bound
+pub mod OnePlace
 pub mod Growth
 pub mod Counting
 pub mod Catching

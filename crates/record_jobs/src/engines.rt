@@ -3,12 +3,13 @@ ghost use Rattle.std.specs.Prelude.{◌≡◌, ◌+◌, ◌*◌, ◌≤◌, Bool
 ghost use Rattle.std.specs.List.{find};
 ghost use Rattle.std.specs.Option.{option_copied, option_or};
 ghost use Rattle.edge_io.specs.Policies.{frag_preference};
-ghost use Rattle.record_jobs.specs.Way.{frag_rules, is_bound, is_due, stream_place, stream_preference_at, toward_address, way_of};
+ghost use Rattle.record_jobs.specs.Way.{frag_rules, is_bound, is_due, stream_place, toward_address, way_of};
+ghost use Rattle.record_jobs.specs.OneWay.{is_one_for_all, toward_by};
 
 use crate::config::FrontConfig;
 use crate::time::Time;
 use conf_types::{DEFAULT_FRAG_ENGINE, FragConfig, FragEngine, StreamEngine};
-use edge_io::{Addr, FragPolicy, Preference};
+use edge_io::{Addr, FragPolicy, Preference, StreamPolicy};
 use flow_lanes::Toward;
 use frag3_core::FragRules;
 use host_table::Hosts;
@@ -115,21 +116,42 @@ fn is_due(time: Time, handshake: Option<u32>) -> bool
     }
 }
 
+/// Whether each address goes by the same: there is one engine, to all, and nothing is known of hosts.
+fn is_one_for_all(by: &FrontConfig<'_>) -> bool
+    ensures { result ≡ is_one_for_all (way_of by.now) }
+{
+    let engines = by.config.stream.engines.as_slice();
+    engines.len() == 1 && other_place(engines).is_some() && by.hosts.entries().is_empty()
+}
+
+/// What a packet's data go by at the engine at a place, where the host table says this of the address.
+fn toward_by(
+    by: &FrontConfig<'_>,
+    tcp: bool,
+    time: Time,
+    place: usize,
+    host: Option<StreamPolicy>,
+) -> Toward
+    requires { place ≤ 1024 }
+    ensures { result ≡ toward_by (way_of by.now) tcp time place host }
+{
+    let settings = by.config.stream.settings_at(place);
+    Toward {
+        engine: place as u32,
+        preference: host.unwrap_or(settings.policy).preference(),
+        needed: tcp && is_due(time, settings.handshake),
+    }
+}
+
 /// What a packet's data go by, sent to this address.
-#[tactic(auto, unfolding(crate::specs::Way::toward_address, crate::specs::Way::stream_preference_at))]
 fn toward(by: &FrontConfig<'_>, tcp: bool, time: Time, addr: Addr) -> Toward
     requires { length by.now.config.now.stream.engines ≤ 1024 }
     ensures { result ≡ toward_address (way_of by.now) tcp time addr }
 {
     let engines = by.config.stream.engines.as_slice();
     let place = stream_place(engines, addr);
-    let settings = by.config.stream.settings_at(place);
     let host = by.hosts.stream_policy(addr);
-    Toward {
-        engine: place as u32,
-        preference: host.unwrap_or(settings.policy).preference(),
-        needed: tcp && is_due(time, settings.handshake),
-    }
+    toward_by(by, tcp, time, place, host)
 }
 
 /// What a packet's data go by: sent to its destination, and to its source.
@@ -138,6 +160,12 @@ pub(crate) fn towards(by: &FrontConfig<'_>, tcp: bool, time: Time, ip: &IpHead) 
     ensures dst { result.0 ≡ toward_address (way_of by.now) tcp time ip.now.dst }
     ensures src { result.1 ≡ toward_address (way_of by.now) tcp time ip.now.src }
 {
+    // So it is in most runs: then both addresses have one answer, which is made once.
+    let alike = is_one_for_all(by);
+    if alike {
+        let to_all = toward_by(by, tcp, time, 0, None);
+        return (to_all, to_all);
+    }
     let to_dst = toward(by, tcp, time, ip.dst);
     let to_src = toward(by, tcp, time, ip.src);
     (to_dst, to_src)
