@@ -1,4 +1,5 @@
 pub mod Class
 pub mod Flag
 pub mod Walks
+pub mod Addresses
 mod Chains

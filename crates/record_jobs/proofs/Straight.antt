@@ -9,6 +9,7 @@ use Rattle.packet_decode.specs.declared.placed.Placed.{Placed}
 use Rattle.packet_decode.specs.declared.skip.Skip.{Skip}
 use Rattle.packet_decode.specs.Decoding.{Fields, decoded, fields_at, placed}
 use Rattle.ipv6_decode.specs.Decoding6.{decoded6}
+use Rattle.ipv6_decode.specs.Versions.{record_decoded, unless_other}
 use Rattle.frag3_core.specs.Trackers.{Frag3State}
 use Rattle.stream5_sessions.specs.declared.flows.Touch.{Touch}
 use Rattle.flow_lanes.specs.declared.job.Job.{Job}
@@ -19,7 +20,6 @@ use Rattle.record_jobs.specs.Jobs.{time_by, works_by}
 use Rattle.record_jobs.specs.Packets.{datagram_from, is_part, item_of, said_by}
 use Rattle.record_jobs.specs.Steps.{Adds, FindsTouch, IsShortWhole, SeesKey, Steps, caught_by, caught_works, counts_after, is_fresh, one_if, part_caught, said_caught, waiting_after, waiting_after_part, waiting_from, whole_caught, whole_key}
 use Rattle.record_jobs.specs.Touches.{tracked_key}
-use Rattle.record_jobs.specs.Versions.{record_decoded, unless_other}
 use Rattle.record_jobs.specs.Way.{LinkedRecord, Way}
 
 -- what version 4 reads is what the record says

@@ -1,6 +1,5 @@
 pub mod Way
 pub mod OneWay
-pub mod Versions
 pub mod Packets
 pub mod Addresses
 pub mod Touches

@@ -21,13 +21,13 @@ use Rattle.packet_decode.specs.declared.packet.Body.{Body}
 use Rattle.packet_decode.specs.declared.packet.Body.TheVariants as body
 use Rattle.packet_decode.specs.declared.skip.Skip.{Skip}
 use Rattle.packet_decode.specs.Decoding.{Fields}
+use Rattle.ipv6_decode.specs.Versions.{rebuilt_decoded, record_decoded}
 use Rattle.conf_types.specs.declared.config.FragConfig.{FragConfig}
 use Rattle.frag3_core.specs.declared.answer.Datagram.{Datagram}
 use Rattle.frag3_core.specs.declared.answer.Taken.{Taken}
 use Rattle.frag3_core.specs.declared.answer.Taken.TheVariants as answer
 use Rattle.frag3_core.specs.Trackers.{Frag3State, Fragment, fragment, state_after, taken}
 use Rattle.record_jobs.specs.declared.item.Item.{Item}
-use Rattle.record_jobs.specs.Versions.{rebuilt_decoded, record_decoded}
 use Rattle.record_jobs.specs.Way.{LinkedRecord, Way, frag_rules}
 
 -- nothing is known of a session

@@ -1,8 +1,6 @@
 -- The parts of a record's step, in the terms of the code's functions.
-use Rattle.std.specs.Prelude.{◌≡◌, ℕ, ◌+◌, ◌≤◌, Bool, false, List, ◌++◌, length, Option, Some, None, IfSome, Result, Ok, Err, IfOk, is_some, option_and_then, if◌then◌else◌}
-use Rattle.std.specs.Borrow.{Bor}
+use Rattle.std.specs.Prelude.{◌≡◌, ℕ, ◌+◌, ◌≤◌, Bool, false, List, ◌++◌, length, Option, Some, None, IfSome, Result, Ok, Err, is_some, option_and_then, if◌then◌else◌}
 use Rattle.std.specs.Option.{option_map, option_map_or, option_to_list}
-use Rattle.edge_io.specs.declared.link.Link.{Link}
 use Rattle.edge_io.specs.declared.moment.Moment.{Moment}
 use Rattle.packet_decode.specs.declared.checks.Checks.{Checks}
 use Rattle.packet_decode.specs.declared.item.ItemKind.{ItemKind}
@@ -10,7 +8,7 @@ use Rattle.packet_decode.specs.declared.item.ItemKind.TheVariants as kind
 use Rattle.packet_decode.specs.declared.placed.Placed.{Placed}
 use Rattle.packet_decode.specs.declared.skip.Skip.{Skip}
 use Rattle.packet_decode.specs.declared.skip.Skip.TheVariants as skip
-use Rattle.packet_decode.specs.Decoding.{Fields, decoded, fields_at}
+use Rattle.packet_decode.specs.Decoding.{Fields}
 use Rattle.conf_types.specs.declared.config.FragConfig.{FragConfig}
 use Rattle.frag3_core.specs.declared.answer.Datagram.{Datagram}
 use Rattle.frag3_core.specs.Trackers.{Frag3State, after}
@@ -32,19 +30,7 @@ use Rattle.record_jobs.specs.Way.{LinkedRecord, Way}
 
 -- ---- what a record brings
 
--- what was read of a record as version 4: a packet whose payload lies at a place of the record's bytes, or why
--- there is none
-abbrev pub four_said : List ℕ → Result (Bor Placed) Skip → Result Fields Skip
-four_said bytes (Ok read) = Ok (fields_at bytes read.now)
-four_said bytes (Err reason) = Err reason
-
--- the record was read so as version 4
-pub record IsReadAsFour (link : Link) (bytes : List ℕ) (checks : Checks) (four : Result (Bor Placed) Skip) : Type 0 where
-  pub said : four_said bytes four ≡ decoded link bytes checks
-  pub within : IfOk four (λ read. read.now.start + read.now.len ≤ length bytes)
-  pub small : IfOk four (λ read. read.now.len ≤ 65535)
-
--- what is inspected of a packet that was read so, with this payload
+-- what is inspected of a packet of version 4 that was read so, with this payload
 abbrev pub read_item : Moment → Placed → List ℕ → Item
 read_item moment read payload = item_of kind.Packet moment (record { ip = read.ip; body = read.body; payload = payload })
 

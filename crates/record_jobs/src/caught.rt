@@ -1,16 +1,17 @@
 //! What a record brings: its packet, or its fragment and the datagram that the fragment makes whole.
 ghost use Rattle.std.specs.Prelude.{◌≡◌, ◌≤◌, length, IfOk, IfSome, OnOk, Ok};
 ghost use Rattle.packet_decode.specs.Decoding.{fields_of};
+ghost use Rattle.ipv6_decode.specs.Versions.{IsReadAsFour};
 ghost use Rattle.record_jobs.specs.Packets.{datagram_from, datagram_of_part, is_part, item_of, said_by, whole_of};
-ghost use Rattle.record_jobs.specs.Steps.{caught_by, datagram_whole, part_caught, said_caught, waiting_after, waiting_after_part, waiting_from, whole_by, IsReadAsFour, IsShortDatagram, IsShortWhole};
+ghost use Rattle.record_jobs.specs.Steps.{caught_by, datagram_whole, part_caught, said_caught, waiting_after, waiting_after_part, waiting_from, whole_by, IsShortDatagram, IsShortWhole};
 ghost use Rattle.record_jobs.specs.Way.{linked, way_of};
 
 use crate::config::FrontConfig;
 use crate::engines::frag_rules;
 use crate::item::{Caught, Item, Whole, head_of};
-use crate::reading::{rebuilt_packet, record_packet};
 use edge_io::{Link, Moment, NoMemory, Text};
 use frag3_core::{Datagram, Frag3, Taken};
+use ipv6_decode::{packet_of_datagram, packet_of_record};
 use packet_decode::{Body, Checks, ItemKind, Packet, Placed, Skip};
 use pcap_input::Record;
 use std::alloc::Global;
@@ -72,7 +73,7 @@ fn datagram_whole(
             skip: None,
         });
     };
-    match rebuilt_packet(datagram.ip, datagram.bytes.bytes(), checks) {
+    match packet_of_datagram(datagram.ip, datagram.bytes.bytes(), checks) {
         Ok(packet) => whole_of(alloc, ItemKind::Rebuilt, moment, &packet),
         Err(skip) => Ok(Whole {
             packet: None,
@@ -185,7 +186,7 @@ pub(crate) fn caught(
         (said_by (way_of by.now) (linked link captured.now))) IsShortDatagram
         → IfOk result (λ caught. IsShortWhole caught.whole) }
 {
-    match record_packet(four, link, captured.bytes.bytes(), by.checks) {
+    match packet_of_record(four, link, captured.bytes.bytes(), by.checks) {
         Ok(packet) => of_packet(alloc, by, frag3, captured.moment, &packet),
         Err(skip) => Ok(Caught {
             fragment: None,

@@ -1,8 +1,9 @@
 //! The records of a capture, one by one, and their jobs.
 ghost use Rattle.std.specs.Prelude.{◌≡◌, ◌+◌, ◌^◌, ◌<◌, ◌≤◌, [], length, option_map, take, IfOk, IfSome, OnOk, OnErr};
 ghost use Rattle.conf_types.specs.Sound.{IsFragConfig, IsSound};
+ghost use Rattle.ipv6_decode.specs.Versions.{IsReadAsFour};
 ghost use Rattle.record_jobs.specs.Fronts.{GivesFinishes, StandsFor, TakesRecord, TellsCounts};
-ghost use Rattle.record_jobs.specs.Steps.{IsReadAsFour, Steps};
+ghost use Rattle.record_jobs.specs.Steps.{Steps};
 ghost use Rattle.record_jobs.specs.Way.{linked, way_of};
 
 use crate::adding::{add_finishes, add_packet, add_works};

@@ -1,11 +1,9 @@
 //! Laws about the jobs of a capture, for callers.
 
 ghost use Rattle.std.specs.Prelude.{◌≡◌, ℕ, Bool, List, [], ◌++◌, length};
-ghost use Rattle.edge_io.specs.declared.link.Link.{Link};
-ghost use Rattle.packet_decode.specs.declared.checks.Checks.{Checks};
 ghost use Rattle.flow_lanes.specs.declared.job.Job.{Job};
 ghost use Rattle.flow_lanes.specs.Standing.{AreNew, LanesState, LearnsBatch};
-ghost use Rattle.record_jobs.specs.Addresses.{KeepEnds, KeepVersions};
+ghost use Rattle.record_jobs.specs.Addresses.{KeepEnds};
 ghost use Rattle.record_jobs.specs.Fronts.{FrontState, StandsFor};
 ghost use Rattle.record_jobs.specs.Ready.{AreInOrder, AreNumbered, AreReady, AreSound, HaveLearnt};
 ghost use Rattle.record_jobs.specs.Way.{LinkedRecord, Way};
@@ -34,9 +32,7 @@ pub fn lanes_may_run()
         → LearnsBatch old batch new → HaveLearnt new (earlier ++ batch) }
 {}
 
-/// What each version reads of a record is between two addresses of that version, and a datagram out of
-/// fragments is between the addresses of its fragments.
-pub fn addresses_are_kept()
-    ensures versions { (link : Link) (bytes : List ℕ) (checks : Checks) → KeepVersions link bytes checks }
-    ensures ends { (way : Way) (before : List LinkedRecord) (r : LinkedRecord) → KeepEnds way before r }
+/// A datagram that was put together is between the addresses of its fragments, both of one version.
+pub fn datagrams_keep_addresses()
+    ensures { (way : Way) (before : List LinkedRecord) (r : LinkedRecord) → KeepEnds way before r }
 {}

@@ -15,11 +15,10 @@ mod engines;
 mod front;
 mod item;
 mod laws;
-mod reading;
 mod time;
 mod touches;
 
 pub use config::FrontConfig;
 pub use counts::RecordCounts;
 pub use front::Front;
-pub use laws::{addresses_are_kept, jobs_are_in_order, lanes_may_run, records_are_counted};
+pub use laws::{datagrams_keep_addresses, jobs_are_in_order, lanes_may_run, records_are_counted};
