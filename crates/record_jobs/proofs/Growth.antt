@@ -16,8 +16,8 @@ use Rattle.frag3_core.proofs.Laws.{state_after-push}
 use Rattle.flow_lanes.specs.declared.job.Job.{Job}
 use Rattle.flow_lanes.specs.declared.job.Work.{Work}
 use Rattle.record_jobs.specs.Jobs.{begin_of, end_of, job_count, numbered, works}
-use Rattle.record_jobs.specs.Packets.{fragment_in, fragment_of, fragments, frag3_behind, part_of, said_by}
-use Rattle.record_jobs.specs.Steps.{waiting_after, waiting_after_part}
+use Rattle.record_jobs.specs.Packets.{fragment_in, fragment_of, fragments, frag3_behind, fragment_fields, said_by}
+use Rattle.record_jobs.specs.Steps.{waiting_after, waiting_after_fragment}
 use Rattle.record_jobs.specs.Touches.{keys_in, key_in, touches}
 use Rattle.record_jobs.specs.Way.{LinkedRecord, Way}
 
@@ -68,7 +68,7 @@ state_after-said : (way : Way) (config : FragConfig) (state : Frag3State) (momen
 state_after-said way config state moment None = refl
 state_after-said way config state moment (Some fields) = refl
 
-frag3_step : (way : Way) (before : List LinkedRecord) (r : LinkedRecord) (frag : Option FragConfig) (said : Option Fields) → part_of (said_by way r) ≡ said
+frag3_step : (way : Way) (before : List LinkedRecord) (r : LinkedRecord) (frag : Option FragConfig) (said : Option Fields) → fragment_fields (said_by way r) ≡ said
     → option_map (λ (config : FragConfig). state_after config.max_frags (fragments way config (before ++ r ∷ []))) frag
     ≡ option_map_or (λ fields. option_map (λ (frag3 : Frag3State). option_map_or (λ (config : FragConfig). after frag3 (fragment_of way config r.captured.moment fields)) frag frag3)
     (option_map (λ (config : FragConfig). state_after config.max_frags (fragments way config before)) frag)) said
@@ -86,8 +86,8 @@ frag3_step way before r (Some config) (Some fields) e =
 
 -- the fragments that wait behind one record more
 pub frag3_behind-push : (way : Way) (before : List LinkedRecord) (r : LinkedRecord) → frag3_behind way (before ++ r ∷ []) ≡ waiting_after way (frag3_behind way before) r
-unfolding frag3_behind waiting_after waiting_after_part
-frag3_behind-push way before r = frag3_step way before r way.frag (part_of (said_by way r)) refl
+unfolding frag3_behind waiting_after waiting_after_fragment
+frag3_behind-push way before r = frag3_step way before r way.frag (fragment_fields (said_by way r)) refl
 
 -- ---- jobs
 

@@ -2,7 +2,7 @@ pub mod Bound
 pub mod OnePlace
 pub mod Growth
 pub mod Counting
-pub mod Catching
+pub mod Contents
 pub mod Sizes
 pub mod Straight
 pub mod Taking

@@ -1,4 +1,4 @@
--- A datagram that fragments make whole has at most 65535 bytes.
+-- A datagram that is put together from fragments has at most 65535 bytes.
 use Rattle.std.proofs.Common.{◌≡◌, ℕ, ◌≤◌, Bool, true, false, cond, eqb, ltb, List, [], ◌∷◌, ◌++◌, length, Option, Some, None, refl, ap, suc, unwrap_or, arith, IfSome}
 use Rattle.std.specs.Bool.{⊤}
 use Rattle.std.specs.Prelude.{option_and_then, fold}
@@ -18,7 +18,7 @@ use Rattle.frag3_core.specs.declared.answer.Ignored.TheVariants as ignored_for
 use Rattle.frag3_core.specs.declared.answer.Taken.TheVariants as answer
 use Rattle.frag3_core.specs.declared.key.DatagramKey.{DatagramKey}
 use Rattle.frag3_core.specs.Trackers.{Frag3State, Fragment, TrackerState, Trackers, after, answer_of, begun, bytes_at, datagram_of, end_of, found, ignored, in_time, key_of, others, own, same_key, state_after, taken, tracker_of, trackers_after, with_own, with_room, without, held_count, is_timed_out}
-use Rattle.record_jobs.specs.Packets.{datagram_from, datagram_of_part, fragment_of, fragments, frag3_behind, part_of, said_by, whole_of}
+use Rattle.record_jobs.specs.Packets.{datagram_from, datagram_of_fragment, fragment_of, fragments, frag3_behind, fragment_fields, said_by, completed_datagram}
 use Rattle.record_jobs.specs.Steps.{IsShortDatagram}
 use Rattle.record_jobs.specs.Way.{LinkedRecord, Way}
 
@@ -123,31 +123,31 @@ short_datagram t short = go t.end short
     go None h = tt
     go (Some end) h = bound end (at end) h (length-bytes_at (chosen_byte t.preference t.segments) (range_with_len 0 end))
 
-short_taken : (frag3 : Frag3State) (f : Fragment) → AreShortEnds frag3.trackers → IfSome (whole_of (taken frag3 f)) IsShortDatagram
+short_taken : (frag3 : Frag3State) (f : Fragment) → AreShortEnds frag3.trackers → IfSome (completed_datagram (taken frag3 f)) IsShortDatagram
 unfolding taken
 short_taken frag3 f short = go (ignored f.ip f.part f.rules) refl
   where
-    made : (o : Option (List ℕ)) → IfSome o (λ bytes. length bytes ≤ 65535) → IfSome (whole_of (answer_of f.ip o)) IsShortDatagram
+    made : (o : Option (List ℕ)) → IfSome o (λ bytes. length bytes ≤ 65535) → IfSome (completed_datagram (answer_of f.ip o)) IsShortDatagram
     made None h = tt
     made (Some bytes) h = h
 
-    go : (o : Option Ignored) → ignored f.ip f.part f.rules ≡ o → IfSome (whole_of (option_map_or answer.Ignored o (answer_of f.ip (datagram_of (own frag3 f))))) IsShortDatagram
+    go : (o : Option Ignored) → ignored f.ip f.part f.rules ≡ o → IfSome (completed_datagram (option_map_or answer.Ignored o (answer_of f.ip (datagram_of (own frag3 f))))) IsShortDatagram
     go None is = made (datagram_of (own frag3 f)) (short_datagram (own frag3 f) (short_own frag3 f short (within f.ip f.part f.rules is)))
     go (Some reason) is = tt
 
-short_part : (way : Way) (before : List LinkedRecord) (moment : Moment) (fields : Fields) → IfSome (datagram_of_part way (frag3_behind way before) moment fields) IsShortDatagram
-unfolding datagram_of_part frag3_behind
-short_part way before moment fields = go way.frag
+short_fragment : (way : Way) (before : List LinkedRecord) (moment : Moment) (fields : Fields) → IfSome (datagram_of_fragment way (frag3_behind way before) moment fields) IsShortDatagram
+unfolding datagram_of_fragment frag3_behind
+short_fragment way before moment fields = go way.frag
   where
-    go : (frag : Option FragConfig) → IfSome (option_and_then (λ (config : FragConfig). option_and_then (λ (frag3 : Frag3State). whole_of (taken frag3 (fragment_of way config moment fields)))
+    go : (frag : Option FragConfig) → IfSome (option_and_then (λ (config : FragConfig). option_and_then (λ (frag3 : Frag3State). completed_datagram (taken frag3 (fragment_of way config moment fields)))
         (option_map (λ (config : FragConfig). state_after config.max_frags (fragments way config before)) frag)) frag) IsShortDatagram
     go None = tt
     go (Some config) = short_taken (state_after config.max_frags (fragments way config before)) (fragment_of way config moment fields) (short_state config.max_frags (fragments way config before))
 
--- the datagram that a record makes whole is short
+-- the datagram that a record completes is short
 pub datagram-short : (way : Way) (before : List LinkedRecord) (r : LinkedRecord) → IfSome (datagram_from way (frag3_behind way before) r.captured.moment (said_by way r)) IsShortDatagram
-datagram-short way before r = go (part_of (said_by way r))
+datagram-short way before r = go (fragment_fields (said_by way r))
   where
-    go : (o : Option Fields) → IfSome (option_and_then (datagram_of_part way (frag3_behind way before) r.captured.moment) o) IsShortDatagram
+    go : (o : Option Fields) → IfSome (option_and_then (datagram_of_fragment way (frag3_behind way before) r.captured.moment) o) IsShortDatagram
     go None = tt
-    go (Some fields) = short_part way before r.captured.moment fields
+    go (Some fields) = short_fragment way before r.captured.moment fields

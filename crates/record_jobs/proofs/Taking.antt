@@ -15,7 +15,7 @@ use Rattle.flow_lanes.specs.declared.job.Job.{Job}
 use Rattle.flow_lanes.specs.declared.job.Work.{Work}
 use Rattle.flow_lanes.specs.declared.job.Work.TheVariants as work
 use Rattle.record_jobs.specs.declared.counts.RecordCounts.{RecordCounts}
-use Rattle.record_jobs.specs.declared.item.Caught.{Caught}
+use Rattle.record_jobs.specs.declared.content.RecordContent.{RecordContent}
 use Rattle.record_jobs.specs.declared.item.Item.{Item}
 use Rattle.record_jobs.specs.declared.time.Time.{Time}
 use Rattle.record_jobs.specs.Counts.{counts}
@@ -23,10 +23,10 @@ use Rattle.record_jobs.specs.Fronts.{FrontState, HasTaken, StandsFor}
 use Rattle.record_jobs.specs.Jobs.{alone, begin_of, evicted_by, flow_packet, job_count, jobs, numbered, packet_work, time_by, time_of, works, works_by}
 use Rattle.record_jobs.specs.Packets.{datagram_from, fragment_item, frag3_behind, packet_in, said_by}
 use Rattle.record_jobs.specs.Ready.{HasShortData, HasShortWork}
-use Rattle.record_jobs.specs.Steps.{IsShortDatagram, Steps, caught_by, caught_works, counts_after, waiting_after, whole_key}
+use Rattle.record_jobs.specs.Steps.{IsShortDatagram, IsShortItem, Steps, content_key, content_works, counts_after, record_content, waiting_after}
 use Rattle.record_jobs.specs.Touches.{key_in, most_flows, touch_in, touches}
 use Rattle.record_jobs.specs.Way.{LinkedRecord, Way}
-use Rattle.record_jobs.proofs.Catching.{caught-fragment, caught-is_fragment, caught-key, caught-packet, caught-rebuilt, caught-skip}
+use Rattle.record_jobs.proofs.Contents.{content-fragment, content-is_fragment, content-key, content-packet, content-rebuilt, content-skip}
 use Rattle.record_jobs.proofs.Counting.{counts-push}
 use Rattle.record_jobs.proofs.Growth.{begin_of-push, end_of-push, frag3_behind-push, job_count-push, touches-push, trail-push}
 use Rattle.record_jobs.proofs.Sizes.{datagram-short}
@@ -84,44 +84,44 @@ jobs-are : (way : Way) (before : List LinkedRecord) (r : LinkedRecord) → numbe
 unfolding jobs
 jobs-are way before r = refl
 
-pub takes : (way : Way) (old : FrontState) (r : LinkedRecord) (touch : Option Touch) (new : FrontState) (jobs_old jobs_new : List Job) → Steps way old r touch new jobs_old jobs_new
+pub takes : (way : Way) (old : FrontState) (r : LinkedRecord) (new : FrontState) (jobs_old jobs_new : List Job) → Steps way old r new jobs_old jobs_new
     → (before : List LinkedRecord) → StandsFor way old before → HasTaken way before r new jobs_old jobs_new
-takes way old r touch new jobs_old jobs_new steps before stands = record { added = added; stands = behind }
+takes way old r new jobs_old jobs_new steps before stands = record { added = added; stands = behind }
   where
-    caught : Caught
-    caught = caught_by way old.frag3 r
+    content : RecordContent
+    content = record_content way old.frag3 r
 
-    caught_is : caught ≡ caught_by way (frag3_behind way before) r
-    caught_is = ap (λ (f : Option Frag3State). caught_by way f r) stands.frag3
+    content_is : content ≡ record_content way (frag3_behind way before) r
+    content_is = ap (λ (f : Option Frag3State). record_content way f r) stands.frag3
 
-    packet_is : caught.whole.packet ≡ packet_in way before r
-    packet_is = ap (λ (c : Caught). c.whole.packet) caught_is ∙ caught-packet way before r
+    packet_is : content.packet ≡ packet_in way before r
+    packet_is = ap (λ (c : RecordContent). c.packet) content_is ∙ content-packet way before r
 
-    fragment_is : caught.fragment ≡ fragment_item way r
-    fragment_is = ap (λ (c : Caught). c.fragment) caught_is ∙ caught-fragment way before r
+    fragment_is : content.fragment ≡ fragment_item way r
+    fragment_is = ap (λ (c : RecordContent). c.fragment) content_is ∙ content-fragment way before r
 
-    key_is : whole_key way caught.whole ≡ key_in way before r
-    key_is = ap (λ (c : Caught). whole_key way c.whole) caught_is ∙ caught-key way before r
+    key_is : content_key way content ≡ key_in way before r
+    key_is = ap (content_key way) content_is ∙ content-key way before r
 
-    touch_is : touch ≡ touch_in way before r
+    touch_is : steps.touch ≡ touch_in way before r
     touch_is =
         steps.found (touches way before) stands.flows
-        ∙ ap (λ (max : MaxFlows). option_map (touch_found max (touches way before)) (whole_key way caught.whole)) stands.most
+        ∙ ap (λ (max : MaxFlows). option_map (touch_found max (touches way before)) (content_key way content)) stands.most
         ∙ ap (option_map (touch_found (most_flows way.stream) (touches way before))) key_is
         ∙ touch_in-is way before r
 
-    works_are : caught_works way old.begin r touch caught ≡ works way before r
+    works_are : content_works way old.begin r steps.touch content ≡ works way before r
     works_are =
-        ap (λ (b : Option Moment). works_by way (time_by b r) touch caught.fragment caught.whole.packet) stands.begin
-        ∙ ap (λ (t : Option Touch). works_by way (time_by (begin_of before) r) t caught.fragment caught.whole.packet) touch_is
-        ∙ ap (λ (o : Option Item). works_by way (time_by (begin_of before) r) (touch_in way before r) o caught.whole.packet) fragment_is
+        ap (λ (b : Option Moment). works_by way (time_by b r) steps.touch content.fragment content.packet) stands.begin
+        ∙ ap (λ (t : Option Touch). works_by way (time_by (begin_of before) r) t content.fragment content.packet) touch_is
+        ∙ ap (λ (o : Option Item). works_by way (time_by (begin_of before) r) (touch_in way before r) o content.packet) fragment_is
         ∙ ap (works_by way (time_by (begin_of before) r) (touch_in way before r) (fragment_item way r)) packet_is
         ∙ works-are way before r
 
     added : jobs_new ≡ jobs_old ++ jobs way before r
     added =
         steps.added.added
-        ∙ ap (λ (n : ℕ). jobs_old ++ numbered n r.captured.moment (caught_works way old.begin r touch caught)) stands.next
+        ∙ ap (λ (n : ℕ). jobs_old ++ numbered n r.captured.moment (content_works way old.begin r steps.touch content)) stands.next
         ∙ ap (λ (ws : List Work). jobs_old ++ numbered (job_count way before) r.captured.moment ws) works_are
         ∙ ap (λ (js : List Job). jobs_old ++ js) (jobs-are way before r)
 
@@ -134,16 +134,16 @@ takes way old r touch new jobs_old jobs_new steps before stands = record { added
     counted : new.counts ≡ counts way (before ++ r ∷ [])
     counted =
         steps.counts
-        ∙ ap (λ (c : RecordCounts). counts_after c caught touch) stands.counts
-        ∙ counts-push way before r caught touch
-        (ap (λ (c : Caught). c.whole.skip) caught_is ∙ caught-skip way before r)
-        (ap (λ (c : Caught). is_some c.fragment) caught_is ∙ caught-is_fragment way before r)
-        (ap (λ (c : Caught). c.rebuilt) caught_is ∙ caught-rebuilt way before r)
+        ∙ ap (λ (c : RecordCounts). counts_after c content steps.touch) stands.counts
+        ∙ counts-push way before r content steps.touch
+        (ap (λ (c : RecordContent). c.skip) content_is ∙ content-skip way before r)
+        (ap (λ (c : RecordContent). is_some c.fragment) content_is ∙ content-is_fragment way before r)
+        (ap (λ (c : RecordContent). c.rebuilt) content_is ∙ content-rebuilt way before r)
         touch_is
 
-    packet_short : IfSome (packet_in way before r) (λ (item : Item). length item.payload ≤ 65535)
+    packet_short : IfSome (packet_in way before r) IsShortItem
     packet_short =
-        subst (λ (o : Option Item). IfSome o (λ (item : Item). length item.payload ≤ 65535)) packet_is
+        subst (λ (o : Option Item). IfSome o IsShortItem) packet_is
         (steps.short (subst (λ (f : Option Frag3State). IfSome (datagram_from way f r.captured.moment (said_by way r)) IsShortDatagram) (sym stands.frag3) (datagram-short way before r)))
 
     behind : StandsFor way new (before ++ r ∷ [])
@@ -155,7 +155,7 @@ takes way old r touch new jobs_old jobs_new steps before stands = record { added
       last = steps.last ∙ sym (end_of-push before r);
       next =
           steps.added.number_is
-          ∙ ap (λ (n : ℕ). n + length (caught_works way old.begin r touch caught)) stands.next
+          ∙ ap (λ (n : ℕ). n + length (content_works way old.begin r steps.touch content)) stands.next
           ∙ ap (λ (ws : List Work). job_count way before + length ws) works_are
           ∙ sym (job_count-push way before r);
       counts = counted;

@@ -8,7 +8,7 @@ use Rattle.frag3_core.specs.declared.answer.Datagram.{Datagram}
 use Rattle.record_jobs.specs.Packets.{datagram_in, said_by}
 use Rattle.record_jobs.specs.Way.{LinkedRecord, Way}
 
--- the datagram that a record makes whole has the addresses of the record's fragment, both of one version
+-- the datagram that a record completes has the addresses of the record's fragment, both of one version
 pub record KeepsEnds (way : Way) (r : LinkedRecord) (datagram : Datagram) : Type 0 where
   pub ends : IsOkAnd (said_by way r) (λ fields. HaveSameEnds datagram.ip fields.ip)
   pub version : IsOfOneVersion datagram.ip

@@ -15,7 +15,7 @@ use Rattle.packet_decode.specs.Decoding.{Fields}
 use Rattle.frag3_core.specs.declared.answer.Datagram.{Datagram}
 use Rattle.stream5_sessions.specs.Liveness.{begun}
 use Rattle.record_jobs.specs.declared.counts.RecordCounts.{RecordCounts}
-use Rattle.record_jobs.specs.Packets.{datagram_in, part_of, said_by, skip_in}
+use Rattle.record_jobs.specs.Packets.{datagram_in, fragment_fields, said_by, skip_in}
 use Rattle.record_jobs.specs.Touches.{most_flows, touches}
 use Rattle.record_jobs.specs.Way.{LinkedRecord, Way}
 
@@ -23,13 +23,13 @@ use Rattle.record_jobs.specs.Way.{LinkedRecord, Way}
 abbrev pub skips : Way → List LinkedRecord → List Skip
 skips way records = trail (λ before r. option_to_list (skip_in way before r)) records
 
--- the datagrams that these records made whole
+-- the datagrams that these records completed
 abbrev pub datagrams : Way → List LinkedRecord → List Datagram
 datagrams way records = trail (λ before r. option_to_list (datagram_in way before r)) records
 
 -- the fragments among these records
-abbrev pub parts : Way → List LinkedRecord → List Fields
-parts way records = filter_map (λ r. part_of (said_by way r)) records
+abbrev pub fragments_read : Way → List LinkedRecord → List Fields
+fragments_read way records = filter_map (λ r. fragment_fields (said_by way r)) records
 
 -- each reason
 abbrev pub is_short : Skip → Bool
@@ -56,7 +56,7 @@ counts way records = record {
   other = count_by is_other (skips way records);
   checksum = count_by is_checksum (skips way records);
   malformed = count_by is_malformed (skips way records);
-  fragments = length (parts way records);
+  fragments = length (fragments_read way records);
   rebuilt = length (datagrams way records);
   flows = begun (most_flows way.stream) (touches way records);
 }

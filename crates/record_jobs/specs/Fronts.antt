@@ -1,6 +1,6 @@
 -- What a front keeps, and which records it stands for.
 --
--- To try it on: a front that stands for two fragments of one datagram, of which the second made it whole,
+-- To try it on: a front that stands for two fragments of one datagram, of which the second completed it,
 -- keeps no fragment, and the moments of the two records.
 use Rattle.std.specs.Prelude.{◌≡◌, ℕ, List, [], ◌∷◌, ◌++◌, Option, All}
 use Rattle.edge_io.specs.Along.{trail}

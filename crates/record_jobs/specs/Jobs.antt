@@ -1,7 +1,7 @@
 -- The jobs of a capture's records.
 --
 -- A record gives its jobs in this order: the end of the flow that its touch evicts; its fragment by itself;
--- and then its packet, or the datagram that its fragment made whole, as a packet of its flow, and by itself
+-- and then its packet, or the datagram that its fragment completed, as a packet of its flow, and by itself
 -- where its protocol isn't tracked. All have the record's moment. Once the capture is closed each flow that
 -- lives ends, in the order of their numbers, at the moment of the last record. Every job has the next
 -- number, from 0 on. The order is this project's own.

@@ -1,9 +1,8 @@
--- What a record brings to be inspected: a fragment, or a packet, and the datagram that its fragment makes
--- whole.
+-- What a record brings to be inspected: a fragment, or a packet, and the datagram that its fragment completes.
 --
--- A record says one packet, of version 4 or 6, or is skipped. A packet that is part of a datagram (RFC 791,
+-- A record says one packet, of version 4 or 6, or is skipped. A packet that is a fragment of a datagram (RFC 791,
 -- section 3.2; RFC 8200, section 4.5) is inspected by itself, and where fragments are put together it joins the
--- earlier ones; the datagram that it makes whole, if there is one, is read as a packet of its own, with this
+-- earlier ones; the datagram that it completes, if there is one, is read as a packet of its own, with this
 -- record's moment, or skipped. (Snort Users Manual 2.9, section 2.2.1.)
 -- To try it on: of two fragments that make a UDP datagram, the first record brings its fragment alone; the
 -- second brings its fragment and the datagram, both at the second record's moment.
@@ -47,29 +46,29 @@ item_of kind moment fields = record {
 unfoldable pub said_by : Way → LinkedRecord → Result Fields Skip
 said_by way r = record_decoded r.link r.captured.bytes way.checks
 
--- it is a part of a datagram
-abbrev pub is_part : Body → Bool
-is_part body.Fragment = true
-is_part carried = false
+-- it is a fragment
+abbrev pub is_fragment : Body → Bool
+is_fragment body.Fragment = true
+is_fragment carried = false
 
--- the fragment, where it is one
-abbrev pub part_of : Result Fields Skip → Option Fields
-part_of (Ok fields) = if is_part fields.body then Some fields else None
-part_of (Err skip) = None
+-- what the fragment says, where it is one
+abbrev pub fragment_fields : Result Fields Skip → Option Fields
+fragment_fields (Ok fields) = if is_fragment fields.body then Some fields else None
+fragment_fields (Err skip) = None
 
--- the packet, where it isn't
-abbrev pub unbroken_of : Result Fields Skip → Option Fields
-unbroken_of (Ok fields) = if is_part fields.body then None else Some fields
-unbroken_of (Err skip) = None
+-- what the packet says, where it isn't
+abbrev pub packet_fields : Result Fields Skip → Option Fields
+packet_fields (Ok fields) = if is_fragment fields.body then None else Some fields
+packet_fields (Err skip) = None
 
--- ---- the datagram that its fragment makes whole
+-- ---- the datagram that its fragment completes
 
 -- the fragment, as it is put together with others
 abbrev pub fragment_of : Way → FragConfig → Moment → Fields → Fragment
 fragment_of way config moment fields = fragment fields.ip fields.payload moment (frag_rules way.hosts config fields.ip.dst)
 
 abbrev pub fragment_in : Way → FragConfig → LinkedRecord → Option Fragment
-fragment_in way config r = option_map (fragment_of way config r.captured.moment) (part_of (said_by way r))
+fragment_in way config r = option_map (fragment_of way config r.captured.moment) (fragment_fields (said_by way r))
 
 -- the fragments of these records
 abbrev pub fragments : Way → FragConfig → List LinkedRecord → List Fragment
@@ -80,21 +79,21 @@ unfoldable pub frag3_behind : Way → List LinkedRecord → Option Frag3State
 frag3_behind way records =
     option_map (λ (config : FragConfig). state_after config.max_frags (fragments way config records)) way.frag
 
--- the datagram, where there is one
-abbrev pub whole_of : Taken → Option Datagram
-whole_of (answer.Whole datagram) = Some datagram
-whole_of other = None
+-- the datagram, where a fragment completed one
+abbrev pub completed_datagram : Taken → Option Datagram
+completed_datagram (answer.Whole datagram) = Some datagram
+completed_datagram other = None
 
--- the datagram that a fragment makes whole, where these fragments wait
-unfoldable pub datagram_of_part : Way → Option Frag3State → Moment → Fields → Option Datagram
-datagram_of_part way waiting moment fields = do
+-- the datagram that a fragment completes, where these fragments wait
+unfoldable pub datagram_of_fragment : Way → Option Frag3State → Moment → Fields → Option Datagram
+datagram_of_fragment way waiting moment fields = do
   config ← way.frag
   frag3 ← waiting
-  whole_of (taken frag3 (fragment_of way config moment fields))
+  completed_datagram (taken frag3 (fragment_of way config moment fields))
 
--- the datagram that a record makes whole, if it is a fragment and makes one whole
+-- the datagram that a record completes, if it is a fragment and completes one
 abbrev pub datagram_from : Way → Option Frag3State → Moment → Result Fields Skip → Option Datagram
-datagram_from way waiting moment said = option_and_then (datagram_of_part way waiting moment) (part_of said)
+datagram_from way waiting moment said = option_and_then (datagram_of_fragment way waiting moment) (fragment_fields said)
 
 unfoldable pub datagram_in : Way → List LinkedRecord → LinkedRecord → Option Datagram
 datagram_in way before r = datagram_from way (frag3_behind way before) r.captured.moment (said_by way r)
@@ -107,21 +106,28 @@ datagram_said checks datagram = rebuilt_decoded datagram.ip datagram.bytes check
 
 -- the fragment by itself
 unfoldable pub fragment_item : Way → LinkedRecord → Option Item
-fragment_item way r = option_map (item_of kind.Fragment r.captured.moment) (part_of (said_by way r))
+fragment_item way r = option_map (item_of kind.Fragment r.captured.moment) (fragment_fields (said_by way r))
 
--- the packet: as it was captured, or the datagram that the record made whole
+-- the datagram, if there is one that can be read
+abbrev pub datagram_item : Checks → Moment → Option Datagram → Option Item
+datagram_item checks moment datagram =
+    option_map (item_of kind.Rebuilt moment) (option_and_then (λ d. result_ok (datagram_said checks d)) datagram)
+
+-- why the datagram is skipped, if there is one that can't be read
+abbrev pub datagram_skip : Checks → Option Datagram → Option Skip
+datagram_skip checks datagram = option_and_then (λ d. result_err (datagram_said checks d)) datagram
+
+-- the packet: as it was captured, or the datagram that the record completed
 abbrev pub packet_from : Way → Moment → Option Datagram → Result Fields Skip → Option Item
 packet_from way moment datagram said =
-    option_or (option_map (item_of kind.Packet moment) (unbroken_of said))
-    (option_map (item_of kind.Rebuilt moment) (option_and_then (λ d. result_ok (datagram_said way.checks d)) datagram))
+    option_or (option_map (item_of kind.Packet moment) (packet_fields said)) (datagram_item way.checks moment datagram)
 
 unfoldable pub packet_in : Way → List LinkedRecord → LinkedRecord → Option Item
 packet_in way before r = packet_from way r.captured.moment (datagram_in way before r) (said_by way r)
 
--- why the record, or the datagram that it made whole, is skipped
+-- why the record, or the datagram that it completed, is skipped
 abbrev pub skip_from : Way → Option Datagram → Result Fields Skip → Option Skip
-skip_from way datagram said =
-    option_or (result_err said) (option_and_then (λ d. result_err (datagram_said way.checks d)) datagram)
+skip_from way datagram said = option_or (result_err said) (datagram_skip way.checks datagram)
 
 unfoldable pub skip_in : Way → List LinkedRecord → LinkedRecord → Option Skip
 skip_in way before r = skip_from way (datagram_in way before r) (said_by way r)

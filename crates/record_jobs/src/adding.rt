@@ -7,8 +7,9 @@ ghost use Rattle.record_jobs.specs.Steps.{read_item, Adds};
 ghost use Rattle.record_jobs.specs.Way.{way_of};
 
 use crate::config::FrontConfig;
+use crate::content::RecordContent;
 use crate::engines::towards;
-use crate::item::{Caught, Item, head_of};
+use crate::item::{Item, head_of};
 use crate::time::Time;
 use edge_io::{Moment, NoMemory, Text};
 use flow_lanes::{Job, Work};
@@ -153,7 +154,7 @@ fn add_fragment(
 }
 
 /// Adds a packet, if there is one, and gives the number of the next job.
-fn add_whole(
+fn add_item(
     out: &mut Vec<Job>,
     by: &FrontConfig<'_>,
     time: Time,
@@ -181,24 +182,24 @@ pub(crate) fn add_works(
     by: &FrontConfig<'_>,
     time: Time,
     touch: Option<Touch>,
-    caught: Caught,
+    content: RecordContent,
     number: u64,
 ) -> Result<u64, NoMemory>
     requires engines { length by.now.config.now.stream.engines ≤ 1024 }
     requires room { number + 3 < 2 ^ 64 }
     ensures added { IfOk result (λ next. Adds number time.now
-        (works_by (way_of by.now) time touch caught.fragment caught.whole.packet) out.old.items next out.new.items) }
+        (works_by (way_of by.now) time touch content.fragment content.packet) out.old.items next out.new.items) }
     ensures few { IfOk result (λ next. next ≤ number + 3) }
     ensures err { OnErr result (take (length out.old.items) out.new.items ≡ out.old.items) }
 {
-    let Caught {
+    let RecordContent {
         fragment,
-        whole,
+        packet,
         ..
-    } = caught;
+    } = content;
     let number = add_evicted(out, number, time.now, evicted(touch))?;
     let number = add_fragment(out, number, time.now, fragment)?;
-    let next = add_whole(out, by, time, touch, whole.packet, number)?;
+    let next = add_item(out, by, time, touch, packet, number)?;
     Ok(next)
 }
 

@@ -1,8 +1,8 @@
 //! What records are counted as.
 ghost use Rattle.std.specs.Prelude.{◌≡◌, ◌+◌, ◌<◌, ◌^◌};
-ghost use Rattle.record_jobs.specs.Steps.{counts_after, is_fresh, with_caught, with_skip, AreFew, AreUpTo};
+ghost use Rattle.record_jobs.specs.Steps.{counts_after, is_fresh, with_content, with_skip, AreFew, AreUpTo};
 
-use crate::item::Caught;
+use crate::content::RecordContent;
 use packet_decode::Skip;
 use stream5_sessions::Touch;
 
@@ -70,17 +70,17 @@ impl RecordCounts {
     }
 
     /// What else a record is counted as.
-    fn with_caught(self, caught: &Caught, touch: Option<Touch>) -> RecordCounts
+    fn with_content(self, content: &RecordContent, touch: Option<Touch>) -> RecordCounts
         requires room { self.records < 2 ^ 32 }
         requires few { AreUpTo (self.records + 1) self.records self }
-        ensures value { result ≡ with_caught self caught.now touch }
+        ensures value { result ≡ with_content self content.now touch }
         ensures few { AreFew result }
         ensures records { result.records ≡ self.records + 1 }
     {
         RecordCounts {
             records: self.records + 1,
-            fragments: self.fragments + u64::from(caught.fragment.is_some()),
-            rebuilt: self.rebuilt + u64::from(caught.rebuilt),
+            fragments: self.fragments + u64::from(content.fragment.is_some()),
+            rebuilt: self.rebuilt + u64::from(content.rebuilt),
             flows: self.flows + u64::from(is_fresh(touch)),
             ..self
         }
@@ -88,14 +88,14 @@ impl RecordCounts {
 
     /// One record more, which brought this, and whose touch found this.
     #[tactic(auto, unfolding(crate::specs::Steps::counts_after))]
-    pub(crate) fn with_record(self, caught: &Caught, touch: Option<Touch>) -> RecordCounts
+    pub(crate) fn with_record(self, content: &RecordContent, touch: Option<Touch>) -> RecordCounts
         requires room { self.records < 2 ^ 32 }
         requires few { AreFew self }
-        ensures value { result ≡ counts_after self caught.now touch }
+        ensures value { result ≡ counts_after self content.now touch }
         ensures few { AreFew result }
         ensures records { result.records ≡ self.records + 1 }
     {
-        self.with_skip(caught.whole.skip).with_caught(caught, touch)
+        self.with_skip(content.skip).with_content(content, touch)
     }
 }
 

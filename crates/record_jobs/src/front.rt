@@ -7,11 +7,11 @@ ghost use Rattle.record_jobs.specs.Steps.{Steps};
 ghost use Rattle.record_jobs.specs.Way.{linked, way_of};
 
 use crate::adding::{add_finishes, add_packet, add_works};
-use crate::caught::{caught, is_part};
 use crate::config::FrontConfig;
+use crate::content::{is_fragment, read_record};
 use crate::counts::{RecordCounts, is_fresh};
 use crate::time::Time;
-use crate::touches::{touched, tracked_key, whole_key};
+use crate::touches::{content_key, touch_key, tracked_key};
 use conf_types::FragConfig;
 use edge_io::{Link, Moment, NoMemory, Text};
 use flow_lanes::Job;
@@ -20,7 +20,7 @@ use packet_decode::{Placed, Skip, decode_at};
 use pcap_input::Record;
 use std::alloc::Global;
 use std::marker::Model;
-use stream5_sessions::{Flows, Touch};
+use stream5_sessions::Flows;
 
 /// What makes a capture's records into jobs.
 ///
@@ -89,7 +89,7 @@ impl Front {
     {
         let done = out.len();
         match self.step(alloc, by, link, captured, out) {
-            Ok(_touch) => Ok(()),
+            Ok(()) => Ok(()),
             Err(fault) => {
                 out.truncate(done);
                 Err(fault)
@@ -114,7 +114,7 @@ impl Front {
         }
     }
 
-    /// Takes the next record, and gives what its touch found. Without memory, jobs may stand behind `out`.
+    /// Takes the next record. Without memory, jobs may stand behind `out`.
     ///
     /// A packet of version 4 that is no fragment is read in place, and goes from there into its job.
     fn step(
@@ -124,11 +124,11 @@ impl Front {
         link: Link,
         captured: &Record,
         out: &mut Vec<Job>,
-    ) -> Result<Option<Touch>, NoMemory>
+    ) -> Result<(), NoMemory>
         requires engines { length by.now.config.now.stream.engines ≤ 1024 }
         requires room { self.old.counts.records < 2 ^ 32 }
-        ensures steps { IfOk result (λ touch.
-            Steps (way_of by.now) self.old (linked link captured.now) touch self.new out.old.items out.new.items) }
+        ensures steps { OnOk result
+            (Steps (way_of by.now) self.old (linked link captured.now) self.new out.old.items out.new.items) }
         ensures records { OnOk result (self.new.counts.records ≡ self.old.counts.records + 1) }
         ensures err { OnErr result (take (length out.old.items) out.new.items ≡ out.old.items) }
     {
@@ -138,19 +138,20 @@ impl Front {
         if let Some(skip) = skip {
             return self.step_seldom(alloc, by, link, captured, Err(skip), out);
         }
-        if is_part(read.body) {
+        if is_fragment(read.body) {
             return self.step_seldom(alloc, by, link, captured, Ok(&read), out);
         }
         let time = Time::of(self.begin, captured.moment);
         self.begin = Some(time.first);
         self.last = time.now;
+        // Ahead of what may fail: at each way out no more flows have begun than there were records (`IsFront`).
         self.counts.records += 1;
         let key = tracked_key(&by.config.stream, &read.ip, read.body);
-        let touch = touched(&mut self.flows, key)?;
+        let touch = touch_key(&mut self.flows, key)?;
         self.counts.flows += u64::from(is_fresh(touch));
         let payload = Text::copy(alloc, read.payload(bytes))?;
         self.next = add_packet(out, by, time, touch, &read, payload, self.next)?;
-        Ok(touch)
+        Ok(())
     }
 
     /// Takes the next record as `step` does, where `four`, which was read of it as version 4, is no packet or a fragment.
@@ -164,25 +165,27 @@ impl Front {
         captured: &Record,
         four: Result<&Placed, Skip>,
         out: &mut Vec<Job>,
-    ) -> Result<Option<Touch>, NoMemory>
+    ) -> Result<(), NoMemory>
         requires engines { length by.now.config.now.stream.engines ≤ 1024 }
         requires room { self.old.counts.records < 2 ^ 32 }
         requires four { IsReadAsFour link captured.now.bytes by.now.checks four }
-        ensures steps { IfOk result (λ touch.
-            Steps (way_of by.now) self.old (linked link captured.now) touch self.new out.old.items out.new.items) }
+        ensures steps { OnOk result
+            (Steps (way_of by.now) self.old (linked link captured.now) self.new out.old.items out.new.items) }
         ensures records { OnOk result (self.new.counts.records ≡ self.old.counts.records + 1) }
         ensures err { OnErr result (take (length out.old.items) out.new.items ≡ out.old.items) }
     {
         let time = Time::of(self.begin, captured.moment);
         let counts = self.counts;
+        // Ahead of what may fail, as in `step`.
         self.counts.records += 1;
         self.begin = Some(time.first);
         self.last = time.now;
-        let caught = caught(alloc, by, &mut self.frag3, link, captured, four)?;
-        let touch = touched(&mut self.flows, whole_key(by, &caught.whole))?;
-        self.counts = counts.with_record(&caught, touch);
-        self.next = add_works(out, by, time, touch, caught, self.next)?;
-        Ok(touch)
+        let content = read_record(alloc, by, &mut self.frag3, link, captured, four)?;
+        let key = content_key(by, &content);
+        let touch = touch_key(&mut self.flows, key)?;
+        self.counts = counts.with_record(&content, touch);
+        self.next = add_works(out, by, time, touch, content, self.next)?;
+        Ok(())
     }
 
     /// What the records so far are counted as. Takes no memory.

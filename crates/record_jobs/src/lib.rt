@@ -8,8 +8,8 @@
 #![tactic(auto)]
 
 mod adding;
-mod caught;
 mod config;
+mod content;
 mod counts;
 mod engines;
 mod front;

@@ -1,11 +1,11 @@
 //! Which packets belong to flows, and what they find of them.
 ghost use Rattle.std.specs.Prelude.{◌≡◌, ◌<◌, ◌≤◌, ◌+◌, ◌^◌, IfOk, OnOk};
-ghost use Rattle.record_jobs.specs.Steps.{whole_key, FindsTouch, SeesKey};
+ghost use Rattle.record_jobs.specs.Steps.{content_key, FindsTouch, SeesKey};
 ghost use Rattle.record_jobs.specs.Touches.{key_between, tracked_key};
 ghost use Rattle.record_jobs.specs.Way.{way_of};
 
 use crate::config::FrontConfig;
-use crate::item::Whole;
+use crate::content::RecordContent;
 use conf_types::StreamConfig;
 use edge_io::NoMemory;
 use packet_decode::{Body, IpHead};
@@ -38,18 +38,18 @@ pub(crate) fn tracked_key(stream: &StreamConfig, ip: &IpHead, body: Body) -> Opt
     }
 }
 
-/// The key that what was read touches.
-pub(crate) fn whole_key(by: &FrontConfig<'_>, whole: &Whole) -> Option<Key>
-    ensures { result ≡ whole_key (way_of by.now) whole.now }
+/// The key that a record's packet touches.
+pub(crate) fn content_key(by: &FrontConfig<'_>, content: &RecordContent) -> Option<Key>
+    ensures { result ≡ content_key (way_of by.now) content.now }
 {
-    match &whole.packet {
+    match &content.packet {
         Some(item) => tracked_key(&by.config.stream, &item.head.ip, item.head.body),
         None => None,
     }
 }
 
 /// Touches a key, if there is one.
-pub(crate) fn touched(flows: &mut Flows, key: Option<Key>) -> Result<Option<Touch>, NoMemory>
+pub(crate) fn touch_key(flows: &mut Flows, key: Option<Key>) -> Result<Option<Touch>, NoMemory>
     requires { flows.old.next < 2 ^ 63 }
     ensures found { IfOk result (λ touch. FindsTouch flows.old key touch) }
     ensures sees { OnOk result (SeesKey flows.old key flows.new) }

@@ -24,7 +24,7 @@ returns-clause-steps c =
     let counts : RecordCounts = c.self.inside.counts in
     let new : FrontState = record {
       frag3 = c.self.inside.frag3;
-      flows = c.touched.new.flows;
+      flows = c.touch_key.new.flows;
       begin = Some c.of-time.result.first;
       last = c.of-time.result.now;
       next = next;
@@ -39,13 +39,13 @@ returns-clause-steps c =
     let added =
     subst (λ (time : Time). Adds c.self.inside.next time.now (works_by way time touch None (Some (read_item time.now read (payload_at bytes read)))) items next c.add_packet.new.out.items) c.of-time.ensures
     (subst (λ (payload : List ℕ). Adds c.self.inside.next c.of-time.result.now (works_by way c.of-time.result touch None (Some (read_item c.of-time.result.now read payload))) items next c.add_packet.new.out.items) copied c.in_ok-self-inside.ensures.added) in
-    subst (λ (front : FrontState). Steps way front r touch new items c.add_packet.new.out.items) c.self.view_is
+    subst (λ (front : FrontState). Steps way front r new items c.add_packet.new.out.items) c.self.view_is
     (straight way (front_of c.self.inside) new r (fields_at bytes read) touch items c.add_packet.new.out.items
     (said-four way r c.decode_at-skip.result read told none)
-    (sym c.is_part.ensures ∙ c.if-is_part.false)
+    (sym c.is_fragment.ensures ∙ c.if-is_fragment.false)
     (omega (arith, many, c.decode_at-skip.ensures.small none))
     (subst (λ (key : Option Key). FindsTouch flows key touch) c.tracked_key-key.ensures c.in_ok-touch.ensures.found)
-    (subst (λ (key : Option Key). SeesKey flows key c.touched.new.flows) c.tracked_key-key.ensures c.in_ok-touch.ensures.sees)
+    (subst (λ (key : Option Key). SeesKey flows key c.touch_key.new.flows) c.tracked_key-key.ensures c.in_ok-touch.ensures.sees)
     c.in_ok-touch.ensures.most
     refl
     (ap (λ (time : Time). Some time.first) c.of-time.ensures)

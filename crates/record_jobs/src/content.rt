@@ -1,0 +1,208 @@
+//! What a record brings: its packet, or its fragment and the datagram that the fragment completes.
+ghost use Rattle.std.specs.Prelude.{◌≡◌, ◌≤◌, length, IfOk, IfSome, OnOk, Ok};
+ghost use Rattle.packet_decode.specs.Decoding.{fields_of};
+ghost use Rattle.ipv6_decode.specs.Versions.{IsReadAsFour};
+ghost use Rattle.record_jobs.specs.Packets.{completed_datagram, datagram_from, datagram_item, datagram_of_fragment, datagram_skip, is_fragment, item_of, said_by};
+ghost use Rattle.record_jobs.specs.Steps.{content_from, fragment_content, packet_content, record_content, waiting_after, waiting_after_fragment, waiting_from, HasShortPacket, IsShortDatagram, IsShortItem};
+ghost use Rattle.record_jobs.specs.Way.{linked, way_of};
+
+use crate::config::FrontConfig;
+use crate::engines::frag_rules;
+use crate::item::{Item, head_of};
+use edge_io::{Link, Moment, NoMemory, Text};
+use frag3_core::{Datagram, Frag3, Taken};
+use ipv6_decode::{packet_of_datagram, packet_of_record};
+use packet_decode::{Body, Checks, ItemKind, Packet, Placed, Skip};
+use pcap_input::Record;
+use std::alloc::Global;
+
+/// What a record brings.
+#[derive(Debug, Drop)]
+pub(crate) struct RecordContent {
+    /// Its fragment, where it is one.
+    pub fragment: Option<Item>,
+    /// Its packet, or the datagram that its fragment completed.
+    pub packet: Option<Item>,
+    /// Why the record, or that datagram, is skipped.
+    pub skip: Option<Skip>,
+    /// Its fragment completed a datagram.
+    pub rebuilt: bool,
+}
+
+/// Whether a packet is a fragment.
+pub(crate) fn is_fragment(body: Body) -> bool
+    ensures { result ≡ is_fragment body }
+{
+    match body {
+        Body::Fragment => true,
+        _ => false,
+    }
+}
+
+/// What is inspected of a packet; nothing is known of its session.
+fn item_of(
+    alloc: Global,
+    kind: ItemKind,
+    moment: Moment,
+    packet: &Packet<'_>,
+) -> Result<Item, NoMemory>
+    ensures { IfOk result (λ item. item ≡ item_of kind moment (fields_of packet.now)) }
+{
+    Ok(Item {
+        head: head_of(kind, moment, packet.ip, packet.body),
+        payload: Text::copy(alloc, packet.payload)?,
+    })
+}
+
+/// What a packet brings that is no fragment.
+fn packet_content(
+    alloc: Global,
+    moment: Moment,
+    packet: &Packet<'_>,
+) -> Result<RecordContent, NoMemory>
+    ensures { IfOk result (λ content. content ≡ packet_content moment (fields_of packet.now)) }
+{
+    let item = item_of(alloc, ItemKind::Packet, moment, packet)?;
+    Ok(RecordContent {
+        fragment: None,
+        packet: Some(item),
+        skip: None,
+        rebuilt: false,
+    })
+}
+
+/// What is inspected of a datagram, or why it is skipped; neither, where there is none.
+fn datagram_item(
+    alloc: Global,
+    checks: Checks,
+    moment: Moment,
+    datagram: &Option<Datagram>,
+) -> Result<(Option<Item>, Option<Skip>), NoMemory>
+    ensures item { IfOk result (λ said. said.0 ≡ datagram_item checks moment datagram.now) }
+    ensures skip { IfOk result (λ said. said.1 ≡ datagram_skip checks datagram.now) }
+    ensures short { IfSome datagram.now IsShortDatagram → IfOk result (λ said. IfSome said.0 IsShortItem) }
+{
+    let Some(datagram) = datagram else {
+        return Ok((None, None));
+    };
+    match packet_of_datagram(datagram.ip, datagram.bytes.bytes(), checks) {
+        Ok(packet) => {
+            let item = item_of(alloc, ItemKind::Rebuilt, moment, &packet)?;
+            Ok((Some(item), None))
+        }
+        Err(skip) => Ok((None, Some(skip))),
+    }
+}
+
+/// The datagram, where a fragment completed one.
+fn completed_datagram(taken: Taken) -> Option<Datagram>
+    ensures { result ≡ completed_datagram taken }
+{
+    match taken {
+        Taken::Whole(datagram) => Some(datagram),
+        _ => None,
+    }
+}
+
+/// Accepts a fragment, where fragments are put together: the datagram that it completes.
+#[tactic(auto, unfolding(crate::specs::Packets::datagram_of_fragment, crate::specs::Steps::waiting_after_fragment))]
+fn accept_fragment(
+    alloc: Global,
+    by: &FrontConfig<'_>,
+    frag3: &mut Option<Frag3>,
+    moment: Moment,
+    packet: &Packet<'_>,
+) -> Result<Option<Datagram>, NoMemory>
+    ensures datagram { IfOk result (λ datagram.
+        datagram ≡ datagram_of_fragment (way_of by.now) frag3.old moment (fields_of packet.now)) }
+    ensures after { OnOk result
+        (frag3.new ≡ waiting_after_fragment (way_of by.now) frag3.old moment (fields_of packet.now)) }
+{
+    match (&by.config.frag, frag3) {
+        (Some(config), Some(frag3)) => {
+            let rules = frag_rules(by.hosts, config, packet.ip.dst);
+            let taken = frag3.accept(alloc, &packet.ip, packet.payload, moment, rules)?;
+            Ok(completed_datagram(taken))
+        }
+        _ => Ok(None),
+    }
+}
+
+/// What a fragment brings: itself, and the datagram that it completes.
+// Kept out of the line of other packets, which otherwise pay for its moves.
+#[inline(never)]
+fn fragment_content(
+    alloc: Global,
+    by: &FrontConfig<'_>,
+    frag3: &mut Option<Frag3>,
+    moment: Moment,
+    packet: &Packet<'_>,
+) -> Result<RecordContent, NoMemory>
+    ensures content { IfOk result (λ content. content ≡ fragment_content by.now.checks moment (fields_of packet.now)
+        (datagram_of_fragment (way_of by.now) frag3.old moment (fields_of packet.now))) }
+    ensures after { OnOk result
+        (frag3.new ≡ waiting_after_fragment (way_of by.now) frag3.old moment (fields_of packet.now)) }
+    ensures short { IfSome (datagram_of_fragment (way_of by.now) frag3.old moment (fields_of packet.now)) IsShortDatagram
+        → IfOk result HasShortPacket }
+{
+    let fragment = item_of(alloc, ItemKind::Fragment, moment, packet)?;
+    let datagram = accept_fragment(alloc, by, frag3, moment, packet)?;
+    let rebuilt = datagram.is_some();
+    let (item, skip) = datagram_item(alloc, by.checks, moment, &datagram)?;
+    Ok(RecordContent {
+        fragment: Some(fragment),
+        packet: item,
+        skip,
+        rebuilt,
+    })
+}
+
+/// What a packet brings: its fragment, or itself.
+#[tactic(auto, using(crate::proofs::Contents::contents))]
+fn content_of(
+    alloc: Global,
+    by: &FrontConfig<'_>,
+    frag3: &mut Option<Frag3>,
+    moment: Moment,
+    packet: &Packet<'_>,
+) -> Result<RecordContent, NoMemory>
+    requires { length packet.now.payload.now ≤ 65535 }
+    ensures content { IfOk result (λ content.
+        content ≡ content_from (way_of by.now) frag3.old moment (Ok (fields_of packet.now))) }
+    ensures after { OnOk result (frag3.new ≡ waiting_from (way_of by.now) frag3.old moment (Ok (fields_of packet.now))) }
+    ensures short { IfSome (datagram_from (way_of by.now) frag3.old moment (Ok (fields_of packet.now))) IsShortDatagram
+        → IfOk result HasShortPacket }
+{
+    if is_fragment(packet.body) {
+        return fragment_content(alloc, by, frag3, moment, packet);
+    }
+    packet_content(alloc, moment, packet)
+}
+
+/// What a record brings, whose bytes begin with this link layer; `four` is what was read of it as version 4.
+#[tactic(auto, using(crate::proofs::Contents::contents), unfolding(crate::specs::Steps::record_content, crate::specs::Steps::waiting_after, crate::specs::Packets::said_by))]
+pub(crate) fn read_record(
+    alloc: Global,
+    by: &FrontConfig<'_>,
+    frag3: &mut Option<Frag3>,
+    link: Link,
+    captured: &Record,
+    four: Result<&Placed, Skip>,
+) -> Result<RecordContent, NoMemory>
+    requires { IsReadAsFour link captured.now.bytes by.now.checks four }
+    ensures content { IfOk result (λ content. content ≡ record_content (way_of by.now) frag3.old (linked link captured.now)) }
+    ensures after { OnOk result (frag3.new ≡ waiting_after (way_of by.now) frag3.old (linked link captured.now)) }
+    ensures short { IfSome (datagram_from (way_of by.now) frag3.old captured.now.moment
+        (said_by (way_of by.now) (linked link captured.now))) IsShortDatagram
+        → IfOk result HasShortPacket }
+{
+    match packet_of_record(four, link, captured.bytes.bytes(), by.checks) {
+        Ok(packet) => content_of(alloc, by, frag3, captured.moment, &packet),
+        Err(skip) => Ok(RecordContent {
+            fragment: None,
+            packet: None,
+            skip: Some(skip),
+            rebuilt: false,
+        }),
+    }
+}
