@@ -9,7 +9,8 @@ ghost use Rattle.record_jobs.specs.Way.{linked, way_of};
 use crate::config::FrontConfig;
 use crate::engines::frag_rules;
 use crate::item::{Item, head_of};
-use edge_io::{Link, Moment, NoMemory, Text};
+use crate::payloads::Payloads;
+use edge_io::{Link, Moment, NoMemory};
 use frag3_core::{Datagram, Frag3, Taken};
 use ipv6_decode::{packet_of_datagram, packet_of_record};
 use packet_decode::{Body, Checks, ItemKind, Packet, Placed, Skip};
@@ -42,6 +43,7 @@ pub(crate) fn is_fragment(body: Body) -> bool
 /// What is inspected of a packet; nothing is known of its session.
 fn item_of(
     alloc: Global,
+    payloads: &mut Payloads,
     kind: ItemKind,
     moment: Moment,
     packet: &Packet<'_>,
@@ -50,19 +52,20 @@ fn item_of(
 {
     Ok(Item {
         head: head_of(kind, moment, packet.ip, packet.body),
-        payload: Text::copy(alloc, packet.payload)?,
+        payload: payloads.copy(alloc, packet.payload)?,
     })
 }
 
 /// What a packet brings that is no fragment.
 fn packet_content(
     alloc: Global,
+    payloads: &mut Payloads,
     moment: Moment,
     packet: &Packet<'_>,
 ) -> Result<RecordContent, NoMemory>
     ensures { IfOk result (λ content. content ≡ packet_content moment (fields_of packet.now)) }
 {
-    let item = item_of(alloc, ItemKind::Packet, moment, packet)?;
+    let item = item_of(alloc, payloads, ItemKind::Packet, moment, packet)?;
     Ok(RecordContent {
         fragment: None,
         packet: Some(item),
@@ -74,6 +77,7 @@ fn packet_content(
 /// What is inspected of a datagram, or why it is skipped; neither, where there is none.
 fn datagram_item(
     alloc: Global,
+    payloads: &mut Payloads,
     checks: Checks,
     moment: Moment,
     datagram: &Option<Datagram>,
@@ -87,7 +91,7 @@ fn datagram_item(
     };
     match packet_of_datagram(datagram.ip, datagram.bytes.bytes(), checks) {
         Ok(packet) => {
-            let item = item_of(alloc, ItemKind::Rebuilt, moment, &packet)?;
+            let item = item_of(alloc, payloads, ItemKind::Rebuilt, moment, &packet)?;
             Ok((Some(item), None))
         }
         Err(skip) => Ok((None, Some(skip))),
@@ -135,6 +139,7 @@ fn fragment_content(
     alloc: Global,
     by: &FrontConfig<'_>,
     frag3: &mut Option<Frag3>,
+    payloads: &mut Payloads,
     moment: Moment,
     packet: &Packet<'_>,
 ) -> Result<RecordContent, NoMemory>
@@ -145,10 +150,10 @@ fn fragment_content(
     ensures short { IfSome (datagram_of_fragment (way_of by.now) frag3.old moment (fields_of packet.now)) IsShortDatagram
         → IfOk result HasShortPacket }
 {
-    let fragment = item_of(alloc, ItemKind::Fragment, moment, packet)?;
+    let fragment = item_of(alloc, payloads, ItemKind::Fragment, moment, packet)?;
     let datagram = accept_fragment(alloc, by, frag3, moment, packet)?;
     let rebuilt = datagram.is_some();
-    let (item, skip) = datagram_item(alloc, by.checks, moment, &datagram)?;
+    let (item, skip) = datagram_item(alloc, payloads, by.checks, moment, &datagram)?;
     Ok(RecordContent {
         fragment: Some(fragment),
         packet: item,
@@ -163,6 +168,7 @@ fn content_of(
     alloc: Global,
     by: &FrontConfig<'_>,
     frag3: &mut Option<Frag3>,
+    payloads: &mut Payloads,
     moment: Moment,
     packet: &Packet<'_>,
 ) -> Result<RecordContent, NoMemory>
@@ -174,9 +180,9 @@ fn content_of(
         → IfOk result HasShortPacket }
 {
     if is_fragment(packet.body) {
-        return fragment_content(alloc, by, frag3, moment, packet);
+        return fragment_content(alloc, by, frag3, payloads, moment, packet);
     }
-    packet_content(alloc, moment, packet)
+    packet_content(alloc, payloads, moment, packet)
 }
 
 /// What a record brings, whose bytes begin with this link layer; `four` is what was read of it as version 4.
@@ -185,6 +191,7 @@ pub(crate) fn read_record(
     alloc: Global,
     by: &FrontConfig<'_>,
     frag3: &mut Option<Frag3>,
+    payloads: &mut Payloads,
     link: Link,
     captured: &Record,
     four: Result<&Placed, Skip>,
@@ -197,7 +204,7 @@ pub(crate) fn read_record(
         → IfOk result HasShortPacket }
 {
     match packet_of_record(four, link, captured.bytes.bytes(), by.checks) {
-        Ok(packet) => content_of(alloc, by, frag3, captured.moment, &packet),
+        Ok(packet) => content_of(alloc, by, frag3, payloads, captured.moment, &packet),
         Err(skip) => Ok(RecordContent {
             fragment: None,
             packet: None,

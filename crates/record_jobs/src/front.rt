@@ -10,10 +10,11 @@ use crate::adding::{add_finishes, add_packet, add_works};
 use crate::config::FrontConfig;
 use crate::content::{is_fragment, read_record};
 use crate::counts::{RecordCounts, is_fresh};
+use crate::payloads::Payloads;
 use crate::time::Time;
 use crate::touches::{content_key, touch_key, tracked_key};
 use conf_types::FragConfig;
-use edge_io::{Link, Moment, NoMemory, Text};
+use edge_io::{Link, Moment, NoMemory};
 use flow_lanes::Job;
 use frag3_core::Frag3;
 use packet_decode::{Placed, Skip, decode_at};
@@ -37,6 +38,8 @@ pub struct Front {
     /// The number of the next job.
     next: u64,
     counts: RecordCounts,
+    /// What payloads are copied into.
+    payloads: Payloads,
 }
 
 impl Model for Front {
@@ -67,6 +70,7 @@ impl Front {
             last: Moment { nanos: 0 },
             next: 0,
             counts: RecordCounts::NONE,
+            payloads: Payloads::new(alloc),
         })
     }
 
@@ -95,6 +99,16 @@ impl Front {
                 Err(fault)
             }
         }
+    }
+
+    /// Takes back the jobs of records that are done with: the payloads of later ones are copied into their memory.
+    /// The front stands for the records that it stood for. At most 256 blocks are kept, and none of more than 2048
+    /// bytes, so that long datagrams hold no memory; the others are freed.
+    pub fn take_back(&mut self, jobs: &mut Vec<Job>)
+        ensures same { self.new ≡ self.old }
+        ensures emptied { jobs.new.items ≡ [] }
+    {
+        self.payloads.take_back(jobs);
     }
 
     /// Adds the jobs behind all records to `out`: each flow that lives ends. Without memory `out` stays.
@@ -149,7 +163,7 @@ impl Front {
         let key = tracked_key(&by.config.stream, &read.ip, read.body);
         let touch = touch_key(&mut self.flows, key)?;
         self.counts.flows += u64::from(is_fresh(touch));
-        let payload = Text::copy(alloc, read.payload(bytes))?;
+        let payload = self.payloads.copy(alloc, read.payload(bytes))?;
         self.next = add_packet(out, by, time, touch, &read, payload, self.next)?;
         Ok(())
     }
@@ -180,7 +194,15 @@ impl Front {
         self.counts.records += 1;
         self.begin = Some(time.first);
         self.last = time.now;
-        let content = read_record(alloc, by, &mut self.frag3, link, captured, four)?;
+        let content = read_record(
+            alloc,
+            by,
+            &mut self.frag3,
+            &mut self.payloads,
+            link,
+            captured,
+            four,
+        )?;
         let key = content_key(by, &content);
         let touch = touch_key(&mut self.flows, key)?;
         self.counts = counts.with_record(&content, touch);

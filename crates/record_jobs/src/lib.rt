@@ -15,6 +15,7 @@ mod engines;
 mod front;
 mod item;
 mod laws;
+mod payloads;
 mod time;
 mod touches;
 
