@@ -194,7 +194,7 @@ fn run_jobs<P: Pattern, G: Gate, A: Sink, R: Threads + Sync>(
 }
 
 /// Writes the lines of a batch of records, whole, and keeps its last record: what was kept before stands
-/// in its place then.
+/// in its place then. The memory of the jobs' payloads goes back to the front.
 #[tactic(auto, using(crate::proofs::Prefixes::rising))]
 pub(crate) fn show_records<P: Pattern, G: Gate, A: Sink, R: Threads + Sync>(
     context: &Context<'_, P, G, R>,
@@ -220,7 +220,7 @@ pub(crate) fn show_records<P: Pattern, G: Gate, A: Sink, R: Threads + Sync>(
     ensures later { A.faults alerts.old ≤ A.faults alerts.new }
 {
     let by = front_config(context.plan);
-    let made = make_jobs(context.alloc, &by, records, &mut detector.front)?;
+    let mut made = make_jobs(context.alloc, &by, records, &mut detector.front)?;
     let inspection = &mut detector.inspection;
     run_jobs(
         context,
@@ -232,6 +232,7 @@ pub(crate) fn show_records<P: Pattern, G: Gate, A: Sink, R: Threads + Sync>(
     )?;
     offer(&mut inspection.events.block, alerts)?;
     keep_last(records, &mut inspection.last);
+    detector.front.take_back(&mut made.jobs);
     Ok(())
 }
 
