@@ -27,7 +27,8 @@ pub struct Touch {
 fn begun(lives: &mut Lives, key: &Key, next: u64) -> Result<Touch, NoMemory>
     requires { lookup (same_key key.now) lives.old.entries ≡ None }
     ensures value { IfOk result (λ touch. touch ≡ found_by lives.old.entries lives.old.cap next None) }
-    ensures after { OnOk result (lives.new ≡ lives_with (kept_by lives.old.entries lives.old.cap next key.now None) lives.old.cap) }
+    ensures after { OnOk result (lives.new ≡ lives_with
+        (kept_by lives.old.entries lives.old.cap next key.now None) lives.old.cap) }
     ensures err { OnErr result (lives.new ≡ lives.old) }
 {
     Ok(Touch {
@@ -72,7 +73,8 @@ impl Model for Flows {
 
     ghost Value = { FlowsState };
 
-    ghost view = { λ flows. record { max = record { tcp = flows.tcp.cap; udp = flows.udp.cap }; next = flows.next; tcp = flows.tcp.entries; udp = flows.udp.entries } };
+    ghost view = { λ flows. record { max = record { tcp = flows.tcp.cap; udp = flows.udp.cap }; next = flows.next;
+        tcp = flows.tcp.entries; udp = flows.udp.entries } };
 }
 
 impl Flows {
@@ -119,7 +121,8 @@ impl Flows {
 
     /// The numbers that are kept, in ascending order.
     fn numbers(&self, alloc: Global) -> Result<Vec<u64>, NoMemory>
-        ensures permutation { IfOk result (λ flows. IsPermutation (values_of self.now.tcp ++ values_of self.now.udp) flows.items) }
+        ensures permutation { IfOk result (λ flows. IsPermutation
+            (values_of self.now.tcp ++ values_of self.now.udp) flows.items) }
         ensures sorted { IfOk result (λ flows. IsSorted nat_cmp flows.items) }
     {
         let mut flows = self.tcp.flows(alloc)?;
