@@ -127,54 +127,30 @@ some_within [] k within none = omega arith
 some_within (x ∷ xs) zero within none = cc
 some_within (x ∷ xs) (suc k) within none = some_within xs k (omega (arith, within)) none
 
-none_past : (xs : List Piece) (k : ℕ) → k ≤ length xs - 1 → slice_get xs k ≡ None → length xs ≡ 0
-none_past [] k within none = refl
-none_past (x ∷ xs) k within none = absurd (some_within (x ∷ xs) k (omega (arith, within)) none)
+-- a piece that begins below a place lies before those that begin from it on
+pub place_below : (at : ℕ) (pieces : Pieces Piece) (front rest : List Piece) (piece : Piece) → pieces.list ≡ front ++ rest → BeginFrom at rest → slice_get pieces.list pieces.place ≡ Some piece → piece.start < at → pieces.place < length front
+place_below at pieces front rest piece list from found below = index_below at front rest pieces.place piece from (ap (λ xs. slice_get xs pieces.place) (sym list) ∙ found) below
 
-pub whole_or_none : (pieces : Pieces Piece) (n : ℕ) → pieces.place ≤ n - 1 → n ≡ length pieces.list → slice_get pieces.list pieces.place ≡ None → n ≡ 0
-whole_or_none pieces n within same none = same ∙ none_past pieces.list pieces.place (omega (arith, within, same)) none
+-- `next` moves by at most one
+pub moved_to : (pieces next : Pieces Piece) (moved : Bool) (most : ℕ) → pieces.place < most → next ≡ listed pieces.list (if moved then pieces.place + 1 else pieces.place) pieces.spare → next.place ≤ most
+moved_to pieces next true most below is = let place : next.place ≡ pieces.place + 1 = ap (λ (p : Pieces Piece). p.place) is in omega (arith, place, below)
+moved_to pieces next false most below is = let place : next.place ≡ pieces.place = ap (λ (p : Pieces Piece). p.place) is in omega (arith, place, below)
 
-true_or_false : (b : Bool) (P : Type 0) → (b ≡ true → P) → (P → b ≡ true) → (test : Bool) → (test ≡ true → P) → (P → test ≡ true) → b ≡ test
-true_or_false true P f g true f' g' = refl
-true_or_false true P f g false f' g' = sym (g' (f refl))
-true_or_false false P f g true f' g' = g (f' refl)
-true_or_false false P f g false f' g' = refl
-
-lt_from : (m n : ℕ) → nat_lt m n ≡ true → m < n
-lt_from m n test = grind (arith, nat_tests)
-
-lt_to : (m n : ℕ) → m < n → nat_lt m n ≡ true
-lt_to m n less = grind (arith, nat_tests)
-
--- where `next` goes
-pub moved_place : (pieces next : Pieces Piece) (moved : Bool) → (IsTrue moved ↔ (pieces.place < length pieces.list)) → next ≡ listed pieces.list (if moved then pieces.place + 1 else pieces.place) pieces.spare
-    → next.place ≡ (if nat_lt pieces.place (length pieces.list) then pieces.place + 1 else pieces.place)
-moved_place pieces next moved tells is =
-    let same = true_or_false moved (pieces.place < length pieces.list) tells.0 tells.1 (nat_lt pieces.place (length pieces.list)) (lt_from pieces.place (length pieces.list)) (lt_to pieces.place (length pieces.list)) in
-    ap (λ (p : Pieces Piece). p.place) is ∙ ap (λ b. if b then pieces.place + 1 else pieces.place) same
-
--- at the end of the search from the back
-pub sought : (at : ℕ) (pieces next : Pieces Piece) (found moved : Bool) (front rest : List Piece) → pieces.place ≤ length (front ++ rest) - 1 → length front ≤ pieces.place + 1 → pieces.list ≡ front ++ rest → BeginFrom at rest
-    → ((piece : Piece) → slice_get pieces.list pieces.place ≡ Some piece → at ≤ piece.start → found ≡ true) → found ≡ false
-    → next.place ≡ (if nat_lt pieces.place (length pieces.list) then pieces.place + 1 else pieces.place) → next.place ≡ length front
-sought at pieces next found moved front rest within before list from no_at is place = by_item (slice_get pieces.list pieces.place) refl
+-- at the end of the search: no piece at the place begins below what is sought
+pub sought : (at : ℕ) (pieces : Pieces Piece) (found : Bool) (front rest : List Piece) → pieces.place ≤ length front → pieces.list ≡ front ++ rest → BeginBelow at front
+    → ((piece : Piece) → slice_get pieces.list pieces.place ≡ Some piece → piece.start < at → found ≡ true) → found ≡ false → pieces.place ≡ length front
+sought at pieces found front rest within list below no_at is = by_item (slice_get pieces.list pieces.place) refl
   where
-    by_item : (item : Option Piece) → slice_get pieces.list pieces.place ≡ item → next.place ≡ length front
+    by_item : (item : Option Piece) → slice_get pieces.list pieces.place ≡ item → pieces.place ≡ length front
     by_item None none =
-        let empty = whole_or_none pieces (length (front ++ rest)) within (ap length (sym list)) none in
-        let long : length (front ++ rest) ≡ length pieces.list = ap length (sym list) in
-        let fails : nat_lt pieces.place (length pieces.list) ≡ false = grind (arith, nat_tests) in
-        let stays : next.place ≡ pieces.place = place ∙ ap (λ b. if b then pieces.place + 1 else pieces.place) fails in
-        omega (arith, stays, within, empty, length-append front rest)
+        elim (cases_lt pieces.place (length pieces.list)) as (λ _. pieces.place ≡ length front) [
+          | inl before ↦ absurd (some_within pieces.list pieces.place before none)
+          | inr past ↦ let long : length pieces.list ≡ length front + length rest = ap length list ∙ length-append front rest in omega (arith, within, past, long)
+        ]
     by_item (Some piece) some =
-        elim (cases_lt piece.start at) as (λ _. next.place ≡ length front) [
-          | inl below ↦
-              let more = index_below at front rest pieces.place piece from (ap (λ xs. slice_get xs pieces.place) (sym list) ∙ some) below in
-              let longer : pieces.place < length pieces.list = omega (arith, more, length-append front rest, ap length list) in
-              let holds : nat_lt pieces.place (length pieces.list) ≡ true = grind (arith, nat_tests) in
-              let moves : next.place ≡ pieces.place + 1 = place ∙ ap (λ b. if b then pieces.place + 1 else pieces.place) holds in
-              omega (arith, moves, more, before)
-          | inr here ↦ let clash : false ≡ true = sym is ∙ no_at piece some here in cc
+        elim (cases_lt piece.start at) as (λ _. pieces.place ≡ length front) [
+          | inl ahead ↦ let clash : false ≡ true = sym is ∙ no_at piece some ahead in cc
+          | inr here ↦ let far = index_from at front rest pieces.place piece below (ap (λ xs. slice_get xs pieces.place) (sym list) ∙ some) here in omega (arith, far, within)
         ]
 
 pub on_some : {X : Type 0} (found : Option X) (x : X) (P : Type 0) → found ≡ Some x → OnSome found P → P

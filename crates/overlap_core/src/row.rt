@@ -12,33 +12,52 @@ use piece_list::PieceList;
 use std::alloc::Global;
 use std::collections::VecDeque;
 
-/// Whether the list stands at a piece that begins at `at` or behind it.
-fn begins_from(pieces: &PieceList<Piece>, at: u64) -> bool
-    ensures yes_at { IsTrue result → (piece : Kept) × (slice_get pieces.now.list pieces.now.place ≡ Some piece)
-        × (at ≤ piece.start) }
-    ensures no_at { (piece : Kept) → slice_get pieces.now.list pieces.now.place ≡ Some piece → at ≤ piece.start → IsTrue result }
+/// Whether the list stands at a piece that begins below `at`.
+fn begins_below(pieces: &PieceList<Piece>, at: u64) -> bool
+    ensures yes_at { IsTrue result → (piece : Kept) × (slice_get pieces.now.list pieces.now.place ≡ Some piece) × (piece.start < at) }
+    ensures no_at { (piece : Kept) → slice_get pieces.now.list pieces.now.place ≡ Some piece → piece.start < at → IsTrue result }
 {
     match pieces.peek() {
-        Some(piece) => at <= piece.start(),
+        Some(piece) => piece.start() < at,
         None => false,
     }
 }
 
-/// Moves to the first piece that begins at `at` or behind it, or to the end: from the back, so that
-/// the end of a long row is near.
+/// Moves back to a piece that begins below `at`, or to the first piece.
+fn step_back(pieces: &mut PieceList<Piece>, at: u64)
+    ensures list { pieces.new.list ≡ pieces.old.list }
+    ensures spare { pieces.new.spare ≡ pieces.old.spare }
+    ensures place { (front rest : List Kept) → pieces.old.list ≡ front ++ rest → BeginFrom at rest → pieces.new.place ≤ length front }
+{
+    while !begins_below(pieces, at) {
+        if !pieces.prev() {
+            return;
+        }
+    }
+}
+
+/// Moves on past the pieces that begin below `at`.
+fn step_on(pieces: &mut PieceList<Piece>, at: u64)
+    ensures list { pieces.new.list ≡ pieces.old.list }
+    ensures spare { pieces.new.spare ≡ pieces.old.spare }
+    ensures place { (front rest : List Kept) → pieces.old.list ≡ front ++ rest → BeginBelow at front → BeginFrom at rest
+        → pieces.old.place ≤ length front → pieces.new.place ≡ length front }
+{
+    while begins_below(pieces, at) {
+        pieces.next();
+    }
+}
+
+/// Moves to the first piece that begins at `at` or behind it, or to the end: from where the list
+/// stands, so that what is near is found in a few steps.
 pub fn seek(pieces: &mut PieceList<Piece>, at: u64)
     ensures list { pieces.new.list ≡ pieces.old.list }
     ensures spare { pieces.new.spare ≡ pieces.old.spare }
     ensures place { (front rest : List Kept) → pieces.old.list ≡ front ++ rest → BeginBelow at front → BeginFrom at rest
         → pieces.new.place ≡ length front }
 {
-    pieces.back();
-    while begins_from(pieces, at) {
-        if !pieces.prev() {
-            return;
-        }
-    }
-    pieces.next();
+    step_back(pieces, at);
+    step_on(pieces, at);
 }
 
 /// Cuts the piece before the place, if it has `at` inside, and stands behind what is below `at`. At
@@ -230,8 +249,17 @@ pub fn lay_over(
     lay(pieces, buffers, preference, new, low);
 }
 
-/// Gives up the pieces below a later floor.
+/// Gives up the pieces below a later floor, and stands at the last, near which the next segment mostly
+/// lies.
 pub fn raise(pieces: &mut PieceList<Piece>, below: u64)
+    ensures { pieces.new.list ≡ raised below pieces.old.list }
+{
+    drop_below(pieces, below);
+    pieces.back();
+}
+
+/// Gives up the pieces below a place.
+fn drop_below(pieces: &mut PieceList<Piece>, below: u64)
     ensures { pieces.new.list ≡ raised below pieces.old.list }
 {
     pieces.front();

@@ -1,7 +1,7 @@
 -- The pieces passed are given up.
 use Rattle.std.proofs.Common.{◌≡◌, length}
 use Rattle.overlap_core.specs.Rows.{raised}
-use Rattle.overlap_core.proofs.row.raise.Given as goal
+use Rattle.overlap_core.proofs.row.drop_below.Given as goal
 
 abbrev pub invariant-loop-piece : goal.invariant-loop-piece
 invariant-loop-piece l = record {
