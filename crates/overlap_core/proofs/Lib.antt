@@ -1,4 +1,5 @@
 pub mod Arrivals
+pub mod Behind
 pub mod Ends
 pub mod Laws
 pub mod OneList

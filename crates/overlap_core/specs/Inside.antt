@@ -10,9 +10,9 @@ use Rattle.overlap_core.specs.Rows.{IsRoomFor}
 use Rattle.overlap_core.specs.QueueState.{QueueState}
 
 -- the memory is there for a segment of these bounds
-pub record IsRoom (floor : ℕ) (pieces : Pieces Piece) (room : Room) : Type 0 where
+pub record IsRoom (floor top : ℕ) (pieces : Pieces Piece) (room : Room) : Type 0 where
   pub some : room.bounds.start < room.bounds.end
-  pub ready : IsRoomFor floor room.bounds pieces room.buffers.items
+  pub ready : IsRoomFor floor top room.bounds pieces room.buffers
 
 -- the pieces are in order and hold what is chosen, the greatest end is kept beside them, and where room
 -- stands there is memory for it
@@ -20,7 +20,7 @@ pub record IsSound (queue : Inside) : Type 0 where
   pub row : IsRow queue.floor queue.pieces.list queue.top
   pub holds : HoldChosen queue.preference queue.arrivals.segments queue.floor queue.pieces.list
   pub top : queue.top ≡ covered_end queue.floor queue.arrivals.segments
-  pub room : ForSome queue.room (IsRoom queue.floor queue.pieces)
+  pub room : ForSome queue.room (IsRoom queue.floor queue.top queue.pieces)
 
 abbrev pub state_of : Inside → QueueState
 state_of queue = record {

@@ -2,9 +2,11 @@
 --
 -- A cut parts the piece that has the places on both sides of it. "bbbb" at 2 over "aaaa" at 4 is cut at
 -- 4 and 6, fills the gap from 2 to 4, and takes what it wins of 4 to 6.
-use Rattle.std.specs.Prelude.{◌≡◌, ℕ, ◌-◌, ◌<◌, ◌≤◌, ◌&&◌, List, [], ◌∷◌, ◌++◌, Option, Some, None, nat_le, nat_lt, max, min, length, map, take, drop, if◌then◌else◌}
+use Rattle.std.specs.Prelude.{◌≡◌, ℕ, ◌+◌, ◌-◌, ◌<◌, ◌≤◌, ◌&&◌, List, [], ◌∷◌, ◌++◌, Option, Some, None, nat_le, nat_lt, max, min, length, map, take, drop, if◌then◌else◌}
 use Rattle.edge_io.specs.declared.policy.Preference.{Preference}
 use Rattle.piece_list.specs.Pieces.{Pieces}
+use Rattle.overlap_core.specs.declared.room.Buffers.{Buffers}
+use Rattle.overlap_core.specs.declared.room.Buffers.TheVariants.{Among, Behind}
 use Rattle.overlap_core.specs.declared.segment.Bounds.{Bounds}
 use Rattle.overlap_core.specs.Segments.{Segment}
 use Rattle.overlap_core.specs.Overlap.{bounds_of, end_of, wins}
@@ -96,15 +98,27 @@ NextBelow [] high next = next ≡ None
 NextBelow (piece ∷ pieces) high None = high ≤ piece.start
 NextBelow (piece ∷ pieces) high (Some next) = (next.start ≡ piece.start) × (next.end ≡ piece_end piece) × (piece.start < high)
 
--- a segment of these bounds can be laid over the pieces without further memory: they are cut where its
+-- a segment of these bounds can be laid among the pieces without further memory: they are cut where its
 -- places from the floor on begin and end, and there is a buffer and a node for each gap
-pub record IsRoomFor (floor : ℕ) (bounds : Bounds) (pieces : Pieces Piece) (gaps : List (List ℕ)) : Type 0 where
+pub record IsRoomAmong (floor : ℕ) (bounds : Bounds) (pieces : Pieces Piece) (gaps : List (List ℕ)) : Type 0 where
   pub begins : IsCutAt (max floor bounds.start) pieces.list
   pub ends : IsCutAt bounds.end pieces.list
   pub sizes : (front rest : List Piece) → pieces.list ≡ front ++ rest → BeginBelow (max floor bounds.start) front
       → BeginFrom (max floor bounds.start) rest
       → map length gaps ≡ gap_sizes (max floor bounds.start) bounds.end rest
   pub nodes : length gaps ≤ pieces.spare
+
+-- the same for one that lies behind all pieces, which end at `top` at the latest: there is a node, and a
+-- buffer of its length
+pub record IsRoomBehind (top : ℕ) (bounds : Bounds) (pieces : Pieces Piece) (buffer : List ℕ) : Type 0 where
+  pub behind : top ≤ bounds.start
+  pub size : bounds.start + length buffer ≡ bounds.end
+  pub node : 0 < pieces.spare
+
+-- one or the other, by the buffers that were made
+abbrev pub IsRoomFor : ℕ → ℕ → Bounds → Pieces Piece → Buffers → Type 0
+IsRoomFor floor top bounds pieces (Behind buffer) = IsRoomBehind top bounds pieces buffer
+IsRoomFor floor top bounds pieces (Among buffers) = IsRoomAmong floor bounds pieces buffers.items
 
 -- other pieces in a row that tell the same of every place
 pub record IsRecut (low high : ℕ) (old new : List Piece) : Type 0 where

@@ -10,6 +10,7 @@
 mod arriving;
 mod piece;
 mod queue;
+mod room;
 mod row;
 mod runs;
 mod segment;

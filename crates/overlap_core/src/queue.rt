@@ -6,20 +6,20 @@ ghost use Rattle.overlap_core.specs.QueueState.{byte_of, with_room, with_segment
 ghost use Rattle.overlap_core.specs.Runs.{AppendsRuns, AreBytes};
 
 use crate::arriving::{Arrivals, Arriving};
-use crate::row::{buffers_for_room, lay_over, raise};
+use crate::room::{Buffers, lay_over, room_for};
+use crate::row::raise;
 use crate::runs::{append_runs, byte_of, filled};
 use crate::{Bounds, Piece, Run};
-use edge_io::{NoMemory, Preference, Text};
+use edge_io::{NoMemory, Preference};
 use piece_list::PieceList;
 use std::alloc::Global;
-use std::collections::VecDeque;
 use std::marker::Model;
 
-/// Memory for the bytes of one segment of these bounds: a buffer for each gap that it fills.
+/// Memory for the bytes of one segment of these bounds.
 #[derive(Drop)]
 struct Room {
     bounds: Bounds,
-    buffers: VecDeque<Text>,
+    buffers: Buffers,
 }
 
 /// The segments of one datagram or of one direction of a stream, in order of arrival.
@@ -77,7 +77,7 @@ impl Queue {
         self.room = None;
         let end = start + len as u64;
         let bounds = Bounds { start, end };
-        let buffers = buffers_for_room(self.alloc, &mut self.pieces, self.floor, bounds)?;
+        let buffers = room_for(self.alloc, &mut self.pieces, self.floor, self.top, bounds)?;
         self.room = Some(Room { bounds, buffers });
         Ok(())
     }

@@ -1,9 +1,8 @@
 //! Pieces in order of place: cutting them, and laying a new segment over them.
-ghost use Rattle.std.specs.Prelude.{◌≡◌, ℕ, ◌+◌, ◌-◌, ◌^◌, ◌<◌, ◌≤◌, ◌↔◌, ◌++◌, ◌∷◌, [], List, None, Some, IsTrue, IfOk, IfSome, MatchOption, OnOk, OnErr, OnSome, length, map, max, slice_get};
-ghost use Rattle.overlap_core.specs.Overlap.{bounds_of, end_of};
-ghost use Rattle.overlap_core.specs.Segments.{Segment};
-ghost use Rattle.overlap_core.specs.Pieces.{HoldChosen, IsRow, Piece as Kept, piece_end};
-ghost use Rattle.overlap_core.specs.Rows.{BeginBelow, BeginFrom, cut_row, gap_piece, gap_size, gap_sizes, IsReady, IsRecut, IsRoomFor, laid, NextBelow, overlaid, parts, raised, StandsAt};
+ghost use Rattle.std.specs.Prelude.{◌≡◌, ℕ, ◌+◌, ◌-◌, ◌^◌, ◌<◌, ◌≤◌, ◌↔◌, ◌++◌, ◌∷◌, [], List, None, Some, IsTrue, IfOk, IfSome, MatchOption, OnOk, OnErr, OnSome, length, map, slice_get};
+ghost use Rattle.overlap_core.specs.Overlap.{end_of};
+ghost use Rattle.overlap_core.specs.Pieces.{IsRow, Piece as Kept, piece_end};
+ghost use Rattle.overlap_core.specs.Rows.{BeginBelow, BeginFrom, cut_row, gap_piece, gap_size, gap_sizes, IsReady, IsRecut, laid, NextBelow, overlaid, parts, raised, StandsAt};
 
 use crate::arriving::Arriving;
 use crate::{Bounds, Piece};
@@ -206,47 +205,6 @@ pub fn lay(
         low = next.end;
     }
     fill_gap(pieces, &mut buffers, new, low, high);
-}
-
-/// Makes room for a segment of these bounds: cuts the pieces where its places from the floor on begin
-/// and end, and gives a buffer for each gap between them. What the pieces tell stays in either case.
-pub fn buffers_for_room(
-    alloc: Global,
-    pieces: &mut PieceList<Piece>,
-    floor: u64,
-    bounds: Bounds,
-) -> Result<VecDeque<Text>, NoMemory>
-    ensures recut { (low high : ℕ) → IsRow low pieces.old.list high → IsRecut low high pieces.old.list pieces.new.list }
-    ensures room { IfOk result (λ buffers. (top : ℕ) → IsRow floor pieces.old.list top
-        → IsRoomFor floor bounds pieces.new buffers.items) }
-{
-    let low = floor.max(bounds.start);
-    cut(alloc, pieces, low)?;
-    cut(alloc, pieces, bounds.end)?;
-    seek(pieces, low);
-    let buffers = buffers_for(alloc, pieces, low, bounds.end)?;
-    pieces.reserve(buffers.len())?;
-    Ok(buffers)
-}
-
-/// Lays a segment over the pieces from the floor on. Takes no memory.
-pub fn lay_over(
-    pieces: &mut PieceList<Piece>,
-    buffers: VecDeque<Text>,
-    preference: Preference,
-    floor: u64,
-    new: &Arriving<'_>,
-)
-    requires row { (top : ℕ) × IsRow floor pieces.old.list top }
-    requires room { IsRoomFor floor (bounds_of new.now) pieces.old buffers.items }
-    ensures row { (top : ℕ) → IsRow floor pieces.old.list top → IsRow floor pieces.new.list (max top (end_of new.now)) }
-    ensures holds { (top : ℕ) (segments : List Segment) → IsRow floor pieces.old.list top
-        → HoldChosen preference segments floor pieces.old.list
-        → HoldChosen preference (segments ++ new.now ∷ []) floor pieces.new.list }
-{
-    let low = floor.max(new.bounds().start);
-    seek(pieces, low);
-    lay(pieces, buffers, preference, new, low);
 }
 
 /// Gives up the pieces below a later floor, and stands at the last, near which the next segment mostly

@@ -6,7 +6,7 @@ use Rattle.overlap_core.specs.Rows.{BeginBelow, BeginFrom, IsReady, laid}
 use Rattle.overlap_core.proofs.Standing.{parted}
 use Rattle.overlap_core.proofs.Telling.{rest-row}
 use Rattle.overlap_core.proofs.Overlaying.{IsLaidOver, laid_over-holds, laid_over-row}
-use Rattle.overlap_core.proofs.row.lay_over.Goals as goal
+use Rattle.overlap_core.proofs.room.lay_among.Goals as goal
 
 pub lay-requires-clause-ready : goal.lay-requires-clause-ready
 lay-requires-clause-ready c =

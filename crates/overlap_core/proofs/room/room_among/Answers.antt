@@ -3,7 +3,7 @@ use Rattle.overlap_core.specs.Pieces.{IsRow}
 use Rattle.overlap_core.specs.Rows.{BeginBelow, BeginFrom, gap_sizes, IsCutAt, StandsAt}
 use Rattle.overlap_core.proofs.Recut.{room-cuts}
 use Rattle.overlap_core.proofs.Telling.{rest-row}
-use Rattle.overlap_core.proofs.row.buffers_for_room.Goals as goal
+use Rattle.overlap_core.proofs.room.room_among.Goals as goal
 
 pub returns-clause-room : goal.returns-clause-room
 returns-clause-room c = λ top row.
