@@ -10,6 +10,7 @@ pub mod Joining
 pub mod Laying
 pub mod Overlaying
 pub mod Recut
+pub mod Single
 pub mod Standing
 pub mod Telling
 mod Walks

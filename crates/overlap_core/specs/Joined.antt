@@ -10,6 +10,10 @@ use Rattle.overlap_core.specs.Pieces.{Kept, kept_in, Piece}
 abbrev pub byte_in : List Piece → ℕ → Option ℕ
 byte_in pieces place = option_map (λ (kept : Kept). kept.byte) (kept_in pieces place)
 
+-- a piece as a run
+abbrev pub run_of : Piece → Run
+run_of piece = record { start = piece.start; bytes = piece.bytes }
+
 -- the place behind a run's last byte
 abbrev pub end_of_run : Run → ℕ
 end_of_run run = run.start + length run.bytes

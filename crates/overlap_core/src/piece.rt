@@ -1,11 +1,12 @@
 //! One piece: bytes in a row, of one segment.
 ghost use Rattle.std.specs.Prelude.{◌≡◌, ◌+◌, ◌-◌, ◌^◌, ◌<◌, ◌≤◌, IfOk, length, nat_lt, if◌then◌else◌};
+ghost use Rattle.overlap_core.specs.Joined.{run_of};
 ghost use Rattle.overlap_core.specs.Overlap.{end_of};
 ghost use Rattle.overlap_core.specs.Pieces.{piece_end};
 ghost use Rattle.overlap_core.specs.Rows.{left_part, overlaid, part_of, right_part};
 
 use crate::arriving::Arriving;
-use crate::{Bounds, wins};
+use crate::{Bounds, Run, wins};
 use edge_io::{NoMemory, Preference, Text};
 use std::alloc::Global;
 use std::marker::Model;
@@ -57,6 +58,21 @@ impl Piece {
         ensures { result ≡ piece_end self.now }
     {
         self.start + self.bytes.len() as u64
+    }
+
+    /// The same bytes as a run. Takes no memory.
+    pub(crate) fn into_run(self) -> Run
+        ensures { result ≡ run_of self }
+    {
+        let Piece {
+            start,
+            bytes,
+            whole: _,
+        } = self;
+        Run {
+            start,
+            bytes: Text::from_vec(bytes),
+        }
     }
 
     /// The segment's bytes from `low` on, in this buffer, which has their number.

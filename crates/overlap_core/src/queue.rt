@@ -7,8 +7,7 @@ ghost use Rattle.overlap_core.specs.Runs.{AppendsRuns, AreBytes};
 
 use crate::arriving::{Arrivals, Arriving};
 use crate::room::{Buffers, lay_over, room_for};
-use crate::row::raise;
-use crate::runs::{append_runs, byte_of, filled};
+use crate::runs::{byte_of, filled, take_below};
 use crate::{Bounds, Piece, Run};
 use edge_io::{NoMemory, Preference};
 use piece_list::PieceList;
@@ -175,8 +174,7 @@ impl Queue {
         ensures err { OnErr result (self.new ≡ self.old) }
         ensures unchanged { OnErr result (out.new.items ≡ out.old.items) }
     {
-        append_runs(alloc, &self.pieces, below, out)?;
-        raise(&mut self.pieces, below);
+        take_below(alloc, &mut self.pieces, below, out)?;
         self.floor = below;
         self.top = self.top.max(below);
         self.room = None;

@@ -1,10 +1,12 @@
 //! Bytes of many places: one byte, whole ranges, and the maximal runs of covered places.
-ghost use Rattle.std.specs.Prelude.{◌≡◌, ℕ, ◌+◌, ◌-◌, ◌^◌, ◌<◌, ◌≤◌, ◌↔◌, ◌++◌, ◌∷◌, [], length, take, IfOk, IsTrue, IsSome, OnOk, OnErr};
+ghost use Rattle.std.specs.Prelude.{◌≡◌, ℕ, ◌+◌, ◌-◌, ◌^◌, ◌<◌, ◌≤◌, ◌↔◌, ◌++◌, ◌∷◌, [], length, take, IfOk, IsTrue, IsSome, OnOk, OnErr, vec_len, vec_capacity};
 ghost use Rattle.std.specs.Bool.{OnTrue};
-ghost use Rattle.overlap_core.specs.Pieces.{IsRow};
-ghost use Rattle.overlap_core.specs.Joined.{byte_in, end_of_run, with_run};
+ghost use Rattle.overlap_core.specs.Pieces.{IsRow, Piece as Kept, piece_end};
+ghost use Rattle.overlap_core.specs.Joined.{byte_in, end_of_run, run_of, with_run};
+ghost use Rattle.overlap_core.specs.Rows.{raised};
 ghost use Rattle.overlap_core.specs.Runs.{AppendsRuns, AreBytes, AreRuns};
 
+use crate::row::raise;
 use crate::{Piece, Run};
 use edge_io::{NoMemory, Text};
 use piece_list::PieceList;
@@ -49,8 +51,71 @@ pub fn filled(pieces: &PieceList<Piece>, floor: u64, out: &mut [u8]) -> bool
     true
 }
 
+/// Appends the maximal runs of places that the pieces have below a place, in order, and gives up what
+/// they have there. The bytes of a single piece are moved, others are copied. Without memory the pieces
+/// and `out` stay.
+pub fn take_below(
+    alloc: Global,
+    pieces: &mut PieceList<Piece>,
+    below: u64,
+    out: &mut Vec<Run>,
+) -> Result<(), NoMemory>
+    ensures runs { OnOk result ((floor top : ℕ) → IsRow floor pieces.old.list top → floor ≤ below → AppendsRuns (byte_in pieces.old.list) floor below out.old.items out.new.items) }
+    ensures list { OnOk result (pieces.new.list ≡ raised below pieces.old.list) }
+    ensures err { OnErr result (pieces.new ≡ pieces.old) }
+    ensures unchanged { OnErr result (out.new.items ≡ out.old.items) }
+{
+    if is_single(pieces, below) {
+        take_single(pieces, out)?;
+        return Ok(());
+    }
+    append_runs(alloc, pieces, below, out)?;
+    raise(pieces, below);
+    Ok(())
+}
+
+/// Whether there is a single piece, which ends at a place or before it.
+fn is_single(pieces: &PieceList<Piece>, below: u64) -> bool
+    ensures { IsTrue result → (piece : Kept) × (pieces.now.list ≡ piece ∷ []) × (piece_end piece ≤ below) }
+{
+    let mut rest = pieces.iter();
+    let Some(piece) = rest.next() else {
+        return false;
+    };
+    match rest.next() {
+        None if piece.end() <= below => true,
+        _ => false,
+    }
+}
+
+/// Moves the single piece out, as a run. Without memory the pieces and `out` stay.
+fn take_single(pieces: &mut PieceList<Piece>, out: &mut Vec<Run>) -> Result<(), NoMemory>
+    ensures ok { OnOk result ((piece : Kept) → pieces.old.list ≡ piece ∷ [] → (pieces.new.list ≡ []) × (out.new.items ≡ out.old.items ++ run_of piece ∷ [])) }
+    ensures err { OnErr result (pieces.new ≡ pieces.old) }
+    ensures unchanged { OnErr result (out.new.items ≡ out.old.items) }
+{
+    out.reserve(1)?;
+    move_single(pieces, out);
+    Ok(())
+}
+
+/// Moves the single piece out, as a run, for which there is room.
+fn move_single(pieces: &mut PieceList<Piece>, out: &mut Vec<Run>)
+    requires { vec_len out.old < vec_capacity out.old }
+    ensures { (piece : Kept) → pieces.old.list ≡ piece ∷ [] → (pieces.new.list ≡ []) × (out.new.items ≡ out.old.items ++ run_of piece ∷ []) }
+{
+    pieces.front();
+    if let Some(piece) = pieces.remove_here() {
+        match out.push(piece.into_run()) {
+            Ok(()) => {}
+            // There is room, as the caller has to see to.
+            Err(_) => unreachable!(),
+        }
+    }
+}
+
 /// Appends the maximal runs of places that the pieces have below a place, in order.
-pub fn append_runs(
+fn append_runs(
     alloc: Global,
     pieces: &PieceList<Piece>,
     below: u64,
