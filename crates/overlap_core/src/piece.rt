@@ -60,6 +60,18 @@ impl Piece {
         self.start + self.bytes.len() as u64
     }
 
+    /// The whole segment, copied.
+    pub(crate) fn copy(alloc: Global, new: &Arriving<'_>) -> Result<Piece, NoMemory>
+        ensures { IfOk result (λ piece. piece ≡ part_of new.now new.now.start (end_of new.now)) }
+    {
+        let whole = new.bounds();
+        Ok(Piece {
+            start: whole.start,
+            bytes: Vec::from_slice(alloc, new.part(whole.start, whole.end))?,
+            whole,
+        })
+    }
+
     /// The same bytes as a run. Takes no memory.
     pub(crate) fn into_run(self) -> Run
         ensures { result ≡ run_of self }

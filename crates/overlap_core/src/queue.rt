@@ -6,7 +6,7 @@ ghost use Rattle.overlap_core.specs.QueueState.{byte_of, with_room, with_segment
 ghost use Rattle.overlap_core.specs.Runs.{AppendsRuns, AreBytes};
 
 use crate::arriving::{Arrivals, Arriving};
-use crate::room::{Buffers, lay_over, room_for};
+use crate::room::{Buffers, add_behind, lay_over, room_for};
 use crate::runs::{byte_of, filled, take_below};
 use crate::{Bounds, Piece, Run};
 use edge_io::{NoMemory, Preference};
@@ -103,8 +103,27 @@ impl Queue {
         ensures ok { OnOk result (self.new ≡ with_segment self.old (record { start = start; bytes = bytes.now })) }
         ensures err { OnErr result (self.new ≡ with_room self.old None) }
     {
+        if self.covered_end() <= start {
+            return self.insert_behind(start, bytes);
+        }
         self.reserve(start, bytes.len())?;
         self.insert_reserved(start, bytes);
+        Ok(())
+    }
+
+    /// The same for a segment behind all that came, in one step.
+    fn insert_behind(&mut self, start: u64, bytes: &[u8]) -> Result<(), NoMemory>
+        requires behind { covered_end self.old.floor self.old.segments ≤ start }
+        requires some { 0 < length bytes.now }
+        requires fits { start + length bytes.now < 2 ^ 64 }
+        ensures ok { OnOk result (self.new ≡ with_segment self.old (record { start = start; bytes = bytes.now })) }
+        ensures err { OnErr result (self.new ≡ with_room self.old None) }
+    {
+        self.room = None;
+        let new = Arriving::new(start, bytes);
+        add_behind(self.alloc, &mut self.pieces, &new)?;
+        self.top = new.bounds().end;
+        self.arrivals = self.arrivals.with(&new);
         Ok(())
     }
 

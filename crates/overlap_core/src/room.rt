@@ -1,5 +1,5 @@
 //! Memory for a segment before it comes, so that laying it over the pieces can't fail.
-ghost use Rattle.std.specs.Prelude.{◌≡◌, ℕ, ◌+◌, ◌<◌, ◌≤◌, ◌++◌, ◌∷◌, [], List, IfOk, OnOk, length, max};
+ghost use Rattle.std.specs.Prelude.{◌≡◌, ℕ, ◌+◌, ◌<◌, ◌≤◌, ◌++◌, ◌∷◌, [], List, IfOk, OnErr, OnOk, length, max};
 ghost use Rattle.overlap_core.specs.Overlap.{bounds_of, end_of};
 ghost use Rattle.overlap_core.specs.Segments.{Segment};
 ghost use Rattle.overlap_core.specs.Pieces.{HoldChosen, IsRow};
@@ -107,6 +107,21 @@ fn lay_behind(pieces: &mut PieceList<Piece>, buffer: Text, new: &Arriving<'_>)
 {
     let start = new.bounds().start;
     pieces.push_back(Piece::of(new, start, buffer));
+}
+
+/// Puts a segment behind the last piece without room that was made before. Without memory the list stays.
+pub fn add_behind(
+    alloc: Global,
+    pieces: &mut PieceList<Piece>,
+    new: &Arriving<'_>,
+) -> Result<(), NoMemory>
+    ensures ok { OnOk result (pieces.new.list ≡ pieces.old.list ++ part_of new.now new.now.start (end_of new.now) ∷ []) }
+    ensures err { OnErr result (pieces.new.list ≡ pieces.old.list) }
+{
+    let piece = Piece::copy(alloc, new)?;
+    pieces.reserve(1)?;
+    pieces.push_back(piece);
+    Ok(())
 }
 
 /// Lays a segment over the pieces from the floor on, wherever it lies. Takes no memory.

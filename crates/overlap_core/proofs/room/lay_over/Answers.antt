@@ -1,4 +1,4 @@
-use Rattle.std.proofs.Common.{◌≡◌, sym, subst}
+use Rattle.std.proofs.Common.{subst}
 use Rattle.overlap_core.specs.declared.room.Buffers.{Buffers}
 use Rattle.overlap_core.specs.Overlap.{bounds_of}
 use Rattle.overlap_core.specs.Rows.{IsRoomFor}

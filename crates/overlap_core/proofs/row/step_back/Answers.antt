@@ -1,4 +1,4 @@
-use Rattle.std.proofs.Common.{◌≤◌, ap, ◌∙◌, arith}
+use Rattle.std.proofs.Common.{ap, ◌∙◌, arith}
 use Rattle.overlap_core.proofs.Standing.{place_below}
 use Rattle.overlap_core.proofs.row.step_back.Goals as goal
 
