@@ -68,7 +68,8 @@ fn room_among(
     bounds: Bounds,
 ) -> Result<VecDeque<Text>, NoMemory>
     ensures recut { (low high : ℕ) → IsRow low pieces.old.list high → IsRecut low high pieces.old.list pieces.new.list }
-    ensures room { IfOk result (λ buffers. (top : ℕ) → IsRow floor pieces.old.list top → IsRoomAmong floor bounds pieces.new buffers.items) }
+    ensures room { IfOk result (λ buffers. (top : ℕ) → IsRow floor pieces.old.list top
+        → IsRoomAmong floor bounds pieces.new buffers.items) }
 {
     let low = floor.max(bounds.start);
     cut(alloc, pieces, low)?;
@@ -90,7 +91,8 @@ pub fn lay_over(
     requires some { 0 < length new.now.bytes }
     requires room { (top : ℕ) × IsRow floor pieces.old.list top × IsRoomFor floor top (bounds_of new.now) pieces.old buffers }
     ensures row { (top : ℕ) → IsRow floor pieces.old.list top → IsRow floor pieces.new.list (max top (end_of new.now)) }
-    ensures holds { (top : ℕ) (segments : List Segment) → IsRow floor pieces.old.list top → HoldChosen preference segments floor pieces.old.list
+    ensures holds { (top : ℕ) (segments : List Segment) → IsRow floor pieces.old.list top
+        → HoldChosen preference segments floor pieces.old.list
         → HoldChosen preference (segments ++ new.now ∷ []) floor pieces.new.list }
 {
     match buffers {
@@ -135,7 +137,8 @@ fn lay_among(
     requires row { (top : ℕ) × IsRow floor pieces.old.list top }
     requires room { IsRoomAmong floor (bounds_of new.now) pieces.old buffers.items }
     ensures row { (top : ℕ) → IsRow floor pieces.old.list top → IsRow floor pieces.new.list (max top (end_of new.now)) }
-    ensures holds { (top : ℕ) (segments : List Segment) → IsRow floor pieces.old.list top → HoldChosen preference segments floor pieces.old.list
+    ensures holds { (top : ℕ) (segments : List Segment) → IsRow floor pieces.old.list top
+        → HoldChosen preference segments floor pieces.old.list
         → HoldChosen preference (segments ++ new.now ∷ []) floor pieces.new.list }
 {
     let low = floor.max(new.bounds().start);

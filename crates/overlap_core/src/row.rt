@@ -13,7 +13,8 @@ use std::collections::VecDeque;
 
 /// Whether the list stands at a piece that begins below `at`.
 fn begins_below(pieces: &PieceList<Piece>, at: u64) -> bool
-    ensures yes_at { IsTrue result → (piece : Kept) × (slice_get pieces.now.list pieces.now.place ≡ Some piece) × (piece.start < at) }
+    ensures yes_at { IsTrue result → (piece : Kept) × (slice_get pieces.now.list pieces.now.place ≡ Some piece)
+        × (piece.start < at) }
     ensures no_at { (piece : Kept) → slice_get pieces.now.list pieces.now.place ≡ Some piece → piece.start < at → IsTrue result }
 {
     match pieces.peek() {
@@ -26,7 +27,8 @@ fn begins_below(pieces: &PieceList<Piece>, at: u64) -> bool
 fn step_back(pieces: &mut PieceList<Piece>, at: u64)
     ensures list { pieces.new.list ≡ pieces.old.list }
     ensures spare { pieces.new.spare ≡ pieces.old.spare }
-    ensures place { (front rest : List Kept) → pieces.old.list ≡ front ++ rest → BeginFrom at rest → pieces.new.place ≤ length front }
+    ensures place { (front rest : List Kept) → pieces.old.list ≡ front ++ rest → BeginFrom at rest
+        → pieces.new.place ≤ length front }
 {
     while !begins_below(pieces, at) {
         if !pieces.prev() {

@@ -60,7 +60,8 @@ pub fn take_below(
     below: u64,
     out: &mut Vec<Run>,
 ) -> Result<(), NoMemory>
-    ensures runs { OnOk result ((floor top : ℕ) → IsRow floor pieces.old.list top → floor ≤ below → AppendsRuns (byte_in pieces.old.list) floor below out.old.items out.new.items) }
+    ensures runs { OnOk result ((floor top : ℕ) → IsRow floor pieces.old.list top → floor ≤ below
+        → AppendsRuns (byte_in pieces.old.list) floor below out.old.items out.new.items) }
     ensures list { OnOk result (pieces.new.list ≡ raised below pieces.old.list) }
     ensures err { OnErr result (pieces.new ≡ pieces.old) }
     ensures unchanged { OnErr result (out.new.items ≡ out.old.items) }
@@ -90,7 +91,8 @@ fn is_single(pieces: &PieceList<Piece>, below: u64) -> bool
 
 /// Moves the single piece out, as a run. Without memory the pieces and `out` stay.
 fn take_single(pieces: &mut PieceList<Piece>, out: &mut Vec<Run>) -> Result<(), NoMemory>
-    ensures ok { OnOk result ((piece : Kept) → pieces.old.list ≡ piece ∷ [] → (pieces.new.list ≡ []) × (out.new.items ≡ out.old.items ++ run_of piece ∷ [])) }
+    ensures ok { OnOk result ((piece : Kept) → pieces.old.list ≡ piece ∷ []
+        → (pieces.new.list ≡ []) × (out.new.items ≡ out.old.items ++ run_of piece ∷ [])) }
     ensures err { OnErr result (pieces.new ≡ pieces.old) }
     ensures unchanged { OnErr result (out.new.items ≡ out.old.items) }
 {
@@ -102,7 +104,8 @@ fn take_single(pieces: &mut PieceList<Piece>, out: &mut Vec<Run>) -> Result<(), 
 /// Moves the single piece out, as a run, for which there is room.
 fn move_single(pieces: &mut PieceList<Piece>, out: &mut Vec<Run>)
     requires { vec_len out.old < vec_capacity out.old }
-    ensures { (piece : Kept) → pieces.old.list ≡ piece ∷ [] → (pieces.new.list ≡ []) × (out.new.items ≡ out.old.items ++ run_of piece ∷ []) }
+    ensures { (piece : Kept) → pieces.old.list ≡ piece ∷ []
+        → (pieces.new.list ≡ []) × (out.new.items ≡ out.old.items ++ run_of piece ∷ []) }
 {
     pieces.front();
     if let Some(piece) = pieces.remove_here() {
