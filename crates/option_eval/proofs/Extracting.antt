@@ -1,16 +1,16 @@
 -- The states behind an extraction, from one place and from a set.
-use Rattle.std.proofs.Common.{◌≡◌, ℕ, ◌-◌, ◌*◌, ◌<◌, ◌≤◌, ◌⊎◌, inl, inr, ⊎_elim, Bool, true, false, cond, List, [], ◌∷◌, ◌++◌, length, take, drop, get_or, slice_set, Some, None, Contains, unwrap_or, refl, sym, subst, ◌∙◌, arith}
+use Rattle.std.proofs.Common.{◌≡◌, ℕ, ◌-◌, ◌*◌, ◌<◌, ◌≤◌, ◌⊎◌, inl, inr, ⊎_elim, Bool, true, false, cond, List, [], ◌∷◌, ◌++◌, length, take, drop, get_or, slice_set, Option, Some, None, Contains, unwrap_or, refl, sym, subst, ◌∙◌, arith}
 use Rattle.std.specs.Prelude.{bytes_eq}
 use Rattle.std.proofs.lemmas.List.{length-set}
 use Rattle.rule_types.specs.declared.option.Fetch.{Fetch}
 use Rattle.rule_types.specs.declared.option.Opt.{Opt}
 use Rattle.rule_types.specs.declared.option.Opt.TheVariants as opt
 use Rattle.option_eval.specs.Kept.{kept_values}
-use Rattle.option_eval.specs.Numbers.{Fetched, fetched, rounded_up}
+use Rattle.option_eval.specs.Numbers.{Standing, Fetched, fetched, rounded_up}
 use Rattle.option_eval.specs.Places.{Means, Leads}
 use Rattle.option_eval.specs.Sets.{standing}
 use Rattle.option_eval.specs.States.{places_at, MatchesFromSome, HaveValues, Leaves}
-use Rattle.option_eval.specs.Walks.{MatchesFrom, MatchesFromOne, HasValues, behind_extraction}
+use Rattle.option_eval.specs.Walks.{MatchesFrom, MatchesFromOne, IsListed, HasValues, behind_extraction}
 use Rattle.option_eval.specs.declared.states.States.{States}
 use Rattle.option_eval.proofs.Asking.{split, contains_head, contains_later, asked_is}
 use Rattle.option_eval.proofs.Forgetting.{Alike, alike_sym, alike_kept, matches_alike, has_values_alike}
@@ -28,7 +28,7 @@ module _ (means : Means) (payload : List ℕ) (fetch : Fetch) (name times align 
     sound = λ m. inl m;
     kept = λ m. m;
     complete = λ m. absurd (extract_none means payload fetch name times align later values place none (subst (λ (p : ℕ). MatchesFrom means payload (opt.ByteExtract fetch name times align ∷ later) (standing values p)) (contains_one place m.0 m.1) m.2));
-    have = λ lists each old. old;
+    have = λ lists listed each old. old;
   }
 
   -- a number is fetched
@@ -60,11 +60,11 @@ module _ (means : Means) (payload : List ℕ) (fetch : Fetch) (name times align 
       kept = λ m. some_kept old new behind read.stop added (λ v p. MatchesFrom means payload later (standing v p)) m;
       complete = λ m. some_new old new behind read.stop added (λ v p. MatchesFrom means payload later (standing v p))
           (down (subst (λ (p : ℕ). MatchesFrom means payload (opt.ByteExtract fetch name times align ∷ later) (standing values p)) (contains_one place m.0 m.1) m.2));
-      have = λ lists each before.
+      have = λ lists listed each before.
           let here = each place (contains_first place []) (standing full read.stop) leads in
-          each_added old new behind read.stop added (Contains lists) (λ v p. HasValues means payload lists later (standing v p)) before
+          each_added old new behind read.stop added (Contains lists) (λ v p. IsListed listed v p × HasValues means payload lists listed later (standing v p)) before
           (subst (λ (v : List ℕ). Contains lists v) (sym kept) here.0)
-          (has_values_alike means payload lists later full behind read.stop same here.1);
+          (subst (λ (v : List ℕ). IsListed listed v read.stop) (sym kept) (here.1 refl), has_values_alike means payload lists listed later full behind read.stop same here.2);
     }
 
 -- the places before the rest were asked
@@ -73,8 +73,8 @@ pub record AskedFrom (means : Means) (payload : List ℕ) (options : List Opt) (
   pub kept : MatchesFromSome means payload (behind_extraction options) old → MatchesFromSome means payload (behind_extraction options) new
   pub within : (p : ℕ) → Contains rest p → Contains places p
   pub complete : (p : ℕ) → Contains places p → MatchesFrom means payload options (standing values p) → MatchesFromSome means payload (behind_extraction options) new ⊎ Contains rest p
-  pub have : (lists : List (List ℕ)) → ((p : ℕ) → Contains places p → HasValues means payload lists options (standing values p))
-      → HaveValues means payload lists (behind_extraction options) old → HaveValues means payload lists (behind_extraction options) new
+  pub have : (lists : List (List ℕ)) (listed : Option (List Standing)) → ((p : ℕ) → Contains places p → HasValues means payload lists listed options (standing values p))
+      → HaveValues means payload lists listed (behind_extraction options) old → HaveValues means payload lists listed (behind_extraction options) new
 
 module _ (means : Means) (payload : List ℕ) (options : List Opt) (values places : List ℕ) where
   pub asked_none : (states : States) → AskedFrom means payload options values places places states states
@@ -83,7 +83,7 @@ module _ (means : Means) (payload : List ℕ) (options : List Opt) (values place
     kept = λ m. m;
     within = λ p has. has;
     complete = λ p has m. inr has;
-    have = λ lists each before. before;
+    have = λ lists listed each before. before;
   }
 
   pub asked_next : (rest : List ℕ) (old now new : States) → 1 ≤ length rest → AskedFrom means payload options values places rest old now → Leaves means payload options values (get_or rest 0 0 ∷ []) now new
@@ -101,7 +101,7 @@ module _ (means : Means) (payload : List ℕ) (options : List Opt) (values place
         (λ (behind : Contains (take (length rest - 1) (drop 1 rest)) p). inr behind)
         (contains_cases (get_or rest 0 0) (take (length rest - 1) (drop 1 rest)) p (subst (λ (xs : List ℕ). Contains xs p) (split rest some) left)))
         (before.complete p has m);
-    have = λ lists each have. next.have lists (λ p has. each p (subst (λ (x : ℕ). Contains places x) (sym (contains_one (get_or rest 0 0) p has)) first_in)) (before.have lists each have);
+    have = λ lists listed each have. next.have lists listed (λ p has. each p (subst (λ (x : ℕ). Contains places x) (sym (contains_one (get_or rest 0 0) p has)) first_in)) (before.have lists listed each have);
   } where
     first_in : Contains places (get_or rest 0 0)
     first_in = before.within (get_or rest 0 0) (contains_head rest some)
@@ -124,7 +124,7 @@ module _ (means : Means) (payload : List ℕ) (fetch : Fetch) (name times align 
         (h.sound m);
     kept = h.kept;
     complete = λ m. h.complete (from fetch.relative refl places some is m);
-    have = λ lists each before. h.have lists (λ p has. each p (asked_is fetch.relative places asked is p has)) before;
+    have = λ lists listed each before. h.have lists listed (λ p has. each p (asked_is fetch.relative places asked is p has)) before;
   } where
     from : (relative : Bool) → relative ≡ fetch.relative → (places : List ℕ) → 0 < length places → asked ≡ cond relative places (take 1 places)
         → MatchesFromOne means payload (opt.ByteExtract fetch name times align ∷ later) values places → MatchesFromOne means payload (opt.ByteExtract fetch name times align ∷ later) values asked

@@ -14,7 +14,7 @@ use Rattle.option_eval.specs.Kept.{is_named, is_named_if, reads, gives, is_read,
 use Rattle.option_eval.specs.Numbers.{Standing, fetched, number_of, number_if, rounded_up}
 use Rattle.option_eval.specs.Places.{Means, Leads, StandsAt, Sought, Unless, Compares, is_only, sought, is_extract, at_place}
 use Rattle.option_eval.specs.Sets.{standing}
-use Rattle.option_eval.specs.Walks.{MatchesFrom, HasValues}
+use Rattle.option_eval.specs.Walks.{MatchesFrom, IsListed, HasValues}
 use Rattle.option_eval.proofs.Walking.{way_next, next_way, values_kept}
 
 -- two lists of values that the options can't tell apart
@@ -195,12 +195,17 @@ module _ (means : Means) (payload : List ℕ) where
       let there : MatchesFrom means payload os (standing on.0.values next.0.place) = matches_alike os next.0.values on.0.values next.0.place on.3 next.2 in
       next_way means payload o os (standing ws p) on.0 on.1 (subst (λ (q : ℕ). MatchesFrom means payload os (standing on.0.values q)) (sym on.2) there)
 
-  pub has_values_alike : (lists : List (List ℕ)) (os : List Opt) (vs ws : List ℕ) (p : ℕ) → Alike os vs ws → HasValues means payload lists os (standing vs p) → HasValues means payload lists os (standing ws p)
-  has_values_alike lists [] vs ws p alike h = tt
-  has_values_alike lists (o ∷ os) vs ws p alike h = λ t' leads.
+  pub has_values_alike : (lists : List (List ℕ)) (listed : Option (List Standing)) (os : List Opt) (vs ws : List ℕ) (p : ℕ) → Alike os vs ws → HasValues means payload lists listed os (standing vs p)
+      → HasValues means payload lists listed os (standing ws p)
+  has_values_alike lists listed [] vs ws p alike h = tt
+  has_values_alike lists listed (o ∷ os) vs ws p alike h = λ t' leads.
       let on = leads_alike os ws vs p o t' (alike_sym (o ∷ os) vs ws alike) leads in
       let t = on.0 in
       let back = alike_sym os t'.values t.values on.3 in
       let behind = h t on.1 in
-      let there : HasValues means payload lists os (standing t'.values t.place) = has_values_alike lists os t.values t'.values t.place back behind.1 in
-      (subst (λ (v : List ℕ). Contains lists v) (kept_alike os t.values t'.values back) behind.0, subst (λ (q : ℕ). HasValues means payload lists os (standing t'.values q)) on.2 there)
+      let kept = kept_alike os t.values t'.values back in
+      let there : HasValues means payload lists listed os (standing t'.values t.place) = has_values_alike lists listed os t.values t'.values t.place back behind.2 in (
+        subst (λ (v : List ℕ). Contains lists v) kept behind.0,
+        λ extracts. subst (λ (q : ℕ). IsListed listed (kept_values os t'.values) q) on.2 (subst (λ (v : List ℕ). IsListed listed v t.place) kept (behind.1 extracts)),
+        subst (λ (q : ℕ). HasValues means payload lists listed os (standing t'.values q)) on.2 there,
+      )

@@ -10,6 +10,7 @@ pub mod Knowing
 pub mod Leading
 pub mod Looking
 pub mod Occurrences
+pub mod Parting
 pub mod Rising
 pub mod Spans
 pub mod Stepping

@@ -9,7 +9,7 @@ use Rattle.std.specs.Map.{lookup}
 use Rattle.std.proofs.lemmas.Map.Text.{is_eq-slice_cmp}
 use Rattle.std.proofs.lemmas.Slice.Eq.{bytes_eq-Decides}
 use Rattle.std.proofs.lemmas.List.Elements.{Contains-push, Contains-push_cases, Contains-append_left}
-use Rattle.option_eval.specs.States.{places_at, SomeState, EachState}
+use Rattle.option_eval.specs.States.{places_at, AreAmong, AreSame, SomeState, EachState}
 use Rattle.option_eval.specs.declared.states.States.{States}
 
 cond_map : {A B : Type 0} (f : A → B) (a b : Bool) (w x : Option A) (placed : Option B) → a ≡ b → option_map f w ≡ placed → option_map f (cond a w x) ≡ cond b placed (option_map f x)
@@ -54,10 +54,10 @@ pub get_taken : {X : Type 0} (f : X → List ℕ) (m n : BTreeMap (List ℕ) X) 
     → (q : List ℕ) → bytes_eq values q ≡ false → option_map f (get (slice_cmp nat_cmp) n q) ≡ option_map f (get (slice_cmp nat_cmp) m q)
 get_taken f m n values h q other = none_or (bytes_eq values q) None _ _ other (get_updated f m n values None None refl h q)
 
-same_values : (values q : List ℕ) → bytes_eq values q ≡ true → values ≡ q
+pub same_values : (values q : List ℕ) → bytes_eq values q ≡ true → values ≡ q
 same_values values q is = (bytes_eq-Decides values q).0 is
 
-own_values : (values : List ℕ) → bytes_eq values values ≡ true
+pub own_values : (values : List ℕ) → bytes_eq values values ≡ true
 own_values values = (bytes_eq-Decides values values).1 refl
 
 pub contains_nil : (p : ℕ) → Contains [] p → ⊥
@@ -149,3 +149,36 @@ some_nowhere P states none (q, places, found, p, has, holds) = let h = none q in
 
 pub each_nowhere : (K : List ℕ → Type 0) (R : List ℕ → ℕ → Type 0) (states : States) → ((q : List ℕ) → places_at states q ≡ None) → EachState K R states
 each_nowhere K R states none q places found = let h = none q in absurd (cc)
+
+-- standings that are among others
+pub some_among : (from to : States) → AreAmong from to → (P : List ℕ → ℕ → Type 0) → SomeState P from → SomeState P to
+some_among from to among P (values, places, found, p, has, holds) = let there = among values places found in (values, there.0, there.1, p, there.2 p has, holds)
+
+pub each_among : (from to : States) → AreAmong from to → (K : List ℕ → Type 0) (R : List ℕ → ℕ → Type 0) → EachState K R to → EachState K R from
+each_among from to among K R each values places found =
+    let there = among values places found in
+    let here = each values there.0 there.1 in
+    (here.0, λ p has. here.1 p (there.2 p has))
+
+pub among_nowhere : (from to : States) → ((q : List ℕ) → places_at from q ≡ None) → AreAmong from to
+among_nowhere from to none values places found = let h = none values in absurd (cc)
+
+pub nowhere_among : (from to : States) → AreAmong from to → ((q : List ℕ) → places_at to q ≡ None) → (q : List ℕ) → places_at from q ≡ None
+nowhere_among from to among none q = step (places_at from q) refl
+  where
+    step : (found : Option (List ℕ)) → places_at from q ≡ found → places_at from q ≡ None
+    step None is = is
+    step (Some places) is =
+        let there = among q places is in
+        let here = there.1 in
+        let h = none q in
+        absurd (cc)
+
+pub same_own : (states : States) → AreSame states states
+same_own states = (λ values places found. (places, found, λ p has. has), λ values places found. (places, found, λ p has. has))
+
+-- of weaker kinds
+pub each_weaker : (states : States) (K L : List ℕ → Type 0) (R S : List ℕ → ℕ → Type 0) → ((values : List ℕ) → K values → L values) → ((values : List ℕ) (p : ℕ) → R values p → S values p) → EachState K R states → EachState L S states
+each_weaker states K L R S key here each values places found =
+    let at = each values places found in
+    (key values at.0, λ p has. here values p (at.1 p has))

@@ -1,5 +1,5 @@
 -- One option more of a walk that leaves states behind the first extraction, one state more, and what they cost.
-use Rattle.std.proofs.Common.{◌≡◌, ℕ, zero, suc, ◌+◌, ◌*◌, ◌≤◌, ◌⊎◌, inl, inr, ⊎_elim, Bool, true, false, cond, List, [], ◌∷◌, length, Some, None, MatchBool, Contains, refl, sym, ap, subst, ◌∙◌, arith}
+use Rattle.std.proofs.Common.{◌≡◌, ℕ, zero, suc, ◌+◌, ◌*◌, ◌≤◌, ◌⊎◌, inl, inr, ⊎_elim, Bool, true, false, cond, List, [], ◌∷◌, length, Option, Some, None, MatchBool, Contains, refl, sym, ap, subst, ◌∙◌, arith}
 use Rattle.std.specs.Prelude.{bytes_eq, ⊤}
 use Rattle.std.specs.List.Sorted.{IsPermutation}
 use Rattle.std.proofs.lemmas.List.Sorted.{Contains-permutation, IsPermutation-sym}
@@ -7,12 +7,13 @@ use Rattle.std.proofs.lemmas.Bool.{false≢true}
 use Rattle.std.proofs.Math.Nat.{mul-le-mul_left}
 use Rattle.rule_types.specs.declared.option.Opt.{Opt}
 use Rattle.option_eval.specs.Kinds.{needs_place}
+use Rattle.option_eval.specs.Numbers.{Standing}
 use Rattle.option_eval.specs.Places.{Means, is_payload_option, is_extract}
 use Rattle.option_eval.specs.Sets.{standing, Gathers, IsLedTo, LeadsFrom}
-use Rattle.option_eval.specs.States.{places_at, EachState, MatchesFromSome, HaveValues, Leaves, LeavesOf}
-use Rattle.option_eval.specs.Walks.{MatchesFrom, MatchesFromOne, ExtractsNothing, visits_of, upto_extraction, behind_extraction}
+use Rattle.option_eval.specs.States.{places_at, AreAmong, EachState, MatchesFromSome, HaveValues, Leaves}
+use Rattle.option_eval.specs.Walks.{MatchesFrom, MatchesFromOne, ExtractsNothing, IsListed, HasValues, visits_of, visits_apart, upto_extraction, behind_extraction}
 use Rattle.option_eval.specs.declared.states.States.{States}
-use Rattle.option_eval.proofs.Stating.{left_was, some_taken, some_nowhere}
+use Rattle.option_eval.proofs.Stating.{left_was, some_taken, some_nowhere, some_among, each_nowhere, each_among}
 use Rattle.option_eval.proofs.Walking.{walk_step, visits_next, passed_nowhere}
 
 -- what a walk told, by what it told of other places or options
@@ -48,9 +49,9 @@ module _ (means : Means) (payload : List ℕ) where
       sound = λ m. ⊎_elim (λ (before : MatchesFromSome means payload (behind_extraction os) old). inl (back old before)) (λ (here : MatchesFromOne means payload os values next). inr (step.1 here)) (h.sound (there new m));
       kept = λ m. back new (h.kept (there old m));
       complete = λ m. back new (h.complete (step.0 m));
-      have = λ lists each before. subst (λ (rest : List Opt). HaveValues means payload lists rest new) (sym is) (h.have lists
-          (λ q has. let from = found.sound q has in (each from.0 from.1 (standing values q) from.2).1)
-          (subst (λ (rest : List Opt). HaveValues means payload lists rest old) is before));
+      have = λ lists listed each before. subst (λ (rest : List Opt). HaveValues means payload lists listed rest new) (sym is) (h.have lists listed
+          (λ q has. let from = found.sound q has in (each from.0 from.1 (standing values q) from.2).2)
+          (subst (λ (rest : List Opt). HaveValues means payload lists listed rest old) is before));
     } where
       is : behind_extraction (o ∷ os) ≡ behind_extraction os
       is = behind_plain o os plain
@@ -70,7 +71,7 @@ module _ (means : Means) (payload : List ℕ) where
     sound = λ m. inl m;
     kept = λ m. m;
     complete = λ m. absurd (passed_nowhere means payload os values places empty m);
-    have = λ lists each before. before;
+    have = λ lists listed each before. before;
   }
 
   -- the same places in another order
@@ -82,7 +83,7 @@ module _ (means : Means) (payload : List ℕ) where
     sound = λ m. ⊎_elim (λ (before : MatchesFromSome means payload (behind_extraction os) old). inl before) (λ (here : MatchesFromOne means payload os values xs). inr (one_same os values xs ys up here)) (h.sound m);
     kept = h.kept;
     complete = λ m. h.complete (one_same os values ys xs down m);
-    have = λ lists each before. h.have lists (λ p has. each p (up p has)) before;
+    have = λ lists listed each before. h.have lists listed (λ p has. each p (up p has)) before;
   }
 
 -- sorted places, each once
@@ -93,36 +94,33 @@ sorted_same xs sorted slice next same is deduped q = (
   λ has. (deduped q).1 (subst (λ (ys : List ℕ). Contains ys q) (sym is) (Contains-permutation xs sorted q same has)),
 )
 
--- the states that were taken out were walked from
-pub record WalkedFrom (means : Means) (payload : List ℕ) (options : List Opt) (from left old new : States) : Type 0 where
-  pub sound : MatchesFromSome means payload (behind_extraction options) new → MatchesFromSome means payload (behind_extraction options) old ⊎ MatchesFromSome means payload options from
-  pub kept : MatchesFromSome means payload (behind_extraction options) old → MatchesFromSome means payload (behind_extraction options) new
-  pub complete : MatchesFromSome means payload options from → MatchesFromSome means payload (behind_extraction options) new ⊎ MatchesFromSome means payload options left
-  pub have : (lists : List (List ℕ)) → HaveValues means payload lists options from
-      → HaveValues means payload lists (behind_extraction options) old → HaveValues means payload lists (behind_extraction options) new
-
 -- what is left was there
 abbrev pub IsLeft : States → States → Type 0
 IsLeft from left = (values places : List ℕ) → places_at left values ≡ Some places → places_at from values ≡ Some places
 
+-- the states that were taken out were gone on from: those behind the extraction tell whether some way leads on
+pub record GoneOnFrom (means : Means) (payload : List ℕ) (options : List Opt) (from left behind : States) : Type 0 where
+  pub sound : MatchesFromSome means payload (behind_extraction options) behind → MatchesFromSome means payload options from
+  pub complete : MatchesFromSome means payload options from → MatchesFromSome means payload (behind_extraction options) behind ⊎ MatchesFromSome means payload options left
+  pub have : (lists : List (List ℕ)) (listed : Option (List Standing)) → HaveValues means payload lists listed options from → HaveValues means payload lists listed (behind_extraction options) behind
+
 module _ (means : Means) (payload : List ℕ) (options : List Opt) (from : States) where
-  pub walked_none : (states : States) → WalkedFrom means payload options from from states states
-  walked_none states = record {
-    sound = λ m. inl m;
-    kept = λ m. m;
+  pub gone_first : (behind : States) → ((q : List ℕ) → places_at behind q ≡ None) → GoneOnFrom means payload options from from behind
+  gone_first behind none = record {
+    sound = λ m. absurd (some_nowhere (λ v p. MatchesFrom means payload (behind_extraction options) (standing v p)) behind none m);
     complete = λ m. inr m;
-    have = λ lists each before. before;
+    have = λ lists listed each. each_nowhere (Contains lists) (λ v p. IsListed listed v p × HasValues means payload lists listed (behind_extraction options) (standing v p)) behind none;
   }
 
   pub some_here : (left : States) (values places : List ℕ) → IsLeft from left → places_at left values ≡ Some places → MatchesFromOne means payload options values places → MatchesFromSome means payload options from
   some_here left values places within was m = (values, places, within values places was, m.0, m.1, m.2)
 
-  pub walked_next : (left left' old now new : States) (values places : List ℕ) → IsLeft from left → places_at left values ≡ Some places
+  -- from one state more
+  pub gone_next : (left left' now new : States) (values places : List ℕ) → IsLeft from left → places_at left values ≡ Some places
       → ((q : List ℕ) → places_at left' q ≡ cond (bytes_eq values q) None (places_at left q))
-      → WalkedFrom means payload options from left old now → Leaves means payload options values places now new → WalkedFrom means payload options from left' old new
-  walked_next left left' old now new values places within was taken before next = record {
-    sound = λ m. ⊎_elim before.sound (λ (here : MatchesFromOne means payload options values places). inr (some_here left values places within was here)) (next.sound m);
-    kept = λ m. next.kept (before.kept m);
+      → GoneOnFrom means payload options from left now → Leaves means payload options values places now new → GoneOnFrom means payload options from left' new
+  gone_next left left' now new values places within was taken before next = record {
+    sound = λ m. ⊎_elim before.sound (λ (here : MatchesFromOne means payload options values places). some_here left values places within was here) (next.sound m);
     complete = λ m. ⊎_elim
         (λ (done : MatchesFromSome means payload (behind_extraction options) now). inl (next.kept done))
         (λ (there : MatchesFromSome means payload options left). ⊎_elim
@@ -130,24 +128,30 @@ module _ (means : Means) (payload : List ℕ) (options : List Opt) (from : State
         (λ (later : MatchesFromSome means payload options left'). inr later)
         (some_taken left left' values places was taken (λ v p. MatchesFrom means payload options (standing v p)) there))
         (before.complete m);
-    have = λ lists each have. next.have lists (λ p has. (each values places (within values places was)).1 p has) (before.have lists each have);
+    have = λ lists listed each. next.have lists listed (λ p has. ((each values places (within values places was)).1 p has).1) (before.have lists listed each);
   }
 
-  pub walked_all : (left old new : States) → ((q : List ℕ) → places_at left q ≡ None) → WalkedFrom means payload options from left old new → LeavesOf means payload options from old new
-  walked_all left old new none h = record {
-    sound = h.sound;
-    kept = h.kept;
-    complete = λ m. ⊎_elim (λ (done : MatchesFromSome means payload (behind_extraction options) new). done)
-        (λ (there : MatchesFromSome means payload options left). absurd (some_nowhere (λ v p. MatchesFrom means payload options (standing v p)) left none there)) (h.complete m);
-    have = h.have;
+  -- from fewer states behind, where none leads on that is no longer there
+  pub gone_fewer : (left now new : States) → AreAmong new now → (MatchesFromSome means payload (behind_extraction options) now → MatchesFromSome means payload (behind_extraction options) new)
+      → GoneOnFrom means payload options from left now → GoneOnFrom means payload options from left new
+  gone_fewer left now new among keeps before = record {
+    sound = λ m. before.sound (some_among new now among (λ v p. MatchesFrom means payload (behind_extraction options) (standing v p)) m);
+    complete = λ m. ⊎_elim (λ (done : MatchesFromSome means payload (behind_extraction options) now). inl (keeps done)) (λ (there : MatchesFromSome means payload options left). inr there) (before.complete m);
+    have = λ lists listed each. each_among new now among (Contains lists) (λ v p. IsListed listed v p × HasValues means payload lists listed (behind_extraction options) (standing v p)) (before.have lists listed each);
   }
+
+  -- from all
+  pub gone_all : (left behind : States) → ((q : List ℕ) → places_at left q ≡ None) → GoneOnFrom means payload options from left behind
+      → MatchesFromSome means payload options from → MatchesFromSome means payload (behind_extraction options) behind
+  gone_all left behind none h m = ⊎_elim (λ (done : MatchesFromSome means payload (behind_extraction options) behind). done)
+      (λ (there : MatchesFromSome means payload options left). absurd (some_nowhere (λ v p. MatchesFrom means payload options (standing v p)) left none there)) (h.complete m)
 
 -- a list without one of its elements
-list_cases : (x : List ℕ) (xs : List (List ℕ)) (y : List ℕ) → Contains (x ∷ xs) y → (y ≡ x) ⊎ Contains xs y
+list_cases : {X : Type 0} (x : X) (xs : List X) (y : X) → Contains (x ∷ xs) y → (y ≡ x) ⊎ Contains xs y
 list_cases x xs y (zero, within, is) = inl (sym is)
 list_cases x xs y (suc k, within, is) = inr (k, omega arith, is)
 
-pub without : (xs : List (List ℕ)) (x : List ℕ) → Contains xs x → (ys : List (List ℕ)) × (length ys + 1 ≡ length xs) × ((y : List ℕ) → Contains xs y → (y ≡ x → ⊥) → Contains ys y)
+pub without : {X : Type 0} (xs : List X) (x : X) → Contains xs x → (ys : List X) × (length ys + 1 ≡ length xs) × ((y : X) → Contains xs y → (y ≡ x → ⊥) → Contains ys y)
 without [] x has = absurd (omega (arith, has.1))
 without (y ∷ xs) x (zero, within, is) = (xs, omega arith, λ z has other. ⊎_elim (λ (same : z ≡ y). absurd (other (same ∙ is))) (λ (behind : Contains xs z). behind) (list_cases y xs z has))
 without (y ∷ xs) x (suc k, within, is) =
@@ -206,6 +210,26 @@ visits_split (o ∷ os) size = step (is_extract o) (visits_split os size)
     step : (b : Bool) → visits_of (upto_extraction os) size + visits_of (behind_extraction os) size ≡ visits_of os size → visits_of (o ∷ cond b [] (upto_extraction os)) size + visits_of (cond b os (behind_extraction os)) size ≡ visits_of (o ∷ os) size
     step true behind = omega (arith, visits_next o [] size, visits_next o os size, none)
     step false behind = omega (arith, visits_next o (upto_extraction os) size, visits_next o os size)
+
+-- the same where the options behind are tried from each value list apart
+pub apart_split : (lists : ℕ) (os : List Opt) (size : ℕ) → visits_of (upto_extraction os) size + lists * visits_apart lists (behind_extraction os) size ≡ visits_apart lists os size
+apart_split lists [] size = omega arith
+apart_split lists (o ∷ os) size = step (is_extract o) (apart_split lists os size)
+  where
+    none : visits_of [] size ≡ 0
+    none = omega arith
+
+    alone : visits_of (o ∷ []) size ≡ cond (is_payload_option o) (size + 1) 0
+    alone = omega (arith, visits_next o [] size, none)
+
+    sums : (first upto behind whole all : ℕ) → first + upto ≡ all → upto + behind ≡ whole → all + behind ≡ first + whole
+    sums first upto behind whole all a b = omega arith
+
+    step : (b : Bool) → visits_of (upto_extraction os) size + lists * visits_apart lists (behind_extraction os) size ≡ visits_apart lists os size
+        → visits_of (o ∷ cond b [] (upto_extraction os)) size + lists * visits_apart lists (cond b os (behind_extraction os)) size
+        ≡ cond (is_payload_option o) (size + 1) 0 + cond b (lists * visits_apart lists os size) (visits_apart lists os size)
+    step true later = ap (λ (n : ℕ). n + lists * visits_apart lists os size) alone
+    step false later = sums (cond (is_payload_option o) (size + 1) 0) (visits_of (upto_extraction os) size) (lists * visits_apart lists (behind_extraction os) size) (visits_apart lists os size) (visits_of (o ∷ upto_extraction os) size) (visits_next o (upto_extraction os) size) later
 
 -- options that extract nothing
 pub upto_nothing : (os : List Opt) → ExtractsNothing os → upto_extraction os ≡ os

@@ -10,7 +10,8 @@ use Rattle.option_eval.specs.declared.states.Held.TheVariants as held
 use Rattle.option_eval.specs.declared.states.States.{States}
 use Rattle.option_eval.specs.Places.{Means}
 use Rattle.option_eval.specs.Sets.{standing}
-use Rattle.option_eval.specs.Walks.{MatchesFrom, MatchesFromOne, HasValues, behind_extraction}
+use Rattle.option_eval.specs.Numbers.{Standing}
+use Rattle.option_eval.specs.Walks.{MatchesFrom, MatchesFromOne, IsListed, HasValues, behind_extraction}
 
 -- the places that go with a value list, if a map has a state with it
 unfoldable pub map_at : StateMap → List ℕ → Option (List ℕ)
@@ -50,36 +51,31 @@ abbrev pub MatchesFromSome : Means → List ℕ → List Opt → States → Type
 MatchesFromSome means payload options states =
     SomeState (λ values p. MatchesFrom means payload options (standing values p)) states
 
--- the list has the values of each state, and those that are kept behind each of the options
-abbrev pub HaveValues : Means → List ℕ → List (List ℕ) → List Opt → States → Type 0
-HaveValues means payload lists options states =
-    EachState (Contains lists) (λ values p. HasValues means payload lists options (standing values p)) states
+-- the list has the values of each state, and those that are kept behind each of the options; each standing of
+-- a state is listed, and those behind each extraction
+abbrev pub HaveValues : Means → List ℕ → List (List ℕ) → Option (List Standing) → List Opt → States → Type 0
+HaveValues means payload lists listed options states = EachState (Contains lists)
+    (λ values p. IsListed listed values p × HasValues means payload lists listed options (standing values p)) states
 
 -- each place is one of a payload of so many bytes, or its end
 abbrev pub AreWithin : ℕ → States → Type 0
 AreWithin size states = EachState (λ values. ⊤) (λ values p. p ≤ size) states
 
+-- each standing of some states is one of others
+abbrev pub AreAmong : States → States → Type 0
+AreAmong from to = (values places : List ℕ) → places_at from values ≡ Some places
+    → (found : List ℕ) × (places_at to values ≡ Some found) × ((p : ℕ) → Contains places p → Contains found p)
+
+-- the states have the same standings
+abbrev pub AreSame : States → States → Type 0
+AreSame old new = AreAmong old new × AreAmong new old
+
 -- the states behind an extraction where ways lead on: those that were there, and those that the options give
 -- from these places; and their values, where a list has those before
-pub record Leaves (means : Means) (payload : List ℕ) (options : List Opt) (values places : List ℕ)
-    (old new : States) : Type 0 where
-  pub sound : MatchesFromSome means payload (behind_extraction options) new
-      → MatchesFromSome means payload (behind_extraction options) old ⊎ MatchesFromOne means payload options values places
-  pub kept : MatchesFromSome means payload (behind_extraction options) old
-      → MatchesFromSome means payload (behind_extraction options) new
-  pub complete : MatchesFromOne means payload options values places
-      → MatchesFromSome means payload (behind_extraction options) new
-  pub have : (lists : List (List ℕ)) → ((p : ℕ) → Contains places p → HasValues means payload lists options (standing values p))
-      → HaveValues means payload lists (behind_extraction options) old
-      → HaveValues means payload lists (behind_extraction options) new
-
--- the same from each of some states
-pub record LeavesOf (means : Means) (payload : List ℕ) (options : List Opt) (from old new : States) : Type 0 where
-  pub sound : MatchesFromSome means payload (behind_extraction options) new
-      → MatchesFromSome means payload (behind_extraction options) old ⊎ MatchesFromSome means payload options from
-  pub kept : MatchesFromSome means payload (behind_extraction options) old
-      → MatchesFromSome means payload (behind_extraction options) new
-  pub complete : MatchesFromSome means payload options from → MatchesFromSome means payload (behind_extraction options) new
-  pub have : (lists : List (List ℕ)) → HaveValues means payload lists options from
-      → HaveValues means payload lists (behind_extraction options) old
-      → HaveValues means payload lists (behind_extraction options) new
+pub record Leaves (means : Means) (payload : List ℕ) (options : List Opt) (values places : List ℕ) (old new : States) : Type 0 where
+  pub sound : MatchesFromSome means payload (behind_extraction options) new → MatchesFromSome means payload (behind_extraction options) old ⊎ MatchesFromOne means payload options values places
+  pub kept : MatchesFromSome means payload (behind_extraction options) old → MatchesFromSome means payload (behind_extraction options) new
+  pub complete : MatchesFromOne means payload options values places → MatchesFromSome means payload (behind_extraction options) new
+  pub have : (lists : List (List ℕ)) (listed : Option (List Standing))
+      → ((p : ℕ) → Contains places p → HasValues means payload lists listed options (standing values p))
+      → HaveValues means payload lists listed (behind_extraction options) old → HaveValues means payload lists listed (behind_extraction options) new

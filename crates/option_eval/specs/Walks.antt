@@ -1,5 +1,5 @@
 -- A walk through options from a set of places, and what it costs.
-use Rattle.std.specs.Prelude.{◌≡◌, ℕ, ◌+◌, ◌*◌, false, List, [], ◌∷◌, Contains, count_by, if◌then◌else◌}
+use Rattle.std.specs.Prelude.{◌≡◌, ℕ, ◌+◌, ◌*◌, true, false, List, [], ◌∷◌, Contains, Option, IfSome, count_by, if◌then◌else◌}
 use Rattle.rule_types.specs.declared.option.Opt.{Opt}
 use Rattle.option_eval.specs.Numbers.{Standing}
 use Rattle.option_eval.specs.Kept.{kept_values}
@@ -24,6 +24,17 @@ ExtractsNothing (option ∷ options) = (is_extract option ≡ false) × Extracts
 abbrev pub visits_of : List Opt → ℕ → ℕ
 visits_of options size = count_by is_payload_option options * (size + 1)
 
+-- the same, where those behind an extraction are tried anew from each of so many value lists
+abbrev pub visits_apart : ℕ → List Opt → ℕ → ℕ
+visits_apart lists [] size = 0
+visits_apart lists (option ∷ options) size =
+    (if is_payload_option option then size + 1 else 0)
+    + (if is_extract option then lists * visits_apart lists options size else visits_apart lists options size)
+
+-- behind an extraction the options are tried before more standings than these are held
+abbrev pub part_standings : ℕ
+part_standings = 131072
+
 -- the options up to the first that extracts a value, and those behind it
 abbrev pub upto_extraction : List Opt → List Opt
 upto_extraction [] = []
@@ -33,14 +44,20 @@ abbrev pub behind_extraction : List Opt → List Opt
 behind_extraction [] = []
 behind_extraction (option ∷ options) = if is_extract option then options else behind_extraction options
 
--- each way from a standing has, behind each of the options, values of which the list has what is kept
-abbrev pub HasValues : Means → List ℕ → List (List ℕ) → List Opt → Standing → Type 0
-HasValues means payload lists [] before = Unit {0}
-HasValues means payload lists (option ∷ options) before =
-    (after : Standing) → Leads means payload option before after
-    → Contains lists (kept_values options after.values) × HasValues means payload lists options after
+-- a list of standings, if there is one, has this one
+abbrev pub IsListed : Option (List Standing) → List ℕ → ℕ → Type 0
+IsListed listed values place = IfSome listed (λ standings. Contains standings (standing values place))
+
+-- each way from a standing has, behind each of the options, values of which the list has what is kept; and
+-- with that, behind each extraction, a standing that is listed
+abbrev pub HasValues : Means → List ℕ → List (List ℕ) → Option (List Standing) → List Opt → Standing → Type 0
+HasValues means payload lists listed [] before = Unit {0}
+HasValues means payload lists listed (option ∷ options) before =
+    (after : Standing) → Leads means payload option before after → Contains lists (kept_values options after.values)
+    × (is_extract option ≡ true → IsListed listed (kept_values options after.values) after.place)
+    × HasValues means payload lists listed options after
 
 -- the list has what later options still read of the values behind each option of each way from the payload's
--- start, and the values there
-abbrev pub HasEachValueList : Means → List ℕ → List Opt → List (List ℕ) → Type 0
-HasEachValueList means payload options lists = Contains lists start.values × HasValues means payload lists options start
+-- start, and the values there; one of standings, if there is one, has those behind each extraction
+abbrev pub HasEachValueList : Means → List ℕ → List Opt → List (List ℕ) → Option (List Standing) → Type 0
+HasEachValueList means payload options lists listed = Contains lists start.values × HasValues means payload lists listed options start

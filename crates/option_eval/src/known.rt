@@ -13,9 +13,9 @@ ghost use Rattle.option_eval.specs.RuleSet.{IsMade};
 ghost use Rattle.option_eval.specs.Sets.{IsRising, Gathers, IsLedTo, LeadsFrom};
 
 use crate::Steps;
-use crate::fetch::Values;
+use crate::asked::Asked;
 use crate::kept::reads;
-use crate::kind::{is_relative, needs_place};
+use crate::kind::{is_extract, is_payload_option, is_relative, needs_place};
 use crate::made::Made;
 use crate::next::{Next, next_places};
 use edge_io::{NoMemory, Pattern};
@@ -35,6 +35,19 @@ fn is_free(option: &Opt) -> bool
     ensures { result ≡ is_free option.now }
 {
     !is_relative(option) && !reads(0, option) && !reads(1, option)
+}
+
+/// Whether an option before the first extraction is free, and asks something of the payload.
+pub(crate) fn has_free(options: &[Opt]) -> bool {
+    for option in options {
+        if is_extract(option) {
+            return false;
+        }
+        if is_payload_option(option) && is_free(option) {
+            return true;
+        }
+    }
+    false
 }
 
 impl Known {
@@ -92,27 +105,25 @@ pub(crate) fn next_known<P: Pattern, L: Ledger>(
     option: &Opt,
     made: &Made<P>,
     later: &[Opt],
-    payload: &[u8],
-    places: &[usize],
-    values: &Values,
+    at: &Asked,
     known: &mut Known,
     visits: &mut Steps<L>,
 ) -> Result<Next, NoMemory>
     requires ready { IsReady option.now made.now }
     requires plain { is_extract option.now ≡ false }
-    requires asked { 0 < length places.now }
-    requires rising { IsRising 0 places.now (length payload.now + 1) }
-    requires known_rising { AreRising (length payload.now + 1) known.old }
+    requires asked { 0 < length at.now.places.now }
+    requires rising { IsRising 0 at.now.places.now (length at.now.payload.now + 1) }
+    requires known_rising { AreRising (length at.now.payload.now + 1) known.old }
     ensures found { (means : Means) → IsMade P.finds means option.now (pattern_of made.now)
-        → IsKnown means payload.now option.now (needs_place later.now) (known_at known.old (length later.now))
+        → IsKnown means at.now.payload.now option.now (needs_place later.now) (known_at known.old (length later.now))
         → IfOk result (λ next. Gathers (needs_place later.now)
-        (IsLedTo (LeadsFrom means payload.now values.now option.now) places.now) (next_set next places.now)) }
+        (IsLedTo (LeadsFrom means at.now.payload.now at.now.values.now option.now) at.now.places.now) (next_set next at.now.places.now)) }
     ensures alike { (means : Means) → IsMade P.finds means option.now (pattern_of made.now)
-        → IsKnown means payload.now option.now (needs_place later.now) (known_at known.old (length later.now))
-        → is_free option.now ≡ true → IfOk result (LeadsAlike means payload.now option.now (needs_place later.now)) }
-    ensures rising { IfOk result (RisesTo (length payload.now + 1)) }
+        → IsKnown means at.now.payload.now option.now (needs_place later.now) (known_at known.old (length later.now))
+        → is_free option.now ≡ true → IfOk result (LeadsAlike means at.now.payload.now option.now (needs_place later.now)) }
+    ensures rising { IfOk result (RisesTo (length at.now.payload.now + 1)) }
     ensures taken { (left : ℕ) → known_at known.new left ≡ (if left == length later.now then None else known_at known.old left) }
-    ensures bounded { visits.new ≤ visits.old + (if is_payload_option option.now then length payload.now + 1 else 0) }
+    ensures bounded { visits.new ≤ visits.old + (if is_payload_option option.now then length at.now.payload.now + 1 else 0) }
 {
     if let Some(next) = known.take(later.len()) {
         return Ok(next);
@@ -121,9 +132,9 @@ pub(crate) fn next_known<P: Pattern, L: Ledger>(
         alloc,
         option,
         made,
-        payload,
-        places,
-        values,
+        at.payload,
+        at.places,
+        at.values,
         needs_place(later),
         visits,
     )?;

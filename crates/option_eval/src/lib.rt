@@ -7,6 +7,7 @@
 #![tactic(auto)]
 
 mod absent;
+mod asked;
 mod content;
 mod extract;
 mod fetch;
@@ -18,6 +19,8 @@ mod made;
 mod making;
 mod needle;
 mod next;
+mod part;
+mod passing;
 mod reach;
 mod rule_set;
 mod state_map;

@@ -1,15 +1,16 @@
 //! Rules in their order, with what was made of them.
 
-ghost use Rattle.std.specs.Prelude.{◌≡◌, ℕ, ◌+◌, ◌*◌, ◌<◌, ◌≤◌, ◌↔◌, List, length, IsTrue, IfOk};
+ghost use Rattle.std.specs.Prelude.{◌≡◌, ℕ, ◌+◌, ◌*◌, ◌<◌, ◌≤◌, ◌↔◌, List, Some, None, length, IsTrue, IfOk};
 ghost use Rattle.rule_types.specs.declared.rule.Rule.{Rule};
+ghost use Rattle.option_eval.specs.Numbers.{Standing};
 ghost use Rattle.option_eval.specs.Places.{Means, PayloadMatches};
 ghost use Rattle.option_eval.specs.RuleSet.{FindWhatIsMeant, IsRuleAt};
-ghost use Rattle.option_eval.specs.Walks.{ExtractsNothing, HasEachValueList, visits_of};
+ghost use Rattle.option_eval.specs.Walks.{ExtractsNothing, HasEachValueList, visits_of, visits_apart, part_standings};
 
 use crate::Steps;
 use crate::made::Made;
 use crate::making::{PushFault, make_all};
-use crate::walk::is_passed;
+use crate::passing::is_passed;
 use edge_io::{NoMemory, Pattern, PatternMaker};
 use rule_types::Rule;
 use std::alloc::Global;
@@ -115,7 +116,8 @@ impl<P: Pattern> RuleSet<P> {
 /// `rule` is the place of a rule of the set. The rule's header and its other options are not asked.
 /// A visit is a place of the payload at which a content that isn't negated is compared, or a place
 /// from which another payload option is asked. Of a rule that extracts values each option is asked once from
-/// each place and list of values that are still read, however many ways lead there.
+/// each place and list of values that are still read, however many ways lead there, as long as there are no more
+/// than 131,072 of these behind its extractions; otherwise once again for each part of the states before it.
 pub fn payload_matches<P: Pattern, L: Ledger>(
     alloc: Global,
     set: &RuleSet<P>,
@@ -128,10 +130,13 @@ pub fn payload_matches<P: Pattern, L: Ledger>(
         → IfOk result (λ matches. IsTrue matches ↔ PayloadMatches means chosen payload.now) }
     ensures bounded { (chosen : Rule) → IsRuleAt set.now rule chosen → ExtractsNothing chosen.opts
         → visits.new ≤ visits.old + visits_of chosen.opts (length payload.now) }
-    ensures bounded_by_values { (means : Means) → (chosen : Rule) → (lists : List (List ℕ))
-        → FindWhatIsMeant P.finds means set.now
-        → IsRuleAt set.now rule chosen → HasEachValueList means payload.now chosen.opts lists
+    ensures bounded_by_values { (means : Means) → (chosen : Rule) → (lists : List (List ℕ)) → (listed : List Standing)
+        → FindWhatIsMeant P.finds means set.now → IsRuleAt set.now rule chosen
+        → HasEachValueList means payload.now chosen.opts lists (Some listed) → length listed ≤ part_standings
         → visits.new ≤ visits.old + length lists * visits_of chosen.opts (length payload.now) }
+    ensures bounded_in_parts { (means : Means) → (chosen : Rule) → (lists : List (List ℕ)) → FindWhatIsMeant P.finds means set.now
+        → IsRuleAt set.now rule chosen → HasEachValueList means payload.now chosen.opts lists None
+        → visits.new ≤ visits.old + visits_apart (length lists) chosen.opts (length payload.now) }
 {
     let made = &set.made[rule as usize];
     let rule = &set.rules[rule as usize];

@@ -55,6 +55,16 @@ impl StateMap {
         Ok(())
     }
 
+    /// Adds a state, in place of any of the same values.
+    #[tactic(auto, unfolding(crate::specs::States::map_at))]
+    pub fn put(&mut self, state: State) -> Result<(), NoMemory>
+        ensures { OnOk result ((other : List ℕ) → map_at self.new other
+            ≡ (if bytes_eq state.values other then Some state.places.items else map_at self.old other)) }
+    {
+        self.places.insert(state.values, state.places)?;
+        Ok(())
+    }
+
     /// Takes the state with the least values out.
     #[tactic(auto, unfolding(crate::specs::States::map_at))]
     pub fn take_first(&mut self) -> Option<State>

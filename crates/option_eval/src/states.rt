@@ -1,6 +1,6 @@
 //! The states of a rule that extracts values: the values so far, with the places that go with them.
 
-ghost use Rattle.std.specs.Prelude.{◌≡◌, ℕ, ◌+◌, ◌++◌, [], ◌∷◌, List, None, Some, IfOk, OnOk, IfSome, IfNone, bytes_eq, unwrap_or, if◌then◌else◌};
+ghost use Rattle.std.specs.Prelude.{◌≡◌, ℕ, ◌+◌, ◌≤◌, ◌++◌, [], ◌∷◌, List, None, Some, length, IfOk, OnOk, IfSome, IfNone, bytes_eq, unwrap_or, if◌then◌else◌};
 ghost use Rattle.option_eval.specs.States.{held_at, places_at, state_count};
 
 use crate::fetch::Values;
@@ -23,6 +23,8 @@ pub(crate) struct State {
 pub(crate) struct States {
     alloc: Global,
     held: Held,
+    /// How many places were added; one that was added again counts again.
+    place_count: usize,
 }
 
 /// A state alone needs no map: most extractions give one value list.
@@ -57,16 +59,39 @@ fn with_place(alloc: Global, held: Held, values: Values, place: usize) -> Result
     Ok(Held::Many(map))
 }
 
+/// The states, and another one in place of any of the same values.
+fn with_state(alloc: Global, held: Held, state: State) -> Result<Held, NoMemory>
+    ensures { IfOk result (λ new. (other : List ℕ) → held_at new other
+        ≡ (if bytes_eq state.values other then Some state.places.items else held_at held other)) }
+{
+    let mut map = match held {
+        Held::Nothing => return Ok(Held::One(state)),
+        Held::One(first) => StateMap::of(alloc, first)?,
+        Held::Many(map) => map,
+    };
+    map.put(state)?;
+    Ok(Held::Many(map))
+}
+
 impl States {
     /// No state. Takes no memory.
     #[tactic(auto, unfolding(crate::specs::States::places_at))]
     pub fn new(alloc: Global) -> States
-        ensures { (values : List ℕ) → places_at result values ≡ None }
+        ensures nowhere { (values : List ℕ) → places_at result values ≡ None }
+        ensures uncounted { result.place_count ≡ 0 }
     {
         States {
             alloc,
             held: Held::Nothing,
+            place_count: 0,
         }
+    }
+
+    /// How many places were added.
+    pub fn place_count(&self) -> usize
+        ensures { result ≡ self.now.place_count }
+    {
+        self.place_count
     }
 
     /// Whether there is more than one state.
@@ -81,6 +106,7 @@ impl States {
             ≡ (if bytes_eq values other then Some (unwrap_or (places_at self.old values) [] ++ place ∷ [])
             else places_at self.old other)) }
     {
+        self.place_count = self.place_count.saturating_add(1);
         if let Held::Many(map) = &mut self.held {
             return map.add(values, place);
         }
@@ -102,6 +128,19 @@ impl States {
     {
         let held = std::mem::replace(&mut self.held, Held::Nothing);
         self.held = with_place(self.alloc, held, values, place)?;
+        Ok(())
+    }
+
+    /// Adds a state, in place of any of the same values.
+    #[tactic(auto, unfolding(crate::specs::States::places_at))]
+    pub fn put(&mut self, state: State) -> Result<(), NoMemory>
+        ensures put { OnOk result ((other : List ℕ) → places_at self.new other
+            ≡ (if bytes_eq state.values other then Some state.places.items else places_at self.old other)) }
+        ensures counted { OnOk result (self.new.place_count ≤ self.old.place_count + length state.places.items) }
+    {
+        self.place_count = self.place_count.saturating_add(state.places.len());
+        let held = std::mem::replace(&mut self.held, Held::Nothing);
+        self.held = with_state(self.alloc, held, state)?;
         Ok(())
     }
 

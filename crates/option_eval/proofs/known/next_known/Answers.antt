@@ -8,24 +8,24 @@ use Rattle.option_eval.proofs.known.next_known.Goals as goal
 
 pub returns-in-Some-clause-found : goal.returns-in-Some-clause-found
 returns-in-Some-clause-found g c = λ means made known.
-    found_known (LeadsAlike means c.args.payload.now c.args.option.now (needs_place c.args.later.now)) _ c.in-Some.next c.in-Some.ensures.value known c.args.values.now c.args.places.now (omega (arith, c.fits-values)) c.requires.asked
+    found_known (LeadsAlike means c.args.at.now.payload.now c.args.option.now (needs_place c.args.later.now)) _ c.in-Some.next c.in-Some.ensures.value known c.args.at.now.values.now c.args.at.now.places.now c.args.at.now.two c.requires.asked
 
 pub returns-in-Some-clause-alike : goal.returns-in-Some-clause-alike
 returns-in-Some-clause-alike g c = λ means made known free.
-    found_known (LeadsAlike means c.args.payload.now c.args.option.now (needs_place c.args.later.now)) _ c.in-Some.next c.in-Some.ensures.value known
+    found_known (LeadsAlike means c.args.at.now.payload.now c.args.option.now (needs_place c.args.later.now)) _ c.in-Some.next c.in-Some.ensures.value known
 
 pub returns-in-Some-clause-rising : goal.returns-in-Some-clause-rising
-returns-in-Some-clause-rising g c = found_known (RisesTo (length c.args.payload.now + 1)) _ c.in-Some.next c.in-Some.ensures.value (c.requires.known_rising (length c.args.later.now))
+returns-in-Some-clause-rising g c = found_known (RisesTo (length c.args.at.now.payload.now + 1)) _ c.in-Some.next c.in-Some.ensures.value (c.requires.known_rising (length c.args.later.now))
 
 pub returns-clause-found : goal.returns-clause-found
 returns-clause-found g c = λ means made known.
-    subst (λ (every : Bool). Gathers every (IsLedTo (LeadsFrom means c.args.payload.now c.args.values.now c.args.option.now) c.args.places.now) (next_set c.in_ok-next.next c.args.places.now)) c.needs_place.ensures (c.in_ok-next.ensures.found means made)
+    subst (λ (every : Bool). Gathers every (IsLedTo (LeadsFrom means c.args.at.now.payload.now c.args.at.now.values.now c.args.option.now) c.args.at.now.places.now) (next_set c.in_ok-next.next c.args.at.now.places.now)) c.needs_place.ensures (c.in_ok-next.ensures.found means made)
 
 pub returns-clause-alike : goal.returns-clause-alike
 returns-clause-alike g c = λ means made known free.
-    let found = subst (λ (every : Bool). Gathers every (IsLedTo (LeadsFrom means c.args.payload.now c.args.values.now c.args.option.now) c.args.places.now) (next_set c.in_ok-next.next c.args.places.now)) c.needs_place.ensures (c.in_ok-next.ensures.found means made) in
-    leads_all means c.args.payload.now c.args.option.now c.requires.plain free (needs_place c.args.later.now) c.in_ok-next.next c.args.values.now c.args.places.now (omega (arith, c.fits-values)) c.requires.asked
-    (c.in_ok-next.ensures.apart (fixed means c.args.payload.now c.args.option.now c.requires.plain free)) found
+    let found = subst (λ (every : Bool). Gathers every (IsLedTo (LeadsFrom means c.args.at.now.payload.now c.args.at.now.values.now c.args.option.now) c.args.at.now.places.now) (next_set c.in_ok-next.next c.args.at.now.places.now)) c.needs_place.ensures (c.in_ok-next.ensures.found means made) in
+    leads_all means c.args.at.now.payload.now c.args.option.now c.requires.plain free (needs_place c.args.later.now) c.in_ok-next.next c.args.at.now.values.now c.args.at.now.places.now c.args.at.now.two c.requires.asked
+    (c.in_ok-next.ensures.apart (fixed means c.args.at.now.payload.now c.args.option.now c.requires.plain free)) found
 
 pub returns-clause-rising : goal.returns-clause-rising
-returns-clause-rising g c = rises_next c.in_ok-next.next c.args.places.now (length c.args.payload.now + 1) c.in_ok-next.ensures.rising
+returns-clause-rising g c = rises_next c.in_ok-next.next c.args.at.now.places.now (length c.args.at.now.payload.now + 1) c.in_ok-next.ensures.rising

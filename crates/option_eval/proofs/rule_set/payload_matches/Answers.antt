@@ -31,7 +31,7 @@ returns-clause-right g c = λ means chosen finds at.
     rw (is, ← c.as_slice.ensures) (IfOk-weaker c.is_passed.result _ _ (λ passed h. (λ yes. from.1 (h.0 yes), λ way. h.1 (from.0 way))) (c.is_passed.ensures.right means served))
 
 pub returns-clause-bounded_by_values : goal.returns-clause-bounded_by_values
-returns-clause-bounded_by_values g c = λ means chosen lists finds at each.
+returns-clause-bounded_by_values g c = λ means chosen lists listed finds at each few.
     let same = ap (λ (s : Rules g.row.P.Denot). length s.rules) c.set.view_is in
     let below : c.args.rule < length c.set.inside.rules.items = omega (arith, c.requires) in
     let finds' = subst (λ (s : Rules g.row.P.Denot). AllZip (AreMade g.P.Pattern.finds means) s.rules s.patterns) (sym c.set.view_is) finds in
@@ -39,5 +39,17 @@ returns-clause-bounded_by_values g c = λ means chosen lists finds at each.
     let at' = subst (λ (s : Rules g.row.P.Denot). chosen ≡ get_or s.rules c.args.rule chosen) (sym c.set.view_is) at in
     let is = same_at c.set.inside.rules.items c.args.rule chosen c.index-rule.result.now below at' c.index-rule.ensures in
     let served = rw (← c.as_slice.ensures, ← c.deref.ensures.value) at made in
-    let listed = rw (is, ← c.as_slice.ensures) at each in
-    rw (is, ← c.as_slice.ensures) (c.is_passed.ensures.bounded_by_values means lists served listed)
+    let had = rw (is, ← c.as_slice.ensures) at each in
+    rw (is, ← c.as_slice.ensures) (c.is_passed.ensures.bounded_by_values means lists listed served had few)
+
+pub returns-clause-bounded_in_parts : goal.returns-clause-bounded_in_parts
+returns-clause-bounded_in_parts g c = λ means chosen lists finds at each.
+    let same = ap (λ (s : Rules g.row.P.Denot). length s.rules) c.set.view_is in
+    let below : c.args.rule < length c.set.inside.rules.items = omega (arith, c.requires) in
+    let finds' = subst (λ (s : Rules g.row.P.Denot). AllZip (AreMade g.P.Pattern.finds means) s.rules s.patterns) (sym c.set.view_is) finds in
+    let made = zip_map_at (AreMade g.P.Pattern.finds means) (λ made. map (pattern_of {P = g.row.P.Denot}) made.items) c.set.inside.rules.items c.set.inside.made.items c.args.rule finds' below c.index-rule.result.now c.index-made.result.now c.index-rule.ensures c.index-made.ensures in
+    let at' = subst (λ (s : Rules g.row.P.Denot). chosen ≡ get_or s.rules c.args.rule chosen) (sym c.set.view_is) at in
+    let is = same_at c.set.inside.rules.items c.args.rule chosen c.index-rule.result.now below at' c.index-rule.ensures in
+    let served = rw (← c.as_slice.ensures, ← c.deref.ensures.value) at made in
+    let had = rw (is, ← c.as_slice.ensures) at each in
+    rw (is, ← c.as_slice.ensures) (c.is_passed.ensures.bounded_in_parts means lists served had)

@@ -1,5 +1,5 @@
 use Rattle.std.proofs.Common.{length}
-use Rattle.option_eval.proofs.walk.+behind_extraction.Given as goal
+use Rattle.option_eval.proofs.passing.+behind_extraction.Given as goal
 
 abbrev pub decreases-behind_extraction : goal.decreases-behind_extraction
 decreases-behind_extraction g l = length l.options.now

@@ -1,0 +1,19 @@
+-- The states that were taken out stand among those that are done.
+use Rattle.std.proofs.Common.{ℕ, List, Contains}
+use Rattle.std.specs.Prelude.{⊤}
+use Rattle.option_eval.specs.Numbers.{Standing}
+use Rattle.option_eval.specs.Sets.{standing}
+use Rattle.option_eval.specs.States.{EachState, state_count}
+use Rattle.option_eval.proofs.Parting.{MergedFrom, Listed}
+use Rattle.option_eval.proofs.Stepping.{IsLeft}
+use Rattle.option_eval.proofs.part.merged_states.Given as goal
+
+abbrev pub invariant-loop-state : goal.invariant-loop-state
+invariant-loop-state l = record {
+  merged : MergedFrom l.fn.states l.left l.done;
+  left_was : IsLeft l.fn.states l.left;
+  few : (listed : List Standing) → EachState (λ values. ⊤) (λ values p. Contains listed (standing values p)) l.fn.states → Listed listed l.left l.done.place_count;
+}
+
+abbrev pub decreases-loop-state : goal.decreases-loop-state
+decreases-loop-state l = state_count l.left

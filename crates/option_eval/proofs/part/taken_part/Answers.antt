@@ -1,0 +1,14 @@
+use Rattle.std.proofs.Common.{List, ℕ, Contains, arith, sym, subst}
+use Rattle.std.specs.Prelude.{⊤, ◌<◌, ◌^◌}
+use Rattle.option_eval.specs.Sets.{standing}
+use Rattle.option_eval.specs.States.{EachState}
+use Rattle.option_eval.specs.declared.states.States.{States}
+use Rattle.option_eval.proofs.part.taken_part.Goals as goal
+
+pub merged_states-requires : goal.merged_states-requires
+merged_states-requires c = record { small = subst (λ (s : States). EachState (λ v. ⊤) (λ v p. p < 2 ^ 63) s) (sym c.replace-taken.ensures.value) c.requires.small }
+
+pub returns-clause-many : goal.returns-clause-many
+returns-clause-many c = λ listed each.
+    let few = c.in_ok-part.ensures.few listed (subst (λ (s : States). EachState (λ v. ⊤) (λ v p. Contains listed (standing v p)) s) (sym c.replace-taken.ensures.value) each) in
+    omega (arith, few, c.place_count-held.ensures, c.if-held-le-PART_STANDINGS.false)

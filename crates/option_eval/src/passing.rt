@@ -1,0 +1,211 @@
+//! The way through all options of a rule.
+//!
+//! Up to the first extraction there is one state: no value, and the places to which the options so far lead.
+//! An extraction has a state for each of the value lists behind it. Each of them is gone on from alone, up to
+//! the next extraction, and the states behind that are then gone on from together. Where they become many, the
+//! rest of the options is tried from those that there are, and they are forgotten before there are more. So
+//! memory is bounded; states of two such parts may be the same, and are then gone on from twice.
+
+ghost use Rattle.std.specs.Prelude.{◌≡◌, ℕ, ◌+◌, ◌*◌, ◌<◌, ◌≤◌, ◌↔◌, ◌⊎◌, [], ◌∷◌, List, Option, Some, None, length, map, IsTrue, IfOk, IfSome, IfNone, MatchBool};
+ghost use Rattle.std.specs.List.{AllZip};
+ghost use Rattle.edge_io.specs.declared.pattern.Span.{Span};
+ghost use Rattle.option_eval.specs.Known.{known_at};
+ghost use Rattle.option_eval.specs.Numbers.{Standing};
+ghost use Rattle.option_eval.specs.Places.{Means};
+ghost use Rattle.option_eval.specs.Ready.{IsReady, pattern_of};
+ghost use Rattle.option_eval.specs.RuleSet.{IsMade};
+ghost use Rattle.option_eval.specs.States.{places_at, AreAmong, AreWithin, HaveValues, MatchesFromSome};
+ghost use Rattle.option_eval.specs.Walks.{MatchesFromOne, ExtractsNothing, HasEachValueList, visits_of, visits_apart, part_standings, behind_extraction};
+
+use crate::Steps;
+use crate::asked::Asked;
+use crate::kind::is_extract;
+use crate::known::{Known, has_free};
+use crate::made::Made;
+use crate::part::taken_part;
+use crate::states::States;
+use crate::walk::{Behind, is_state_walked, is_walked};
+use edge_io::{NoMemory, Pattern};
+use rule_types::Opt;
+use std::alloc::Global;
+use std::sync::ledger::Ledger;
+
+/// Whether a way leads through the options from the payload's start.
+pub(crate) fn is_passed<P: Pattern, L: Ledger>(
+    alloc: Global,
+    options: &[Opt],
+    made: &[Made<P>],
+    payload: &[u8],
+    visits: &mut Steps<L>,
+) -> Result<bool, NoMemory>
+    requires ready { AllZip IsReady options.now made.now }
+    ensures right { (means : Means) → AllZip (IsMade P.finds means) options.now (map pattern_of made.now)
+        → IfOk result (λ passed. IsTrue passed ↔ MatchesFromOne means payload.now options.now (0 ∷ 0 ∷ []) (0 ∷ [])) }
+    ensures bounded { ExtractsNothing options.now → visits.new ≤ visits.old + visits_of options.now (length payload.now) }
+    ensures bounded_by_values { (means : Means) → (lists : List (List ℕ)) → (listed : List Standing)
+        → AllZip (IsMade P.finds means) options.now (map pattern_of made.now)
+        → HasEachValueList means payload.now options.now lists (Some listed) → length listed ≤ part_standings
+        → visits.new ≤ visits.old + length lists * visits_of options.now (length payload.now) }
+    ensures bounded_in_parts { (means : Means) → (lists : List (List ℕ)) → AllZip (IsMade P.finds means) options.now (map pattern_of made.now)
+        → HasEachValueList means payload.now options.now lists None
+        → visits.new ≤ visits.old + visits_apart (length lists) options.now (length payload.now) }
+{
+    let mut behind = Behind {
+        states: States::new(alloc),
+        known: Known::nothing(alloc),
+    };
+    let at = Asked {
+        payload,
+        places: &[0],
+        values: &[0, 0],
+    };
+    if is_walked(alloc, options, made, &at, &mut behind, visits)? {
+        return Ok(true);
+    }
+    is_passed_behind(alloc, options, made, payload, behind.states, visits)
+}
+
+/// Whether a way leads through the options behind the first extraction, from some of the states there.
+#[cycle(parts)]
+fn is_passed_behind<P: Pattern, L: Ledger>(
+    alloc: Global,
+    options: &[Opt],
+    made: &[Made<P>],
+    payload: &[u8],
+    states: States,
+    visits: &mut Steps<L>,
+) -> Result<bool, NoMemory>
+    requires ready { AllZip IsReady options.now made.now }
+    requires within { AreWithin (length payload.now) states }
+    requires nowhere { ExtractsNothing options.now → (values : List ℕ) → places_at states values ≡ None }
+    ensures right { (means : Means) → AllZip (IsMade P.finds means) options.now (map pattern_of made.now)
+        → IfOk result (λ passed. IsTrue passed ↔ MatchesFromSome means payload.now (behind_extraction options.now) states) }
+    ensures unvisited { ExtractsNothing options.now → visits.new ≡ visits.old }
+    ensures bounded { (means : Means) → (lists : List (List ℕ)) → (listed : List Standing)
+        → AllZip (IsMade P.finds means) options.now (map pattern_of made.now)
+        → HaveValues means payload.now lists (Some listed) (behind_extraction options.now) states → length listed ≤ part_standings
+        → visits.new ≤ visits.old + length lists * visits_of (behind_extraction options.now) (length payload.now) }
+    ensures bounded_in_parts { (means : Means) → (lists : List (List ℕ)) → AllZip (IsMade P.finds means) options.now (map pattern_of made.now)
+        → HaveValues means payload.now lists None (behind_extraction options.now) states
+        → visits.new ≤ visits.old + length lists * visits_apart (length lists) (behind_extraction options.now) (length payload.now) }
+{
+    let Some((later, made_later)) = behind_extraction(options, made) else {
+        return Ok(false);
+    };
+    is_passed_from(alloc, later, made_later, payload, states, visits)
+}
+
+/// Whether a way leads through the options from some of the states.
+#[cycle(parts)]
+fn is_passed_from<P: Pattern, L: Ledger>(
+    alloc: Global,
+    options: &[Opt],
+    made: &[Made<P>],
+    payload: &[u8],
+    states: States,
+    visits: &mut Steps<L>,
+) -> Result<bool, NoMemory>
+    requires ready { AllZip IsReady options.now made.now }
+    requires within { AreWithin (length payload.now) states }
+    ensures right { (means : Means) → AllZip (IsMade P.finds means) options.now (map pattern_of made.now)
+        → IfOk result (λ passed. IsTrue passed ↔ MatchesFromSome means payload.now options.now states) }
+    ensures bounded { (means : Means) → (lists : List (List ℕ)) → (listed : List Standing)
+        → AllZip (IsMade P.finds means) options.now (map pattern_of made.now)
+        → HaveValues means payload.now lists (Some listed) options.now states → length listed ≤ part_standings
+        → visits.new ≤ visits.old + length lists * visits_of options.now (length payload.now) }
+    ensures bounded_in_parts { (means : Means) → (lists : List (List ℕ)) → AllZip (IsMade P.finds means) options.now (map pattern_of made.now)
+        → HaveValues means payload.now lists None options.now states
+        → visits.new ≤ visits.old + length lists * visits_apart (length lists) options.now (length payload.now) }
+{
+    let known = nothing_known(alloc, &states, options)?;
+    let mut behind = Behind {
+        states: States::new(alloc),
+        known,
+    };
+    let mut left = states;
+    while let Some(state) = left.take_first() {
+        let walked = is_state_walked(alloc, options, made, payload, state, &mut behind, visits)?;
+        if walked {
+            return Ok(true);
+        }
+        let passed = is_part_passed(alloc, options, made, payload, &mut behind.states, visits)?;
+        if passed {
+            return Ok(true);
+        }
+    }
+    is_passed_behind(alloc, options, made, payload, behind.states, visits)
+}
+
+/// Whether a way leads through the options behind the first extraction from the states there, if they are a
+/// part. Then they are forgotten.
+#[cycle(parts)]
+fn is_part_passed<P: Pattern, L: Ledger>(
+    alloc: Global,
+    options: &[Opt],
+    made: &[Made<P>],
+    payload: &[u8],
+    states: &mut States,
+    visits: &mut Steps<L>,
+) -> Result<bool, NoMemory>
+    requires ready { AllZip IsReady options.now made.now }
+    requires within { AreWithin (length payload.now) states.old }
+    requires nowhere { ExtractsNothing options.now → (values : List ℕ) → places_at states.old values ≡ None }
+    ensures right { (means : Means) → AllZip (IsMade P.finds means) options.now (map pattern_of made.now)
+        → IfOk result (λ passed. MatchBool passed (MatchesFromSome means payload.now (behind_extraction options.now) states.old)
+        (MatchesFromSome means payload.now (behind_extraction options.now) states.old
+        → MatchesFromSome means payload.now (behind_extraction options.now) states.new)) }
+    ensures among { IfOk result (λ passed. AreAmong states.new states.old) }
+    ensures few { IfOk result (λ passed. states.new.place_count ≤ 2 * part_standings) }
+    ensures bounded { (means : Means) → (lists : List (List ℕ)) → (listed : List Standing)
+        → HaveValues means payload.now lists (Some listed) (behind_extraction options.now) states.old → length listed ≤ part_standings
+        → visits.new ≡ visits.old }
+    ensures bounded_in_parts { (means : Means) → (lists : List (List ℕ)) → AllZip (IsMade P.finds means) options.now (map pattern_of made.now)
+        → HaveValues means payload.now lists None (behind_extraction options.now) states.old
+        → visits.new ≤ visits.old + length lists * visits_apart (length lists) (behind_extraction options.now) (length payload.now) }
+    ensures forgotten { IfOk result (λ passed. (visits.new ≡ visits.old) ⊎ ((values : List ℕ) → places_at states.new values ≡ None)) }
+{
+    let part = taken_part(alloc, states)?;
+    match part {
+        None => Ok(false),
+        Some(taken) => is_passed_behind(alloc, options, made, payload, taken, visits),
+    }
+}
+
+/// Nothing is known yet of options. It is kept only where there are several states, and an option that leads
+/// alike from each.
+fn nothing_known(alloc: Global, states: &States, options: &[Opt]) -> Result<Known, NoMemory>
+    ensures { IfOk result (λ known. (left : ℕ) → known_at known left ≡ None) }
+{
+    if states.are_many() && has_free(options) {
+        Known::of(alloc, options.len())
+    } else {
+        Ok(Known::nothing(alloc))
+    }
+}
+
+/// The options behind the first that extracts a value, and what was made of them.
+fn behind_extraction<'a, 'b, P>(
+    options: &'a [Opt],
+    made: &'b [Made<P>],
+) -> Option<(&'a [Opt], &'b [Made<P>])>
+    requires ready { AllZip IsReady options.now made.now }
+    ensures none { IfNone result (ExtractsNothing options.now) }
+    ensures some { IfSome result (λ behind. ¬ ExtractsNothing options.now) }
+    ensures options { IfSome result (λ behind. behind.0.now ≡ behind_extraction options.now) }
+    ensures fewer { IfSome result (λ behind. length behind.0.now < length options.now) }
+    ensures ready { IfSome result (λ behind. AllZip IsReady behind.0.now behind.1.now) }
+    ensures made { (finds : P → List ℕ → Option Span) → (means : Means) → AllZip (IsMade finds means) options.now (map pattern_of made.now)
+        → IfSome result (λ behind. AllZip (IsMade finds means) behind.0.now (map pattern_of behind.1.now)) }
+{
+    let [option, later @ ..] = options else {
+        return None;
+    };
+    let [_, made_later @ ..] = made else {
+        return None;
+    };
+    if is_extract(option) {
+        Some((later, made_later))
+    } else {
+        behind_extraction(later, made_later)
+    }
+}
