@@ -5,4 +5,5 @@ pub mod Stepping
 pub mod Standing
 pub mod One
 pub mod Wholes
+pub mod Few
 pub mod Configuring

@@ -1,5 +1,5 @@
 //! The setup: configuration, rule lines and host table, in this order.
-ghost use Rattle.std.specs.Prelude.{◌≡◌, ◌≤◌, All, IfOk, IfErr, Some};
+ghost use Rattle.std.specs.Prelude.{◌≡◌, ◌≤◌, All, IfOk, IfErr, Some, length};
 ghost use Rattle.edge_io.specs.Files.{Files};
 ghost use Rattle.edge_io.specs.Told.{Rose};
 ghost use Rattle.conf_types.specs.Sound as conf;
@@ -7,6 +7,7 @@ ghost use Rattle.conf_parser.specs.Reading.{Ended};
 ghost use Rattle.rule_types.specs.Sound.{IsSound};
 ghost use Rattle.option_eval.specs.RuleSet.{FindWhatIsMeant, SameMeaning};
 ghost use Rattle.snort_setup.specs.Words.{words_of, Words, HasName};
+ghost use Rattle.snort_setup.specs.Rules.{most_rules};
 ghost use Rattle.snort_setup.specs.Answers.{SetsUp, HasCause, HasOneSetup};
 ghost use Rattle.snort_setup.specs.Stages.{IsConfigured};
 ghost use Rattle.snort_setup.specs.Whole.{RuledGives, IsRulesStop, ruled_of, ready_of};
@@ -54,6 +55,7 @@ fn read_ruled<M: PatternMaker>(
     ensures grows { Grows (M.refusals maker.old) (M.refusals maker.new) }
     ensures config { IfOk result (λ ruled. conf.IsSound ruled.config) }
     ensures rules { IfOk result (λ ruled. All (IsSound ruled.config.classes) ruled.set.rules) }
+    ensures few { IfOk result (λ ruled. length ruled.set.rules ≤ most_rules) }
     ensures meant { IfOk result (λ ruled. FindWhatIsMeant M.Made.finds (M.means maker.old) ruled.set) }
     ensures same_meaning { SameMeaning (M.means maker.old) (M.means maker.new) }
 {
@@ -99,9 +101,10 @@ pub fn read_setup<H: Host, M: PatternMaker>(
     ensures one { HasOneSetup }
     ensures cause { IfErr result (HasCause (Rose (H.faults host.old) (H.faults host.new)) (H.contents host.old)) }
 
-    // What is ready is sound, and its patterns find what they mean.
+    // What is ready is sound, with at most 65536 rules, and its patterns find what they mean.
     ensures config { IfOk result (λ setup. conf.IsSound setup.config) }
     ensures rules { IfOk result (λ setup. All (IsSound setup.config.classes) setup.set.rules) }
+    ensures few { IfOk result (λ setup. length setup.set.rules ≤ most_rules) }
     ensures meant { IfOk result (λ setup. FindWhatIsMeant M.Made.finds (M.means maker.old) setup.set) }
 
     // The host is as before, but for its count, and the maker but for what it refused.

@@ -1,9 +1,12 @@
-use Rattle.std.proofs.Common.{ℕ, List, subst}
+use Rattle.std.proofs.Common.{ℕ, ◌≤◌, List, length, sym, subst}
 use Rattle.std.proofs.lemmas.Result.{err_from_is_err_and}
+use Rattle.option_eval.specs.RuleSet.{Rules}
+use Rattle.snort_setup.specs.Rules.{most_rules}
 use Rattle.snort_setup.specs.Setup.{frame_of}
 use Rattle.snort_setup.specs.Lines.{end_of, RulesAnswer}
 use Rattle.snort_setup.specs.Steps.{grown_by}
 use Rattle.snort_setup.specs.Whole.{ruled_of}
+use Rattle.snort_setup.proofs.Few.{answer-few}
 use Rattle.snort_setup.proofs.Wholes.{ruled-ready, ruled-refused, ruled-none}
 use Rattle.snort_setup.proofs.setup.read_ruled.Goals as goal
 
@@ -25,3 +28,7 @@ returns-clause-gives g c = λ words same ended is.
     ruled-ready (ruled_of {P = g.row.M-Made.Denot}) words c.args.skips same c.args.configured c.args.warnings.now ended is grown (end_of c.in_ok-end.end)
     (subst (λ (before : List (List ℕ)). RulesAnswer (frame_of c.args.skips c.args.configured.vars c.args.configured.loaded) c.args.configured.loaded.rules before grown (end_of c.in_ok-end.end)) c.replace-before.ensures.value c.in_ok-end.ensures.answer)
     c.in-None.is _ (λ i. record { config = c.args.configured.loaded.config; rules = (c.into_set.ensures i).rules })
+
+pub returns-clause-few : goal.returns-clause-few
+returns-clause-few g c =
+    subst (λ (set : Rules g.row.M-Made.Denot). length set.rules ≤ most_rules) (sym c.into_set.ensures) (answer-few _ _ _ _ (end_of c.in_ok-end.end) c.in_ok-end.ensures.answer)

@@ -1,0 +1,80 @@
+-- Rule lines give no more rules than there may be.
+use Rattle.std.proofs.Common.{◌≡◌, ℕ, ◌+◌, ◌≤◌, Bool, true, false, cond, ◌&&◌, Some, Result, Ok, Err, List, [], ◌∷◌, ◌++◌, length, refl, sym, ap, subst, ◌∙◌, arith, length-append, inl, inr}
+use Rattle.std.specs.Prelude.{nat_le}
+use Rattle.std.specs.Result.{MatchResult}
+use Rattle.std.proofs.lemmas.Bool.{leb-false}
+use Rattle.edge_io.specs.declared.pattern.Refusal.{Refusal}
+use Rattle.conf_parser.specs.declared.line.Line.{Line}
+use Rattle.rule_parser.specs.declared.fault.RuleFault.{RuleFault}
+use Rattle.rule_parser.specs.declared.fault.RuleKind.TheVariants as kind
+use Rattle.rule_parser.specs.Faults.{plain}
+use Rattle.rule_types.specs.declared.rule.Rule.{Rule}
+use Rattle.snort_setup.specs.Rules.{Frame, Standing, Verdict, RulesEnd, end_at, nothing_stands, is_taken, most_rules, judged, is_among, LineGives, RulesGive, is_skippable, rule_warning, rule_error, with_warning, behind_fault, behind_line}
+use Rattle.snort_setup.specs.Lines.{RulesAnswer}
+
+-- ---- one line
+
+-- a rule that is accepted finds room
+judged-few : (rules : List Rule) (is_refused : Bool) (rule other : Rule) → judged rules is_refused rule ≡ Ok other → length rules + 1 ≤ most_rules
+unfolding judged
+judged-few rules is_refused rule other = go (is_taken rules rule) (nat_le most_rules (length rules)) is_refused refl where
+  go : (taken full refused : Bool) → nat_le most_rules (length rules) ≡ full
+      → cond taken (Err (plain kind.DuplicateSid)) (cond full (Err (plain kind.Limit)) (cond refused (Err (plain kind.PatternRefused)) (Ok rule))) ≡ Ok other → length rules + 1 ≤ most_rules
+  go true full refused is accepted = absurd cc
+  go false true refused is accepted = absurd cc
+  go false false refused is accepted = omega (arith, leb-false most_rules (length rules) is)
+
+-- and so does the rule of a line
+line-few : (frame : Frame) (standing : Standing) (is_refused : Bool) (text : List ℕ) (verdict : Verdict) (rule : Rule) → LineGives frame standing is_refused text verdict → verdict.rule ≡ Ok rule → length standing.rules + 1 ≤ most_rules
+unfolding LineGives
+line-few frame standing is_refused text verdict rule (inl (read, later, is, same)) accepted =
+    judged-few standing.rules is_refused read rule (sym (ap (λ (v : Verdict). v.rule) same) ∙ accepted)
+line-few frame standing is_refused text verdict rule (inr (fault, faulty, same)) accepted =
+    let never : ◌≡◌ {A = Result Rule RuleFault} (Err fault) (Ok rule) = sym (ap (λ (v : Verdict). v.rule) same) ∙ accepted in cc
+
+-- what goes on is what stands
+same-standing : (a b : Standing) → ◌≡◌ {A = Result Standing (List ℕ)} (Ok a) (Ok b) → a ≡ b
+same-standing a b same = cc
+
+-- a line that is skipped leaves the rules as they are
+skipped-few : (frame : Frame) (line : Line) (standing behind : Standing) (fault : RuleFault) → length standing.rules ≤ most_rules → behind_fault frame line standing fault ≡ Ok behind → length behind.rules ≤ most_rules
+unfolding behind_fault
+skipped-few frame line standing behind fault few = go (frame.skips && is_skippable fault.kind) where
+  go : (skips : Bool) → cond skips (Ok (with_warning standing (rule_warning frame line fault))) (Err (rule_error frame line fault)) ≡ Ok behind → length behind.rules ≤ most_rules
+  go true same = subst (λ (s : Standing). length s.rules ≤ most_rules) (same-standing (with_warning standing (rule_warning frame line fault)) behind same) few
+  go false same = absurd cc
+
+-- what stands behind a line that gives this
+given-few : (frame : Frame) (line : Line) (standing behind : Standing) (names : List (List ℕ)) (given : Result Rule RuleFault)
+    → ((rule : Rule) → given ≡ Ok rule → length standing.rules + 1 ≤ most_rules) → length standing.rules ≤ most_rules
+    → behind_line frame line standing (record { rule = given; names = names }) ≡ Ok behind → length behind.rules ≤ most_rules
+unfolding behind_line
+given-few frame line standing behind names (Ok rule) room few same =
+    let next : Standing = record { names = names; rules = standing.rules ++ rule ∷ []; warnings = standing.warnings } in
+    let longer : length next.rules ≤ most_rules = omega (arith, room rule refl, length-append standing.rules (rule ∷ [])) in
+    subst (λ (s : Standing). length s.rules ≤ most_rules) (same-standing next behind same) longer
+given-few frame line standing behind names (Err fault) room few same = skipped-few frame line (record standing { names = names }) behind fault few same
+
+behind-few : (frame : Frame) (line : Line) (standing behind : Standing) (is_refused : Bool) (verdict : Verdict) → LineGives frame standing is_refused line.text verdict → length standing.rules ≤ most_rules
+    → behind_line frame line standing verdict ≡ Ok behind → length behind.rules ≤ most_rules
+unfolding behind_line
+behind-few frame line standing behind is_refused verdict gives few same =
+    given-few frame line standing behind verdict.names verdict.rule (λ rule accepted. line-few frame standing is_refused line.text verdict rule gives accepted) few same
+
+-- ---- all lines
+
+-- by one of two ways on
+on_either : {A B C : Type 0} (r : Result A B) (P : A → Type 0) (S : B → Type 0) → ((x : A) → r ≡ Ok x → P x → C) → ((y : B) → S y → C) → MatchResult r P S → C
+on_either (Ok x) P S ok err p = ok x refl p
+on_either (Err y) P S ok err p = err y p
+
+lines-few : (frame : Frame) (refused : List ℕ) (place : ℕ) (standing : Standing) (lines : List Line) (end : RulesEnd) → length standing.rules ≤ most_rules → RulesGive frame refused place standing lines end → length end.rules ≤ most_rules
+unfolding RulesGive
+lines-few frame refused place standing [] end few is = subst (λ (e : RulesEnd). length e.rules ≤ most_rules) (sym is) few
+lines-few frame refused place standing (line ∷ rest) end few (verdict, gives, on) =
+    on_either (behind_line frame line standing verdict) (λ behind. RulesGive frame refused (place + 1) behind rest end) (λ message. end ≡ end_at standing (Some message))
+    (λ behind same given. lines-few frame refused (place + 1) behind rest end (behind-few frame line standing behind (is_among refused place) verdict gives few same) given)
+    (λ message is. subst (λ (e : RulesEnd). length e.rules ≤ most_rules) (sym is) few) on
+
+pub answer-few : (frame : Frame) (lines : List Line) (warnings : List (List ℕ)) (grown : List Refusal) (end : RulesEnd) → RulesAnswer frame lines warnings grown end → length end.rules ≤ most_rules
+answer-few frame lines warnings grown end answer = lines-few frame answer.refused 0 (nothing_stands warnings) lines end (omega arith) answer.gives
