@@ -21,8 +21,8 @@ use Rattle.snort_engine.specs.Outside.{Work, WritesPart}
 use Rattle.snort_engine.specs.ReadAhead.{IsApart, ReadsAhead, ReadsAheadOn}
 use Rattle.snort_engine.specs.Ending.{Ends}
 use Rattle.snort_engine.specs.Stop.{outcome_status, outcome_text, stop_text}
-use Rattle.snort_engine.specs.Watching.{IsShowStop}
-use Rattle.snort_engine.proofs.Finishing.{ends_lacking, ends_met, ends_unwritten}
+use Rattle.snort_engine.specs.Watching.{IsWriteStop}
+use Rattle.snort_engine.proofs.Finishing.{ends_met, ends_unwritten}
 
 -- ---- lines
 
@@ -90,7 +90,7 @@ ahead_lists files course lines before after ended lists own =
 -- the lines were written whole, or a part of them
 pub listed_ends : (files : Files) (course : Course) (lines : List ℕ) (before after : Work) (outcome : Result (Unit {0}) Stop) → course.way ≡ Lists lines
     → after.left ≡ before.left → after.opens ≡ before.opens
-    → OnOk outcome (after.alerts ≡ behind before.alerts lines) → OnErr outcome (WritesPart before.alerts lines after.alerts) → IfErr outcome IsShowStop
+    → OnOk outcome (after.alerts ≡ behind before.alerts lines) → OnErr outcome (WritesPart before.alerts lines after.alerts) → IfErr outcome IsWriteStop
     → Ends files course before after (outcome_status outcome) (concat course.warnings ++ outcome_text [] outcome)
 unfolding stop_text
 listed_ends files course lines before after (Ok done) lists left opens whole part kind =
@@ -106,21 +106,15 @@ listed_ends files course lines before after (Err stop.CannotWrite) lists left op
     ends_unwritten files course before after
     (subst (λ (x : List ℕ). WritesPart before.alerts x after.alerts) (sym (ap (λ (way : Way). (way_answer files (concat course.warnings) way).alerts) lists)) part)
     (ahead_lists files course lines before after status.WriteFault lists (apart before after status.WriteFault left opens (λ is. cc)))
-listed_ends files course lines before after (Err stop.NoMemory) lists left opens whole part kind =
-    ends_lacking files course before after
-    (subst (λ (x : List ℕ). WritesPart before.alerts x after.alerts) (sym (ap (λ (way : Way). (way_answer files (concat course.warnings) way).alerts) lists)) part)
-    (ahead_lists files course lines before after status.NoMemory lists (apart before after status.NoMemory left opens (λ is. cc)))
 listed_ends files course lines before after (Err why) lists left opens whole part kind = absurd kind
 
 -- writing alone may have failed
-pub write_stop : {Risen : Type 0} (outcome : Result (Unit {0}) Stop) → IfErr outcome IsShowStop → (IsErrOf outcome stop.CannotWrite → Risen) → outcome_status outcome ≡ status.WriteFault → Risen
+pub write_stop : {Risen : Type 0} (outcome : Result (Unit {0}) Stop) → IfErr outcome IsWriteStop → (IsErrOf outcome stop.CannotWrite → Risen) → outcome_status outcome ≡ status.WriteFault → Risen
 write_stop (Ok done) kind risen is = absurd cc
 write_stop (Err stop.CannotWrite) kind risen is = risen refl
-write_stop (Err stop.NoMemory) kind risen is = absurd cc
 write_stop (Err why) kind risen is = absurd kind
 
-pub no_host_stop : (outcome : Result (Unit {0}) Stop) → IfErr outcome IsShowStop → outcome_status outcome ≡ status.HostFault → ⊥
+pub no_host_stop : (outcome : Result (Unit {0}) Stop) → IfErr outcome IsWriteStop → outcome_status outcome ≡ status.HostFault → ⊥
 no_host_stop (Ok done) kind is = cc
 no_host_stop (Err stop.CannotWrite) kind is = cc
-no_host_stop (Err stop.NoMemory) kind is = cc
 no_host_stop (Err why) kind is = absurd kind

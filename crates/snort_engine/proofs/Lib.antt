@@ -4,6 +4,7 @@ pub mod Limits
 pub mod LinesLaws
 pub mod Reading
 pub mod Opening
+pub mod Stops
 pub mod Texts
 pub mod Beside
 pub mod Showing

@@ -1,5 +1,5 @@
 -- What is known before a capture is opened, from what the words and the setup gave.
-use Rattle.std.proofs.Common.{◌≡◌, ℕ, Bool, true, false, List, [], Option, Some, None, Result, Ok, Err, length, refl, sym, ap, subst, ◌∙◌, arith, inl, inr, ⊎_elim}
+use Rattle.std.proofs.Common.{◌≡◌, ℕ, ◌≤◌, Bool, true, false, List, [], Option, Some, None, Result, Ok, Err, length, refl, sym, ap, subst, ◌∙◌, arith, inl, inr, ⊎_elim}
 use Rattle.std.specs.Prelude.{All, IfOk, IfErr, IsSome, if◌then◌else◌}
 use Rattle.edge_io.specs.declared.pattern.Span.{Span}
 use Rattle.option_eval.specs.Places.{Means}
@@ -18,6 +18,7 @@ use Rattle.snort_setup.specs.declared.setup.Setup.{Setup}
 use Rattle.snort_setup.specs.declared.stop.SetupStop.{SetupStop}
 use Rattle.snort_setup.specs.declared.stop.SetupStop.TheVariants as halted
 use Rattle.snort_setup.specs.Words.{Words}
+use Rattle.snort_setup.specs.Rules.{most_rules}
 use Rattle.snort_setup.specs.Setup.{Refused, Lacks, Ready, Warned, warned, IsSetup, conf_read}
 use Rattle.snort_setup.specs.Answers.{AreRefusedBy, Gives, HasCause as HasSetupCause}
 use Rattle.snort_setup.specs.Whole.{ready_of}
@@ -316,6 +317,11 @@ kept_ranges (Err why) lanes flush same ranged = tt
 pub kept_rules : {P : Type 0} (setup : Setup P) (answer : Result (code.Plan P) Stop) → KeepsSetup setup answer → All (IsSound setup.config.classes) setup.set.rules → IfOk answer (λ ready. All (IsSound ready.setup.config.classes) ready.setup.set.rules)
 kept_rules {P} setup (Ok prepared) kept sound = subst (λ (s : Setup P). All (IsSound s.config.classes) s.set.rules) (sym kept) sound
 kept_rules setup (Err why) kept sound = tt
+
+-- and few
+pub kept_few : {P : Type 0} (setup : Setup P) (answer : Result (code.Plan P) Stop) → KeepsSetup setup answer → length setup.set.rules ≤ most_rules → IfOk answer (λ ready. length ready.setup.set.rules ≤ most_rules)
+kept_few {P} setup (Ok prepared) kept few = subst (λ (s : Setup P). length s.set.rules ≤ most_rules) (sym kept) few
+kept_few setup (Err why) kept few = tt
 
 -- and its patterns find what is meant
 pub kept_meant : {P : Type 0} (finds : P → List ℕ → Option Span) (means : Means) (setup : Setup P) (answer : Result (code.Plan P) Stop) → KeepsSetup setup answer → FindWhatIsMeant finds means setup.set → IfOk answer (λ ready. FindWhatIsMeant finds means ready.setup.set)

@@ -5,11 +5,13 @@
 -- the capture's end, or a fault behind the records that were read; these are whole, whatever comes.
 -- To try it on: of three records and 3 bytes of a fourth's header, reading reaches three places and then
 -- Truncated, and the three records are all that are whole within the bytes taken.
-use Rattle.std.specs.Prelude.{ℕ, Bool, true, false, List, ◌++◌, Option, Result, Ok, Err}
+use Rattle.std.specs.Prelude.{◌≡◌, ◌⊎◌, ℕ, Bool, true, false, List, ◌++◌, Option, Some, Result, Ok, Err}
 use Rattle.record_jobs.specs.Way.{LinkedRecord}
 use Rattle.snort_engine.specs.declared.reader.RecordReader.{RecordReader}
+use Rattle.snort_engine.specs.declared.fault.ReadFault.{ReadFault}
+use Rattle.snort_engine.specs.declared.fault.ReadFault.TheVariants as fault
 use Rattle.snort_engine.specs.Records.{Clean}
-use Rattle.snort_engine.specs.Reader.{HasRead, AreWhole, EndsWith, IsRefusedBy}
+use Rattle.snort_engine.specs.Reader.{IsFresh, HasRead, AreWhole, EndsWith, IsRefusedBy, refusal_of}
 use Rattle.snort_engine.specs.declared.batch.Reached.{Reached}
 use Rattle.snort_engine.specs.declared.batch.Reached.TheVariants.{More, End, Fault}
 use Rattle.snort_engine.specs.declared.stop.Stop.{Stop}
@@ -41,6 +43,10 @@ abbrev pub ReadsOn : Place → Place → Reached → Type 0
 ReadsOn old new reached = (first : RecordReader) (shown : List LinkedRecord) (left_first : Option (List ℕ))
     → HasRead first old.reader (shown ++ old.records) left_first old.left
     → Reaches first (shown ++ new.records) left_first new reached
+
+-- a fault is what the reader refused; or memory was lacking for a record that the reader wasn't asked for
+abbrev pub IsFaultOf : RecordReader → ReadFault → Type 0
+IsFaultOf reader why = (refusal_of reader ≡ Some why) ⊎ ((why ≡ fault.NoMemory) × IsFresh reader)
 
 -- whether more records may follow, or how what was reached stops a run
 abbrev pub more_of : Reached → Result Bool Stop

@@ -4,13 +4,14 @@
 -- of records stands before each step, of which the lanes know what they must know to run the next jobs.
 -- To try it on: of a UDP packet whose flow has a rule's bit set by an earlier one, the second batch shows
 -- what it would show if both stood in one.
-use Rattle.std.specs.Prelude.{◌≡◌, ℕ, ◌≤◌, List, [], ◌++◌, Option, All}
+use Rattle.std.specs.Prelude.{◌≡◌, ℕ, ◌≤◌, List, [], ◌++◌, length, Option, All}
 use Rattle.edge_io.specs.Along.{trail, trail_from}
 use Rattle.edge_io.specs.Told.{behind}
 use Rattle.conf_types.specs.Sound as conf
 use Rattle.rule_types.specs.Sound.{IsSound}
 use Rattle.rule_types.specs.declared.rule.Rule.{Rule}
 use Rattle.fast_pattern.specs.Grouping.{StandFor}
+use Rattle.snort_setup.specs.Rules.{most_rules}
 use Rattle.flow_lanes.specs.declared.job.Job.{Job}
 use Rattle.flow_lanes.specs.Standing.{AreNew, LanesStand}
 use Rattle.record_jobs.specs.declared.counts.RecordCounts.{RecordCounts}
@@ -41,10 +42,12 @@ pub record IsRanged (lanes flush : ℕ) : Type 0 where
   pub least : 1 ≤ flush
   pub most : flush ≤ 65536
 
--- its configuration and its rules are sound, and its numbers in their ranges
+-- its configuration and its rules are sound, there are no more rules than a setup may have, and its numbers are in
+-- their ranges
 pub record IsSoundPlan {P : Type 0} (plan : code.Plan P) : Type 0 where
   pub config : conf.IsSound plan.setup.config
   pub rules : All (IsSound plan.setup.config.classes) plan.setup.set.rules
+  pub few : length plan.setup.set.rules ≤ most_rules
   pub ranges : IsRanged plan.lanes plan.flush
 
 -- ---- jobs

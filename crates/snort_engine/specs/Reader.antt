@@ -9,7 +9,7 @@
 -- To try it on: behind a section header, an interface and one packet, and 3 bytes of a further block, the
 -- first reader gives that packet and then Truncated; the bytes of all three were taken, and those 3, and the
 -- one record is all that is whole within them.
-use Rattle.std.specs.Prelude.{◌≡◌, ℕ, ◌+◌, ◌<◌, List, [], ◌∷◌, ◌++◌, Option, Some, None, Result, Ok, Err, ⊤, ◌⊎◌}
+use Rattle.std.specs.Prelude.{◌≡◌, ℕ, ◌+◌, ◌<◌, List, [], ◌∷◌, ◌++◌, Option, Some, None, option_map, Result, Ok, Err, ⊤, ◌⊎◌}
 use Rattle.edge_io.specs.Told.{before, one_more}
 use Rattle.edge_io.specs.Files.{Files}
 use Rattle.std.specs.FinMap.{get}
@@ -22,7 +22,8 @@ use Rattle.snort_engine.specs.declared.fault.ReadFault.{ReadFault}
 use Rattle.snort_engine.specs.declared.fault.ReadFault.TheVariants as fault
 use Rattle.snort_engine.specs.declared.reader.RecordReader.{RecordReader}
 use Rattle.snort_engine.specs.declared.reader.RecordReader.TheVariants.{Savefile, Blocks}
-use Rattle.snort_engine.specs.Records.{Ending, Clean, Refused, Recording, recording_of, recording_of_blocks, records_in, first_of}
+use Rattle.snort_engine.specs.Records.{Ending, Clean, Refused, Recording, of_savefile, of_blocks, recording_of, recording_of_blocks}
+use Rattle.snort_engine.specs.Records.{records_in, first_of}
 
 -- ---- a reader
 
@@ -30,6 +31,11 @@ use Rattle.snort_engine.specs.Records.{Ending, Clean, Refused, Recording, record
 abbrev pub IsFresh : RecordReader → Type 0
 IsFresh (Savefile reader) = reader.refused ≡ None
 IsFresh (Blocks reader) = reader.refused ≡ None
+
+-- what it has refused
+abbrev pub refusal_of : RecordReader → Option ReadFault
+refusal_of (Savefile reader) = option_map of_savefile reader.refused
+refusal_of (Blocks reader) = option_map of_blocks reader.refused
 
 -- how many records it has given
 abbrev pub number_of : RecordReader → ℕ

@@ -60,6 +60,11 @@ IsShowStop stop.CannotWrite = ⊤
 IsShowStop stop.NoMemory = ⊤
 IsShowStop why = ⊥
 
+-- what may stop the writing of lines, which takes no memory
+abbrev pub IsWriteStop : Stop → Type 0
+IsWriteStop stop.CannotWrite = ⊤
+IsWriteStop why = ⊥
+
 -- ---- the watching
 
 -- what is left of the capture and what was written, where they are told

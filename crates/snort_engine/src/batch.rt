@@ -2,7 +2,7 @@ ghost use Rattle.std.specs.Prelude.{◌≡◌, ◌≢◌, ◌+◌, ◌-◌, ◌<
 ghost use Rattle.edge_io.specs.Told.{Rose};
 ghost use Rattle.pcap_input.specs.Savefile.{most_records};
 ghost use Rattle.snort_engine.specs.Reader.{IsFresh, IsNext, number_of};
-ghost use Rattle.snort_engine.specs.Batch.{ReadsOn, more_of};
+ghost use Rattle.snort_engine.specs.Batch.{IsFaultOf, ReadsOn, more_of};
 ghost use Rattle.snort_engine.specs.Outside.{OnlyRead};
 ghost use Rattle.snort_engine.specs.Watching.{most_at, room_behind};
 
@@ -26,7 +26,7 @@ pub(crate) enum Reached {
     Fault(ReadFault),
 }
 
-/// Reads one record behind those that were read.
+/// Reads one record behind those that were read. Want of memory is nothing else: what the reader refuses is answered.
 #[tactic(auto, using(crate::proofs::Prefixes::reading))]
 fn read_one<H: Host>(
     alloc: Global,
@@ -41,6 +41,7 @@ fn read_one<H: Host>(
     ensures one { result ≡ Reached.More → vec_len records.new ≡ vec_len records.old + 1 }
     ensures none { result ≢ Reached.More → vec_len records.new ≡ vec_len records.old }
     ensures next { result ≡ Reached.More → IsFresh reader.new × IsNext reader.old reader.new }
+    ensures own { (why : ReadFault) → result ≡ Reached.Fault why → IsFaultOf reader.new why }
     ensures failed { result ≡ Reached.Fault ReadFault.Failed → Rose (H.faults host.old) (H.faults host.new) }
     ensures host { OnlyRead H.Host host.old host.new }
 {
@@ -102,6 +103,7 @@ pub(crate) fn read_batch<H: Host>(
     ensures within { result ≡ Reached.More → number_of reader.new ≤ most_records }
     ensures numbered { result ≡ Reached.More → number_of reader.new ≡ number_of reader.old + vec_len records.new }
     ensures filled { 0 < vec_len records.new → number_of reader.old + vec_len records.new ≤ most_records }
+    ensures own { (why : ReadFault) → result ≡ Reached.Fault why → IsFaultOf reader.new why }
     ensures failed { result ≡ Reached.Fault ReadFault.Failed → Rose (H.faults host.old) (H.faults host.new) }
     ensures host { OnlyRead H.Host host.old host.new }
 {

@@ -21,7 +21,9 @@ pub(crate) struct Counts {
     pub tries: u128,
 }
 
-/// A sum. No run is so long that one passes its type; want of memory stands for it.
+/// A sum. None passes its type, for which want of memory would stand: a capture has fewer than 2^32 records of at
+/// most 2^18 bytes, of which each is in at most one packet, one datagram and one stretch of a stream; so there are
+/// fewer than 2^52 items, and at most 2^16 rules are tried on each.
 pub(crate) fn sum(total: u128, more: u128) -> Result<u128, NoMemory>
     ensures { IfOk result (λ sum. sum ≡ total + more) }
 {

@@ -26,7 +26,6 @@ use edge_io::{Gate, NoMemory, Pattern, Sink};
 use fast_pattern::Groups;
 use flow_lanes::{Job, Lanes, Matches};
 use record_jobs::{Front, FrontConfig, RecordCounts};
-use rule_parser::Rule;
 use std::alloc::Global;
 use std::thread::Threads;
 
@@ -49,20 +48,6 @@ pub(crate) struct Detector {
     pub inspection: Inspection,
 }
 
-/// The most rules that groups are made of, and that a setup gives.
-const MOST_RULES: usize = 65_536;
-
-/// The groups of the rules of a setup.
-fn groups_of(alloc: Global, rules: &[Rule]) -> Result<Groups, NoMemory>
-    ensures { IfOk result (λ groups. StandFor groups rules.now) }
-{
-    // No setup gives more; its contract leaves that open.
-    if rules.len() > MOST_RULES {
-        return Err(NoMemory);
-    }
-    Groups::build(alloc, rules)
-}
-
 impl Inspection {
     /// No job was given yet.
     fn new<P>(alloc: Global, plan: &Plan<'_, P>) -> Result<Inspection, NoMemory>
@@ -72,7 +57,7 @@ impl Inspection {
         let rules = plan.setup.set.rules();
         Ok(Inspection {
             lanes: Lanes::new(alloc, plan.lanes, plan.flush, plan.setup.config.inserts)?,
-            groups: groups_of(alloc, rules)?,
+            groups: Groups::build(alloc, rules)?,
             events: Events::new(alloc, &plan.setup.config, rules)?,
             tries: 0,
             last: LinkedRecord::none(alloc),

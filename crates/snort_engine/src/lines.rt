@@ -8,7 +8,7 @@ ghost use Rattle.snort_engine.specs.Beside.{beside};
 ghost use Rattle.snort_engine.specs.Trace.{event_of};
 ghost use Rattle.snort_engine.specs.Lines.{text_of};
 ghost use Rattle.snort_engine.specs.Gathering.{Gathers};
-ghost use Rattle.snort_engine.specs.Watching.{IsShowStop};
+ghost use Rattle.snort_engine.specs.Watching.{IsShowStop, IsWriteStop};
 ghost use Rattle.snort_engine.specs.Showing.{ShowsPlaces, places_lines, subject_of};
 
 use crate::counts::sum;
@@ -36,12 +36,12 @@ pub(crate) struct Subject<'a> {
     pub head: &'a ItemHead,
 }
 
-/// Writes the lines that wait, whole.
+/// Writes the lines that wait, whole. Takes no memory.
 pub(crate) fn offer<A: Sink>(block: &mut Vec<u8>, alerts: &mut A) -> Result<(), Stop>
     ensures offered { OnOk result (A.written alerts.new ≡ behind (A.written alerts.old) block.old.items) }
     ensures emptied { OnOk result (block.new.items ≡ []) }
     ensures stopped { OnErr result (WritesPart (A.written alerts.old) block.old.items (A.written alerts.new)) }
-    ensures kind { IfErr result IsShowStop }
+    ensures kind { IfErr result IsWriteStop }
     ensures fault { IsErrOf result Stop.CannotWrite → Rose (A.faults alerts.old) (A.faults alerts.new) }
     ensures later { A.faults alerts.old ≤ A.faults alerts.new }
 {
@@ -60,7 +60,7 @@ fn offer_full<A: Sink>(block: &mut Vec<u8>, alerts: &mut A) -> Result<(), Stop>
         (record { written = A.written alerts.old; block = block.old.items })
         (record { written = A.written alerts.new; block = block.new.items })) }
     ensures stopped { OnErr result (WritesPart (A.written alerts.old) block.old.items (A.written alerts.new)) }
-    ensures kind { IfErr result IsShowStop }
+    ensures kind { IfErr result IsWriteStop }
     ensures fault { IsErrOf result Stop.CannotWrite → Rose (A.faults alerts.old) (A.faults alerts.new) }
     ensures later { A.faults alerts.old ≤ A.faults alerts.new }
 {

@@ -1,5 +1,5 @@
 //! What stands before a capture: the words, the configuration, the rules and the host table.
-ghost use Rattle.std.specs.Prelude.{◌≡◌, [], None, Some, Ok, map, string_bytes, All, IfOk, IfErr, IsSome};
+ghost use Rattle.std.specs.Prelude.{◌≡◌, ◌≤◌, [], None, Some, Ok, length, map, string_bytes, All, IfOk, IfErr, IsSome};
 ghost use Rattle.std.specs.Option.{option_map_or};
 ghost use Rattle.edge_io.specs.Files.{Files};
 ghost use Rattle.edge_io.specs.Told.{Rose};
@@ -11,6 +11,7 @@ ghost use Rattle.command_words.specs.Told.{run_of};
 ghost use Rattle.flow_lanes.specs.Hits.{Test};
 ghost use Rattle.snort_setup.specs.Words.{words_of, HasName};
 ghost use Rattle.snort_setup.specs.Answers as setup_specs;
+ghost use Rattle.snort_setup.specs.Rules.{most_rules};
 ghost use Rattle.snort_setup.specs.Steps.{grown_by, Grows};
 ghost use Rattle.snort_setup.specs.Whole.{ready_of};
 ghost use Rattle.snort_engine.specs.Course.{IsFileless, IsForMade, setup_words, checks_of, form_of, way_of};
@@ -138,6 +139,7 @@ fn set_up<H: Host, M: PatternMaker>(
     ensures cause { IfErr result (setup_specs.HasCause (Rose (H.faults host.old) (H.faults host.new)) (H.contents host.old)) }
     ensures config { IfOk result (λ setup. conf.IsSound setup.config) }
     ensures rules { IfOk result (λ setup. All (IsSound setup.config.classes) setup.set.rules) }
+    ensures few { IfOk result (λ setup. length setup.set.rules ≤ most_rules) }
     ensures meant { IfOk result (λ setup. FindWhatIsMeant M.Made.finds (M.means maker.old) setup.set) }
     ensures host { OnlyLoaded H.Host host.old host.new }
     ensures grows { Grows (M.refusals maker.old) (M.refusals maker.new) }
@@ -209,6 +211,7 @@ fn prepare_run<'a, H: Host, M: PatternMaker>(
     ensures cause { IfErr result (HasCause (Rose (H.faults host.old) (H.faults host.new)) (H.contents host.old)) }
     ensures config { IfOk result (λ ready. conf.IsSound ready.setup.config) }
     ensures rules { IfOk result (λ ready. All (IsSound ready.setup.config.classes) ready.setup.set.rules) }
+    ensures few { IfOk result (λ ready. length ready.setup.set.rules ≤ most_rules) }
     ensures ranges { IfOk result (λ ready. IsRanged ready.lanes ready.flush) }
     ensures meant { IfOk result (λ ready. FindWhatIsMeant M.Made.finds (M.means maker.old) ready.setup.set) }
     ensures host { OnlyLoaded H.Host host.old host.new }
@@ -246,6 +249,7 @@ pub(crate) fn prepare<'a, H: Host, M: PatternMaker>(
     ensures cause { IfErr result (HasCause (Rose (H.faults host.old) (H.faults host.new)) (H.contents host.old)) }
     ensures config { IfOk result (OfWatch (λ ready. conf.IsSound ready.setup.config)) }
     ensures rules { IfOk result (OfWatch (λ ready. All (IsSound ready.setup.config.classes) ready.setup.set.rules)) }
+    ensures few { IfOk result (OfWatch (λ ready. length ready.setup.set.rules ≤ most_rules)) }
     ensures ranges { IfOk result (OfWatch (λ ready. IsRanged ready.lanes ready.flush)) }
     ensures meant { IfOk result (OfWatch (λ ready. FindWhatIsMeant M.Made.finds (M.means maker.old) ready.setup.set)) }
 

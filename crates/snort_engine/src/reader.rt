@@ -1,12 +1,12 @@
 //! The reader of a run's capture, in either format.
-ghost use Rattle.std.specs.Prelude.{◌≡◌, ◌≢◌, ◌≤◌, ◌⊎◌, true, false, Some, None, IfOk, IsErrOf};
+ghost use Rattle.std.specs.Prelude.{◌≡◌, ◌≢◌, ◌≤◌, ◌⊎◌, true, false, Some, None, IfOk, IfErr, IsErrOf};
 ghost use Rattle.std.specs.FinMap.{get};
 ghost use Rattle.edge_io.specs.Told.{Rose};
 ghost use Rattle.edge_io.specs.Files.{Files, Lacks};
 ghost use Rattle.snort_engine.specs.declared.reader.RecordReader.TheVariants.{Savefile, Blocks};
 ghost use Rattle.snort_engine.specs.Outside.{OnlyRead};
 ghost use Rattle.snort_engine.specs.Trace.{no_record};
-ghost use Rattle.snort_engine.specs.Reader.{IsFresh, number_of, Gives, Opens, OpensSo};
+ghost use Rattle.snort_engine.specs.Reader.{IsFresh, number_of, refusal_of, Gives, Opens, OpensSo};
 
 use crate::fault::ReadFault;
 use edge_io::{Host, Link, Moment, Text};
@@ -104,6 +104,7 @@ impl RecordReader {
     ) -> Result<Option<LinkedRecord>, ReadFault>
         requires { IsFresh self.old }
         ensures gives { Gives self.old self.new result (H.left host.old) (H.left host.new) }
+        ensures refused { IfErr result (λ why. refusal_of self.new ≡ Some why) }
         ensures failed { IsErrOf result ReadFault.Failed → Rose (H.faults host.old) (H.faults host.new) }
         ensures host { OnlyRead H.Host host.old host.new }
     {
@@ -150,6 +151,7 @@ fn next_of_savefile<H: Host>(
 ) -> Result<Option<LinkedRecord>, ReadFault>
     requires { reader.old.refused ≡ None }
     ensures gives { Gives (Savefile reader.old) (Savefile reader.new) result (H.left host.old) (H.left host.new) }
+    ensures refused { IfErr result (λ why. refusal_of (Savefile reader.new) ≡ Some why) }
     ensures failed { IsErrOf result ReadFault.Failed → Rose (H.faults host.old) (H.faults host.new) }
     ensures host { OnlyRead H.Host host.old host.new }
 {
@@ -169,6 +171,7 @@ fn next_of_blocks<H: Host>(
 ) -> Result<Option<LinkedRecord>, ReadFault>
     requires { reader.old.refused ≡ None }
     ensures gives { Gives (Blocks reader.old) (Blocks reader.new) result (H.left host.old) (H.left host.new) }
+    ensures refused { IfErr result (λ why. refusal_of (Blocks reader.new) ≡ Some why) }
     ensures failed { IsErrOf result ReadFault.Failed → Rose (H.faults host.old) (H.faults host.new) }
     ensures host { OnlyRead H.Host host.old host.new }
 {

@@ -1,5 +1,7 @@
 -- What was reached, by the answer of `next`.
-use Rattle.std.proofs.Common.{[], ◌∷◌, ◌++◌, refl, ap, ◌∙◌}
+use Rattle.std.proofs.Common.{◌≡◌, [], ◌∷◌, ◌++◌, Some, refl, ap, ◌∙◌, inl, inr}
+use Rattle.snort_engine.specs.declared.fault.ReadFault.{ReadFault}
+use Rattle.snort_engine.specs.declared.fault.ReadFault.TheVariants.{NoMemory}
 use Rattle.snort_engine.specs.Batch.{Place}
 use Rattle.snort_engine.proofs.Batches.{reads_record, reads_end, reads_fault, reads_lacking}
 use Rattle.snort_engine.proofs.batch.read_one.Goals as goal
@@ -34,3 +36,13 @@ returns-in-Err-clause-reads g c =
     let old : Place = record { reader = c.args.reader.now; records = c.args.records.now.items; left = g.H.Host.left c.args.host.now } in
     let new : Place = record { reader = c.next.new.self; records = c.reserve.new.self.items; left = g.H.Host.left c.next.new.host } in
     reads_fault old new c.in-Err.why c.reserve.ensures.items c.in-Err.ensures.gives.0 c.in-Err.ensures.gives.1
+
+pub returns-then-is_err-clause-own : goal.returns-then-is_err-clause-own
+returns-then-is_err-clause-own g c = λ why is.
+    let lacking : why ≡ NoMemory = cc in
+    inr (lacking, c.requires)
+
+pub returns-in-Err-clause-own : goal.returns-in-Err-clause-own
+returns-in-Err-clause-own g c = λ why is.
+    let same : c.in-Err.why ≡ why = cc in
+    inl (c.in-Err.ensures.refused ∙ ap (λ (f : ReadFault). Some f) same)

@@ -6,6 +6,7 @@ use Rattle.snort_engine.specs.declared.stop.Stop.TheVariants.{CannotWrite}
 use Rattle.snort_engine.specs.Trace.{way_by}
 use Rattle.snort_engine.specs.Watching.{plan_of}
 use Rattle.snort_engine.proofs.Prefixes.{rose_since, same_stop}
+use Rattle.snort_engine.proofs.Stops.{write_kind}
 use Rattle.snort_engine.proofs.Detecting.{closed_nothing, closed_offered_part, closed_part, closed_whole, ready_closing, stands_on}
 use Rattle.snort_engine.proofs.detect.close.Goals as goal
 
@@ -45,3 +46,8 @@ returns-in_err-offer-clause-fault g c = λ is.
     let p = err_from_is_err_and c.from_residual-in_err-offer.result c.from_residual-in_err-offer.ensures.1 in
     let stop = sym p.2 ∙ same_stop c.from_residual-in_err-offer.result p.0 CannotWrite p.1 is in
     rose_since _ _ _ c.in_ok-run_jobs.ensures.later (c.in_err-offer.ensures.fault (ap (λ (why : Stop). Err why) stop))
+
+pub returns-in_err-offer-clause-kind : goal.returns-in_err-offer-clause-kind
+returns-in_err-offer-clause-kind g c =
+    let p = err_from_is_err_and c.from_residual-in_err-offer.result c.from_residual-in_err-offer.ensures.1 in
+    rw (p.1, p.2) (write_kind c.in_err-offer.field-0.0 c.in_err-offer.ensures.kind)

@@ -2,6 +2,7 @@ use Rattle.std.proofs.Common.{refl, arith}
 use Rattle.std.proofs.lemmas.Result.{err_from_is_err_and}
 use Rattle.snort_engine.specs.Trace.{way_by}
 use Rattle.snort_engine.specs.Watching.{plan_of}
+use Rattle.snort_engine.proofs.Stops.{write_kind}
 use Rattle.snort_engine.proofs.Detecting.{known_records, ready_records, records_nothing, records_offered_part, records_part, records_shown, stands_on}
 use Rattle.snort_engine.proofs.detect.show_records.Goals as goal
 
@@ -46,5 +47,10 @@ pub returns-clause-known : goal.returns-clause-known
 returns-clause-known g c =
     let makes = rw (c.front_config-by.ensures.way, c.deref.ensures.value) at c.in_ok-made.ensures.makes in
     let learns = rw c.deref-2.ensures.value at c.in_ok-run_jobs.ensures.learns in
-    rw c.take_back.ensures.same (known_records (way_by c.args.context.now.plan.now.checks c.args.context.now.plan.now.setup.hosts c.args.context.now.plan.now.setup.config) c.args.context.now.plan.now.setup.set.rules c.args.detector.now _ c.args.records.now.items c.in_ok-made.made.jobs.items
-    c.requires.known makes learns c.in_ok-run_jobs.ensures.groups_stay c.in_ok-offer.ensures.emptied)
+    known_records (way_by c.args.context.now.plan.now.checks c.args.context.now.plan.now.setup.hosts c.args.context.now.plan.now.setup.config) c.args.context.now.plan.now.setup.set.rules c.args.detector.now _ c.args.records.now.items c.in_ok-made.made.jobs.items
+    c.requires.known makes learns c.in_ok-run_jobs.ensures.groups_stay c.in_ok-offer.ensures.emptied
+
+pub returns-in_err-offer-clause-kind : goal.returns-in_err-offer-clause-kind
+returns-in_err-offer-clause-kind g c =
+    let p = err_from_is_err_and c.from_residual-in_err-offer.result c.from_residual-in_err-offer.ensures.1 in
+    rw (p.1, p.2) (write_kind c.in_err-offer.field-0.0 c.in_err-offer.ensures.kind)

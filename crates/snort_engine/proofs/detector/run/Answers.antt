@@ -9,6 +9,7 @@ pub watch_capture-outcome-requires-clause-plan : goal.watch_capture-outcome-requ
 watch_capture-outcome-requires-clause-plan g c κs within = record {
   config = rw c.in-Ok-Watch.field-0-is at c.in-Ok-Watch.ensures.config;
   rules = rw c.in-Ok-Watch.field-0-is at c.in-Ok-Watch.ensures.rules;
+  few = rw c.in-Ok-Watch.field-0-is at c.in-Ok-Watch.ensures.few;
   ranges = rw c.in-Ok-Watch.field-0-is at c.in-Ok-Watch.ensures.ranges;
 }
 

@@ -2,7 +2,7 @@ use Rattle.std.proofs.lemmas.Result.{err_from_is_err_and}
 use Rattle.command_words.specs.Told.{run_of}
 use Rattle.snort_setup.specs.Whole.{ready_of}
 use Rattle.snort_engine.specs.Preparing.{way_for}
-use Rattle.snort_engine.proofs.Prepared.{setup_stopped, setup_ready, setup_cause, kept_cause, kept_config, kept_ranges, kept_rules, kept_meant}
+use Rattle.snort_engine.proofs.Prepared.{setup_stopped, setup_ready, setup_cause, kept_cause, kept_config, kept_ranges, kept_rules, kept_few, kept_meant}
 use Rattle.snort_engine.proofs.prepare.prepare_run.Goals as goal
 
 pub returns-in_err-setup-clause-prepared : goal.returns-in_err-setup-clause-prepared
@@ -24,6 +24,9 @@ returns-clause-cause g c = kept_cause _ _ c.in_ok-setup.setup c.ready.result c.r
 
 pub returns-clause-rules : goal.returns-clause-rules
 returns-clause-rules g c = kept_rules c.in_ok-setup.setup c.ready.result c.ready.ensures.kept c.in_ok-setup.ensures.rules
+
+pub returns-clause-few : goal.returns-clause-few
+returns-clause-few g c = kept_few c.in_ok-setup.setup c.ready.result c.ready.ensures.kept c.in_ok-setup.ensures.few
 
 pub returns-clause-meant : goal.returns-clause-meant
 returns-clause-meant g c = kept_meant _ _ c.in_ok-setup.setup c.ready.result c.ready.ensures.kept c.in_ok-setup.ensures.meant

@@ -1,5 +1,6 @@
 -- What stands next, by the answer of the reader of blocks.
 use Rattle.snort_engine.proofs.Reading.{blocks_give, blocks_ended, blocks_stop}
+use Rattle.snort_engine.proofs.Stops.{blocks_keep}
 use Rattle.snort_engine.proofs.reader.next_of_blocks.Goals as goal
 
 pub returns-in-Ok-Some-clause-gives : goal.returns-in-Ok-Some-clause-gives
@@ -16,3 +17,6 @@ returns-in-Ok-None-clause-gives g c =
 pub returns-in-Err-clause-gives : goal.returns-in-Err-clause-gives
 returns-in-Err-clause-gives g c =
     blocks_stop c.args.reader.now c.next.new.self c.in-Err.why c.from.result _ _ c.from.ensures (c.in-Err.ensures.partial c.requires) (c.in-Err.ensures.gives c.requires)
+
+pub returns-in-Err-clause-refused : goal.returns-in-Err-clause-refused
+returns-in-Err-clause-refused g c = blocks_keep c.next.new.self c.in-Err.why c.from.result c.from.ensures c.in-Err.ensures.refused

@@ -1,5 +1,6 @@
 -- What stands next, by the answer of the savefile's reader.
 use Rattle.snort_engine.proofs.Reading.{savefile_gives, savefile_ended, savefile_stops}
+use Rattle.snort_engine.proofs.Stops.{savefile_keeps}
 use Rattle.snort_engine.proofs.reader.next_of_savefile.Goals as goal
 
 pub returns-in-Ok-Some-clause-gives : goal.returns-in-Ok-Some-clause-gives
@@ -17,3 +18,6 @@ returns-in-Ok-None-clause-gives g c =
 pub returns-in-Err-clause-gives : goal.returns-in-Err-clause-gives
 returns-in-Err-clause-gives g c =
     savefile_stops c.args.reader.now c.next.new.self c.in-Err.why c.from.result _ _ c.from.ensures (c.in-Err.ensures.partial c.requires) (c.in-Err.ensures.gives c.requires)
+
+pub returns-in-Err-clause-refused : goal.returns-in-Err-clause-refused
+returns-in-Err-clause-refused g c = savefile_keeps c.args.reader.now c.next.new.self c.in-Err.why c.from.result c.from.ensures c.in-Err.ensures.refused
