@@ -25,13 +25,14 @@ use Rattle.snort_engine.specs.Lines.{lines}
 use Rattle.snort_engine.specs.Answer.{Answer, answer_of, way_answer, capture_answer, recording_answer, fault_text, fault_status, ending_text, ending_status}
 use Rattle.snort_engine.specs.Messages.{cannot_read_text}
 use Rattle.snort_engine.specs.Outside.{Work, WritesPart}
-use Rattle.snort_engine.specs.ReadAhead.{batch, all_but, lines_due, IsReadAhead, ReadsAhead}
+use Rattle.snort_engine.specs.ReadAhead.{batch, all_but, lines_due, AreBatches, IsReadInBatches, IsReadAhead, ReadsAhead}
 use Rattle.snort_engine.specs.Ending.{IsAnswered, IsTakenOf, lines_within, IsCutShort, Ends}
 use Rattle.snort_engine.specs.Stop.{capture_stop, stop_status, stop_text, outcome_status, outcome_text}
 use Rattle.snort_engine.specs.Reporting.{counts_due}
-use Rattle.snort_engine.specs.Watching.{recording_by, lines_of, IsCutOff, IsCloseBehind, WatchesTo, WritesSome, Watches}
+use Rattle.snort_engine.specs.Watching.{recording_by, lines_of, IsReadOut, HasReadTo, IsCutOff, IsCloseBehind, WatchesTo, WritesSome, Watches}
 use Rattle.snort_engine.proofs.Prefixes.{IsPrefix-nil, WritesPart-none}
 use Rattle.snort_engine.proofs.LinesLaws.{lines_join, lines-nil, lines-none, no_counts-are}
+use Rattle.snort_engine.proofs.Limits.{batches_none}
 use Rattle.snort_engine.proofs.Opening.{few_hold_none}
 use Rattle.snort_engine.proofs.Recordings.{first_of-none}
 use Rattle.snort_engine.proofs.Finishing.{IsPlain, ends_met, ends_unread, ends_unwritten, ends_lacking, ahead_goes, ahead_cut}
@@ -122,8 +123,8 @@ no_other_file fault.NoMemory name is = cc
 -- ---- a capture that was refused at once, or not opened
 
 -- nothing was written, and no record is whole within what was taken of a capture that is open
-barely_ahead : (plan : Plan) (files : Files) (before after : Work) → after.alerts ≡ before.alerts → IsBarelyOpen (get files plan.source) after.left → IsReadAhead plan (get files plan.source) before after
-barely_ahead plan files before after same open_so = record {
+barely_ahead : (plan : Plan) (files : Files) (before after : Work) (ended : Status) → after.alerts ≡ before.alerts → IsBarelyOpen (get files plan.source) after.left → IsReadAhead plan (get files plan.source) before after ended
+barely_ahead plan files before after ended same open_so = record {
   taken = open_so.taken;
   rest = open_so.rest;
   of = open_so.of;
@@ -131,6 +132,7 @@ barely_ahead plan files before after same open_so = record {
   more = [];
   wrote = same ∙ sym (behind-nil before.alerts) ∙ ap (behind before.alerts) (sym (append-nil (lines_due plan open_so.taken) ∙ none_due plan open_so.taken open_so.none));
   within = none_over plan.limit open_so.taken open_so.none;
+  in_batches = λ is. inl (subst AreBatches (sym (open_so.none plan.limit)) batches_none);
 }
 
 -- a capture that is open so, or that isn't, where the host failed at it
@@ -165,7 +167,7 @@ open_ahead : (plan : Plan) (files : Files) (course : Course) (why : ReadFault) (
     → (ended ≡ status.HostFault) ⊎ (ended ≡ status.NoMemory) → IsOpenOr (get files plan.source) why after.left → ReadsAhead files course before after ended
 open_ahead plan files course why before after ended goes same cut takes =
     ⊎_elim
-    (λ (open_so : IsBarelyOpen (get files plan.source) after.left). ahead_goes files course plan before after ended goes (barely_ahead plan files before after same open_so))
+    (λ (open_so : IsBarelyOpen (get files plan.source) after.left). ahead_goes files course plan before after ended goes (barely_ahead plan files before after ended same open_so))
     (λ (nothing : (why ≡ fault.Failed) × (after.left ≡ None)). ahead_cut files course plan before after ended goes cut (inr (record { left = nothing.1; alerts = same })))
     takes
 
@@ -185,7 +187,7 @@ refused_ends plan files course why before after counts goes same counted plain o
     ends_met files course before after (fault_status why) (lines plan [] [] Closed) (text counts) plain
     (same ∙ sym (behind-nil before.alerts) ∙ ap (behind before.alerts) (sym (lines-none plan)))
     (subst (λ (m : List ℕ). IsAnswered (answer_of files course) (fault_status why) (lines plan [] [] Closed) m) (ap text (sym counted)) (answered (answer_of files course) _ is))
-    (ahead_goes files course plan before after (fault_status why) goes (barely_ahead plan files before after same open_so))
+    (ahead_goes files course plan before after (fault_status why) goes (barely_ahead plan files before after (fault_status why) same open_so))
 
 -- a capture that is lacking
 lacking_answered : (plan : Plan) (files : Files) (course : Course) → course.way ≡ Goes plan → get files plan.source ≡ None → IsAnswered (answer_of files course) status.HostFault [] (warned course ++ cannot_read_text plan.source)
@@ -261,13 +263,31 @@ pub record IsOpenCapture (plan : Plan) (files : Files) (course : Course) (left_f
   pub told : left_first ≡ Some rest
   pub begins : BeginsBehind front reader
 
+-- how far was read where a write failed
+written_to : (plan : Plan) (reader : RecordReader) (taken : List ℕ) (left : Option (List ℕ)) (failed : Type 0) (outcome : Result (Unit {0}) Stop) → outcome_status outcome ≡ status.WriteFault → HasReadTo plan reader taken left failed outcome
+    → AreBatches (recording_by plan reader taken).records ⊎ (IsReadOut plan reader taken left ⊎ failed)
+written_to plan reader taken left failed (Ok done) is to = absurd cc
+written_to plan reader taken left failed (Err stop.CannotRead) is to = absurd cc
+written_to plan reader taken left failed (Err stop.NoMemory) is to = absurd cc
+written_to plan reader taken left failed (Err stop.CannotWrite) is to = to
+written_to plan reader taken left failed (Err why) is to = absurd cc
+
+-- the same of the whole capture
+batches_behind : (plan : Plan) (front taken rest back : List ℕ) (reader : RecordReader) (left : Option (List ℕ)) (failed since : Type 0) → BeginsBehind front reader → left ≡ Some back → (front ++ taken) ++ rest ≡ front ++ back → (failed → since)
+    → AreBatches (recording_by plan reader taken).records ⊎ (IsReadOut plan reader taken left ⊎ failed) → IsReadInBatches plan (front ++ taken) rest since
+batches_behind plan front taken rest back reader left failed since begins told joined rises (inl whole) = inl (subst AreBatches (sym (records_behind plan front taken reader begins)) whole)
+batches_behind plan front taken rest back reader left failed since begins told joined rises (inr (inl out)) =
+    inr (inl (ap (λ (x : List ℕ). (records_of plan x).records) joined ∙ records_behind plan front back reader begins ∙ out back told ∙ sym (records_behind plan front taken reader begins)))
+batches_behind plan front taken rest back reader left failed since begins told joined rises (inr (inr rose)) = inr (inr (rises rose))
+
 -- the lines are close behind the records of a capture that was opened
-ahead_behind : (plan : Plan) (files : Files) (course : Course) (held : Option (List ℕ)) (bytes : List ℕ) (reader : RecordReader) (left_first : Option (List ℕ)) (before after : Work) → held ≡ Some bytes
+ahead_behind : (plan : Plan) (files : Files) (course : Course) (held : Option (List ℕ)) (bytes : List ℕ) (reader : RecordReader) (left_first : Option (List ℕ)) (before after : Work) (failed : Type 0) (outcome : Result (Unit {0}) Stop) → held ≡ Some bytes
     → IsOpenCapture plan files course left_first bytes reader
-    → IsCloseBehind plan reader (record { left = left_first; written = before.alerts }) (record { left = after.left; written = after.alerts })
-    → IsReadAhead plan held before after
+    → IsCloseBehind plan reader (record { left = left_first; written = before.alerts }) (record { left = after.left; written = after.alerts }) failed outcome
+    → (failed → Rose before.host_faults after.host_faults)
+    → IsReadAhead plan held before after (outcome_status outcome)
 unfolding lines_of lines_due
-ahead_behind plan files course held bytes reader left_first before after holds o close =
+ahead_behind plan files course held bytes reader left_first before after failed outcome holds o close rises =
     let split = split_told left_first after.left close.taken o.rest close.took o.told in
     let given = close.given in
     let last = close.last in
@@ -283,6 +303,8 @@ ahead_behind plan files course held bytes reader left_first before after holds o
       more = others ++ close.more;
       wrote = close.wrote ∙ ap (λ (x : List ℕ). behind before.alerts (x ++ close.more)) shown ∙ ap (behind before.alerts) (append_assoc (lines_due plan (o.front ++ close.taken)) others close.more);
       within = subst (AreWithin plan.limit) (sym (all_behind o.front close.taken reader o.begins)) close.within;
+      in_batches = λ is. batches_behind plan o.front close.taken split.rest o.rest reader left_first failed (Rose before.host_faults after.host_faults) o.begins o.told
+          (joined_behind o.front close.taken split.rest o.rest split.joined) rises (written_to plan reader close.taken left_first failed outcome is close.to);
     }
 
 -- the reading was cut off behind what the opening took
@@ -368,14 +390,15 @@ watched_by plan files course left_first left_last bytes reader before after coun
     (watched_ends plan files course left_first left_last bytes reader (Refused fault_then) before after counts o plain seen.2 (ahead (fault_status fault_then) (sym state))))
 
 -- a capture that was opened and watched
-pub capture_ends : (plan : Plan) (files : Files) (course : Course) (reader : RecordReader) (left_first : Option (List ℕ)) (before after : Work) (counts : Counts) (outcome : Result (Unit {0}) Stop)
+pub capture_ends : (plan : Plan) (files : Files) (course : Course) (reader : RecordReader) (left_first : Option (List ℕ)) (before after : Work) (counts : Counts) (failed : Type 0) (outcome : Result (Unit {0}) Stop)
     → course.way ≡ Goes plan
     → Opens (get files plan.source) (Ok reader) left_first
     → Watches plan reader (record { left = left_first; written = before.alerts }) (record { left = after.left; written = after.alerts }) counts outcome
-    → IsCloseBehind plan reader (record { left = left_first; written = before.alerts }) (record { left = after.left; written = after.alerts })
+    → IsCloseBehind plan reader (record { left = left_first; written = before.alerts }) (record { left = after.left; written = after.alerts }) failed outcome
+    → (failed → Rose before.host_faults after.host_faults)
     → (outcome_status outcome ≡ status.HostFault → Rose before.host_faults after.host_faults)
     → Ends files course before after (outcome_status outcome) (warned course ++ said plan outcome counts)
-capture_ends plan files course reader left_first before after counts outcome goes opens watches close risen =
+capture_ends plan files course reader left_first before after counts failed outcome goes opens watches close rises risen =
     let bytes = opens.front ++ opens.rest in
     let o : IsOpenCapture plan files course left_first bytes reader =
     record {
@@ -386,11 +409,11 @@ capture_ends plan files course reader left_first before after counts outcome goe
       told = opens.still;
       begins = opens.begins;
     } in
-    let ahead : IsReadAhead plan (get files plan.source) before after = ahead_behind plan files course (get files plan.source) bytes reader left_first before after opens.of o close in
+    let ahead : IsReadAhead plan (get files plan.source) before after (outcome_status outcome) = ahead_behind plan files course (get files plan.source) bytes reader left_first before after failed outcome opens.of o close rises in
     watched_by plan files course left_first after.left bytes reader before after counts outcome o watches
     (λ failed cut. cut_behind plan files course bytes reader left_first before after goes opens.of o cut)
     risen
-    (λ ended is. ahead_goes files course plan before after ended goes ahead)
+    (λ ended is. subst (λ (s : Status). ReadsAhead files course before after s) is (ahead_goes files course plan before after (outcome_status outcome) goes ahead))
 
 -- the capture was refused at once or not opened, and a run is stopped by that
 pub open_stops : (plan : Plan) (files : Files) (course : Course) (why : ReadFault) (before after : Work) (counts : Counts) (outcome : Result (Unit {0}) Stop) (stopped : Stop)

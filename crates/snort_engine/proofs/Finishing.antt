@@ -13,7 +13,7 @@ use Rattle.snort_engine.specs.Course.{Plan, Way, Stops, Goes, Makes, Lists, Cour
 use Rattle.snort_engine.specs.Answer.{answer_of}
 use Rattle.snort_engine.specs.Messages.{cannot_write_text, no_memory_text}
 use Rattle.snort_engine.specs.Outside.{Work, WritesPart}
-use Rattle.snort_engine.specs.ReadAhead.{IsUnopened, IsShut, IsReadAhead, IsApart, IsCutOff, ReadsAhead, ReadsAheadOn}
+use Rattle.snort_engine.specs.ReadAhead.{IsUnopened, IsShut, IsReadInBatches, IsReadAhead, IsApart, IsCutOff, ReadsAhead, ReadsAheadOn}
 use Rattle.snort_engine.specs.Ending.{IsStated, IsAnswered, IsCutShort, IsNoMemoryMessage, Ends}
 use Rattle.snort_engine.proofs.Prefixes.{IsPrefix-same, rose_since}
 
@@ -122,7 +122,7 @@ ahead_stops files course message status_then before after ended stops is unopene
     subst (λ (way : Way). ReadsAheadOn files way before after ended) (sym stops) (unopened, inl is)
 
 -- a course that goes on has read its capture
-pub ahead_goes : (files : Files) (course : Course) (plan : Plan) (before after : Work) (ended : Status) → course.way ≡ Goes plan → IsReadAhead plan (get files plan.source) before after → ReadsAhead files course before after ended
+pub ahead_goes : (files : Files) (course : Course) (plan : Plan) (before after : Work) (ended : Status) → course.way ≡ Goes plan → IsReadAhead plan (get files plan.source) before after ended → ReadsAhead files course before after ended
 unfolding ReadsAhead
 ahead_goes files course plan before after ended goes read =
     subst (λ (way : Way). ReadsAheadOn files way before after ended) (sym goes) (inl read)
@@ -146,7 +146,7 @@ ahead_lacking files course before after ended read = by_way course.way read
   where
     by_way : (way : Way) → ReadsAheadOn files way before after ended → ReadsAheadOn files way before after status.NoMemory
     by_way (Stops message status_then) (unopened, how) = (unopened, inr (inr refl))
-    by_way (Goes plan) (inl ahead) = inl ahead
+    by_way (Goes plan) (inl r) = inl (record { taken = r.taken; rest = r.rest; of = r.of; still = r.still; more = r.more; wrote = r.wrote; within = r.within; in_batches = λ is. absurd cc })
     by_way (Goes plan) (inr cut) = inr (inr refl, cut.1)
     by_way (Makes plan seed count) apart = record { left = apart.left; opens = apart.opens; no_host_fault = λ is. cc }
     by_way (Lists lines) apart = record { left = apart.left; opens = apart.opens; no_host_fault = λ is. cc }
@@ -201,9 +201,15 @@ ends_counted files course before after faults ended message since ends = record 
     cut_on : IsCutShort files course before after message → IsCutShort files course (counted before faults) after message
     cut_on c = record { plan = c.plan; goes = c.goes; taken = c.taken; of = c.of; wrote = c.wrote; says = c.says }
 
+    batches_on : (plan : Plan) (taken rest : List ℕ) → IsReadInBatches plan taken rest (Rose before.host_faults after.host_faults) → IsReadInBatches plan taken rest (Rose faults after.host_faults)
+    batches_on plan taken rest (inl whole) = inl whole
+    batches_on plan taken rest (inr (inl out)) = inr (inl out)
+    batches_on plan taken rest (inr (inr rose)) = inr (inr (rose_since faults before.host_faults after.host_faults since rose))
+
     by_way : (way : Way) → ReadsAheadOn files way before after ended → ReadsAheadOn files way (counted before faults) after ended
     by_way (Stops text status_then) (u, how) = (unopened_on u, how)
-    by_way (Goes plan) (inl r) = inl (record { taken = r.taken; rest = r.rest; of = r.of; still = r.still; more = r.more; wrote = r.wrote; within = r.within })
+    by_way (Goes plan) (inl r) =
+        inl (record { taken = r.taken; rest = r.rest; of = r.of; still = r.still; more = r.more; wrote = r.wrote; within = r.within; in_batches = λ is. batches_on plan r.taken r.rest (r.in_batches is) })
     by_way (Goes plan) (inr (cut, inl u)) = inr (cut, inl (unopened_on u))
     by_way (Goes plan) (inr (cut, inr s)) = inr (cut, inr (record { left = s.left; alerts = s.alerts }))
     by_way (Makes plan seed count) apart = record { left = apart.left; opens = apart.opens; no_host_fault = apart.no_host_fault }

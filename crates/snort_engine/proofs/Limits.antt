@@ -1,9 +1,11 @@
 -- What a limit leaves of a capture's records, behind those that were given.
 use Rattle.std.proofs.Common.{◌≡◌, ℕ, zero, suc, ◌+◌, ◌-◌, ◌<◌, ◌≤◌, List, [], ◌∷◌, ◌++◌, Option, Some, None, length, refl, sym, ap, ◌∙◌, arith, inl, inr, ◌⊎◌, ⊎_elim}
+use Rattle.std.proofs.lemmas.Bool.{cases_lt}
 use Rattle.std.proofs.lemmas.List.{append-nil, length-append}
 use Rattle.record_jobs.specs.Way.{LinkedRecord}
 use Rattle.snort_engine.specs.Records.{AreWithin, Recording, Ending, Clean, none_before, first_of}
 use Rattle.snort_engine.specs.Reader.{with_front}
+use Rattle.snort_engine.specs.ReadAhead.{batch, AreBatches}
 use Rattle.snort_engine.specs.Watching.{IsRoom, most_at, room_behind}
 use Rattle.snort_engine.proofs.Recordings.{with_first, first_of-none, first_of-zero, first_of-none_before, first_of-with_first}
 
@@ -105,3 +107,20 @@ room_further (Some limit) (Some room) given batch is few = omega (arith, is, few
 pub room_left : (room : Option ℕ) (count : ℕ) → count < most_at room → 0 < most_at (room_behind room count)
 room_left None count few = omega arith
 room_left (Some room) count few = omega (arith, few)
+
+-- ---- whole batches
+
+-- no record is one
+pub batches_none : AreBatches []
+batches_none = (0, refl)
+
+-- behind whole batches a full one ends another, or was the last that may be read
+pub batches_further : (room : Option ℕ) (given records : List LinkedRecord) → AreBatches given ⊎ (most_at room ≡ 0) → length records ≡ most_at room
+    → AreBatches (given ++ records) ⊎ (most_at (room_behind room (length records)) ≡ 0)
+batches_further None given records (inl (count, is)) full = inl (count + 1, omega (arith, is, full, length-append given records))
+batches_further None given records (inr none) full = absurd (omega (arith, none))
+batches_further (Some room) given records (inl (count, is)) full = ⊎_elim
+    (λ (short : room < batch). inr (omega (arith, short, full)))
+    (λ (long : batch ≤ room). inl (count + 1, omega (arith, is, full, long, length-append given records)))
+    (cases_lt room batch)
+batches_further (Some room) given records (inr none) full = inr (omega (arith, none, full))

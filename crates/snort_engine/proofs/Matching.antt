@@ -1,7 +1,7 @@
 -- The matches of jobs are shown in the place of all their items.
 use Rattle.std.proofs.Common.{◌≡◌, ℕ, ◌+◌, Bool, true, false, cond, List, [], ◌∷◌, ◌++◌, Option, length, map, refl, sym, ap, subst, ◌∙◌, arith, length-append}
 use Rattle.std.specs.Prelude.{sum_by}
-use Rattle.std.specs.List.{filter, flat_map}
+use Rattle.std.specs.List.{flat_map}
 use Rattle.std.proofs.lemmas.List.{append-nil, length-map}
 use Rattle.std.proofs.lemmas.List.Elements.{filter-append}
 use Rattle.std.proofs.lemmas.List.Sums.{sum_by-append}
@@ -17,11 +17,11 @@ use Rattle.flow_lanes.specs.ItemHits.{is_matched, matched, matched_entry}
 use Rattle.record_jobs.specs.Way.{LinkedRecord}
 use Rattle.snort_engine.specs.declared.events.Tally.{Tally}
 use Rattle.snort_engine.specs.declared.form.Form.{Form}
-use Rattle.snort_engine.specs.Beside.{Beside, beside, by_place, carried, whats}
+use Rattle.snort_engine.specs.Beside.{beside, by_place, carried, whats}
 use Rattle.snort_engine.specs.Counts.{hit_count}
 use Rattle.snort_engine.specs.Gathering.{Gathers}
 use Rattle.snort_engine.specs.Lines.{text_of, texts_from}
-use Rattle.snort_engine.specs.Matching.{AreMatchesOf, ShowsMatches, ShowsMatchesPart, matched_told}
+use Rattle.snort_engine.specs.Matching.{ShowsMatches, ShowsMatchesPart, matched_told}
 use Rattle.snort_engine.specs.Outside.{WritesPart}
 use Rattle.snort_engine.specs.Showing.{Showing, Shows, ShowsPart, Told, gathering_of, items_lines, tally_of}
 use Rattle.snort_engine.specs.Sourcing.{told_in}

@@ -1,6 +1,6 @@
 -- What the words of a command say is in its form: a variable that they define has a name, and numbers lie in
 -- their ranges.
-use Rattle.std.proofs.Common.{◌≡◌, ℕ, ◌≤◌, Bool, true, false, cond, not, ◌&&◌, List, [], ◌∷◌, Option, Some, None, length, ◌==◌, refl, ap, subst, arith}
+use Rattle.std.proofs.Common.{◌≡◌, ℕ, ◌≤◌, Bool, true, false, cond, not, ◌&&◌, List, Option, Some, None, length, ◌==◌, refl, ap, subst, arith}
 use Rattle.std.specs.Prelude.{drop, nat_le, codes}
 use Rattle.std.proofs.lemmas.Bool.Decides.{nat_tests}
 use Rattle.std.specs.Option.{option_map, option_and_then}

@@ -1,13 +1,13 @@
--- Runs that the headline refuses: one line short, one record too far ahead, one behind the limit, one opening
--- too many.
+-- Runs that the headline refuses: one line short, one record too far ahead, one after a write fault, one behind the
+-- limit, one opening too many.
 --
 -- The first and the last ones speak of any capture, the second of one whose first record alerts, and behind
 -- which a whole batch was taken. They show that the relations say something of such runs by themselves,
 -- whatever a body's proof looks like.
-use Rattle.std.proofs.Common.{◌≡◌, ℕ, ◌+◌, ◌-◌, ◌≤◌, List, [], ◌∷◌, ◌++◌, Option, Some, None, length, take, refl, sym, ap, subst, ◌∙◌, arith, ⊎_elim}
+use Rattle.std.proofs.Common.{◌≡◌, ℕ, ◌+◌, ◌-◌, ◌≤◌, List, [], ◌∷◌, ◌++◌, Option, Some, None, length, take, refl, sym, ap, subst, ◌∙◌, arith, inl, inr, ⊎_elim}
 use Rattle.std.specs.FinMap.{get}
 use Rattle.std.proofs.lemmas.List.{length-append, take_at}
-use Rattle.edge_io.specs.Told.{behind}
+use Rattle.edge_io.specs.Told.{behind, Rose}
 use Rattle.edge_io.specs.Files.{Files}
 use Rattle.option_eval.specs.Places.{Means}
 use Rattle.command_words.specs.CommandLine.{command_line}
@@ -19,7 +19,7 @@ use Rattle.snort_engine.specs.Trace.{Open}
 use Rattle.snort_engine.specs.Lines.{lines}
 use Rattle.snort_engine.specs.Answer.{answer_of}
 use Rattle.snort_engine.specs.Outside.{Outside, Work}
-use Rattle.snort_engine.specs.ReadAhead.{batch, all_but, lines_due, IsReadAhead, ReadsAhead, ReadsAheadOn}
+use Rattle.snort_engine.specs.ReadAhead.{batch, all_but, lines_due, IsReadInBatches, IsReadAhead, ReadsAhead, ReadsAheadOn}
 use Rattle.snort_engine.specs.Ending.{Ends}
 use Rattle.snort_engine.specs.Headline.{HasOther, Headline}
 
@@ -65,7 +65,7 @@ pub one_record_too_far : (files : Files) (course : Course) (plan : Plan) (before
 unfolding ReadsAhead behind
 one_record_too_far files course plan before after message old taken rest first others byte line goes held left are size alerts told wrote ends =
     ⊎_elim
-    (λ (r : IsReadAhead plan (get files plan.source) before after).
+    (λ (r : IsReadAhead plan (get files plan.source) before after status.WriteFault).
     let rests : r.rest ≡ rest = cc in
     let wholes : r.taken ++ r.rest ≡ taken ++ rest = cc in
     let takens : r.taken ≡ taken = same_front r.taken taken r.rest rest rests wholes in
@@ -78,6 +78,30 @@ one_record_too_far files course plan before after message old taken rest first o
     (λ cut. ⊎_elim (λ is. absurd cc) (λ is. absurd cc) cut.0)
     (subst (λ (way : Way). ReadsAheadOn files way before after status.WriteFault) goes ends.read_ahead)
 
+-- a batch and a record behind it were taken of a capture that has more, and the host did not fail: no run ends so at a
+-- write fault
+pub one_record_after_the_fault : (files : Files) (course : Course) (plan : Plan) (before after : Work) (message taken rest : List ℕ)
+    → course.way ≡ Goes plan → get files plan.source ≡ Some (taken ++ rest) → after.left ≡ Some rest
+    → length (records_of plan taken).records ≡ batch + 1 → batch + 2 ≤ length (records_of plan (taken ++ rest)).records
+    → (Rose before.host_faults after.host_faults → ⊥) → Ends files course before after status.WriteFault message → ⊥
+unfolding ReadsAhead
+one_record_after_the_fault files course plan before after message taken rest goes held left size more still ends =
+    ⊎_elim
+    (λ (r : IsReadAhead plan (get files plan.source) before after status.WriteFault).
+    let rests : r.rest ≡ rest = cc in
+    let wholes : r.taken ++ r.rest ≡ taken ++ rest = cc in
+    let takens : r.taken ≡ taken = same_front r.taken taken r.rest rest rests wholes in
+    let read = subst (λ (x : List ℕ). IsReadInBatches plan x rest (Rose before.host_faults after.host_faults)) takens
+    (subst (λ (x : List ℕ). IsReadInBatches plan r.taken x (Rose before.host_faults after.host_faults)) rests (r.in_batches refl)) in
+    refuted read)
+    (λ cut. ⊎_elim (λ is. absurd cc) (λ is. absurd cc) cut.0)
+    (subst (λ (way : Way). ReadsAheadOn files way before after status.WriteFault) goes ends.read_ahead)
+  where
+    refuted : IsReadInBatches plan taken rest (Rose before.host_faults after.host_faults) → ⊥
+    refuted (inl (count, is)) = absurd (omega (arith, is, size))
+    refuted (inr (inl out)) = let sizes : length (records_of plan (taken ++ rest)).records ≡ length (records_of plan taken).records = ap length out in absurd (omega (arith, sizes, size, more))
+    refuted (inr (inr rose)) = still rose
+
 -- a record behind the limit was read, whatever was written: no run ends so as Done
 pub one_record_past_the_limit : (files : Files) (course : Course) (plan : Plan) (before after : Work) (message taken rest : List ℕ) (limit : ℕ)
     → course.way ≡ Goes plan → get files plan.source ≡ Some (taken ++ rest) → after.left ≡ Some rest
@@ -85,7 +109,7 @@ pub one_record_past_the_limit : (files : Files) (course : Course) (plan : Plan) 
 unfolding ReadsAhead
 one_record_past_the_limit files course plan before after message taken rest limit goes held left limited more ends =
     ⊎_elim
-    (λ (r : IsReadAhead plan (get files plan.source) before after).
+    (λ (r : IsReadAhead plan (get files plan.source) before after status.Done).
     let rests : r.rest ≡ rest = cc in
     let wholes : r.taken ++ r.rest ≡ taken ++ rest = cc in
     let takens : r.taken ≡ taken = same_front r.taken taken r.rest rest rests wholes in

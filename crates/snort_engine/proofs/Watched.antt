@@ -1,5 +1,6 @@
 -- The steps of watching a capture.
-use Rattle.std.proofs.Common.{◌≡◌, ℕ, ◌<◌, ◌≤◌, Bool, true, false, List, [], ◌++◌, length, Option, Some, None, Result, Ok, Err, refl, sym, ap, subst, ◌∙◌, append_assoc, arith, ⊎_elim}
+use Rattle.std.proofs.Common.{◌≡◌, ℕ, ◌<◌, ◌≤◌, Bool, true, false, List, [], ◌++◌, length, Option, Some, None, Result, Ok, Err, refl, sym, ap, subst, ◌∙◌, append_assoc, arith, inl, inr, ◌⊎◌, ⊎_elim}
+use Rattle.std.specs.Prelude.{OnOk, OnErr}
 use Rattle.std.proofs.lemmas.List.{append-nil}
 use Rattle.edge_io.specs.Told.{behind}
 use Rattle.edge_io.proofs.Told.{behind-nil, behind-behind}
@@ -19,14 +20,14 @@ use Rattle.snort_engine.specs.Stop.{capture_stop, is_whole}
 use Rattle.snort_engine.specs.Trace.{Open, Closed}
 use Rattle.snort_engine.specs.Lines.{lines}
 use Rattle.snort_engine.specs.Counts.{counts_of}
-use Rattle.snort_engine.specs.Batch.{Place, HasStopped, Reaches, ReadsOn, more_of}
+use Rattle.snort_engine.specs.Batch.{Place, HasStopped, Reaches, ReadsOn, lacks_memory, more_of}
 use Rattle.snort_engine.specs.declared.batch.Reached.{Reached}
 use Rattle.snort_engine.specs.declared.batch.Reached.TheVariants.{More, End, Fault}
-use Rattle.snort_engine.specs.ReadAhead.{batch}
-use Rattle.snort_engine.specs.Detecting.{Closes, ClosesPart, DetectorStands, ShowsRecords, ShowsRecordsPart, closing_lines}
-use Rattle.snort_engine.specs.Watching.{Streams, Standing, lines_of, lines_left, IsRoom, most_at, room_behind, IsUnderWay, IsAtEnd, IsCutOff, IsCloseBehind, WritesSome, WatchesTo, Watches, Comes, ComesOver, GoesOn, IsShowStop, IsLeft, IsClosedWhole, IsClosedInPart, ClosesWatched}
+use Rattle.snort_engine.specs.ReadAhead.{batch, AreBatches}
+use Rattle.snort_engine.specs.Detecting.{Closes, ClosesPart, Detecting, DetectorStands, ShowsRecords, ShowsRecordsPart, closing_lines}
+use Rattle.snort_engine.specs.Watching.{Streams, Standing, lines_of, lines_left, recording_by, IsRoom, most_at, room_behind, IsReadOut, HasReadTo, IsUnderWay, IsAtEnd, IsCutOff, IsCloseBehind, WritesSome, WatchesTo, Watches, Comes, ComesOver, GoesOn, IsShowStop, IsLeft, IsClosedWhole, IsClosedInPart, ClosesWatched}
 use Rattle.snort_engine.proofs.Prefixes.{WritesPart-all, WritesPart-behind, WritesPart-longer}
-use Rattle.snort_engine.proofs.Limits.{first_of-front, below_limit, at_limit, within_limit, room_first, room_further, room_left, room_within}
+use Rattle.snort_engine.proofs.Limits.{first_of-front, below_limit, at_limit, within_limit, room_first, room_further, room_left, room_within, batches_none, batches_further}
 use Rattle.snort_engine.proofs.Reading.{reading-start, reading-told, reading-whole}
 use Rattle.snort_engine.proofs.LinesLaws.{lines_of-nil, lines_of-closed, lines_of-append}
 
@@ -37,6 +38,7 @@ under_way-start plan reader room detector old fresh all stands = record {
   given = [];
   read = reading-start reader old.left fresh;
   room_is = subst (λ (r : Option ℕ). IsRoom plan.limit 0 r) (sym all) (room_first plan.limit);
+  batches = inl batches_none;
   stands = stands;
   wrote = sym (behind-nil old.written) ∙ ap (behind old.written) (sym (lines_of-nil plan));
 }
@@ -70,6 +72,10 @@ part_of_all plan first reader room given old left new is read part whole told =
     let P : List ℕ → Type 0 = λ x. WritesPart old.written x new in
     subst P (sym all) (WritesPart-longer old.written new (lines_of plan given Open) _ part)
 
+-- a test has one answer
+not_both : (b : Bool) → b ≡ true → b ≡ false → ⊥
+not_both b yes_ no_ = let e : true ≡ false = sym yes_ ∙ no_ in cc
+
 -- ---- what was reached
 
 -- whatever was reached, reading stood at a reader behind the records, and went no record further
@@ -89,13 +95,79 @@ reached_behind : (plan : Plan) (first : RecordReader) (start : Streams) (old : S
 reached_behind plan first start old now reached going reads =
     reads first going.given start.left (subst (λ (given : List LinkedRecord). HasRead first old.reader given start.left old.streams.left) (sym (append-nil going.given)) going.read)
 
+-- ---- how far was read
+
+-- an ending behind records that were given, where more might have been read, is the plan's
+ended_by : (plan : Plan) (first : RecordReader) (room : Option ℕ) (given : List LinkedRecord) (left : Option (List ℕ)) (ending : Ending) → IsRoom plan.limit (length given) room → 0 < most_at room → EndsWith first given left ending
+    → (whole : List ℕ) → left ≡ Some whole → recording_by plan first whole ≡ record { records = given; ending = ending }
+ended_by plan first room given left ending is some ends = λ whole told. ap (first_of plan.limit) (ends whole told) ∙ below_limit plan.limit room given ending is some
+
+-- and so is the limit, where no more may be read
+limited_by : (plan : Plan) (first reader : RecordReader) (room : Option ℕ) (given : List LinkedRecord) (left_first left : Option (List ℕ)) → HasRead first reader given left_first left → IsRoom plan.limit (length given) room → most_at room ≡ 0
+    → (whole : List ℕ) → left_first ≡ Some whole → recording_by plan first whole ≡ record { records = given; ending = Clean }
+limited_by plan first reader room given left_first left read is none = λ whole told.
+    let found = reading-told first reader given left_first left whole read told in
+    ap (first_of plan.limit) found.2 ∙ at_limit plan.limit room given (recording_for reader found.0) is none
+
+-- then all is whole within what was taken
+out_by : (plan : Plan) (first : RecordReader) (given : List LinkedRecord) (ending : Ending) (taken : List ℕ) (left : Option (List ℕ)) → ((whole : List ℕ) → left ≡ Some whole → recording_by plan first whole ≡ record { records = given; ending = ending })
+    → (recording_by plan first taken).records ≡ given → IsReadOut plan first taken left
+out_by plan first given ending taken left ends are = λ whole told. ap (λ (r : Recording). r.records) (ends whole told) ∙ sym are
+
+module _ (plan : Plan) (first : RecordReader) (room : Option ℕ) (given : List LinkedRecord) (left : Option (List ℕ)) (failed : Type 0) (is : IsRoom plan.limit (length given) room) (some : 0 < most_at room) (taken : List ℕ)
+    (are : (recording_by plan first taken).records ≡ given) where
+  -- the capture ends
+  read_out : (ending : Ending) → EndsWith first given left ending → IsReadOut plan first taken left
+  read_out ending ends = out_by plan first given ending taken left (ended_by plan first room given left ending is some ends) are
+
+  -- or is refused, or couldn't be read on
+  fault_to : (why : ReadFault) → IsRefusedBy first given left why → HasReadTo plan first taken left failed (Err (capture_stop why))
+  fault_to fault.NotPcap ends = read_out (Refused fault.NotPcap) ends
+  fault_to (fault.LinkType link_type) ends = read_out (Refused (fault.LinkType link_type)) ends
+  fault_to (fault.Truncated place) ends = read_out (Refused (fault.Truncated place)) ends
+  fault_to (fault.BadBlock place) ends = read_out (Refused (fault.BadBlock place)) ends
+  fault_to (fault.TooLong place len) ends = read_out (Refused (fault.TooLong place len)) ends
+  fault_to fault.TooMany ends = read_out (Refused fault.TooMany) ends
+  fault_to fault.Failed ends = tt
+  fault_to fault.NoMemory ends = tt
+
+  -- where lines behind it weren't written, too
+  fault_unwritten : (why : ReadFault) → IsRefusedBy first given left why → (why ≡ fault.Failed → failed) → (why ≡ fault.NoMemory → ⊥) → IsReadOut plan first taken left ⊎ failed
+  fault_unwritten fault.NotPcap ends rose lacks = inl (read_out (Refused fault.NotPcap) ends)
+  fault_unwritten (fault.LinkType link_type) ends rose lacks = inl (read_out (Refused (fault.LinkType link_type)) ends)
+  fault_unwritten (fault.Truncated place) ends rose lacks = inl (read_out (Refused (fault.Truncated place)) ends)
+  fault_unwritten (fault.BadBlock place) ends rose lacks = inl (read_out (Refused (fault.BadBlock place)) ends)
+  fault_unwritten (fault.TooLong place len) ends rose lacks = inl (read_out (Refused (fault.TooLong place len)) ends)
+  fault_unwritten fault.TooMany ends rose lacks = inl (read_out (Refused fault.TooMany) ends)
+  fault_unwritten fault.Failed ends rose lacks = inr (rose refl)
+  fault_unwritten fault.NoMemory ends rose lacks = absurd (lacks refl)
+
+-- a batch was read whose lines weren't all written
+unwritten_to : (plan : Plan) (first : RecordReader) (room : Option ℕ) (given records : List LinkedRecord) (left_first : Option (List ℕ)) (now : Place) (reached : Reached) (failed : Type 0) (taken : List ℕ)
+    → IsRoom plan.limit (length (given ++ records)) (room_behind room (length records)) → AreBatches given ⊎ (most_at room ≡ 0)
+    → (reached ≡ More → length records ≡ most_at room) → ((reached ≡ More → ⊥) → length records < most_at room)
+    → (reached ≡ Fault fault.Failed → failed) → (reached ≡ Fault fault.NoMemory → ⊥) → Reaches first (given ++ records) left_first now reached
+    → (recording_by plan first taken).records ≡ given ++ records
+    → AreBatches (recording_by plan first taken).records ⊎ (IsReadOut plan first taken left_first ⊎ failed)
+unwritten_to plan first room given records left_first now More failed taken is batches full short rose lacks read are = ⊎_elim
+    (λ (whole : AreBatches (given ++ records)). inl (subst AreBatches (sym are) whole))
+    (λ (none : most_at (room_behind room (length records)) ≡ 0).
+    inr (inl (out_by plan first (given ++ records) Clean taken left_first (limited_by plan first now.reader (room_behind room (length records)) (given ++ records) left_first now.left read is none) are)))
+    (batches_further room given records batches (full refl))
+unwritten_to plan first room given records left_first now End failed taken is batches full short rose lacks (stopped, ends) are =
+    inr (inl (read_out plan first (room_behind room (length records)) (given ++ records) left_first failed is (room_left room (length records) (short (λ e. cc))) taken are Clean ends))
+unwritten_to plan first room given records left_first now (Fault why) failed taken is batches full short rose lacks (stopped, refused) are =
+    inr (fault_unwritten plan first (room_behind room (length records)) (given ++ records) left_first failed is (room_left room (length records) (short (λ e. cc))) taken are why refused
+    (λ same. rose (ap (λ (f : ReadFault). Fault f) same)) (λ same. lacks (ap (λ (f : ReadFault). Fault f) same)))
+
 -- ---- the end of all batches
 
 -- the lines of all whole records were written: they are close behind
-close_by : (plan : Plan) (first : RecordReader) (room : Option ℕ) (given : List LinkedRecord) (old after : Streams) → IsRoom plan.limit (length given) room
+close_by : (plan : Plan) (first : RecordReader) (room : Option ℕ) (given : List LinkedRecord) (old after : Streams) (failed : Type 0) (outcome : Result (Unit {0}) Stop) → IsRoom plan.limit (length given) room
     → after.written ≡ behind old.written (lines_of plan given Open) → AreWhole first given old.left after.left
-    → IsCloseBehind plan first old after
-close_by plan first room given old after is wrote whole = record {
+    → ((taken : List ℕ) → (recording_by plan first taken).records ≡ given → HasReadTo plan first taken old.left failed outcome)
+    → IsCloseBehind plan first old after failed outcome
+close_by plan first room given old after failed outcome is wrote whole to = record {
   taken = whole.taken;
   took = whole.took;
   given = given;
@@ -105,6 +177,7 @@ close_by plan first room given old after is wrote whole = record {
   more = [];
   wrote = wrote ∙ ap (behind old.written) (sym (append-nil (lines_of plan given Open)));
   within = subst (AreWithin plan.limit) (sym whole.are) (room_within plan.limit room given is);
+  to = to whole.taken (within_limit plan.limit room given (recording_for first whole.taken) is whole.are);
 }
 
 -- all records were given, where more might have been read
@@ -114,7 +187,7 @@ at_end : (plan : Plan) (first : RecordReader) (room : Option ℕ) (given : List 
     → EndsWith first given old.left ending → IsAtEnd plan first old after detector ending
 at_end plan first room given old after detector ending is some stands wrote ends = record {
   given = given;
-  ends = λ whole told. ap (first_of plan.limit) (ends whole told) ∙ below_limit plan.limit room given ending is some;
+  ends = ended_by plan first room given old.left ending is some ends;
   stands = stands;
   wrote = wrote;
 }
@@ -151,18 +224,13 @@ showing_stops plan first old after detector why kind some = absurd kind
 -- ---- a batch
 
 -- no record may be read any more
-pub nothing_left : (plan : Plan) (old : Standing) → most_at old.room ≡ 0 → GoesOn plan old old (Ok false)
-nothing_left plan old none = λ first start going.
-    let stopped = reading-whole first old.reader going.given start.left old.streams.left going.read in (
-      record {
-        given = going.given;
-        ends = λ whole told.
-            let found = reading-told first old.reader going.given start.left old.streams.left whole going.read told in
-            ap (first_of plan.limit) found.2 ∙ at_limit plan.limit old.room going.given (recording_for old.reader found.0) going.room_is none;
-        stands = going.stands;
-        wrote = going.wrote;
-      },
-      close_by plan first old.room going.given start old.streams going.room_is going.wrote stopped,
+pub nothing_left : (plan : Plan) (old : Standing) (failed : Type 0) → most_at old.room ≡ 0 → GoesOn plan old old failed (Ok false)
+nothing_left plan old failed none = λ first start going.
+    let stopped = reading-whole first old.reader going.given start.left old.streams.left going.read in
+    let ends : (whole : List ℕ) → start.left ≡ Some whole → recording_by plan first whole ≡ record { records = going.given; ending = Clean } =
+    limited_by plan first old.reader old.room going.given start.left old.streams.left going.read going.room_is none in (
+      record { given = going.given; ends = ends; stands = going.stands; wrote = going.wrote },
+      close_by plan first old.room going.given start old.streams failed (Ok tt) going.room_is going.wrote stopped (λ taken are. out_by plan first going.given Clean taken start.left ends are),
     )
 
 -- a batch was shown behind the records that were given
@@ -179,12 +247,13 @@ batch_is plan records old new first start going shows =
     )
 
 -- a batch was read and shown
-pub batch_shown : (plan : Plan) (records : List LinkedRecord) (old new : Standing) (reached : Reached)
-    → length records ≤ most_at old.room → new.room ≡ room_behind old.room (length records) → ((reached ≡ More → ⊥) → length records < most_at old.room)
+pub batch_shown : (plan : Plan) (records : List LinkedRecord) (old new : Standing) (failed : Type 0) (reached : Reached)
+    → length records ≤ most_at old.room → new.room ≡ room_behind old.room (length records)
+    → (reached ≡ More → length records ≡ most_at old.room) → ((reached ≡ More → ⊥) → length records < most_at old.room)
     → ReadsOn (record { reader = old.reader; records = []; left = old.streams.left }) (record { reader = new.reader; records = records; left = new.streams.left }) reached
     → ShowsRecords plan records (record { detector = old.detector; written = old.streams.written }) (record { detector = new.detector; written = new.streams.written })
-    → GoesOn plan old new (more_of reached)
-batch_shown plan records old new reached few room_is fewer reads shows = by_case reached fewer reads
+    → GoesOn plan old new failed (more_of reached)
+batch_shown plan records old new failed reached few room_is full fewer reads shows = by_case reached full fewer reads
   where
     room_now : (first : RecordReader) (start : Streams) (going : IsUnderWay plan first start old) → IsRoom plan.limit (length (going.given ++ records)) new.room
     room_now first start going =
@@ -193,31 +262,34 @@ batch_shown plan records old new reached few room_is fewer reads shows = by_case
     some_left : length records < most_at old.room → 0 < most_at new.room
     some_left short = subst (λ (r : Option ℕ). 0 < most_at r) (sym room_is) (room_left old.room (length records) short)
 
-    by_case : (r : Reached) → ((r ≡ More → ⊥) → length records < most_at old.room)
-        → ReadsOn (record { reader = old.reader; records = []; left = old.streams.left }) (record { reader = new.reader; records = records; left = new.streams.left }) r → GoesOn plan old new (more_of r)
-    by_case More short on = λ first start going.
+    by_case : (r : Reached) → (r ≡ More → length records ≡ most_at old.room) → ((r ≡ More → ⊥) → length records < most_at old.room)
+        → ReadsOn (record { reader = old.reader; records = []; left = old.streams.left }) (record { reader = new.reader; records = records; left = new.streams.left }) r → GoesOn plan old new failed (more_of r)
+    by_case More all short on = λ first start going.
         let own = batch_is plan records old new first start going shows in record {
           given = going.given ++ records;
           read = reached_behind plan first start old (record { reader = new.reader; records = records; left = new.streams.left }) More going on;
           room_is = room_now first start going;
+          batches = subst (λ (r : Option ℕ). AreBatches (going.given ++ records) ⊎ (most_at r ≡ 0)) (sym room_is) (batches_further old.room going.given records going.batches (all refl));
           stands = own.0;
           wrote = own.1;
         }
-    by_case End short on = λ first start going.
+    by_case End all short on = λ first start going.
         let given = going.given ++ records in
         let own = batch_is plan records old new first start going shows in
         let came = reached_behind plan first start old (record { reader = new.reader; records = records; left = new.streams.left }) End going on in
         let some = some_left (short (λ e. cc)) in (
           at_end plan first new.room given start new.streams new.detector Clean (room_now first start going) some own.0 own.1 came.1,
-          close_by plan first new.room given start new.streams (room_now first start going) own.1 came.0.whole,
+          close_by plan first new.room given start new.streams failed (Ok tt) (room_now first start going) own.1 came.0.whole
+              (λ taken are. read_out plan first new.room given start.left failed (room_now first start going) some taken are Clean came.1),
         )
-    by_case (Fault why) short on = λ first start going.
+    by_case (Fault why) all short on = λ first start going.
         let given = going.given ++ records in
         let own = batch_is plan records old new first start going shows in
         let came = reached_behind plan first start old (record { reader = new.reader; records = records; left = new.streams.left }) (Fault why) going on in
         let some = some_left (short (λ e. cc)) in (
           fault_comes plan first new.room given start new.streams new.detector why (room_now first start going) some own.0 own.1 came.0 came.1,
-          close_by plan first new.room given start new.streams (room_now first start going) own.1 came.0.whole,
+          close_by plan first new.room given start new.streams failed (Err (capture_stop why)) (room_now first start going) own.1 came.0.whole
+              (λ taken are. fault_to plan first new.room given start.left failed (room_now first start going) some taken are why came.1),
         )
 
 -- no batch is larger than a batch may be
@@ -225,14 +297,19 @@ batch_few : (room : Option ℕ) (count : ℕ) → count ≤ most_at room → cou
 batch_few None count few = few
 batch_few (Some room) count few = omega (arith, few)
 
+-- where a batch of these records is the last that is read, how far is known by its reading
+abbrev ReadsTo : Plan → List LinkedRecord → Standing → Type 0 → Stop → Type 0
+ReadsTo plan records old failed why =
+    (first : RecordReader) (start : Streams) (going : IsUnderWay plan first start old) (taken : List ℕ) → (recording_by plan first taken).records ≡ going.given ++ records → HasReadTo plan first taken start.left failed (Err why)
+
 -- a batch was read, and a part of its lines was written
-pub batch_stops : (plan : Plan) (records : List LinkedRecord) (old new : Standing) (reached : Reached) (why : Stop)
-    → length records ≤ most_at old.room
+batch_part : (plan : Plan) (records : List LinkedRecord) (old new : Standing) (failed : Type 0) (reached : Reached) (why : Stop)
+    → length records ≤ most_at old.room → ReadsTo plan records old failed why
     → ReadsOn (record { reader = old.reader; records = []; left = old.streams.left }) (record { reader = new.reader; records = records; left = new.streams.left }) reached
     → IsShowStop why → ShowsRecordsPart plan records (record { detector = old.detector; written = old.streams.written }) new.streams.written
-    → GoesOn plan old new (Err why)
+    → GoesOn plan old new failed (Err why)
 unfolding WritesPart ShowsRecordsPart
-batch_stops plan records old new reached why few reads kind shown = λ first start going.
+batch_part plan records old new failed reached why few to reads kind shown = λ first start going.
     let given = going.given ++ records in
     let text = lines plan going.given records Open in
     let now : Place = record { reader = new.reader; records = records; left = new.streams.left } in
@@ -254,17 +331,84 @@ batch_stops plan records old new reached why few reads kind shown = λ first sta
         more = part;
         wrote = own.2 ∙ ap (λ (x : Option (List ℕ)). behind x part) going.wrote ∙ behind-behind start.written (lines_of plan going.given Open) part;
         within = subst (AreWithin plan.limit) (sym stopped.whole.are) (room_within plan.limit (room_behind old.room (length records)) given room_is);
+        to = to first start going stopped.whole.taken (within_limit plan.limit (room_behind old.room (length records)) given (recording_for first stopped.whole.taken) room_is stopped.whole.are);
       },
     )
+
+-- where a write failed, or memory was lacking for the lines
+pub batch_stops : (plan : Plan) (records : List LinkedRecord) (old new : Standing) (failed : Type 0) (reached : Reached) (why : Stop)
+    → length records ≤ most_at old.room
+    → (reached ≡ More → length records ≡ most_at old.room) → ((reached ≡ More → ⊥) → length records < most_at old.room)
+    → (reached ≡ Fault fault.Failed → failed) → lacks_memory reached ≡ false
+    → ReadsOn (record { reader = old.reader; records = []; left = old.streams.left }) (record { reader = new.reader; records = records; left = new.streams.left }) reached
+    → IsShowStop why → ShowsRecordsPart plan records (record { detector = old.detector; written = old.streams.written }) new.streams.written
+    → GoesOn plan old new failed (Err why)
+batch_stops plan records old new failed reached why few full fewer rose enough reads kind shown =
+    batch_part plan records old new failed reached why few (by_kind why kind) reads kind shown
+  where
+    not_lacking : reached ≡ Fault fault.NoMemory → ⊥
+    not_lacking same = not_both (lacks_memory reached) (ap lacks_memory same) enough
+
+    by_kind : (stopped : Stop) → IsShowStop stopped → ReadsTo plan records old failed stopped
+    by_kind stop.CannotWrite k = λ first start going taken are.
+        unwritten_to plan first old.room going.given records start.left (record { reader = new.reader; records = records; left = new.streams.left }) reached failed taken
+        (room_further plan.limit old.room going.given records going.room_is few) going.batches full fewer rose not_lacking
+        (reached_behind plan first start old (record { reader = new.reader; records = records; left = new.streams.left }) reached going reads) are
+    by_kind stop.NoMemory k = λ first start going taken are. tt
+    by_kind other k = absurd k
+
+-- where memory was lacking for reading
+pub batch_lacks : (plan : Plan) (records : List LinkedRecord) (old new : Standing) (failed : Type 0) (reached : Reached)
+    → length records ≤ most_at old.room
+    → ReadsOn (record { reader = old.reader; records = []; left = old.streams.left }) (record { reader = new.reader; records = records; left = new.streams.left }) reached
+    → ShowsRecordsPart plan records (record { detector = old.detector; written = old.streams.written }) new.streams.written
+    → GoesOn plan old new failed (Err stop.NoMemory)
+batch_lacks plan records old new failed reached few reads shown =
+    batch_part plan records old new failed reached stop.NoMemory few (λ first start going taken are. tt) reads tt shown
+
+-- lines that were shown, or a part of them
+pub part_shown : (plan : Plan) (records : List LinkedRecord) (old new : Detecting) (answer : Result (Unit {0}) Stop) → OnOk answer (ShowsRecords plan records old new) → OnErr answer (ShowsRecordsPart plan records old new.written)
+    → ShowsRecordsPart plan records old new.written
+unfolding ShowsRecords ShowsRecordsPart
+part_shown plan records old new (Ok done) shows part = λ before stands. WritesPart-all old.written new.written _ (shows before stands).wrote
+part_shown plan records old new (Err why) shows part = part
+
+-- how far was read from the start, where the host may have failed before
+to_since : (plan : Plan) (first : RecordReader) (taken : List ℕ) (left : Option (List ℕ)) (later since : Type 0) (outcome : Result (Unit {0}) Stop) → (later → since) → HasReadTo plan first taken left later outcome → HasReadTo plan first taken left since outcome
+to_since plan first taken left later since (Ok done) rises to = to
+to_since plan first taken left later since (Err stop.CannotRead) rises to = tt
+to_since plan first taken left later since (Err stop.NoMemory) rises to = tt
+to_since plan first taken left later since (Err stop.CannotWrite) rises to =
+    ⊎_elim (λ whole. inl whole) (λ (other : IsReadOut plan first taken left ⊎ later). inr (⊎_elim (λ out. inl out) (λ rose. inr (rises rose)) other)) to
+to_since plan first taken left later since (Err why) rises to = to
+
+pub comes_since : (plan : Plan) (first : RecordReader) (start now : Streams) (later since : Type 0) (detector : Detector) (outcome : Result (Unit {0}) Stop) → (later → since) → ComesOver plan first start now later detector outcome
+    → ComesOver plan first start now since detector outcome
+comes_since plan first start now later since detector outcome rises (came, close) = (
+  came,
+  record {
+    taken = close.taken;
+    took = close.took;
+    given = close.given;
+    last = close.last;
+    are = close.are;
+    few = close.few;
+    more = close.more;
+    wrote = close.wrote;
+    within = close.within;
+    to = to_since plan first close.taken start.left later since outcome rises close.to;
+  },
+)
 
 -- ---- the closing
 
 -- where nothing was read yet, the lines are close behind the records
-pub close-start : (plan : Plan) (reader : RecordReader) (old : Streams) → IsFresh reader → IsCloseBehind plan reader old old
-close-start plan reader old fresh =
-    close_by plan reader plan.limit [] old old (room_first plan.limit)
+pub close-start : (plan : Plan) (reader : RecordReader) (old : Streams) (failed : Type 0) → IsFresh reader → IsCloseBehind plan reader old old failed (Err stop.NoMemory)
+close-start plan reader old failed fresh =
+    close_by plan reader plan.limit [] old old failed (Err stop.NoMemory) (room_first plan.limit)
     (sym (behind-nil old.written) ∙ ap (behind old.written) (sym (lines_of-nil plan)))
     (reading-whole reader reader [] old.left old.left (reading-start reader old.left fresh))
+    (λ taken are. tt)
 
 -- a capture at its end was closed
 closed_to : (plan : Plan) (first : RecordReader) (start now : Streams) (detector : Detector) (ending : Ending) (written : Option (List ℕ)) (counts : Counts) → IsAtEnd plan first start now detector ending
@@ -296,10 +440,6 @@ stopped_some : (plan : Plan) (first : RecordReader) (start after : Streams) (cou
 stopped_some plan first start after counts stop.CannotWrite kind some = some
 stopped_some plan first start after counts stop.NoMemory kind some = some
 stopped_some plan first start after counts why kind some = absurd kind
-
--- a test has one answer
-not_both : (b : Bool) → b ≡ true → b ≡ false → ⊥
-not_both b yes_ no_ = let e : true ≡ false = sym yes_ ∙ no_ in cc
 
 -- how the watching ends, by how the batches ended and how it was closed
 module _ (plan : Plan) (first : RecordReader) (start now : Streams) (detector : Detector) (written : Option (List ℕ)) (counts : Counts) where
@@ -358,8 +498,23 @@ module _ (plan : Plan) (first : RecordReader) (start now : Streams) (detector : 
   wrote_more (Err stop.NoMemory) whole came more = absurd cc
   wrote_more (Err why) whole (fault_then, is, came) more = more came.given came.stands
 
-  closer : IsCloseBehind plan first start now → (more : List ℕ) → written ≡ behind now.written more → IsCloseBehind plan first start after_it
-  closer close more wrote = record {
+  -- a closing that was stopped stopped behind the end
+  end_to : (failed : Type 0) (taken : List ℕ) (why : Stop) → IsShowStop why → IsReadOut plan first taken start.left → HasReadTo plan first taken start.left failed (Err why)
+  end_to failed taken stop.CannotWrite kind out = inr (inl out)
+  end_to failed taken stop.NoMemory kind out = tt
+  end_to failed taken why kind out = absurd kind
+
+  closing_to : (failed : Type 0) (taken : List ℕ) (watched : Result (Unit {0}) Stop) (why : Stop) → is_whole watched ≡ true → IsShowStop why → HasReadTo plan first taken start.left failed watched
+      → HasReadTo plan first taken start.left failed (Err why)
+  closing_to failed taken (Ok done) why whole kind to = end_to failed taken why kind to
+  closing_to failed taken (Err stop.CannotRead) why whole kind to = absurd cc
+  closing_to failed taken (Err stop.CannotWrite) why whole kind to = absurd cc
+  closing_to failed taken (Err stop.NoMemory) why whole kind to = absurd cc
+  closing_to failed taken (Err other) why whole kind to = end_to failed taken why kind to
+
+  closer : (failed : Type 0) (watched result_then : Result (Unit {0}) Stop) → IsCloseBehind plan first start now failed watched → (more : List ℕ) → written ≡ behind now.written more
+      → ((taken : List ℕ) → HasReadTo plan first taken start.left failed watched → HasReadTo plan first taken start.left failed result_then) → IsCloseBehind plan first start after_it failed result_then
+  closer failed watched result_then close more wrote to = record {
     taken = close.taken;
     took = close.took;
     given = close.given;
@@ -371,20 +526,24 @@ module _ (plan : Plan) (first : RecordReader) (start now : Streams) (detector : 
         ∙ behind-behind start.written (lines_of plan close.given Open ++ close.more) more
         ∙ ap (behind start.written) (append_assoc (lines_of plan close.given Open) close.more more);
     within = close.within;
+    to = to close.taken close.to;
   }
 
-  pub closed_behind : (watched result_then : Result (Unit {0}) Stop) → ComesOver plan first start now detector watched → ClosesWatched plan detector watched now.written written counts result_then
-      → IsCloseBehind plan first start (record { left = now.left; written = written })
+  pub closed_behind : (failed : Type 0) (watched result_then : Result (Unit {0}) Stop) → ComesOver plan first start now failed detector watched → ClosesWatched plan detector watched now.written written counts result_then
+      → IsCloseBehind plan first start (record { left = now.left; written = written }) failed result_then
   unfolding ClosesWatched Closes ClosesPart WritesPart
-  closed_behind watched result_then (came, close) how =
+  closed_behind failed watched result_then (came, close) how =
+      let same : result_then ≡ watched → (taken : List ℕ) → HasReadTo plan first taken start.left failed watched → HasReadTo plan first taken start.left failed result_then =
+      λ is taken to. subst (λ (r : Result (Unit {0}) Stop). HasReadTo plan first taken start.left failed r) (sym is) to in
       ⊎_elim
-      (λ (left : IsLeft watched result_then now.written written). closer close [] (left.2 ∙ sym (behind-nil now.written)))
+      (λ (left : IsLeft watched result_then now.written written). closer failed watched result_then close [] (left.2 ∙ sym (behind-nil now.written)) (same left.1))
       (λ shut. ⊎_elim
       (λ (whole : IsClosedWhole plan detector watched result_then now.written written counts).
       let more = wrote_more watched whole.0 came (λ records stands. (closing_lines plan records, (whole.2 records stands).wrote)) in
-      closer close more.0 more.1)
+      closer failed watched result_then close more.0 more.1 (same whole.1))
       (λ (part : IsClosedInPart plan detector watched result_then now.written written).
       let more = wrote_more watched part.0 came (λ records stands. let own = part.2 records stands in (own.0, own.2)) in
-      closer close more.0 more.1)
+      closer failed watched result_then close more.0 more.1
+      (λ taken to. subst (λ (r : Result (Unit {0}) Stop). HasReadTo plan first taken start.left failed r) (sym part.1.1) (closing_to failed taken watched part.1.0 part.0 part.1.2 to)))
       shut)
       how

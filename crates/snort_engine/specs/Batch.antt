@@ -48,6 +48,11 @@ ReadsOn old new reached = (first : RecordReader) (shown : List LinkedRecord) (le
 abbrev pub IsFaultOf : RecordReader → ReadFault → Type 0
 IsFaultOf reader why = (refusal_of reader ≡ Some why) ⊎ ((why ≡ fault.NoMemory) × IsFresh reader)
 
+-- reading stopped for want of memory
+abbrev pub lacks_memory : Reached → Bool
+lacks_memory (Fault fault.NoMemory) = true
+lacks_memory reached = false
+
 -- whether more records may follow, or how what was reached stops a run
 abbrev pub more_of : Reached → Result Bool Stop
 more_of More = Ok true

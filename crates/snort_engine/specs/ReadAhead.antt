@@ -6,12 +6,14 @@
 -- that is cut off before has opened nothing, or has nothing open, and has written no line. Where the
 -- capture is made, nothing is opened or read, and so no fault of reading ends the run; so it is where the
 -- lines of a Unified2 file are written, which was read before.
--- Under a limit no more records than it lets are whole within the bytes that were taken.
+-- Under a limit no more records than it lets are whole within the bytes that were taken. After a write fault nothing
+-- more is read: what was taken then are whole batches, unless the capture was read to its end or the host failed.
 -- To try it on: where 600 records with a line each were taken, at least the lines of the first 344
--- stand in the alerts; under `-n 5` at most five of them were taken.
-use Rattle.std.specs.Prelude.{◌≡◌, ℕ, ◌-◌, List, [], ◌++◌, length, take, Option, Some, None, ◌⊎◌}
+-- stand in the alerts; under `-n 5` at most five of them were taken. Of 1000 records with a line each, where the
+-- write of the 300th fails, 512 were taken: the batch whose lines were written, and the one whose lines were offered.
+use Rattle.std.specs.Prelude.{◌≡◌, ℕ, ◌-◌, ◌*◌, List, [], ◌++◌, length, take, Option, Some, None, ◌⊎◌}
 use Rattle.std.specs.FinMap.{get}
-use Rattle.edge_io.specs.Told.{behind}
+use Rattle.edge_io.specs.Told.{behind, Rose}
 use Rattle.edge_io.specs.Files.{Files}
 use Rattle.snort_engine.specs.declared.status.Status.{Status}
 use Rattle.snort_engine.specs.declared.status.Status.TheVariants as status
@@ -25,6 +27,16 @@ use Rattle.snort_engine.specs.Outside.{Work}
 -- how many records are read before their lines are offered
 abbrev pub batch : ℕ
 batch = 256
+
+-- as many records as some batches have
+abbrev pub AreBatches : List LinkedRecord → Type 0
+AreBatches records = (count : ℕ) × (length records ≡ count * batch)
+
+-- of a capture whose rest stands behind the bytes taken, whole batches were read; or all records; or the host failed
+abbrev pub IsReadInBatches : Plan → List ℕ → List ℕ → Type 0 → Type 0
+IsReadInBatches plan taken rest failed =
+    AreBatches (records_of plan taken).records
+    ⊎ (((records_of plan (taken ++ rest)).records ≡ (records_of plan taken).records) ⊎ failed)
 
 -- all records but the last ones
 abbrev pub all_but : ℕ → List LinkedRecord → List LinkedRecord
@@ -46,7 +58,7 @@ pub record IsShut (before after : Work) : Type 0 where
   pub alerts : after.alerts ≡ before.alerts
 
 -- the capture that holds these bytes is open, and the lines due of those that were taken were written
-pub record IsReadAhead (plan : Plan) (held : Option (List ℕ)) (before after : Work) : Type 0 where
+pub record IsReadAhead (plan : Plan) (held : Option (List ℕ)) (before after : Work) (ended : Status) : Type 0 where
   pub taken : List ℕ
   pub rest : List ℕ
   pub of : held ≡ Some (taken ++ rest)
@@ -55,6 +67,9 @@ pub record IsReadAhead (plan : Plan) (held : Option (List ℕ)) (before after : 
   pub wrote : after.alerts ≡ behind before.alerts (lines_due plan taken ++ more)
   -- under a limit no record behind it was read, the records being counted without it
   pub within : AreWithin plan.limit (records_in None taken).records
+  -- nothing was read after a write fault
+  pub in_batches : ended ≡ status.WriteFault
+      → IsReadInBatches plan taken rest (Rose before.host_faults after.host_faults)
 
 -- the host was left alone, and no fault of it ends the run
 pub record IsApart (before after : Work) (ended : Status) : Type 0 where
@@ -71,7 +86,7 @@ abbrev pub ReadsAheadOn : Files → Way → Work → Work → Status → Type 0
 ReadsAheadOn files (Stops message status_then) before after ended =
     IsUnopened before after × ((ended ≡ status_then) ⊎ IsCutOff ended)
 ReadsAheadOn files (Goes plan) before after ended =
-    IsReadAhead plan (get files plan.source) before after
+    IsReadAhead plan (get files plan.source) before after ended
     ⊎ (IsCutOff ended × (IsUnopened before after ⊎ IsShut before after))
 ReadsAheadOn files (Makes plan seed count) before after ended = IsApart before after ended
 ReadsAheadOn files (Lists lines) before after ended = IsApart before after ended

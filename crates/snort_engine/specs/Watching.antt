@@ -28,7 +28,7 @@ use Rattle.snort_engine.specs.Reader.{recording_for, HasRead}
 use Rattle.snort_engine.specs.Trace.{Open, Closed, CaptureState}
 use Rattle.snort_engine.specs.Lines.{lines}
 use Rattle.snort_engine.specs.Counts.{counts_of}
-use Rattle.snort_engine.specs.ReadAhead.{batch}
+use Rattle.snort_engine.specs.ReadAhead.{batch, AreBatches}
 use Rattle.snort_engine.specs.Outside.{WritesPart}
 use Rattle.snort_engine.specs.Stop.{capture_stop, is_whole}
 use Rattle.snort_engine.specs.Detecting.{DetectorStands, Knows, Closes, ClosesPart}
@@ -105,9 +105,26 @@ pub record IsCutOff (plan : Plan) (reader : RecordReader) (old new : Streams) : 
   pub took : old.left ≡ before taken new.left
   pub wrote : new.written ≡ behind old.written (lines_left plan reader taken Open)
 
+-- all records that the plan reads of the bytes that were left are whole within those that were taken
+abbrev pub IsReadOut : Plan → RecordReader → List ℕ → Option (List ℕ) → Type 0
+IsReadOut plan reader taken left =
+    (rest : List ℕ) → left ≡ Some rest → (recording_by plan reader rest).records ≡ (recording_by plan reader taken).records
+
+-- how far was read where the watching ends so: to the end, if nothing cut it short; at a write fault in whole batches,
+-- or to the end, or to where the host failed
+abbrev pub HasReadTo : Plan → RecordReader → List ℕ → Option (List ℕ) → Type 0 → Result (Unit {0}) Stop → Type 0
+HasReadTo plan reader taken left failed (Ok done) = IsReadOut plan reader taken left
+HasReadTo plan reader taken left failed (Err stop.CannotRead) = ⊤
+HasReadTo plan reader taken left failed (Err stop.NoMemory) = ⊤
+HasReadTo plan reader taken left failed (Err stop.CannotWrite) =
+    AreBatches (recording_by plan reader taken).records ⊎ (IsReadOut plan reader taken left ⊎ failed)
+HasReadTo plan reader taken left failed (Err why) = IsReadOut plan reader taken left
+
 -- of the records that are whole within the bytes taken, the lines of all but the last batch were
--- written, and maybe more; without the limit there are no more of them than it lets
-pub record IsCloseBehind (plan : Plan) (reader : RecordReader) (old new : Streams) : Type 0 where
+-- written, and maybe more; without the limit there are no more of them than it lets; where the watching ends so,
+-- and the host failed or did not, no more was read than may be
+pub record IsCloseBehind (plan : Plan) (reader : RecordReader) (old new : Streams) (failed : Type 0)
+    (outcome : Result (Unit {0}) Stop) : Type 0 where
   pub taken : List ℕ
   pub took : old.left ≡ before taken new.left
   pub given : List LinkedRecord
@@ -117,6 +134,7 @@ pub record IsCloseBehind (plan : Plan) (reader : RecordReader) (old new : Stream
   pub more : List ℕ
   pub wrote : new.written ≡ behind old.written (lines_of plan given Open ++ more)
   pub within : AreWithin plan.limit (recording_for reader taken).records
+  pub to : HasReadTo plan reader taken old.left failed outcome
 
 -- a part of the lines that were left was written, and no other byte
 abbrev pub WritesSome : Plan → RecordReader → Streams → Streams → Type 0
@@ -167,12 +185,13 @@ abbrev pub standing : {H A : Type 0} → HostOf H → SinkOf A → RecordReader 
 standing h a reader room detector host alerts =
     record { reader = reader; room = room; detector = detector; streams = streams h a host alerts }
 
--- from the first reader on some records were given, the detector stands for them, and their lines were
--- written
+-- from the first reader on some records were given, in whole batches or all that may be, the detector stands for
+-- them, and their lines were written
 pub record IsUnderWay (plan : Plan) (first : RecordReader) (start : Streams) (now : Standing) : Type 0 where
   pub given : List LinkedRecord
   pub read : HasRead first now.reader given start.left now.streams.left
   pub room_is : IsRoom plan.limit (length given) now.room
+  pub batches : AreBatches given ⊎ (most_at now.room ≡ 0)
   pub stands : DetectorStands plan given now.detector
   pub wrote : now.streams.written ≡ behind start.written (lines_of plan given Open)
 
@@ -195,19 +214,20 @@ Comes plan first start now detector (Err why) =
     (fault : ReadFault) × (why ≡ capture_stop fault) × IsAtEnd plan first start now detector (Refused fault)
 
 -- and its lines are close behind its records
-abbrev pub ComesOver : Plan → RecordReader → Streams → Streams → Detector → Result (Unit {0}) Stop → Type 0
-ComesOver plan first start now detector outcome = Comes plan first start now detector outcome × IsCloseBehind plan first start now
+abbrev pub ComesOver : Plan → RecordReader → Streams → Streams → Type 0 → Detector → Result (Unit {0}) Stop → Type 0
+ComesOver plan first start now failed detector outcome =
+    Comes plan first start now detector outcome × IsCloseBehind plan first start now failed outcome
 
 -- a watching that was under way is so still, behind one more batch, or all batches are read
-abbrev pub GoesOn : Plan → Standing → Standing → Result Bool Stop → Type 0
-GoesOn plan old new (Ok true) =
+abbrev pub GoesOn : Plan → Standing → Standing → Type 0 → Result Bool Stop → Type 0
+GoesOn plan old new failed (Ok true) =
     (first : RecordReader) (start : Streams) → IsUnderWay plan first start old → IsUnderWay plan first start new
-GoesOn plan old new (Ok false) =
+GoesOn plan old new failed (Ok false) =
     (first : RecordReader) (start : Streams) → IsUnderWay plan first start old
-    → ComesOver plan first start new.streams new.detector (Ok tt)
-GoesOn plan old new (Err why) =
+    → ComesOver plan first start new.streams failed new.detector (Ok tt)
+GoesOn plan old new failed (Err why) =
     (first : RecordReader) (start : Streams) → IsUnderWay plan first start old
-    → ComesOver plan first start new.streams new.detector (Err why)
+    → ComesOver plan first start new.streams failed new.detector (Err why)
 
 -- ---- the end
 

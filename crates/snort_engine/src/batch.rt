@@ -2,7 +2,7 @@ ghost use Rattle.std.specs.Prelude.{◌≡◌, ◌≢◌, ◌+◌, ◌-◌, ◌<
 ghost use Rattle.edge_io.specs.Told.{Rose};
 ghost use Rattle.pcap_input.specs.Savefile.{most_records};
 ghost use Rattle.snort_engine.specs.Reader.{IsFresh, IsNext, number_of};
-ghost use Rattle.snort_engine.specs.Batch.{IsFaultOf, ReadsOn, more_of};
+ghost use Rattle.snort_engine.specs.Batch.{IsFaultOf, ReadsOn, lacks_memory, more_of};
 ghost use Rattle.snort_engine.specs.Outside.{OnlyRead};
 ghost use Rattle.snort_engine.specs.Watching.{most_at, room_behind};
 
@@ -97,6 +97,7 @@ pub(crate) fn read_batch<H: Host>(
         (record { reader = reader.old; records = []; left = H.left host.old })
         (record { reader = reader.new; records = records.new.items; left = H.left host.new }) result }
     ensures few { vec_len records.new ≤ most }
+    ensures full { result ≡ Reached.More → vec_len records.new ≡ most }
     ensures fewer { result ≢ Reached.More → vec_len records.new < most }
     ensures further { result ≡ Reached.More → number_of reader.old < number_of reader.new }
     ensures goes_on { result ≡ Reached.More → IsFresh reader.new }
@@ -114,6 +115,16 @@ pub(crate) fn read_batch<H: Host>(
         }
     }
     Reached::More
+}
+
+/// Whether reading stopped for want of memory.
+pub(crate) fn lacks_memory(reached: Reached) -> bool
+    ensures { result ≡ lacks_memory reached }
+{
+    match reached {
+        Reached::Fault(ReadFault::NoMemory) => true,
+        _ => false,
+    }
 }
 
 /// Whether more records may follow, or how what was reached stops a run.

@@ -1,4 +1,4 @@
-ghost use Rattle.std.specs.Prelude.{◌≡◌, ◌<◌, ◌≤◌, ◌⊎◌, ◌++◌, Some, true, [], OnOk, IsErrOf};
+ghost use Rattle.std.specs.Prelude.{◌≡◌, ◌+◌, ◌^◌, ◌<◌, ◌≤◌, ◌⊎◌, ◌++◌, Some, true, [], length, OnOk, IsErrOf};
 ghost use Rattle.std.specs.List.{concat};
 ghost use Rattle.edge_io.specs.Files.{Files, Lacks};
 ghost use Rattle.edge_io.specs.Told.{Rose};
@@ -12,12 +12,12 @@ ghost use Rattle.snort_engine.specs.Ending.{Ends};
 ghost use Rattle.snort_engine.specs.Stop.{outcome_status};
 ghost use Rattle.snort_engine.specs.Reporting.{outcome_said};
 ghost use Rattle.snort_engine.specs.Counts.{no_counts};
-ghost use Rattle.snort_engine.specs.Detecting.{IsSoundPlan, Knows, DetectorStands};
+ghost use Rattle.snort_engine.specs.Detecting.{IsSoundPlan, Knows, DetectorStands, ShowsRecordsPart};
 ghost use Rattle.snort_engine.specs.Watching.{plan_of, standing, streams, IsTest, Watches, ComesOver, IsCloseBehind};
 ghost use Rattle.snort_engine.specs.Watching.{GoesOn, StaysKnown, StaysFew, ClosesWatched};
 
 use crate::Status;
-use crate::batch::{give_back, more, most_at, read_batch, room_behind};
+use crate::batch::{give_back, lacks_memory, more, most_at, read_batch, room_behind};
 use crate::context::Context;
 use crate::counts::Counts;
 use crate::detect::{Detector, close, show_records};
@@ -26,8 +26,28 @@ use crate::stop::{Stop, is_whole};
 use edge_io::{Gate, Host, Pattern, Sink};
 use std::thread::Threads;
 
+/// Writes the lines of records behind which memory was lacking, as far as that goes.
+#[tactic(auto, using(crate::proofs::Prefixes::rising))]
+fn show_some<P: Pattern, G: Gate, A: Sink, R: Threads + Sync>(
+    context: &Context<'_, P, G, R>,
+    records: &mut Vec<LinkedRecord>,
+    detector: &mut Detector,
+    alerts: &mut A,
+)
+    requires plan { IsSoundPlan context.now.plan.now }
+    requires known { Knows context.now.plan.now detector.old }
+    requires few { detector.old.front.counts.records + length records.old.items ≤ 2 ^ 32 }
+    ensures part { (matches : Test) → IsTest P.finds context.now.plan.now.setup.set matches
+        → ShowsRecordsPart (plan_of matches context.now.plan.now) records.old.items
+        (record { detector = detector.old; written = A.written alerts.old }) (A.written alerts.new) }
+    ensures later { A.faults alerts.old ≤ A.faults alerts.new }
+{
+    let _shown = show_records(context, records, detector, alerts);
+}
+
 /// Reads a batch of records and writes their lines. Ok(true) where more records may follow, Ok(false)
-/// at the capture's end, and where no record may be read any more. `room` is how many may be.
+/// at the capture's end, and where no record may be read any more. `room` is how many may be. Want of memory for
+/// reading goes before a fault of the sink.
 #[tactic(auto, using(crate::proofs::Prefixes::reading))]
 fn watch_batch<H: Host, P: Pattern, G: Gate, A: Sink, R: Threads + Sync>(
     context: &Context<'_, P, G, R>,
@@ -47,7 +67,8 @@ fn watch_batch<H: Host, P: Pattern, G: Gate, A: Sink, R: Threads + Sync>(
     ensures goes_on { (matches : Test) → IsTest P.finds context.now.plan.now.setup.set matches
         → GoesOn (plan_of matches context.now.plan.now)
         (standing H.Host A.Sink reader.old room.old detector.old host.old alerts.old)
-        (standing H.Host A.Sink reader.new room.new detector.new host.new alerts.new) result }
+        (standing H.Host A.Sink reader.new room.new detector.new host.new alerts.new)
+        (Rose (H.faults host.old) (H.faults host.new)) result }
     ensures further { result ≡ Ok true → number_of reader.old < number_of reader.new }
     ensures within { result ≡ Ok true → number_of reader.new ≤ most_records }
     ensures fresh { result ≡ Ok true → IsFresh reader.new }
@@ -66,6 +87,10 @@ fn watch_batch<H: Host, P: Pattern, G: Gate, A: Sink, R: Threads + Sync>(
     }
     let reached = read_batch(context.alloc, host, reader, most, records);
     *room = room_behind(*room, records.len());
+    if lacks_memory(reached) {
+        show_some(context, records, detector, alerts);
+        return Err(Stop::NoMemory);
+    }
     show_records(context, records, detector, alerts)?;
     give_back(context.alloc, reader, records);
     more(reached)
@@ -89,7 +114,8 @@ fn watch_batches<H: Host, P: Pattern, G: Gate, A: Sink, R: Threads + Sync>(
     ensures comes { (matches : Test) → IsTest P.finds context.now.plan.now.setup.set matches
         → DetectorStands (plan_of matches context.now.plan.now) [] detector.old
         → ComesOver (plan_of matches context.now.plan.now) reader.old
-        (streams H.Host A.Sink host.old alerts.old) (streams H.Host A.Sink host.new alerts.new) detector.new result }
+        (streams H.Host A.Sink host.old alerts.old) (streams H.Host A.Sink host.new alerts.new)
+        (Rose (H.faults host.old) (H.faults host.new)) detector.new result }
     ensures known { StaysKnown context.now.plan.now detector.new result }
     ensures few { StaysFew detector.new result }
     ensures write_fault { IsErrOf result Stop.CannotWrite → Rose (A.faults alerts.old) (A.faults alerts.new) }
@@ -156,7 +182,8 @@ pub(crate) fn watch_records<H: Host, P: Pattern, G: Gate, A: Sink, R: Threads + 
         (streams H.Host A.Sink host.old alerts.old) (streams H.Host A.Sink host.new alerts.new) counts.new result }
     ensures close { (matches : Test) → IsTest P.finds context.now.plan.now.setup.set matches
         → IsCloseBehind (plan_of matches context.now.plan.now) reader.old
-        (streams H.Host A.Sink host.old alerts.old) (streams H.Host A.Sink host.new alerts.new) }
+        (streams H.Host A.Sink host.old alerts.old) (streams H.Host A.Sink host.new alerts.new)
+        (Rose (H.faults host.old) (H.faults host.new)) result }
     ensures write_fault { IsErrOf result Stop.CannotWrite → Rose (A.faults alerts.old) (A.faults alerts.new) }
     ensures read_fault { outcome_status result ≡ Status.HostFault → Rose (H.faults host.old) (H.faults host.new) }
     ensures host { OnlyRead H.Host host.old host.new }

@@ -1,8 +1,9 @@
-use Rattle.std.proofs.Common.{Ok, refl, ap, arith}
+use Rattle.std.proofs.Common.{Ok, Err, refl, ap, arith}
 use Rattle.std.proofs.lemmas.Result.{err_from_is_err_and}
+use Rattle.edge_io.specs.Told.{Rose}
 use Rattle.snort_engine.specs.Watching.{plan_of}
-use Rattle.snort_engine.proofs.Prefixes.{read_not, read_on}
-use Rattle.snort_engine.proofs.Watched.{under_way-start}
+use Rattle.snort_engine.proofs.Prefixes.{read_not, read_on, read_rose}
+use Rattle.snort_engine.proofs.Watched.{under_way-start, comes_since}
 use Rattle.snort_engine.proofs.watch.watch_batches.Goals as goal
 
 pub batches-init : goal.batches-init
@@ -20,12 +21,16 @@ batches-init g c = record {
 pub returns-in_err-watch_batch-clause-comes : goal.returns-in_err-watch_batch-clause-comes
 returns-in_err-watch_batch-clause-comes g c = λ matches test stands.
     let p = err_from_is_err_and c.from_residual.result c.from_residual.ensures.1 in
-    rw (p.1, p.2) (c.in_err-watch_batch.ensures.goes_on matches test _ _ (c.batches.invariant.going matches test stands))
+    rw (p.1, p.2) (comes_since (plan_of matches c.args.context.now.plan.now) _ _ _ _ _ _ (Err c.in_err-watch_batch.field-0.0)
+    (λ (rose : Rose (g.H.Host.faults c.batches.host) (g.H.Host.faults c.watch_batch.new.host)). read_rose g.H.Host c.args.host.now c.batches.host c.watch_batch.new.host c.batches.invariant.host rose)
+    (c.in_err-watch_batch.ensures.goes_on matches test _ _ (c.batches.invariant.going matches test stands)))
 
 pub returns-clause-comes : goal.returns-clause-comes
 returns-clause-comes g c = λ matches test stands.
     let over = rw c.if-branch.false at (c.in_ok-watch_batch.ensures.goes_on matches test) in
-    over _ _ (c.batches.invariant.going matches test stands)
+    comes_since (plan_of matches c.args.context.now.plan.now) _ _ _ _ _ _ (Ok tt)
+    (λ (rose : Rose (g.H.Host.faults c.batches.host) (g.H.Host.faults c.watch_batch.new.host)). read_rose g.H.Host c.args.host.now c.batches.host c.watch_batch.new.host c.batches.invariant.host rose)
+    (over _ _ (c.batches.invariant.going matches test stands))
 
 pub batches-preserved : goal.batches-preserved
 batches-preserved g c =

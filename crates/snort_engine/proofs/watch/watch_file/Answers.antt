@@ -20,8 +20,9 @@ returns-clause-ends g c = λ matches test files course told goes.
     let named = sym c.requires.named in
     let opens = rw named at (c.in_ok-reader.ensures.opens files told) in
     let watches = c.watch_records.ensures.watches matches test in
-    rw named (capture_ends (plan_of matches c.args.context.now.plan.now) files course c.in_ok-reader.reader _ _ _ _ c.watch_records.result
+    rw named (capture_ends (plan_of matches c.args.context.now.plan.now) files course c.in_ok-reader.reader _ _ _ _ _ c.watch_records.result
     goes opens watches (c.watch_records.ensures.close matches test)
+    (λ rose. rose_since _ _ _ c.in_ok-reader.ensures.later rose)
     (λ is. rose_since _ _ _ c.in_ok-reader.ensures.later (c.watch_records.ensures.read_fault is)))
 
 pub returns-clause-opened : goal.returns-clause-opened

@@ -10,7 +10,9 @@ returns-in_err-detector-clause-watches g c = λ matches test.
     rw (p.1, p.2) (λ rest told. WritesPart-none _ _)
 
 pub returns-in_err-detector-clause-close : goal.returns-in_err-detector-clause-close
-returns-in_err-detector-clause-close g c = λ matches test. close-start (plan_of matches c.args.context.now.plan.now) c.args.reader.now _ c.requires.fresh
+returns-in_err-detector-clause-close g c = λ matches test.
+    let p = err_from_is_err_and c.from_residual.result c.from_residual.ensures.1 in
+    rw (p.1, p.2) (close-start (plan_of matches c.args.context.now.plan.now) c.args.reader.now _ _ c.requires.fresh)
 
 pub returns-clause-watches : goal.returns-clause-watches
 returns-clause-watches g c = λ matches test.
@@ -19,5 +21,5 @@ returns-clause-watches g c = λ matches test.
 
 pub returns-clause-close : goal.returns-clause-close
 returns-clause-close g c = λ matches test.
-    closed_behind (plan_of matches c.args.context.now.plan.now) c.args.reader.now _ _ c.watch_batches-watched.new.detector _ _ c.watch_batches-watched.result c.close_watched.result
+    closed_behind (plan_of matches c.args.context.now.plan.now) c.args.reader.now _ _ c.watch_batches-watched.new.detector _ _ _ c.watch_batches-watched.result c.close_watched.result
     (c.watch_batches-watched.ensures.comes matches test (c.in_ok-detector.ensures.stands matches)) (c.close_watched.ensures.closes matches test)
