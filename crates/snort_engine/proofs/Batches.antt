@@ -5,16 +5,16 @@ use Rattle.snort_engine.specs.declared.fault.ReadFault.{ReadFault}
 use Rattle.snort_engine.specs.declared.fault.ReadFault.TheVariants as fault
 use Rattle.snort_engine.specs.declared.reader.RecordReader.{RecordReader}
 use Rattle.snort_engine.specs.Records.{Clean}
-use Rattle.snort_engine.specs.Reader.{HasRead, AreWhole, EndsWith, IsRefusedBy}
+use Rattle.snort_engine.specs.Steps.Reader.{HasRead, AreWhole, EndsWith, IsRefusedBy}
 use Rattle.snort_engine.proofs.Reading.{reading-joined, reading-whole, reading-stopped, reading-refused, reading-ended}
 use Rattle.snort_engine.specs.declared.batch.Reached.{Reached}
 use Rattle.snort_engine.specs.declared.batch.Reached.TheVariants.{More, End, Fault}
-use Rattle.snort_engine.specs.Batch.{Place, HasStopped, Reaches, ReadsOn, more_of}
+use Rattle.snort_engine.specs.Steps.Batch.{Place, HasStopped, Reaches, ReadsOn, more_of}
 use Rattle.snort_engine.specs.declared.status.Status.TheVariants as status
 use Rattle.snort_engine.specs.declared.stop.Stop.{Stop}
 use Rattle.snort_engine.specs.declared.stop.Stop.TheVariants as stop
-use Rattle.snort_engine.specs.Stop.{stop_status, outcome_status}
-use Rattle.snort_engine.specs.Watching.{IsShowStop}
+use Rattle.snort_engine.specs.Steps.Stop.{stop_status, outcome_status}
+use Rattle.snort_engine.specs.Steps.Watching.{IsShowStop}
 
 -- reading went no record further than what was read so far
 still_there : (first : RecordReader) (given : List LinkedRecord) (left_first : Option (List ℕ)) (reader : RecordReader) (left : Option (List ℕ)) → HasRead first reader given left_first left → HasStopped first given left_first left

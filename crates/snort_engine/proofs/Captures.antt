@@ -17,7 +17,7 @@ use Rattle.snort_engine.specs.declared.stop.Stop.TheVariants as stop
 use Rattle.snort_engine.specs.Course.{Plan, Goes, Course}
 use Rattle.record_jobs.specs.Way.{LinkedRecord}
 use Rattle.snort_engine.specs.Records.{AreWithin, Recording, Ending, Clean, Refused, records_in, records_of}
-use Rattle.snort_engine.specs.Reader.{BeginsBehind, IsBarelyOpen, IsRefusedAtOnce, Opens, recording_for}
+use Rattle.snort_engine.specs.Steps.Reader.{BeginsBehind, IsBarelyOpen, IsRefusedAtOnce, Opens, recording_for}
 use Rattle.snort_engine.specs.declared.counts.Counts.{Counts}
 use Rattle.snort_engine.specs.Trace.{Open, Closed}
 use Rattle.snort_engine.specs.Counts.{counts_of, no_counts, told_counts, with_counts}
@@ -27,9 +27,9 @@ use Rattle.snort_engine.specs.Messages.{cannot_read_text}
 use Rattle.snort_engine.specs.Outside.{Work, WritesPart}
 use Rattle.snort_engine.specs.ReadAhead.{batch, all_but, lines_due, AreBatches, IsReadInBatches, IsReadAhead, ReadsAhead}
 use Rattle.snort_engine.specs.Ending.{IsAnswered, IsTakenOf, lines_within, IsCutShort, Ends}
-use Rattle.snort_engine.specs.Stop.{capture_stop, stop_status, stop_text, outcome_status, outcome_text}
-use Rattle.snort_engine.specs.Reporting.{counts_due}
-use Rattle.snort_engine.specs.Watching.{recording_by, lines_of, IsReadOut, HasReadTo, IsCutOff, IsCloseBehind, WatchesTo, WritesSome, Watches}
+use Rattle.snort_engine.specs.Steps.Stop.{capture_stop, stop_status, stop_text, outcome_status, outcome_text}
+use Rattle.snort_engine.specs.Steps.Reporting.{counts_due}
+use Rattle.snort_engine.specs.Steps.Watching.{recording_by, lines_of, IsReadOut, HasReadTo, IsReadCutShort, IsCloseBehind, WatchesTo, WritesSome, Watches}
 use Rattle.snort_engine.proofs.Prefixes.{IsPrefix-nil, WritesPart-none}
 use Rattle.snort_engine.proofs.LinesLaws.{lines_join, lines-nil, lines-none, no_counts-are}
 use Rattle.snort_engine.proofs.Limits.{batches_none}
@@ -310,7 +310,7 @@ ahead_behind plan files course held bytes reader left_first before after failed 
 -- the reading was cut off behind what the opening took
 cut_behind : (plan : Plan) (files : Files) (course : Course) (bytes : List ℕ) (reader : RecordReader) (left_first : Option (List ℕ)) (before after : Work) → course.way ≡ Goes plan
     → get files plan.source ≡ Some bytes → IsOpenCapture plan files course left_first bytes reader
-    → IsCutOff plan reader (record { left = left_first; written = before.alerts }) (record { left = after.left; written = after.alerts })
+    → IsReadCutShort plan reader (record { left = left_first; written = before.alerts }) (record { left = after.left; written = after.alerts })
     → IsCutShort files course before after (warned course ++ cannot_read_text plan.source)
 unfolding lines_of lines_within
 cut_behind plan files course bytes reader left_first before after goes held o cut =
@@ -360,7 +360,7 @@ part_of_watch plan files course left_first left_last bytes reader before after o
 pub watched_by : (plan : Plan) (files : Files) (course : Course) (left_first left_last : Option (List ℕ)) (bytes : List ℕ) (reader : RecordReader) (before after : Work) (counts : Counts) (outcome : Result (Unit {0}) Stop)
     → IsOpenCapture plan files course left_first bytes reader
     → Watches plan reader (record { left = left_first; written = before.alerts }) (record { left = left_last; written = after.alerts }) counts outcome
-    → (outcome_status outcome ≡ status.HostFault → IsCutOff plan reader (record { left = left_first; written = before.alerts }) (record { left = left_last; written = after.alerts })
+    → (outcome_status outcome ≡ status.HostFault → IsReadCutShort plan reader (record { left = left_first; written = before.alerts }) (record { left = left_last; written = after.alerts })
     → IsCutShort files course before after (warned course ++ cannot_read_text plan.source))
     → (outcome_status outcome ≡ status.HostFault → Rose before.host_faults after.host_faults)
     → ((ended : Status) → outcome_status outcome ≡ ended → ReadsAhead files course before after ended)

@@ -19,7 +19,7 @@ use Rattle.flow_lanes.specs.Flows.{Detection, answer, answer_tries}
 use Rattle.flow_lanes.specs.Hits.{Test}
 use Rattle.flow_lanes.specs.Standing.{DetectsBy, IsBatchSearched, LanesStand, LanesState, LearnsBatch}
 use Rattle.record_jobs.specs.declared.counts.RecordCounts.{RecordCounts}
-use Rattle.record_jobs.specs.Way.{LinkedRecord, Way}
+use Rattle.record_jobs.specs.Way.{LinkedRecord, Way as JobsWay}
 use Rattle.record_jobs.specs.Jobs.{finishes, jobs}
 use Rattle.record_jobs.specs.Counts.{counts}
 use Rattle.record_jobs.specs.Fronts.{FrontState, GivesFinishes, StandsFor, TakesRecord, TellsCounts}
@@ -35,16 +35,16 @@ use Rattle.snort_engine.specs.declared.plan.Plan as code
 use Rattle.snort_engine.specs.declared.stop.Stop.{Stop}
 use Rattle.snort_engine.specs.Course.{Plan}
 use Rattle.snort_engine.specs.Beside.{beside, by_place, places_along, source_in, whats}
-use Rattle.snort_engine.specs.Trace.{Closed, Open, closing_items, detection_of, filtered_item, items_of, job_items, jobs_of, last_of, trace, way_by, way_of}
+use Rattle.snort_engine.specs.Trace.{Closed, Open, closing_items, detection_of, filtered_item, items_of, job_items, jobs_of, last_of, trace, jobs_way_by, jobs_way}
 use Rattle.snort_engine.specs.Lines.{lines}
 use Rattle.snort_engine.specs.Counts.{counts_of, hit_count, try_count}
 use Rattle.snort_engine.specs.Outside.{WritesPart}
-use Rattle.snort_engine.specs.Gathering.{Gathers}
-use Rattle.snort_engine.specs.Showing.{EventsStand, Showing, Shows, ShowsPart, Told, items_lines, tally_of}
-use Rattle.snort_engine.specs.Matching.{ShowsMatches, ShowsMatchesPart}
-use Rattle.snort_engine.specs.Sourcing.{PlacesJobs, Sourced, last_behind, told_in}
-use Rattle.snort_engine.specs.Detecting.{AreTaken, Closes, ClosesPart, Detecting, InspectionStands, IsKnown, IsNewInspection, IsSoundPlan, MakesJobs, Running, Runs, RunsPart, ShowsRecords, ShowsRecordsPart, closing_lines, counted, jobs_lines, waiting}
-use Rattle.snort_engine.specs.Watching.{IsTest, plan_of}
+use Rattle.snort_engine.specs.Steps.Gathering.{Gathers}
+use Rattle.snort_engine.specs.Steps.Showing.{EventsStand, Showing, Shows, ShowsPart, SourcedItem, items_lines, tally_of}
+use Rattle.snort_engine.specs.Steps.Matching.{ShowsMatches, ShowsMatchesPart}
+use Rattle.snort_engine.specs.Steps.Sourcing.{PlacesJobs, Sourced, last_behind, sourced_items}
+use Rattle.snort_engine.specs.Steps.Detecting.{AreTaken, Closes, ClosesPart, Detecting, InspectionStands, IsKnown, IsNewInspection, IsSoundPlan, MakesJobs, Running, Runs, RunsPart, ShowsRecords, ShowsRecordsPart, closing_lines, counted, jobs_lines, waiting}
+use Rattle.snort_engine.specs.Steps.Watching.{IsTest, plan_of}
 use Rattle.snort_engine.proofs.Prefixes.{WritesPart-none, gathers_written, gathers_stopped}
 use Rattle.snort_engine.proofs.Beside.{whats-by_place, whats-carried}
 use Rattle.snort_engine.proofs.LinesLaws.{alerts-counted, jobs_lines-closing, jobs_lines-records}
@@ -59,7 +59,7 @@ detects_by finds plan matches test = record { config = refl; rules = refl; made 
 
 -- the items of the answers to a batch, without their records
 items_found : (d : Detection) (source : ℕ → LinkedRecord) (before batch : List Job) (hits : List JobHits) → hits ≡ along_from (answer d) before batch
-    → whats (told_in (by_place source 0 hits)) ≡ trail_from (job_items d) before batch
+    → whats (sourced_items (by_place source 0 hits)) ≡ trail_from (job_items d) before batch
 items_found d source before batch hits is =
     ap whats (told_found d source before batch hits is)
     ∙ whats-carried (job_items d) before (by_place source 0 batch)
@@ -100,7 +100,7 @@ runs_found plan source batch old new out answers tries shows = λ before stands.
             (ap (λ (x : List Hits). trail (job_items d) before ++ x) items ∙ pipe_more (job_items d) before batch) shown.stands;
         tries = tries_found d before batch old.inspection.tries new.inspection.tries out.tries stands.tries tries answered.tries;
       });
-      came = subst (λ (x : List Told). Gathers (items_lines plan.form plan.config plan.rules (trail (job_items d) before) x) (waiting old) (waiting new))
+      came = subst (λ (x : List SourcedItem). Gathers (items_lines plan.form plan.config plan.rules (trail (job_items d) before) x) (waiting old) (waiting new))
           (told_found d source before batch entries refl) shown.came;
     }
 
@@ -115,7 +115,7 @@ runs_part_found plan source batch old new out lanes answers part = λ before sta
     let answered = answers before stands.lanes in
     let entries : List JobHits = along_from (answer d) before batch in
     let items = told_found d source before batch entries refl in
-    subst (λ (x : List Told). WritesPart old.written (old.inspection.events.block.items ++ items_lines plan.form plan.config plan.rules (trail (job_items d) before) x) new) items
+    subst (λ (x : List SourcedItem). WritesPart old.written (old.inspection.events.block.items ++ items_lines plan.form plan.config plan.rules (trail (job_items d) before) x) new) items
     (part entries (record { hits = answered.hits; items = answered.items }) (trail (job_items d) before) stands.events)
 
 -- or nothing was
@@ -151,14 +151,14 @@ on_err (Err why) holds = holds
 -- ---- the jobs of records
 
 -- no record was taken
-pub makes_none : (way : Way) (front : FrontState) → MakesJobs way [] front front []
+pub makes_none : (way : JobsWay) (front : FrontState) → MakesJobs way [] front front []
 makes_none way front = λ before stands. record {
   jobs_are = refl;
   stands = subst (λ (x : List LinkedRecord). StandsFor way front x) (sym (append-nil before)) stands;
 }
 
 -- one record more was taken
-pub makes_step : (way : Way) (records : List LinkedRecord) (i : ℕ) (own : LinkedRecord) (old middle new : FrontState) (made next : List Job) → i < length records → own ≡ get_or records i own
+pub makes_step : (way : JobsWay) (records : List LinkedRecord) (i : ℕ) (own : LinkedRecord) (old middle new : FrontState) (made next : List Job) → i < length records → own ≡ get_or records i own
     → MakesJobs way (take i records) old middle made → TakesRecord way middle own new made next
     → MakesJobs way (take (i + 1) records) old new next
 makes_step way records i own old middle new made next lt is so_far more =
@@ -190,22 +190,22 @@ stands_on plan before old new lanes filters tally tries stands = record {
 
 -- the lines of the jobs of records that were taken are those of the records
 pub lines_made : (plan : Plan) (records : List LinkedRecord) (last : LinkedRecord) (before : List LinkedRecord) (new : FrontState) (made : List Job) (places : List ℕ)
-    → AreTaken (way_of plan) before records new made → places ≡ places_along (jobs (way_of plan)) before 0 records
+    → AreTaken (jobs_way plan) before records new made → places ≡ places_along (jobs (jobs_way plan)) before 0 records
     → jobs_lines plan (jobs_of plan before) (by_place (source_in records last places) 0 made) ≡ lines plan before records Open
 lines_made plan records last before new made places taken places_are =
-    ap (jobs_lines plan (jobs_of plan before)) (sources_made (way_of plan) records last before made places taken.jobs_are places_are)
+    ap (jobs_lines plan (jobs_of plan before)) (sources_made (jobs_way plan) records last before made places taken.jobs_are places_are)
     ∙ jobs_lines-records plan before records
 
 -- the inspection that ran the jobs of records stands behind them
-pub stands_made : (plan : Plan) (source : ℕ → LinkedRecord) (before records : List LinkedRecord) (new : FrontState) (made : List Job) (inspection : Inspection) → AreTaken (way_of plan) before records new made
+pub stands_made : (plan : Plan) (source : ℕ → LinkedRecord) (before records : List LinkedRecord) (new : FrontState) (made : List Job) (inspection : Inspection) → AreTaken (jobs_way plan) before records new made
     → InspectionStands plan (jobs_of plan before ++ whats (by_place source 0 made)) inspection → InspectionStands plan (jobs_of plan (before ++ records)) inspection
 stands_made plan source before records new made inspection taken stands =
     subst (λ (x : List Job). InspectionStands plan x inspection)
-    (ap (λ (x : List Job). jobs_of plan before ++ x) (whats-by_place source 0 made ∙ taken.jobs_are) ∙ pipe_more (jobs (way_of plan)) before records) stands
+    (ap (λ (x : List Job). jobs_of plan before ++ x) (whats-by_place source 0 made ∙ taken.jobs_are) ∙ pipe_more (jobs (jobs_way plan)) before records) stands
 
 -- a batch of records was taken and run, its lines written whole, and its last record kept
 pub records_shown : (plan : Plan) (records : List LinkedRecord) (old new : Detecting) (made : List Job) (places : List ℕ) (middle : Running)
-    → MakesJobs (way_of plan) records old.detector.front new.detector.front made → PlacesJobs (way_of plan) records old.detector.front places
+    → MakesJobs (jobs_way plan) records old.detector.front new.detector.front made → PlacesJobs (jobs_way plan) records old.detector.front places
     → Runs plan (by_place (source_in records old.detector.inspection.last places) 0 made) (record { inspection = old.detector.inspection; written = old.written }) middle
     → old.detector.inspection.events.block.items ≡ [] → new.written ≡ behind middle.written middle.inspection.events.block.items
     → ((before : List Job) → InspectionStands plan before middle.inspection → InspectionStands plan before new.detector.inspection)
@@ -229,7 +229,7 @@ records_shown plan records old new made places middle makes placed runs empty of
 
 -- or a part of its lines was
 pub records_part : (plan : Plan) (records : List LinkedRecord) (old : Detecting) (front : FrontState) (new : Option (List ℕ)) (made : List Job) (places : List ℕ)
-    → MakesJobs (way_of plan) records old.detector.front front made → PlacesJobs (way_of plan) records old.detector.front places
+    → MakesJobs (jobs_way plan) records old.detector.front front made → PlacesJobs (jobs_way plan) records old.detector.front places
     → old.detector.inspection.events.block.items ≡ []
     → RunsPart plan (by_place (source_in records old.detector.inspection.last places) 0 made) (record { inspection = old.detector.inspection; written = old.written }) new
     → ShowsRecordsPart plan records old new
@@ -243,7 +243,7 @@ records_part plan records old front new made places makes placed empty part = λ
     ∙ lines_made plan records last before front made places (makes before stands.front) (placed before stands.front)) own
 
 pub records_offered_part : (plan : Plan) (records : List LinkedRecord) (old : Detecting) (front : FrontState) (middle : Running) (new : Option (List ℕ)) (made : List Job) (places : List ℕ)
-    → MakesJobs (way_of plan) records old.detector.front front made → PlacesJobs (way_of plan) records old.detector.front places
+    → MakesJobs (jobs_way plan) records old.detector.front front made → PlacesJobs (jobs_way plan) records old.detector.front places
     → Runs plan (by_place (source_in records old.detector.inspection.last places) 0 made) (record { inspection = old.detector.inspection; written = old.written }) middle
     → old.detector.inspection.events.block.items ≡ [] → WritesPart middle.written middle.inspection.events.block.items new
     → ShowsRecordsPart plan records old new
@@ -262,7 +262,7 @@ records_nothing plan records old = λ before stands. WritesPart-none old.written
 -- ---- what is known, whatever the host tells
 
 -- the front's law, for a batch among all jobs
-ready_among : (engines : ℕ) (way : Way) (front : FrontState) (records : List LinkedRecord) (lanes : LanesState) (earlier batch more : List Job) → engines ≡ length way.stream.engines → HaveLearnt lanes earlier
+ready_among : (engines : ℕ) (way : JobsWay) (front : FrontState) (records : List LinkedRecord) (lanes : LanesState) (earlier batch more : List Job) → engines ≡ length way.stream.engines → HaveLearnt lanes earlier
     → all_jobs way records ≡ earlier ++ (batch ++ more) → length records ≤ 2 ^ 32 → StandsFor way front records → AreReady engines lanes batch
 ready_among engines way front records lanes earlier batch more is know joined few stands =
     let order = in_order way records in
@@ -270,7 +270,7 @@ ready_among engines way front records lanes earlier batch more is know joined fe
     ready engines lanes earlier batch more know (subst (λ (x : List Job). AreSound engines x) joined sound) (subst (λ (x : List Job). AreNumbered x) joined order.numbered)
 
 -- the jobs of a batch may be run
-pub ready_records : (engines : ℕ) (way : Way) (rules : List Rule) (detector : Detector) (records : List LinkedRecord) (front : FrontState) (made : List Job) → engines ≡ length way.stream.engines
+pub ready_records : (engines : ℕ) (way : JobsWay) (rules : List Rule) (detector : Detector) (records : List LinkedRecord) (front : FrontState) (made : List Job) → engines ≡ length way.stream.engines
     → IsKnown way rules detector → MakesJobs way records detector.front front made → detector.front.counts.records + length records ≤ 2 ^ 32
     → AreReady engines detector.inspection.lanes made
 ready_records engines way rules detector records front made is known makes few =
@@ -284,7 +284,7 @@ ready_records engines way rules detector records front made is known makes few =
     (ap (λ (x : List Job). x ++ finishes way all) joined ∙ append_assoc earlier made (finishes way all)) (omega (arith, l, c, few)) taken.stands
 
 -- those behind all records, too
-pub ready_closing : (engines : ℕ) (way : Way) (rules : List Rule) (detector : Detector) (made : List Job) → engines ≡ length way.stream.engines
+pub ready_closing : (engines : ℕ) (way : JobsWay) (rules : List Rule) (detector : Detector) (made : List Job) → engines ≡ length way.stream.engines
     → IsKnown way rules detector → GivesFinishes detector.front [] made → detector.front.counts.records ≤ 2 ^ 32
     → AreReady engines detector.inspection.lanes made
 ready_closing engines way rules detector made is known gives few =
@@ -295,7 +295,7 @@ ready_closing engines way rules detector made is known gives few =
     (ap (λ (x : List Job). earlier ++ x) (sym last ∙ sym (append-nil made))) (omega (arith, c, few)) known.front
 
 -- what is known goes on with a batch
-pub known_records : (way : Way) (rules : List Rule) (old new : Detector) (records : List LinkedRecord) (made : List Job) → IsKnown way rules old → MakesJobs way records old.front new.front made
+pub known_records : (way : JobsWay) (rules : List Rule) (old new : Detector) (records : List LinkedRecord) (made : List Job) → IsKnown way rules old → MakesJobs way records old.front new.front made
     → LearnsBatch old.inspection.lanes made new.inspection.lanes → new.inspection.groups ≡ old.inspection.groups → new.inspection.events.block.items ≡ [] → IsKnown way rules new
 known_records way rules old new records made known makes learns groups none =
     let taken = makes known.records known.front in
@@ -319,8 +319,8 @@ inspection_stands-new plan matches inspection sound new = record {
   tries = new.tries;
 }
 
-pub known-new : {P : Type 0} (plan : code.Plan P) (detector : Detector) → StandsFor (way_by plan.checks plan.setup.hosts plan.setup.config) detector.front [] → IsNewInspection plan detector.inspection
-    → IsKnown (way_by plan.checks plan.setup.hosts plan.setup.config) plan.setup.set.rules detector
+pub known-new : {P : Type 0} (plan : code.Plan P) (detector : Detector) → StandsFor (jobs_way_by plan.checks plan.setup.hosts plan.setup.config) detector.front [] → IsNewInspection plan detector.inspection
+    → IsKnown (jobs_way_by plan.checks plan.setup.hosts plan.setup.config) plan.setup.set.rules detector
 known-new plan detector front new = record {
   records = [];
   front = front;
@@ -336,25 +336,25 @@ same_counts : (seen seen' : RecordCounts) (items items' hits hits' alerts alerts
 same_counts seen seen' items items' hits hits' alerts alerts' tries tries' a b c d e = cc
 
 -- all was counted
-counted_all : (plan : Plan) (records : List LinkedRecord) (seen : RecordCounts) (inspection : Inspection) → seen ≡ counts (way_of plan) records
-    → InspectionStands plan (jobs_of plan records ++ finishes (way_of plan) records) inspection → counted seen inspection ≡ counts_of plan records
+counted_all : (plan : Plan) (records : List LinkedRecord) (seen : RecordCounts) (inspection : Inspection) → seen ≡ counts (jobs_way plan) records
+    → InspectionStands plan (jobs_of plan records ++ finishes (jobs_way plan) records) inspection → counted seen inspection ≡ counts_of plan records
 unfolding counts_of tally_of items_of closing_items
 counted_all plan records seen inspection is stands =
     let d = detection_of plan in
     let made = jobs_of plan records in
-    let last = finishes (way_of plan) records in
+    let last = finishes (jobs_way plan) records in
     let items = items_of plan records in
     let behind_all = closing_items plan records in
     let found : trail (job_items d) (made ++ last) ≡ items ++ behind_all = trail-append (job_items d) made last in
     let tally : inspection.events.tally ≡ tally_of plan.config plan.rules (items ++ behind_all) = stands.events.tally ∙ ap (tally_of plan.config plan.rules) found in
-    same_counts seen (counts (way_of plan) records)
+    same_counts seen (counts (jobs_way plan) records)
     inspection.events.tally.items (length (items ++ behind_all)) inspection.events.tally.hits (hit_count (items ++ behind_all))
     inspection.events.tally.alerts (length (trace plan [] records Closed)) inspection.tries (try_count d (made ++ last))
     is (ap (λ (t : Tally). t.items) tally) (ap (λ (t : Tally). t.hits) tally)
     (ap (λ (t : Tally). t.alerts) tally ∙ alerts-counted plan records (items ++ behind_all) refl) stands.tries
 
 -- the lines of the jobs behind all records, each beside the last one
-lines_closing : (plan : Plan) (records : List LinkedRecord) (last : LinkedRecord) (made : List Job) → made ≡ finishes (way_of plan) records → last ≡ last_of records
+lines_closing : (plan : Plan) (records : List LinkedRecord) (last : LinkedRecord) (made : List Job) → made ≡ finishes (jobs_way plan) records → last ≡ last_of records
     → jobs_lines plan (jobs_of plan records) (by_place (source_in [] last []) 0 made) ≡ closing_lines plan records
 lines_closing plan records last made are is =
     ap (jobs_lines plan (jobs_of plan records)) (sources_last last made ∙ ap₂ (λ (l : LinkedRecord) (m : List Job). map (beside l) m) is are)
@@ -369,7 +369,7 @@ pub closed_whole : (plan : Plan) (old : Detecting) (made : List Job) (middle : R
     → Closes plan old written (counted seen end)
 unfolding Closes Runs
 closed_whole plan old made middle end written seen gives tells runs empty offered on = λ records stands.
-    let way = way_of plan in
+    let way = jobs_way plan in
     let last = old.detector.inspection.last in
     let source = source_in [] last [] in
     let batch = by_place source 0 made in
@@ -391,7 +391,7 @@ closed_part plan old made written gives empty part = λ records stands.
     let last = old.detector.inspection.last in
     subst (λ (x : List ℕ). WritesPart old.written x written)
     (ap (λ (x : List ℕ). x ++ jobs_lines plan (jobs_of plan records) (by_place (source_in [] last []) 0 made)) empty
-    ∙ lines_closing plan records last made (gives (way_of plan) records stands.front) stands.last)
+    ∙ lines_closing plan records last made (gives (jobs_way plan) records stands.front) stands.last)
     (part (jobs_of plan records) stands.inspection)
 
 pub closed_offered_part : (plan : Plan) (old : Detecting) (made : List Job) (middle : Running) (written : Option (List ℕ))
@@ -405,7 +405,7 @@ closed_offered_part plan old made middle written gives runs empty part = λ reco
     let batch = by_place (source_in [] last []) 0 made in
     let run = runs (jobs_of plan records) stands.inspection in
     subst (λ (x : List ℕ). WritesPart old.written x written)
-    (lines_closing plan records last made (gives (way_of plan) records stands.front) stands.last)
+    (lines_closing plan records last made (gives (jobs_way plan) records stands.front) stands.last)
     (gathers_stopped (jobs_lines plan (jobs_of plan records) batch) (waiting (record { inspection = old.detector.inspection; written = old.written })) (waiting middle) written empty run.came part)
 
 pub closed_nothing : (plan : Plan) (old : Detecting) → ClosesPart plan old old.written

@@ -13,7 +13,7 @@ use Rattle.snort_engine.specs.Course.{Plan, Way, Stops, Goes, Makes, Lists, Cour
 use Rattle.snort_engine.specs.Answer.{answer_of}
 use Rattle.snort_engine.specs.Messages.{cannot_write_text, no_memory_text}
 use Rattle.snort_engine.specs.Outside.{Work, WritesPart}
-use Rattle.snort_engine.specs.ReadAhead.{IsUnopened, IsShut, IsReadInBatches, IsReadAhead, IsApart, IsCutOff, ReadsAhead, ReadsAheadOn}
+use Rattle.snort_engine.specs.ReadAhead.{IsUntouched, IsShut, IsReadInBatches, IsReadAhead, IsApart, IsCutStatus, ReadsAhead, ReadsAheadOn}
 use Rattle.snort_engine.specs.Ending.{IsStated, IsAnswered, IsCutShort, IsNoMemoryMessage, Ends}
 use Rattle.snort_engine.proofs.Prefixes.{IsPrefix-same, rose_since}
 
@@ -116,7 +116,7 @@ ends_lacking files course before after part ahead = ends_lacking_so files course
 -- ---- reading ahead
 
 -- a course that stops has opened nothing
-pub ahead_stops : (files : Files) (course : Course) (message : List ℕ) (status_then : Status) (before after : Work) (ended : Status) → course.way ≡ Stops message status_then → ended ≡ status_then → IsUnopened before after → ReadsAhead files course before after ended
+pub ahead_stops : (files : Files) (course : Course) (message : List ℕ) (status_then : Status) (before after : Work) (ended : Status) → course.way ≡ Stops message status_then → ended ≡ status_then → IsUntouched before after → ReadsAhead files course before after ended
 unfolding ReadsAhead
 ahead_stops files course message status_then before after ended stops is unopened =
     subst (λ (way : Way). ReadsAheadOn files way before after ended) (sym stops) (unopened, inl is)
@@ -128,7 +128,7 @@ ahead_goes files course plan before after ended goes read =
     subst (λ (way : Way). ReadsAheadOn files way before after ended) (sym goes) (inl read)
 
 -- or was cut off before
-pub ahead_cut : (files : Files) (course : Course) (plan : Plan) (before after : Work) (ended : Status) → course.way ≡ Goes plan → IsCutOff ended → IsUnopened before after ⊎ IsShut before after → ReadsAhead files course before after ended
+pub ahead_cut : (files : Files) (course : Course) (plan : Plan) (before after : Work) (ended : Status) → course.way ≡ Goes plan → IsCutStatus ended → IsUntouched before after ⊎ IsShut before after → ReadsAhead files course before after ended
 unfolding ReadsAhead
 ahead_cut files course plan before after ended goes cut how =
     subst (λ (way : Way). ReadsAheadOn files way before after ended) (sym goes) (inr (cut, how))
@@ -195,7 +195,7 @@ ends_counted files course before after faults ended message since ends = record 
   read_ahead = by_way course.way ends.read_ahead;
 }
   where
-    unopened_on : IsUnopened before after → IsUnopened (counted before faults) after
+    unopened_on : IsUntouched before after → IsUntouched (counted before faults) after
     unopened_on u = record { left = u.left; opens = u.opens; alerts = u.alerts }
 
     cut_on : IsCutShort files course before after message → IsCutShort files course (counted before faults) after message

@@ -4,9 +4,9 @@ use Rattle.std.proofs.lemmas.Bool.{cases_lt}
 use Rattle.std.proofs.lemmas.List.{append-nil, length-append}
 use Rattle.record_jobs.specs.Way.{LinkedRecord}
 use Rattle.snort_engine.specs.Records.{AreWithin, Recording, Ending, Clean, none_before, first_of}
-use Rattle.snort_engine.specs.Reader.{with_front}
+use Rattle.snort_engine.specs.Steps.Reader.{with_front}
 use Rattle.snort_engine.specs.ReadAhead.{batch, AreBatches}
-use Rattle.snort_engine.specs.Watching.{IsRoom, most_at, room_behind}
+use Rattle.snort_engine.specs.Steps.Watching.{IsRoom, most_at, room_behind}
 use Rattle.snort_engine.proofs.Recordings.{with_first, first_of-none, first_of-zero, first_of-none_before, first_of-with_first}
 
 -- a record counts once

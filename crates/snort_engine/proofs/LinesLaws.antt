@@ -11,12 +11,12 @@ use Rattle.record_jobs.specs.Counts.{counts}
 use Rattle.stream5_sessions.specs.Liveness.{live_flows}
 use Rattle.snort_engine.specs.Course.{Plan}
 use Rattle.snort_engine.specs.Beside.{beside, carried, own}
-use Rattle.snort_engine.specs.Trace.{Alert, CaptureState, Open, Closed, closing_alerts, closing_events, closing_items, detection_of, item_events, items_of, job_items, jobs_of, last_of, record_alerts, record_events, trace, way_of}
+use Rattle.snort_engine.specs.Trace.{Alert, CaptureState, Open, Closed, closing_alerts, closing_events, closing_items, detection_of, item_events, items_of, job_items, jobs_of, last_of, record_alerts, record_events, trace, jobs_way}
 use Rattle.snort_engine.specs.Lines.{alert_count, text_of, texts_from, lines, LinesJoin, PrefixLaw}
 use Rattle.snort_engine.specs.Counts.{counts_of, no_counts}
-use Rattle.snort_engine.specs.Showing.{items_lines}
-use Rattle.snort_engine.specs.Detecting.{closing_lines, jobs_lines}
-use Rattle.snort_engine.specs.Watching.{lines_of}
+use Rattle.snort_engine.specs.Steps.Showing.{items_lines}
+use Rattle.snort_engine.specs.Steps.Detecting.{closing_lines, jobs_lines}
+use Rattle.snort_engine.specs.Steps.Watching.{lines_of}
 use Rattle.snort_engine.proofs.Beside.{carried-beside, carried-own, length-own}
 use Rattle.snort_engine.proofs.Texts.{texts_from-append}
 
@@ -108,9 +108,9 @@ lines_of-append plan front back state = lines_join plan [] front back state
 -- ---- jobs
 
 -- all items of records are those of their jobs
-pub items_of-jobs : (plan : Plan) (records : List LinkedRecord) → items_of plan records ≡ trail (chained (job_items (detection_of plan)) (jobs (way_of plan))) records
+pub items_of-jobs : (plan : Plan) (records : List LinkedRecord) → items_of plan records ≡ trail (chained (job_items (detection_of plan)) (jobs (jobs_way plan))) records
 unfolding items_of
-items_of-jobs plan records = trail-chained (job_items (detection_of plan)) (jobs (way_of plan)) records
+items_of-jobs plan records = trail-chained (job_items (detection_of plan)) (jobs (jobs_way plan)) records
 
 -- how many alerts stand before, by the items of their records
 pub alerts_before : (plan : Plan) (before : List LinkedRecord)
@@ -118,18 +118,18 @@ pub alerts_before : (plan : Plan) (before : List LinkedRecord)
 unfolding alert_count trace record_events
 alerts_before plan before =
     let found = job_items (detection_of plan) in
-    let made = jobs (way_of plan) in
+    let made = jobs (jobs_way plan) in
     let shown = item_events plan.config plan.rules in
     ap (λ (items : List Hits). length (trail shown items)) (trail-chained found made before)
     ∙ ap length (trail-chained shown (chained found made) before)
     ∙ sym (length-own (chained shown (chained found made)) [] before)
 
 -- a batch of records through all stages: its lines are those of its jobs
-pub jobs_lines-records : (plan : Plan) (before records : List LinkedRecord) → jobs_lines plan (jobs_of plan before) (trail_from (own (jobs (way_of plan))) before records) ≡ lines plan before records Open
+pub jobs_lines-records : (plan : Plan) (before records : List LinkedRecord) → jobs_lines plan (jobs_of plan before) (trail_from (own (jobs (jobs_way plan))) before records) ≡ lines plan before records Open
 unfolding jobs_lines items_lines lines trace record_events
 jobs_lines-records plan before records =
     let found = job_items (detection_of plan) in
-    let made = jobs (way_of plan) in
+    let made = jobs (jobs_way plan) in
     let shown = item_events plan.config plan.rules in
     let text = text_by plan in
     let of_jobs = carried found (trail made before) (trail_from (own made) before records) in
@@ -139,14 +139,14 @@ jobs_lines-records plan before records =
     ∙ ap (texts_from text (alert_count plan before)) (carried-own shown (chained found made) before records)
 
 -- the lines of the flows that end with a capture are those of the jobs behind its records
-pub jobs_lines-closing : (plan : Plan) (records : List LinkedRecord) → jobs_lines plan (jobs_of plan records) (map (beside (last_of records)) (finishes (way_of plan) records)) ≡ closing_lines plan records
+pub jobs_lines-closing : (plan : Plan) (records : List LinkedRecord) → jobs_lines plan (jobs_of plan records) (map (beside (last_of records)) (finishes (jobs_way plan) records)) ≡ closing_lines plan records
 unfolding jobs_lines items_lines closing_lines closing_alerts closing_events closing_items items_of
 jobs_lines-closing plan records =
     let found = job_items (detection_of plan) in
     let shown = item_events plan.config plan.rules in
     let text = text_by plan in
     let before = jobs_of plan records in
-    let last = finishes (way_of plan) records in
+    let last = finishes (jobs_way plan) records in
     let source = last_of records in
     ap (λ (n : ℕ). texts_from text n (carried shown (trail found before) (carried found before (map (beside source) last)))) (alerts_before plan records)
     ∙ ap (λ items. texts_from text (alert_count plan records) (carried shown (trail found before) items)) (carried-beside found before source last)
@@ -157,7 +157,7 @@ pub events-items : (plan : Plan) (records : List LinkedRecord) → trail (item_e
 unfolding record_events
 events-items plan records =
     ap (trail (item_events plan.config plan.rules)) (items_of-jobs plan records)
-    ∙ trail-chained (item_events plan.config plan.rules) (chained (job_items (detection_of plan)) (jobs (way_of plan))) records
+    ∙ trail-chained (item_events plan.config plan.rules) (chained (job_items (detection_of plan)) (jobs (jobs_way plan))) records
 
 -- how many alerts a capture has, by its items
 pub alerts-counted : (plan : Plan) (records : List LinkedRecord) (all : List Hits) → all ≡ items_of plan records ++ closing_items plan records

@@ -11,8 +11,8 @@ use Rattle.snort_engine.specs.declared.stop.Stop.{Stop}
 use Rattle.snort_engine.specs.declared.stop.Stop.TheVariants as stop
 use Rattle.snort_engine.specs.RecordLines.{entry_lines}
 use Rattle.snort_engine.specs.Course.{Stops, Lists, IsFileWay, AreListed, most_file_bytes}
-use Rattle.snort_engine.specs.Stop.{stop_text}
-use Rattle.snort_engine.specs.Preparing.{HasCause, ListsBytes, ListsFile, StopsAtFile, stops}
+use Rattle.snort_engine.specs.Steps.Stop.{stop_text}
+use Rattle.snort_engine.specs.Steps.Preparing.{HasCause, ListsBytes, ListsFile, StopsAtFile, stops}
 
 -- the records that were read have these lines
 pub are_listed : (bytes lines : List ℕ) (entries : List U2) → AddsRecords bytes [] entries → lines ≡ [] ++ entry_lines entries → AreListed bytes (Lists lines)

@@ -14,14 +14,14 @@ use Rattle.snort_engine.specs.declared.counts.Counts.{Counts}
 use Rattle.edge_io.specs.Files.{Files}
 use Rattle.edge_io.specs.Told.{Rose}
 use Rattle.snort_engine.specs.Course.{Plan, Makes, Course}
-use Rattle.snort_engine.specs.MadeCapture.{made_head}
+use Rattle.snort_engine.specs.Steps.MadeCapture.{made_head}
 use Rattle.snort_engine.specs.Answer.{answer_of, capture_answer, way_answer}
 use Rattle.snort_engine.specs.Messages.{no_memory_text}
 use Rattle.snort_engine.specs.Outside.{Work, WritesPart}
 use Rattle.snort_engine.specs.ReadAhead.{IsApart}
 use Rattle.snort_engine.specs.Ending.{Ends}
-use Rattle.snort_engine.specs.Stop.{outcome_status}
-use Rattle.snort_engine.specs.Watching.{Watches}
+use Rattle.snort_engine.specs.Steps.Stop.{outcome_status}
+use Rattle.snort_engine.specs.Steps.Watching.{Watches}
 use Rattle.snort_engine.proofs.Finishing.{ahead_made, ends_lacking}
 use Rattle.snort_engine.proofs.Prefixes.{WritesPart-none}
 use Rattle.snort_engine.proofs.Opening.{savefile_begins}

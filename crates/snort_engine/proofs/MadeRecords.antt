@@ -15,10 +15,10 @@ use Rattle.pcap_input.specs.Reader.{new_reader}
 use Rattle.snort_engine.specs.declared.reader.RecordReader.TheVariants.{Savefile}
 use Rattle.snort_engine.specs.Records as recordings
 use Rattle.snort_engine.specs.Records.{Recording, recording_of, records_of, first_of, limited, IsWhole, MadeIsWhole}
-use Rattle.snort_engine.specs.Reader.{recording_for}
+use Rattle.snort_engine.specs.Steps.Reader.{recording_for}
 use Rattle.snort_engine.proofs.Opening.{records_in-ok}
 use Rattle.snort_engine.proofs.MadeCaptures.{generated_head}
-use Rattle.snort_engine.specs.MadeCapture.{made_head}
+use Rattle.snort_engine.specs.Steps.MadeCapture.{made_head}
 
 -- ---- frames are short
 

@@ -19,12 +19,12 @@ use Rattle.snort_engine.specs.declared.events.Tally.{Tally}
 use Rattle.snort_engine.specs.declared.form.Form.{Form}
 use Rattle.snort_engine.specs.Beside.{beside, by_place, carried, whats}
 use Rattle.snort_engine.specs.Counts.{hit_count}
-use Rattle.snort_engine.specs.Gathering.{Gathers}
+use Rattle.snort_engine.specs.Steps.Gathering.{Gathers}
 use Rattle.snort_engine.specs.Lines.{text_of, texts_from}
-use Rattle.snort_engine.specs.Matching.{ShowsMatches, ShowsMatchesPart, matched_told}
+use Rattle.snort_engine.specs.Steps.Matching.{ShowsMatches, ShowsMatchesPart, matched_sourced}
 use Rattle.snort_engine.specs.Outside.{WritesPart}
-use Rattle.snort_engine.specs.Showing.{Showing, Shows, ShowsPart, Told, gathering_of, items_lines, tally_of}
-use Rattle.snort_engine.specs.Sourcing.{told_in}
+use Rattle.snort_engine.specs.Steps.Showing.{Showing, Shows, ShowsPart, SourcedItem, gathering_of, items_lines, tally_of}
+use Rattle.snort_engine.specs.Steps.Sourcing.{sourced_items}
 use Rattle.snort_engine.specs.Trace.{event_at, filtered_item, item_events}
 use Rattle.snort_engine.proofs.Showing.{same_tally, shows_nothing}
 
@@ -62,26 +62,26 @@ module _ (config : Config) (rules : List Rule) where
   behind : (b : Bool) (item : Hits) → is_matched item ≡ b → (before : List Hits) → matched (before ++ item ∷ []) ≡ matched before ++ cond b (item ∷ []) []
   behind b item is before = filter-append is_matched before (item ∷ []) ∙ ap (λ c. matched before ++ cond c (item ∷ []) []) is
 
-  carried-matched : (before other : List Hits) (items : List Told) → matched before ≡ matched other → carried (item_events config rules) before items ≡ carried (item_events config rules) other (matched_told items)
+  carried-matched : (before other : List Hits) (items : List SourcedItem) → matched before ≡ matched other → carried (item_events config rules) before items ≡ carried (item_events config rules) other (matched_sourced items)
   carried-matched before other [] same = refl
   carried-matched before other (b ∷ items) same = by_test (is_matched b.what) refl (λ (at : List Hits) (left : matched (before ++ b.what ∷ []) ≡ matched at). carried-matched (before ++ b.what ∷ []) at items left)
     where
       by_test : (t : Bool) → is_matched b.what ≡ t
-          → ((at : List Hits) → matched (before ++ b.what ∷ []) ≡ matched at → carried (item_events config rules) (before ++ b.what ∷ []) items ≡ carried (item_events config rules) at (matched_told items))
+          → ((at : List Hits) → matched (before ++ b.what ∷ []) ≡ matched at → carried (item_events config rules) (before ++ b.what ∷ []) items ≡ carried (item_events config rules) at (matched_sourced items))
           → map (beside b.source) (item_events config rules before b.what) ++ carried (item_events config rules) (before ++ b.what ∷ []) items
-          ≡ carried (item_events config rules) other (cond (is_matched b.what) (b ∷ matched_told items) (matched_told items))
+          ≡ carried (item_events config rules) other (cond (is_matched b.what) (b ∷ matched_sourced items) (matched_sourced items))
       by_test true is rest =
           let both : matched (before ++ b.what ∷ []) ≡ matched (other ++ b.what ∷ []) = behind true b.what is before ∙ ap (λ front. front ++ b.what ∷ []) same ∙ sym (behind true b.what is other) in
           (λ i. map (beside b.source) (item_events-same config rules before other b.what same i) ++ rest (other ++ b.what ∷ []) both i)
-          ∙ ap (λ c. carried (item_events config rules) other (cond c (b ∷ matched_told items) (matched_told items))) (sym is)
+          ∙ ap (λ c. carried (item_events config rules) other (cond c (b ∷ matched_sourced items) (matched_sourced items))) (sym is)
       by_test false is rest =
           let left : matched (before ++ b.what ∷ []) ≡ matched other = behind false b.what is before ∙ append-nil (matched before) ∙ same in
           ap (λ events. map (beside b.source) events ++ carried (item_events config rules) (before ++ b.what ∷ []) items) (item_events-none config rules before b.what is)
           ∙ rest other left
-          ∙ ap (λ c. carried (item_events config rules) other (cond c (b ∷ matched_told items) (matched_told items))) (sym is)
+          ∙ ap (λ c. carried (item_events config rules) other (cond c (b ∷ matched_sourced items) (matched_sourced items))) (sym is)
 
 -- so their lines
-items_lines-matched : (form : Form) (config : Config) (rules : List Rule) (before : List Hits) (items : List Told) → items_lines form config rules before items ≡ items_lines form config rules before (matched_told items)
+items_lines-matched : (form : Form) (config : Config) (rules : List Rule) (before : List Hits) (items : List SourcedItem) → items_lines form config rules before items ≡ items_lines form config rules before (matched_sourced items)
 unfolding items_lines
 items_lines-matched form config rules before items =
     ap (texts_from (text_of form config.classes) (length (trail (item_events config rules) before))) (carried-matched config rules before before items refl)
@@ -102,17 +102,17 @@ matched-twice (item ∷ items) = by_test (is_matched item) refl (matched-twice i
         ∙ rest
         ∙ ap (λ c. cond c (item ∷ matched items) (matched items)) (sym is)
 
-whats-matched : (items : List Told) → whats (matched_told items) ≡ matched (whats items)
+whats-matched : (items : List SourcedItem) → whats (matched_sourced items) ≡ matched (whats items)
 whats-matched [] = refl
 whats-matched (b ∷ items) = by_test (is_matched b.what) (whats-matched items)
   where
-    by_test : (t : Bool) → whats (matched_told items) ≡ matched (whats items) → whats (cond t (b ∷ matched_told items) (matched_told items)) ≡ cond t (b.what ∷ matched (whats items)) (matched (whats items))
+    by_test : (t : Bool) → whats (matched_sourced items) ≡ matched (whats items) → whats (cond t (b ∷ matched_sourced items) (matched_sourced items)) ≡ cond t (b.what ∷ matched (whats items)) (matched (whats items))
     by_test true rest = ap (λ (later : List Hits). b.what ∷ later) rest
     by_test false rest = rest
 
-behind-matched : (before : List Hits) (items : List Told) → matched (before ++ whats (matched_told items)) ≡ matched (before ++ whats items)
+behind-matched : (before : List Hits) (items : List SourcedItem) → matched (before ++ whats (matched_sourced items)) ≡ matched (before ++ whats items)
 behind-matched before items =
-    filter-append is_matched before (whats (matched_told items))
+    filter-append is_matched before (whats (matched_sourced items))
     ∙ ap (λ (later : List Hits). matched before ++ later) (ap matched (whats-matched items) ∙ matched-twice (whats items))
     ∙ sym (filter-append is_matched before (whats items))
 
@@ -145,17 +145,17 @@ with_items showing count = record {
 }
 
 -- the matched items were shown, and all were counted
-shows_matched : (form : Form) (config : Config) (rules : List Rule) (items : List Told) (old new : Showing) (count : ℕ) → count ≡ old.events.tally.items + length items
-    → Shows form config rules (matched_told items) old new → Shows form config rules items old (with_items new count)
+shows_matched : (form : Form) (config : Config) (rules : List Rule) (items : List SourcedItem) (old new : Showing) (count : ℕ) → count ≡ old.events.tally.items + length items
+    → Shows form config rules (matched_sourced items) old new → Shows form config rules items old (with_items new count)
 unfolding Shows tally_of
 shows_matched form config rules items old new count counted shows = λ before stands.
     let shown = shows before stands in
-    let few : List Hits = before ++ whats (matched_told items) in
+    let few : List Hits = before ++ whats (matched_sourced items) in
     let all : List Hits = before ++ whats items in
     let same : matched few ≡ matched all = behind-matched before items in
     let so_far : old.events.tally.items ≡ length before = ap (λ (t : Tally). t.items) stands.tally in
     let joined : length all ≡ length before + length (whats items) = length-append before (whats items) in
-    let sized : length (whats items) ≡ length items = length-map items (λ (b : Told). b.what) in
+    let sized : length (whats items) ≡ length items = length-map items (λ (b : SourcedItem). b.what) in
     record {
       stands = record {
         given = IsGiven-matched config rules (map filtered_item few) (map filtered_item all) new.events.filters (filtered-same few all same) shown.stands.given;
@@ -167,33 +167,33 @@ shows_matched form config rules items old new count counted shows = λ before st
       came = subst (λ (x : List ℕ). Gathers x (gathering_of old) (gathering_of new)) (sym (items_lines-matched form config rules before items)) shown.came;
     }
 
-shows_part_matched : (form : Form) (config : Config) (rules : List Rule) (items : List Told) (old : Showing) (new : Option (List ℕ)) → ShowsPart form config rules (matched_told items) old new → ShowsPart form config rules items old new
+shows_part_matched : (form : Form) (config : Config) (rules : List Rule) (items : List SourcedItem) (old : Showing) (new : Option (List ℕ)) → ShowsPart form config rules (matched_sourced items) old new → ShowsPart form config rules items old new
 unfolding ShowsPart
 shows_part_matched form config rules items old new part = λ before stands.
     subst (λ (x : List ℕ). WritesPart old.written (old.events.block.items ++ x) new) (sym (items_lines-matched form config rules before items)) (part before stands)
 
 -- ---- the items of jobs
 
-beside-matched : (source : LinkedRecord) (items : List Hits) → map (beside source) (matched items) ≡ matched_told (map (beside source) items)
+beside-matched : (source : LinkedRecord) (items : List Hits) → map (beside source) (matched items) ≡ matched_sourced (map (beside source) items)
 beside-matched source [] = refl
 beside-matched source (item ∷ items) = by_test (is_matched item) (beside-matched source items)
   where
-    by_test : (b : Bool) → map (beside source) (matched items) ≡ matched_told (map (beside source) items)
-        → map (beside source) (cond b (item ∷ matched items) (matched items)) ≡ cond b (beside source item ∷ matched_told (map (beside source) items)) (matched_told (map (beside source) items))
-    by_test true rest = ap (λ (later : List Told). beside source item ∷ later) rest
+    by_test : (b : Bool) → map (beside source) (matched items) ≡ matched_sourced (map (beside source) items)
+        → map (beside source) (cond b (item ∷ matched items) (matched items)) ≡ cond b (beside source item ∷ matched_sourced (map (beside source) items)) (matched_sourced (map (beside source) items))
+    by_test true rest = ap (λ (later : List SourcedItem). beside source item ∷ later) rest
     by_test false rest = rest
 
-told-matched : (source : ℕ → LinkedRecord) (place : ℕ) (jobs : List JobHits) → told_in (by_place source place (map matched_entry jobs)) ≡ matched_told (told_in (by_place source place jobs))
+told-matched : (source : ℕ → LinkedRecord) (place : ℕ) (jobs : List JobHits) → sourced_items (by_place source place (map matched_entry jobs)) ≡ matched_sourced (sourced_items (by_place source place jobs))
 told-matched source place [] = refl
 told-matched source place (job ∷ jobs) =
     (λ i. beside-matched (source place) job.items i ++ told-matched source (place + 1) jobs i)
-    ∙ sym (filter-append (λ (told : Told). is_matched told.what) (map (beside (source place)) job.items) (told_in (by_place source (place + 1) jobs)))
+    ∙ sym (filter-append (λ (told : SourcedItem). is_matched told.what) (map (beside (source place)) job.items) (sourced_items (by_place source (place + 1) jobs)))
 
-length-told : (source : ℕ → LinkedRecord) (place : ℕ) (jobs : List JobHits) → length (told_in (by_place source place jobs)) ≡ sum_by (λ (job : JobHits). length job.items) jobs
+length-told : (source : ℕ → LinkedRecord) (place : ℕ) (jobs : List JobHits) → length (sourced_items (by_place source place jobs)) ≡ sum_by (λ (job : JobHits). length job.items) jobs
 length-told source place [] = refl
 length-told source place (job ∷ jobs) =
-    let own : List Told = map (beside (source place)) job.items in
-    let joined : length (own ++ told_in (by_place source (place + 1) jobs)) ≡ length own + length (told_in (by_place source (place + 1) jobs)) = length-append own (told_in (by_place source (place + 1) jobs)) in
+    let own : List SourcedItem = map (beside (source place)) job.items in
+    let joined : length (own ++ sourced_items (by_place source (place + 1) jobs)) ≡ length own + length (sourced_items (by_place source (place + 1) jobs)) = length-append own (sourced_items (by_place source (place + 1) jobs)) in
     let sized : length own ≡ length job.items = length-map job.items (beside (source place)) in
     let rest = length-told source (place + 1) jobs in
     let summed : sum_by (λ (j : JobHits). length j.items) (job ∷ jobs) ≡ sum_by (λ (j : JobHits). length j.items) (job ∷ []) + sum_by (λ (j : JobHits). length j.items) jobs = sum_by-append (λ (j : JobHits). length j.items) (job ∷ []) jobs in
@@ -202,19 +202,19 @@ length-told source place (job ∷ jobs) =
 -- ---- the matches of jobs
 
 pub shows_matches : (form : Form) (config : Config) (rules : List Rule) (source : ℕ → LinkedRecord) (found : Matches) (old new : Showing) (count : ℕ) → count ≡ old.events.tally.items + found.items
-    → Shows form config rules (told_in (by_place source 0 found.hits.items)) old new → ShowsMatches form config rules source found old (with_items new count)
+    → Shows form config rules (sourced_items (by_place source 0 found.hits.items)) old new → ShowsMatches form config rules source found old (with_items new count)
 shows_matches form config rules source found old new count counted shows = λ jobs are.
-    let all : List Told = told_in (by_place source 0 jobs) in
-    let few : told_in (by_place source 0 found.hits.items) ≡ matched_told all = ap (λ (hits : List JobHits). told_in (by_place source 0 hits)) are.hits ∙ told-matched source 0 jobs in
+    let all : List SourcedItem = sourced_items (by_place source 0 jobs) in
+    let few : sourced_items (by_place source 0 found.hits.items) ≡ matched_sourced all = ap (λ (hits : List JobHits). sourced_items (by_place source 0 hits)) are.hits ∙ told-matched source 0 jobs in
     shows_matched form config rules all old new count (counted ∙ ap (λ (n : ℕ). old.events.tally.items + n) (are.items ∙ sym (length-told source 0 jobs)))
-    (subst (λ (x : List Told). Shows form config rules x old new) few shows)
+    (subst (λ (x : List SourcedItem). Shows form config rules x old new) few shows)
 
 pub matches_part : (form : Form) (config : Config) (rules : List Rule) (source : ℕ → LinkedRecord) (found : Matches) (old : Showing) (new : Option (List ℕ))
-    → ShowsPart form config rules (told_in (by_place source 0 found.hits.items)) old new → ShowsMatchesPart form config rules source found old new
+    → ShowsPart form config rules (sourced_items (by_place source 0 found.hits.items)) old new → ShowsMatchesPart form config rules source found old new
 matches_part form config rules source found old new part = λ jobs are.
-    let all : List Told = told_in (by_place source 0 jobs) in
-    let few : told_in (by_place source 0 found.hits.items) ≡ matched_told all = ap (λ (hits : List JobHits). told_in (by_place source 0 hits)) are.hits ∙ told-matched source 0 jobs in
-    shows_part_matched form config rules all old new (subst (λ (x : List Told). ShowsPart form config rules x old new) few part)
+    let all : List SourcedItem = sourced_items (by_place source 0 jobs) in
+    let few : sourced_items (by_place source 0 found.hits.items) ≡ matched_sourced all = ap (λ (hits : List JobHits). sourced_items (by_place source 0 hits)) are.hits ∙ told-matched source 0 jobs in
+    shows_part_matched form config rules all old new (subst (λ (x : List SourcedItem). ShowsPart form config rules x old new) few part)
 
 pub matches_nothing : (form : Form) (config : Config) (rules : List Rule) (source : ℕ → LinkedRecord) (found : Matches) (old : Showing) → ShowsMatchesPart form config rules source found old old.written
-matches_nothing form config rules source found old = λ jobs are. shows_nothing form config rules (told_in (by_place source 0 jobs)) old
+matches_nothing form config rules source found old = λ jobs are. shows_nothing form config rules (sourced_items (by_place source 0 jobs)) old

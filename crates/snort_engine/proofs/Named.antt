@@ -14,7 +14,7 @@ use Rattle.command_words.specs.Table.{table}
 use Rattle.command_words.specs.Uses.{uses_of, value_in}
 use Rattle.snort_setup.specs.Words.{HasName}
 use Rattle.snort_engine.specs.Course.{definition_of, setup_words}
-use Rattle.snort_engine.specs.Detecting.{IsRanged}
+use Rattle.snort_engine.specs.Steps.Detecting.{IsRanged}
 
 -- the name of a definition
 pair_named : (name value : List ℕ) (defined : Defined) → named name value ≡ Some defined → HasName (Some (definition_of defined))

@@ -37,7 +37,8 @@ use Rattle.snort_engine.specs.declared.fault.ReadFault.{ReadFault}
 use Rattle.snort_engine.specs.declared.fault.ReadFault.TheVariants as fault
 use Rattle.snort_engine.specs.declared.reader.RecordReader.TheVariants.{Savefile, Blocks}
 use Rattle.snort_engine.specs.Records.{Refused, Recording, none_before, of_savefile, of_blocks, recording_of, recording_in, recording_of_blocks, recording_in_blocks, is_of_blocks, records_in, first_of}
-use Rattle.snort_engine.specs.Reader.{IsFresh, number_of, recording_for, BeginsBehind, IsBarelyOpen, IsRefusedAtOnce, IsRefusedOpening, Opens, IsToldOther, MayBeOther, OpensSo}
+use Rattle.snort_engine.specs.Steps.Reader.{IsFresh, number_of, recording_for, BeginsBehind, IsBarelyOpen, IsRefusedAtOnce, IsRefusedOpening, Opens, MayBeOther, OpensSo}
+use Rattle.snort_engine.specs.Records.{IsToldOther}
 use Rattle.snort_engine.proofs.Recordings.{recording_of-first, recording_of_blocks-first}
 
 -- ---- which of the two a file is

@@ -10,7 +10,7 @@ use Rattle.edge_io.specs.declared.host.Host.{Ghosts as HostOf}
 use Rattle.edge_io.proofs.Told.{behind-nil, behind-behind}
 use Rattle.snort_engine.specs.declared.stop.Stop.{Stop}
 use Rattle.snort_engine.specs.Outside.{OnlyRead, WritesPart}
-use Rattle.snort_engine.specs.Gathering.{Gathering, Gathers}
+use Rattle.snort_engine.specs.Steps.Gathering.{Gathering, Gathers}
 
 -- a text is a beginning of itself
 pub IsPrefix-same : (whole : List ℕ) → IsPrefix whole whole

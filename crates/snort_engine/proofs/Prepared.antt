@@ -31,11 +31,11 @@ use Rattle.snort_engine.specs.declared.stop.Stop.TheVariants as stop
 use Rattle.snort_engine.specs.Course.{Way, Stops, Makes, Lists, Course, Given, given, IsCourse, IsFileWay, IsFileless, IsForMade, HasOneCourse, checks_of, plan_for, Reads, AreRefused, setup_words, told_warnings, way_ready, way_of, course_by, stopping}
 use Rattle.snort_engine.specs.declared.plan.Source.{Source}
 use Rattle.snort_engine.specs.declared.plan.Source.TheVariants.{File, Made}
-use Rattle.snort_engine.specs.Sources.{IsMade, IsSourceFor, source_name, way_from}
-use Rattle.snort_engine.specs.Detecting.{IsRanged}
+use Rattle.snort_engine.specs.Steps.Sources.{IsMade, IsSourceFor, source_name, way_from}
+use Rattle.snort_engine.specs.Steps.Detecting.{IsRanged}
 use Rattle.snort_engine.specs.Messages.{usage_text, version_text, accepted_text, command_line_text, cannot_read_text}
-use Rattle.snort_engine.specs.Stop.{stop_text, setup_stop}
-use Rattle.snort_engine.specs.Preparing.{HasWay, stops, way_by, Prepares, StopsFileless, IsPrepared, IsSetUp, KeepsSetup, HasCause, ListsFile, task_way, way_for, told_of}
+use Rattle.snort_engine.specs.Steps.Stop.{stop_text, setup_stop}
+use Rattle.snort_engine.specs.Steps.Preparing.{HasWay, stops, way_by, Prepares, StopsFileless, IsPrepared, IsSetUp, KeepsSetup, HasCause, ListsFile, task_way, way_for, told_of}
 use Rattle.snort_engine.proofs.FileWays.{file_way-one}
 
 -- what maps to nothing is nothing

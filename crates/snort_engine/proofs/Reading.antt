@@ -26,7 +26,7 @@ use Rattle.snort_engine.specs.declared.fault.ReadFault.TheVariants as fault
 use Rattle.snort_engine.specs.declared.reader.RecordReader.{RecordReader}
 use Rattle.snort_engine.specs.declared.reader.RecordReader.TheVariants.{Savefile, Blocks}
 use Rattle.snort_engine.specs.Records.{Ending, Refused, Recording, none_before, of_savefile, of_blocks, recording_of, recording_of_blocks, with_link}
-use Rattle.snort_engine.specs.Reader.{IsFresh, recording_for, with_front, HasRead, AreWhole, EndsWith, IsRefusedBy, Gives}
+use Rattle.snort_engine.specs.Steps.Reader.{IsFresh, recording_for, with_front, HasRead, AreWhole, EndsWith, IsRefusedBy, Gives}
 
 -- ---- whatever the format
 

@@ -10,8 +10,9 @@ use Rattle.snort_engine.specs.declared.status.Status.TheVariants as status
 use Rattle.snort_engine.specs.declared.stop.Stop.{Stop}
 use Rattle.snort_engine.specs.Messages.{no_memory_text}
 use Rattle.snort_engine.specs.Outside.{WritesPart}
-use Rattle.snort_engine.specs.Stop.{outcome_status}
-use Rattle.snort_engine.specs.Reporting.{Tells, TellsOn, TellsLast, Reports}
+use Rattle.snort_engine.specs.Steps.Stop.{outcome_status}
+use Rattle.snort_engine.specs.Outside.{TellsMessage}
+use Rattle.snort_engine.specs.Steps.Reporting.{TellsOn, TellsLast, Reports}
 use Rattle.snort_engine.proofs.Prefixes.{WritesPart-none, WritesPart-all, WritesPart-longer, WritesPart-behind, rose_since, rose_on}
 
 -- ---- one text
@@ -87,7 +88,7 @@ tells_last text false still old new rose told = record { part = told.part; whole
 -- warnings, and then the last text, are one message
 pub tells_message : (warnings text : List ℕ) (first middle last : Option (List ℕ)) (at_first at_middle at_last : ℕ) (well : Bool) → at_first ≤ at_middle → at_middle ≤ at_last
     → TellsOn warnings true first middle (Rose at_first at_middle) well → TellsLast text well middle last (Rose at_middle at_last)
-    → Tells (warnings ++ text) first last (Rose at_first at_last)
+    → TellsMessage (warnings ++ text) first last (Rose at_first at_last)
 tells_message warnings text first middle last at_first at_middle at_last true later on one two = record {
   part = WritesPart-behind first middle last warnings text one.whole two.part;
   whole = ⊎_elim

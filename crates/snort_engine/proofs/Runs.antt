@@ -6,8 +6,10 @@ use Rattle.edge_io.specs.Told.{behind, Rose, one_more}
 use Rattle.edge_io.specs.Files.{Files, Lacks}
 use Rattle.snort_engine.specs.declared.plan.Source.{Source}
 use Rattle.snort_engine.specs.declared.plan.Source.TheVariants.{File, Made}
-use Rattle.snort_engine.specs.Reader.{IsToldOther, MayBeOther, OpensSo}
-use Rattle.snort_engine.specs.Sources.{IsMade, LacksCapture, BeginsOtherwise, OpensOn, way_from}
+use Rattle.snort_engine.specs.Records.{IsToldOther}
+use Rattle.snort_engine.specs.Steps.Reader.{MayBeOther, OpensSo}
+use Rattle.snort_engine.specs.Steps.Sources.{IsMade, LacksCapture, OpensOn, way_from}
+use Rattle.snort_engine.specs.Records.{BeginsOtherwise}
 use Rattle.edge_io.proofs.Told.{behind-nil}
 use Rattle.option_eval.specs.Places.{Means}
 use Rattle.command_words.specs.CommandLine.{Asked, command_line}
@@ -20,11 +22,11 @@ use Rattle.snort_engine.specs.Course.{Plan, Way, Stops, Goes, Makes, Lists, Cour
 use Rattle.snort_engine.specs.Answer.{Answer, answer_of, way_answer, capture_answer}
 use Rattle.snort_engine.specs.Messages.{no_memory_text}
 use Rattle.snort_engine.specs.Outside.{Outside, Work, work_of, NoFault, NoCountFell}
-use Rattle.snort_engine.specs.ReadAhead.{IsUnopened, ReadsAhead}
+use Rattle.snort_engine.specs.ReadAhead.{IsUntouched, ReadsAhead}
 use Rattle.snort_engine.specs.Ending.{IsStated, IsAnswered, Ends, EndsEarly, EndsOnCourse, EndsRun}
-use Rattle.snort_engine.specs.Stop.{stop_status, stop_text, outcome_status}
-use Rattle.snort_engine.specs.Reporting.{TellsOn, TellsLast}
-use Rattle.snort_engine.specs.Preparing.{HasWay, stops, Prepares, StopsFileless, IsPrepared, HasCause, IsForFaultyWords}
+use Rattle.snort_engine.specs.Steps.Stop.{stop_status, stop_text, outcome_status}
+use Rattle.snort_engine.specs.Steps.Reporting.{TellsOn, TellsLast}
+use Rattle.snort_engine.specs.Steps.Preparing.{HasWay, stops, Prepares, StopsFileless, IsPrepared, HasCause, IsForFaultyWords}
 use Rattle.snort_engine.specs.Headline.{refused_since, EndsSo, HasAnswer, LacksOne, HasOther, MayBeCut, OpensBy, Headline}
 use Rattle.snort_engine.proofs.Prefixes.{rose_since}
 use Rattle.snort_engine.proofs.LinesLaws.{lines_join, prefix_law}
@@ -44,7 +46,7 @@ abbrev pub IsEarlyStatus : Status → Type 0
 IsEarlyStatus ended = IsPlain ended ⊎ (ended ≡ status.HostFault)
 
 -- a run of a course that stops, where nothing was opened and no line was written
-stops_ends : (files : Files) (course : Course) (message : List ℕ) (ended : Status) (before after : Work) → course.way ≡ Stops message ended → IsEarlyStatus ended → IsUnopened before after
+stops_ends : (files : Files) (course : Course) (message : List ℕ) (ended : Status) (before after : Work) → course.way ≡ Stops message ended → IsEarlyStatus ended → IsUntouched before after
     → Ends files course before after ended (concat course.warnings ++ message)
 stops_ends files course message ended before after is early unopened =
     ⊎_elim
@@ -76,7 +78,7 @@ stops_ends files course message ended before after is early unopened =
 -- ---- a run that was stopped before its capture
 
 -- a course of this way, over these files
-on_course : (asked : Option Asked) (here : Given) (warnings : List (List ℕ)) (message : List ℕ) (ended : Status) (before after : Work) → HasWay asked here warnings (Stops message ended) → IsEarlyStatus ended → IsUnopened before after
+on_course : (asked : Option Asked) (here : Given) (warnings : List (List ℕ)) (message : List ℕ) (ended : Status) (before after : Work) → HasWay asked here warnings (Stops message ended) → IsEarlyStatus ended → IsUntouched before after
     → EndsOnCourse asked here before after ended (concat warnings ++ message)
 on_course asked here warnings message ended before after has early unopened = record {
   course = has.course;
@@ -85,7 +87,7 @@ on_course asked here warnings message ended before after has early unopened = re
 }
 
 -- the same, where memory was lacking for the message
-on_course_untold : (asked : Option Asked) (here : Given) (warnings : List (List ℕ)) (message : List ℕ) (ended : Status) (before after : Work) → HasWay asked here warnings (Stops message ended) → IsEarlyStatus ended → IsUnopened before after
+on_course_untold : (asked : Option Asked) (here : Given) (warnings : List (List ℕ)) (message : List ℕ) (ended : Status) (before after : Work) → HasWay asked here warnings (Stops message ended) → IsEarlyStatus ended → IsUntouched before after
     → EndsOnCourse asked here before after status.NoMemory (concat warnings ++ no_memory_text)
 on_course_untold asked here warnings message ended before after has early unopened = record {
   course = has.course;
@@ -94,7 +96,7 @@ on_course_untold asked here warnings message ended before after has early unopen
       (ends_untold here.files has.course before after ended (concat has.course.warnings ++ message) (stops_ends here.files has.course message ended before after has.way_is early unopened));
 }
 
-module _ {A : Type 0} (view : A → Way) (asked : Option Asked) (here : Given) (before after : Work) (warnings : List (List ℕ)) (unopened : IsUnopened before after) where
+module _ {A : Type 0} (view : A → Way) (asked : Option Asked) (here : Given) (before after : Work) (warnings : List (List ℕ)) (unopened : IsUntouched before after) where
   -- how a stop ends a run
   stop_ends : (host : Option Files) (why : Stop) → HasCause (Rose before.host_faults after.host_faults) host why → Prepares view asked here (Rose before.host_faults after.host_faults) (Err why) warnings
       → EndsRun asked here before after (stop_status why) (concat warnings ++ stop_text [] why)
@@ -322,7 +324,7 @@ pub record IsStopped {A : Type 0} (ways : Test → A → Way) (asked : Option As
   pub cause : HasCause (Rose before.host_faults after.host_faults) before.files why
   pub faulty_words : asked ≡ None → IsForFaultyWords {A = A} (Err why)
   pub fileless : IsFileless asked → StopsFileless {A = A} asked (Rose before.host_faults after.host_faults) (Err why) warnings
-  pub unopened : IsUnopened (work_of before) (work_of after)
+  pub unopened : IsUntouched (work_of before) (work_of after)
   pub same_files : after.files ≡ before.files
   pub counts : NoCountFell before after
 

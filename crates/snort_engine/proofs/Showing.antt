@@ -28,9 +28,9 @@ use Rattle.snort_engine.specs.Beside.{Beside, beside, by_place, carried, whats}
 use Rattle.snort_engine.specs.Trace.{Alert, Event, event_of, event_at, filtered_item, item_events}
 use Rattle.snort_engine.specs.Lines.{text_of, texts_from}
 use Rattle.snort_engine.specs.Counts.{hit_count}
-use Rattle.snort_engine.specs.Gathering.{Gathering, Gathers}
-use Rattle.snort_engine.specs.Showing.{Subject, Told, places_lines, places_count, ShowsPlaces, items_lines, tally_of, EventsStand, Showing, gathering_of, Shows, ShowsPart}
-use Rattle.snort_engine.specs.Sourcing.{told_in}
+use Rattle.snort_engine.specs.Steps.Gathering.{Gathering, Gathers}
+use Rattle.snort_engine.specs.Steps.Showing.{Subject, SourcedItem, places_lines, places_count, ShowsPlaces, items_lines, tally_of, EventsStand, Showing, gathering_of, Shows, ShowsPart}
+use Rattle.snort_engine.specs.Steps.Sourcing.{sourced_items}
 use Rattle.snort_engine.proofs.Prefixes.{WritesPart-none, WritesPart-longer, gathers_none, gathers_both, gathers_part, gathers_some}
 use Rattle.snort_engine.proofs.Texts.{texts_from-append}
 use Rattle.snort_engine.proofs.Beside.{by_place-append, carried-append, length-carried, whats-append}
@@ -177,7 +177,7 @@ pub events_new : (config : Config) (rules : List Rule) (filters : FiltersState) 
 unfolding tally_of
 events_new config rules filters tally given is = is
 
-items_lines-append : (form : Form) (config : Config) (rules : List Rule) (before : List Hits) (front back : List Told)
+items_lines-append : (form : Form) (config : Config) (rules : List Rule) (before : List Hits) (front back : List SourcedItem)
     → items_lines form config rules before (front ++ back) ≡ items_lines form config rules before front ++ items_lines form config rules (before ++ whats front) back
 unfolding items_lines
 items_lines-append form config rules before front back =
@@ -266,7 +266,7 @@ shows_one form config rules source hits old new places count size passes shown t
     }
 
 -- nothing was written of it
-pub shows_nothing : (form : Form) (config : Config) (rules : List Rule) (items : List Told) (old : Showing) → ShowsPart form config rules items old old.written
+pub shows_nothing : (form : Form) (config : Config) (rules : List Rule) (items : List SourcedItem) (old : Showing) → ShowsPart form config rules items old old.written
 unfolding ShowsPart
 shows_nothing form config rules items old = λ before stands. WritesPart-none old.written _
 
@@ -298,7 +298,7 @@ shows_none form config rules old = λ before stands. record {
 }
 
 -- items came, and then others
-pub shows_both : (form : Form) (config : Config) (rules : List Rule) (front back : List Told) (old middle new : Showing) → Shows form config rules front old middle → Shows form config rules back middle new → Shows form config rules (front ++ back) old new
+pub shows_both : (form : Form) (config : Config) (rules : List Rule) (front back : List SourcedItem) (old middle new : Showing) → Shows form config rules front old middle → Shows form config rules back middle new → Shows form config rules (front ++ back) old new
 unfolding Shows
 shows_both form config rules front back old middle new one two = λ before stands.
     let first = one before stands in
@@ -310,7 +310,7 @@ shows_both form config rules front back old middle new one two = λ before stand
     }
 
 -- items came, and then a part of the lines of others was written
-pub shows_then_part : (form : Form) (config : Config) (rules : List Rule) (front back : List Told) (old middle : Showing) (new : Option (List ℕ)) → Shows form config rules front old middle → ShowsPart form config rules back middle new → ShowsPart form config rules (front ++ back) old new
+pub shows_then_part : (form : Form) (config : Config) (rules : List Rule) (front back : List SourcedItem) (old middle : Showing) (new : Option (List ℕ)) → Shows form config rules front old middle → ShowsPart form config rules back middle new → ShowsPart form config rules (front ++ back) old new
 unfolding Shows ShowsPart
 shows_then_part form config rules front back old middle new one part = λ before stands.
     let first = one before stands in
@@ -318,7 +318,7 @@ shows_then_part form config rules front back old middle new one part = λ before
     (gathers_part (items_lines form config rules before front) (items_lines form config rules (before ++ whats front) back) (gathering_of old) (gathering_of middle) new first.came (part (before ++ whats front) first.stands))
 
 -- a part of the lines of items is one of those of more items
-pub shows_part_longer : (form : Form) (config : Config) (rules : List Rule) (front back : List Told) (old : Showing) (new : Option (List ℕ)) → ShowsPart form config rules front old new → ShowsPart form config rules (front ++ back) old new
+pub shows_part_longer : (form : Form) (config : Config) (rules : List Rule) (front back : List SourcedItem) (old : Showing) (new : Option (List ℕ)) → ShowsPart form config rules front old new → ShowsPart form config rules (front ++ back) old new
 unfolding ShowsPart
 shows_part_longer form config rules front back old new part = λ before stands.
     subst (λ (x : List ℕ). WritesPart old.written x new)
@@ -339,7 +339,7 @@ pub items_step : (form : Form) (config : Config) (rules : List Rule) (source : L
     → Shows form config rules (map (beside source) (take i items)) old middle → Shows form config rules (beside source hits ∷ []) middle new
     → Shows form config rules (map (beside source) (take (i + 1) items)) old new
 items_step form config rules source items i hits old middle new lt is so_far more =
-    subst (λ (x : List Told). Shows form config rules x old new) (items_more source items i hits lt is)
+    subst (λ (x : List SourcedItem). Shows form config rules x old new) (items_more source items i hits lt is)
     (shows_both form config rules (map (beside source) (take i items)) (beside source hits ∷ []) old middle new so_far more)
 
 pub items_part : (form : Form) (config : Config) (rules : List Rule) (source : LinkedRecord) (items : List Hits) (i : ℕ) (hits : Hits) (old middle : Showing) (new : Option (List ℕ)) → i < length items → hits ≡ get_or items i hits
@@ -347,18 +347,18 @@ pub items_part : (form : Form) (config : Config) (rules : List Rule) (source : L
 items_part form config rules source items i hits old middle new lt is so_far part =
     let front = map (beside source) (take i items) in
     let later = map (beside source) (drop (i + 1) items) in
-    subst (λ (x : List Told). ShowsPart form config rules x old new)
-    (ap (λ (x : List Told). x ++ later) (items_more source items i hits lt is)
+    subst (λ (x : List SourcedItem). ShowsPart form config rules x old new)
+    (ap (λ (x : List SourcedItem). x ++ later) (items_more source items i hits lt is)
     ∙ sym (map-append (beside source) (take (i + 1) items) (drop (i + 1) items)) ∙ ap (map (beside source)) (take-append-drop (i + 1) items))
     (shows_part_longer form config rules (front ++ beside source hits ∷ []) later old new (shows_then_part form config rules front (beside source hits ∷ []) old middle new so_far part))
 
 -- ---- the items of jobs
 
 -- the items of the first jobs of a batch
-abbrev told_of : (ℕ → LinkedRecord) → List JobHits → List Told
-told_of source jobs = told_in (by_place source 0 jobs)
+abbrev told_of : (ℕ → LinkedRecord) → List JobHits → List SourcedItem
+told_of source jobs = sourced_items (by_place source 0 jobs)
 
-abbrev told_job : Beside LinkedRecord JobHits → List Told
+abbrev told_job : Beside LinkedRecord JobHits → List SourcedItem
 told_job b = map (beside b.source) b.what.items
 
 told_more : (source : ℕ → LinkedRecord) (jobs : List JobHits) (i : ℕ) (job : JobHits) → i < length jobs → job ≡ get_or jobs i job
@@ -366,29 +366,29 @@ told_more : (source : ℕ → LinkedRecord) (jobs : List JobHits) (i : ℕ) (job
 told_more source jobs i job lt is =
     let front = take i jobs in
     let size : i ≡ 0 + length front = let l = length-take-le i jobs (omega (arith, lt)) in omega (arith, l) in
-    ap (λ (x : List Told). told_of source front ++ x)
+    ap (λ (x : List SourcedItem). told_of source front ++ x)
     (ap (λ (n : ℕ). map (beside (source n)) job.items) size ∙ sym (append-nil (map (beside (source (0 + length front))) job.items)))
     ∙ sym (flat_map-append told_job (by_place source 0 front) (by_place source (0 + length front) (job ∷ [])))
-    ∙ ap told_in (sym (by_place-append source 0 front (job ∷ [])))
+    ∙ ap sourced_items (sym (by_place-append source 0 front (job ∷ [])))
     ∙ ap (told_of source) (ap (λ (j : JobHits). front ++ j ∷ []) is ∙ sym (take_more jobs i job lt))
 
 pub jobs_step : (form : Form) (config : Config) (rules : List Rule) (source : ℕ → LinkedRecord) (jobs : List JobHits) (i : ℕ) (job : JobHits) (old middle new : Showing) → i < length jobs → job ≡ get_or jobs i job
-    → Shows form config rules (told_in (by_place source 0 (take i jobs))) old middle → Shows form config rules (map (beside (source i)) job.items) middle new
-    → Shows form config rules (told_in (by_place source 0 (take (i + 1) jobs))) old new
+    → Shows form config rules (sourced_items (by_place source 0 (take i jobs))) old middle → Shows form config rules (map (beside (source i)) job.items) middle new
+    → Shows form config rules (sourced_items (by_place source 0 (take (i + 1) jobs))) old new
 jobs_step form config rules source jobs i job old middle new lt is so_far more =
-    subst (λ (x : List Told). Shows form config rules x old new) (told_more source jobs i job lt is)
+    subst (λ (x : List SourcedItem). Shows form config rules x old new) (told_more source jobs i job lt is)
     (shows_both form config rules (told_of source (take i jobs)) (map (beside (source i)) job.items) old middle new so_far more)
 
 pub jobs_part : (form : Form) (config : Config) (rules : List Rule) (source : ℕ → LinkedRecord) (jobs : List JobHits) (i : ℕ) (job : JobHits) (old middle : Showing) (new : Option (List ℕ)) → i < length jobs → job ≡ get_or jobs i job
-    → Shows form config rules (told_in (by_place source 0 (take i jobs))) old middle → ShowsPart form config rules (map (beside (source i)) job.items) middle new
-    → ShowsPart form config rules (told_in (by_place source 0 jobs)) old new
+    → Shows form config rules (sourced_items (by_place source 0 (take i jobs))) old middle → ShowsPart form config rules (map (beside (source i)) job.items) middle new
+    → ShowsPart form config rules (sourced_items (by_place source 0 jobs)) old new
 jobs_part form config rules source jobs i job old middle new lt is so_far part =
     let front = take (i + 1) jobs in
     let back = drop (i + 1) jobs in
-    let later = told_in (by_place source (0 + length front) back) in
-    subst (λ (x : List Told). ShowsPart form config rules x old new)
-    (ap (λ (x : List Told). x ++ later) (told_more source jobs i job lt is)
+    let later = sourced_items (by_place source (0 + length front) back) in
+    subst (λ (x : List SourcedItem). ShowsPart form config rules x old new)
+    (ap (λ (x : List SourcedItem). x ++ later) (told_more source jobs i job lt is)
     ∙ sym (flat_map-append told_job (by_place source 0 front) (by_place source (0 + length front) back))
-    ∙ ap told_in (sym (by_place-append source 0 front back)) ∙ ap (told_of source) (take-append-drop (i + 1) jobs))
+    ∙ ap sourced_items (sym (by_place-append source 0 front back)) ∙ ap (told_of source) (take-append-drop (i + 1) jobs))
     (shows_part_longer form config rules (told_of source (take i jobs) ++ map (beside (source i)) job.items) later old new
     (shows_then_part form config rules (told_of source (take i jobs)) (map (beside (source i)) job.items) old middle new so_far part))

@@ -7,13 +7,13 @@ use Rattle.edge_io.specs.Along.{along_from, trail_from}
 use Rattle.flow_lanes.specs.declared.answer.JobHits.{JobHits}
 use Rattle.flow_lanes.specs.declared.job.Job.{Job}
 use Rattle.flow_lanes.specs.Flows.{Detection, answer}
-use Rattle.record_jobs.specs.Way.{LinkedRecord, Way}
+use Rattle.record_jobs.specs.Way.{LinkedRecord, Way as JobsWay}
 use Rattle.record_jobs.specs.Jobs.{jobs}
 use Rattle.record_jobs.specs.Fronts.{FrontState, TakesRecord}
 use Rattle.snort_engine.specs.Beside.{beside, by_place, carried, own, places_along, source_in}
 use Rattle.snort_engine.specs.Trace.{job_items, last_of, no_record}
-use Rattle.snort_engine.specs.Detecting.{MakesJobs}
-use Rattle.snort_engine.specs.Sourcing.{PlacesJobs, last_behind, told_in}
+use Rattle.snort_engine.specs.Steps.Detecting.{MakesJobs}
+use Rattle.snort_engine.specs.Steps.Sourcing.{PlacesJobs, last_behind, sourced_items}
 use Rattle.snort_engine.proofs.Beside.{by_place-along, by_place-same, places_along-more, sources_are}
 
 -- the last of records that come behind others
@@ -23,7 +23,7 @@ last_of-more before last records is =
     ap (λ (l : LinkedRecord). last_behind l records) is ∙ sym (fold-append (λ (_ r : LinkedRecord). r) no_record before records)
 
 -- the jobs of records that were read behind others, each beside its record
-pub sources_made : (way : Way) (records : List LinkedRecord) (last : LinkedRecord) (before : List LinkedRecord) (made : List Job) (places : List ℕ)
+pub sources_made : (way : JobsWay) (records : List LinkedRecord) (last : LinkedRecord) (before : List LinkedRecord) (made : List Job) (places : List ℕ)
     → made ≡ trail_from (jobs way) before records → places ≡ places_along (jobs way) before 0 records
     → by_place (source_in records last places) 0 made ≡ trail_from (own (jobs way)) before records
 sources_made way records last before made places jobs_are places_are =
@@ -37,19 +37,19 @@ sources_last last made = by_place-same (source_in [] last []) last 0 made (λ i 
 
 -- the items of a batch of jobs, beside their records
 pub told_found : (d : Detection) (source : ℕ → LinkedRecord) (before batch : List Job) (hits : List JobHits) → hits ≡ along_from (answer d) before batch
-    → told_in (by_place source 0 hits) ≡ carried (job_items d) before (by_place source 0 batch)
+    → sourced_items (by_place source 0 hits) ≡ carried (job_items d) before (by_place source 0 batch)
 unfolding job_items
 told_found d source before batch hits is =
-    ap (λ (h : List JobHits). told_in (by_place source 0 h)) is ∙ by_place-along (λ (job : JobHits). job.items) (answer d) source 0 before batch
+    ap (λ (h : List JobHits). sourced_items (by_place source 0 h)) is ∙ by_place-along (λ (job : JobHits). job.items) (answer d) source 0 before batch
 
 -- ---- the places of jobs
 
 -- no record was taken
-pub places_none : (way : Way) (front : FrontState) → PlacesJobs way [] front []
+pub places_none : (way : JobsWay) (front : FrontState) → PlacesJobs way [] front []
 places_none way front = λ before stands. refl
 
 -- one record more was taken
-pub places_more : (way : Way) (records : List LinkedRecord) (i : ℕ) (one_more : LinkedRecord) (old middle new : FrontState) (made next : List Job) (places : List ℕ) (count size : ℕ) → i < length records → one_more ≡ get_or records i one_more
+pub places_more : (way : JobsWay) (records : List LinkedRecord) (i : ℕ) (one_more : LinkedRecord) (old middle new : FrontState) (made next : List Job) (places : List ℕ) (count size : ℕ) → i < length records → one_more ≡ get_or records i one_more
     → MakesJobs way (take i records) old middle made → TakesRecord way middle one_more new made next
     → PlacesJobs way (take i records) old places → length places ≡ length made → count ≡ length next → size ≡ length places
     → PlacesJobs way (take (i + 1) records) old (take count places ++ replicate (count - size) i)

@@ -14,18 +14,18 @@ use Rattle.snort_engine.specs.declared.stop.Stop.{Stop}
 use Rattle.snort_engine.specs.declared.stop.Stop.TheVariants as stop
 use Rattle.snort_engine.specs.Course.{Plan}
 use Rattle.snort_engine.specs.Records.{AreWithin, Recording, Ending, Clean, Refused, first_of}
-use Rattle.snort_engine.specs.Reader.{IsFresh, recording_for, HasRead, AreWhole, EndsWith, IsRefusedBy}
+use Rattle.snort_engine.specs.Steps.Reader.{IsFresh, recording_for, HasRead, AreWhole, EndsWith, IsRefusedBy}
 use Rattle.snort_engine.specs.Outside.{WritesPart}
-use Rattle.snort_engine.specs.Stop.{capture_stop, is_whole}
+use Rattle.snort_engine.specs.Steps.Stop.{capture_stop, is_whole}
 use Rattle.snort_engine.specs.Trace.{Open, Closed}
 use Rattle.snort_engine.specs.Lines.{lines}
 use Rattle.snort_engine.specs.Counts.{counts_of}
-use Rattle.snort_engine.specs.Batch.{Place, HasStopped, Reaches, ReadsOn, lacks_memory, more_of}
+use Rattle.snort_engine.specs.Steps.Batch.{Place, HasStopped, Reaches, ReadsOn, lacks_memory, more_of}
 use Rattle.snort_engine.specs.declared.batch.Reached.{Reached}
 use Rattle.snort_engine.specs.declared.batch.Reached.TheVariants.{More, End, Fault}
 use Rattle.snort_engine.specs.ReadAhead.{batch, AreBatches}
-use Rattle.snort_engine.specs.Detecting.{Closes, ClosesPart, Detecting, DetectorStands, ShowsRecords, ShowsRecordsPart, closing_lines}
-use Rattle.snort_engine.specs.Watching.{Streams, Standing, lines_of, lines_left, recording_by, IsRoom, most_at, room_behind, IsReadOut, HasReadTo, IsUnderWay, IsAtEnd, IsCutOff, IsCloseBehind, WritesSome, WatchesTo, Watches, Comes, ComesOver, GoesOn, IsShowStop, IsLeft, IsClosedWhole, IsClosedInPart, ClosesWatched}
+use Rattle.snort_engine.specs.Steps.Detecting.{Closes, ClosesPart, Detecting, DetectorStands, ShowsRecords, ShowsRecordsPart, closing_lines}
+use Rattle.snort_engine.specs.Steps.Watching.{Streams, Standing, lines_of, lines_left, recording_by, IsRoom, most_at, room_behind, IsReadOut, HasReadTo, IsUnderWay, IsAtEnd, IsReadCutShort, IsCloseBehind, WritesSome, WatchesTo, Watches, Comes, ComesOver, WatchesOn, IsShowStop, IsLeft, IsClosedWhole, IsClosedInPart, ClosesWatched}
 use Rattle.snort_engine.proofs.Prefixes.{WritesPart-all, WritesPart-behind, WritesPart-longer}
 use Rattle.snort_engine.proofs.Limits.{first_of-front, below_limit, at_limit, within_limit, room_first, room_further, room_left, room_within, batches_none, batches_further}
 use Rattle.snort_engine.proofs.Reading.{reading-start, reading-told, reading-whole}
@@ -49,7 +49,7 @@ lines_of-batch plan given records = lines_of-append plan given records Open
 
 -- the records that are whole within the bytes taken are those so far
 cut_off : (plan : Plan) (first : RecordReader) (room : Option ℕ) (given : List LinkedRecord) (old after : Streams) → IsRoom plan.limit (length given) room
-    → after.written ≡ behind old.written (lines_of plan given Open) → AreWhole first given old.left after.left → IsCutOff plan first old after
+    → after.written ≡ behind old.written (lines_of plan given Open) → AreWhole first given old.left after.left → IsReadCutShort plan first old after
 cut_off plan first room given old after is wrote whole = record {
   taken = whole.taken;
   took = whole.took;
@@ -224,7 +224,7 @@ showing_stops plan first old after detector why kind some = absurd kind
 -- ---- a batch
 
 -- no record may be read any more
-pub nothing_left : (plan : Plan) (old : Standing) (failed : Type 0) → most_at old.room ≡ 0 → GoesOn plan old old failed (Ok false)
+pub nothing_left : (plan : Plan) (old : Standing) (failed : Type 0) → most_at old.room ≡ 0 → WatchesOn plan old old failed (Ok false)
 nothing_left plan old failed none = λ first start going.
     let stopped = reading-whole first old.reader going.given start.left old.streams.left going.read in
     let ends : (whole : List ℕ) → start.left ≡ Some whole → recording_by plan first whole ≡ record { records = going.given; ending = Clean } =
@@ -252,7 +252,7 @@ pub batch_shown : (plan : Plan) (records : List LinkedRecord) (old new : Standin
     → (reached ≡ More → length records ≡ most_at old.room) → ((reached ≡ More → ⊥) → length records < most_at old.room)
     → ReadsOn (record { reader = old.reader; records = []; left = old.streams.left }) (record { reader = new.reader; records = records; left = new.streams.left }) reached
     → ShowsRecords plan records (record { detector = old.detector; written = old.streams.written }) (record { detector = new.detector; written = new.streams.written })
-    → GoesOn plan old new failed (more_of reached)
+    → WatchesOn plan old new failed (more_of reached)
 batch_shown plan records old new failed reached few room_is full fewer reads shows = by_case reached full fewer reads
   where
     room_now : (first : RecordReader) (start : Streams) (going : IsUnderWay plan first start old) → IsRoom plan.limit (length (going.given ++ records)) new.room
@@ -263,7 +263,7 @@ batch_shown plan records old new failed reached few room_is full fewer reads sho
     some_left short = subst (λ (r : Option ℕ). 0 < most_at r) (sym room_is) (room_left old.room (length records) short)
 
     by_case : (r : Reached) → (r ≡ More → length records ≡ most_at old.room) → ((r ≡ More → ⊥) → length records < most_at old.room)
-        → ReadsOn (record { reader = old.reader; records = []; left = old.streams.left }) (record { reader = new.reader; records = records; left = new.streams.left }) r → GoesOn plan old new failed (more_of r)
+        → ReadsOn (record { reader = old.reader; records = []; left = old.streams.left }) (record { reader = new.reader; records = records; left = new.streams.left }) r → WatchesOn plan old new failed (more_of r)
     by_case More all short on = λ first start going.
         let own = batch_is plan records old new first start going shows in record {
           given = going.given ++ records;
@@ -307,7 +307,7 @@ batch_part : (plan : Plan) (records : List LinkedRecord) (old new : Standing) (f
     → length records ≤ most_at old.room → ReadsTo plan records old failed why
     → ReadsOn (record { reader = old.reader; records = []; left = old.streams.left }) (record { reader = new.reader; records = records; left = new.streams.left }) reached
     → IsShowStop why → ShowsRecordsPart plan records (record { detector = old.detector; written = old.streams.written }) new.streams.written
-    → GoesOn plan old new failed (Err why)
+    → WatchesOn plan old new failed (Err why)
 unfolding WritesPart ShowsRecordsPart
 batch_part plan records old new failed reached why few to reads kind shown = λ first start going.
     let given = going.given ++ records in
@@ -342,7 +342,7 @@ pub batch_stops : (plan : Plan) (records : List LinkedRecord) (old new : Standin
     → (reached ≡ Fault fault.Failed → failed) → lacks_memory reached ≡ false
     → ReadsOn (record { reader = old.reader; records = []; left = old.streams.left }) (record { reader = new.reader; records = records; left = new.streams.left }) reached
     → IsShowStop why → ShowsRecordsPart plan records (record { detector = old.detector; written = old.streams.written }) new.streams.written
-    → GoesOn plan old new failed (Err why)
+    → WatchesOn plan old new failed (Err why)
 batch_stops plan records old new failed reached why few full fewer rose enough reads kind shown =
     batch_part plan records old new failed reached why few (by_kind why kind) reads kind shown
   where
@@ -362,7 +362,7 @@ pub batch_lacks : (plan : Plan) (records : List LinkedRecord) (old new : Standin
     → length records ≤ most_at old.room
     → ReadsOn (record { reader = old.reader; records = []; left = old.streams.left }) (record { reader = new.reader; records = records; left = new.streams.left }) reached
     → ShowsRecordsPart plan records (record { detector = old.detector; written = old.streams.written }) new.streams.written
-    → GoesOn plan old new failed (Err stop.NoMemory)
+    → WatchesOn plan old new failed (Err stop.NoMemory)
 batch_lacks plan records old new failed reached few reads shown =
     batch_part plan records old new failed reached stop.NoMemory few (λ first start going taken are. tt) reads tt shown
 

@@ -16,7 +16,7 @@ use Rattle.flow_lanes.specs.declared.job.Job.{Job}
 use Rattle.flow_lanes.specs.Flows.{Detection, answer_tries}
 use Rattle.snort_engine.specs.declared.counts.Counts.{Counts}
 use Rattle.snort_engine.specs.Course.{Plan}
-use Rattle.snort_engine.specs.Trace.{way_of, detection_of, items_of, closing_items, trace, Closed}
+use Rattle.snort_engine.specs.Trace.{jobs_way, detection_of, items_of, closing_items, trace, Closed}
 
 -- how many rules match these items
 abbrev pub hit_count : List Hits → ℕ
@@ -33,11 +33,11 @@ all_items plan records = items_of plan records ++ closing_items plan records
 -- the counts of all records of a capture
 unfoldable pub counts_of : Plan → List LinkedRecord → Counts
 counts_of plan records = record {
-  seen = counts (way_of plan) records;
+  seen = counts (jobs_way plan) records;
   items = length (all_items plan records);
   hits = hit_count (all_items plan records);
   alerts = length (trace plan [] records Closed);
-  tries = try_count (detection_of plan) (all_jobs (way_of plan) records);
+  tries = try_count (detection_of plan) (all_jobs (jobs_way plan) records);
 }
 
 -- nothing was counted

@@ -17,7 +17,7 @@ use Rattle.snort_engine.specs.Trace.{Open}
 use Rattle.snort_engine.specs.Lines.{lines}
 use Rattle.snort_engine.specs.Answer.{Answer, answer_of}
 use Rattle.snort_engine.specs.Outside.{Work}
-use Rattle.snort_engine.specs.ReadAhead.{IsUnopened, ReadsAhead}
+use Rattle.snort_engine.specs.ReadAhead.{IsUntouched, ReadsAhead}
 use Rattle.snort_engine.specs.Messages.{cannot_read_text, cannot_write_text, no_memory_text}
 
 -- the statuses of a run that is not cut short; a host fault is one where the count of faults didn't
@@ -104,7 +104,7 @@ IsEarly asked given before after ended message =
 -- it has opened nothing and written no line
 pub record EndsEarly (asked : Option Asked) (given : Given) (before after : Work) (ended : Status) (message : List ℕ) :
     Type 0 where
-  pub unopened : IsUnopened before after
+  pub unopened : IsUntouched before after
   pub why : IsEarly asked given before after ended message
 
 -- a run of these words ends on its course

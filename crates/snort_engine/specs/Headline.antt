@@ -19,11 +19,11 @@ use Rattle.snort_engine.specs.declared.status.Status.{Status}
 use Rattle.snort_engine.specs.declared.status.Status.TheVariants as status
 use Rattle.snort_engine.specs.Course.{Course, Given, given, IsCourse, IsFileless, IsForMade, HasOneCourse, AreRefused}
 use Rattle.snort_engine.specs.Records.{MadeIsWhole}
-use Rattle.snort_engine.specs.Sources.{BeginsOtherwise}
+use Rattle.snort_engine.specs.Records.{BeginsOtherwise}
 use Rattle.snort_engine.specs.Lines.{LinesJoin, PrefixLaw}
 use Rattle.snort_engine.specs.Answer.{answer_of}
 use Rattle.snort_engine.specs.Outside.{Outside, work_of, NoFault, NoCountFell}
-use Rattle.snort_engine.specs.Reporting.{Tells as TellsMessage}
+use Rattle.snort_engine.specs.Outside.{TellsMessage}
 use Rattle.snort_engine.specs.Ending.{EndsRun}
 
 -- this holds of the files, where they are told

@@ -1,28 +1,33 @@
-pub mod Messages
-pub mod Status
-pub mod RecordLines
-pub mod Course
-pub mod Records
-pub mod Reader
-pub mod Beside
-pub mod Trace
-pub mod Unified2
-pub mod Lines
-pub mod Counts
-pub mod Gathering
-pub mod Showing
-pub mod Sourcing
-pub mod Matching
-pub mod Detecting
-pub mod Answer
-pub mod Outside
-pub mod Sources
-pub mod MadeCapture
-pub mod ReadAhead
-pub mod Ending
+-- What the contract of a run cites: the theorem first, and what it is made of, from the whole to its parts.
+-- the theorem on a run: its parts, its causes and its laws
 pub mod Headline
-pub mod Stop
-pub mod Batch
-pub mod Watching
-pub mod Reporting
-pub mod Preparing
+-- what a run answers: alert bytes, error bytes and status
+pub mod Answer
+-- how a run ends, as its answer or cut short
+pub mod Ending
+-- how far is read ahead of what is written
+pub mod ReadAhead
+-- what the words and files say is to be done
+pub mod Course
+-- the records of a capture's bytes, and how they end
+pub mod Records
+-- what is shown of records, stage by stage
+pub mod Trace
+-- answers beside what they come from
+pub mod Beside
+-- the texts of alerts, and how they follow one another
+pub mod Lines
+-- an alert as Unified2 records
+pub mod Unified2
+-- what is counted of a capture
+pub mod Counts
+-- the lines of a Unified2 file
+pub mod RecordLines
+-- what is seen of the host, the sinks and the maker
+pub mod Outside
+-- the texts that end a run
+pub mod Messages
+-- the exit statuses
+pub mod Status
+-- what the steps of the code do, which are private
+pub mod Steps

@@ -3,7 +3,7 @@
 -- A run is stated over what was seen before it and what is seen afterwards.
 -- To try it on: a run that is refused for its words leaves the host and the alert sink as they were,
 -- and `ERROR: command line` behind the error bytes.
-use Rattle.std.specs.Prelude.{◌≡◌, ℕ, ◌≤◌, List, Option}
+use Rattle.std.specs.Prelude.{◌≡◌, ℕ, ◌≤◌, ◌⊎◌, List, Option}
 use mathlib.Core.List.{IsPrefix}
 use Rattle.edge_io.specs.Told.{behind, Rose}
 use Rattle.edge_io.specs.Files.{Files}
@@ -70,6 +70,11 @@ pub record OnlyLoaded {H : Type 0} (g : HostOf H) (old new : H) : Type 0 where
 -- behind what was told a beginning of the text was written, and no other byte
 unfoldable pub WritesPart : Option (List ℕ) → List ℕ → Option (List ℕ) → Type 0
 WritesPart old text new = (part : List ℕ) × IsPrefix part text × (new ≡ behind old part)
+
+-- the message was written, or a part of it where that sink's count rose
+pub record TellsMessage (message : List ℕ) (old new : Option (List ℕ)) (rose : Type 0) : Type 0 where
+  pub part : WritesPart old message new
+  pub whole : (new ≡ behind old message) ⊎ rose
 
 -- no count of faults rose, and the maker refused nothing
 pub record NoFault (before after : Outside) : Type 0 where

@@ -47,7 +47,7 @@ unfoldable pub lines_due : Plan → List ℕ → List ℕ
 lines_due plan taken = lines plan [] (all_but batch (records_of plan taken).records) Open
 
 -- no capture was opened, and no line was written
-pub record IsUnopened (before after : Work) : Type 0 where
+pub record IsUntouched (before after : Work) : Type 0 where
   pub left : after.left ≡ before.left
   pub opens : after.opens ≡ before.opens
   pub alerts : after.alerts ≡ before.alerts
@@ -78,16 +78,16 @@ pub record IsApart (before after : Work) (ended : Status) : Type 0 where
   pub no_host_fault : ¬ (ended ≡ status.HostFault)
 
 -- the statuses of a run that may be cut off before a capture is open
-abbrev pub IsCutOff : Status → Type 0
-IsCutOff ended = (ended ≡ status.HostFault) ⊎ (ended ≡ status.NoMemory)
+abbrev pub IsCutStatus : Status → Type 0
+IsCutStatus ended = (ended ≡ status.HostFault) ⊎ (ended ≡ status.NoMemory)
 
 -- how far was read ahead, by the way of the course; no other status comes without an open capture
 abbrev pub ReadsAheadOn : Files → Way → Work → Work → Status → Type 0
 ReadsAheadOn files (Stops message status_then) before after ended =
-    IsUnopened before after × ((ended ≡ status_then) ⊎ IsCutOff ended)
+    IsUntouched before after × ((ended ≡ status_then) ⊎ IsCutStatus ended)
 ReadsAheadOn files (Goes plan) before after ended =
     IsReadAhead plan (get files plan.source) before after ended
-    ⊎ (IsCutOff ended × (IsUnopened before after ⊎ IsShut before after))
+    ⊎ (IsCutStatus ended × (IsUntouched before after ⊎ IsShut before after))
 ReadsAheadOn files (Makes plan seed count) before after ended = IsApart before after ended
 ReadsAheadOn files (Lists lines) before after ended = IsApart before after ended
 

@@ -13,11 +13,13 @@
 -- limit of 3 the first 3, and a clean ending.
 use Rattle.std.specs.Prelude.{◌≡◌, ℕ, ◌≤◌, ◌==◌, ◌&&◌, nat_le, min, Bool, false, List, [], length, map, take, Option}
 use Rattle.std.specs.Prelude.{Some, None, Result, Ok, Err, ⊤, if◌then◌else◌}
+use Rattle.std.specs.FinMap.{get}
+use Rattle.edge_io.specs.Files.{Files}
 use Rattle.edge_io.specs.declared.link.Link.{Link}
 use Rattle.pcap_input.specs.declared.capture.CaptureFault.{CaptureFault}
 use Rattle.pcap_input.specs.declared.capture.CaptureFault.TheVariants as savefile_fault
 use Rattle.pcap_input.specs.Savefile as classic
-use Rattle.pcap_input.specs.Savefile.{Capture, file_header, most_records, number_at, savefile}
+use Rattle.pcap_input.specs.Savefile.{Capture, file_header, head_of, most_records, number_at, savefile}
 use Rattle.pcap_input.specs.Generated.{generated}
 use Rattle.pcapng_input.specs.declared.capture.NgRecord.{NgRecord}
 use Rattle.pcapng_input.specs.declared.capture.NgFault.{NgFault}
@@ -27,7 +29,7 @@ use Rattle.pcapng_input.specs.Blocks.{section_type, ng_records}
 use Rattle.record_jobs.specs.Way.{LinkedRecord, linked}
 use Rattle.snort_engine.specs.declared.fault.ReadFault.{ReadFault}
 use Rattle.snort_engine.specs.declared.fault.ReadFault.TheVariants as fault
-use Rattle.snort_engine.specs.Course.{Plan}
+use Rattle.snort_engine.specs.Course.{Plan, Way, Goes}
 
 -- how a capture ends: at its end or at a limit, or at what can't be read
 pub data Ending : Type 0 where
@@ -143,3 +145,21 @@ abbrev pub MadeIsWhole : Type 0
 MadeIsWhole =
     (plan : Plan) (seed count : ℕ) → count ≤ most_records
     → IsWhole (limited plan.limit count) (records_of plan (generated seed count))
+
+-- ---- which of the two it begins as
+
+-- these bytes are told, and begin as no savefile does
+pub record IsOther (held : Option (List ℕ)) : Type 0 where
+  pub bytes : List ℕ
+  pub told : held ≡ Some bytes
+  pub head : head_of bytes ≡ Err savefile_fault.NotPcap
+
+-- the file of this name is told to begin so
+abbrev pub IsToldOther : Option Files → List ℕ → Type 0
+IsToldOther None name = ⊥
+IsToldOther (Some files) name = IsOther (get files name)
+
+-- the capture of this way is told to begin as no savefile does
+abbrev pub BeginsOtherwise : Option Files → Way → Type 0
+BeginsOtherwise told (Goes plan) = IsToldOther told plan.source
+BeginsOtherwise told way = ⊥

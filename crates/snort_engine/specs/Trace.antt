@@ -20,7 +20,7 @@ use Rattle.packet_decode.specs.declared.checks.Checks.{Checks}
 use Rattle.conf_types.specs.declared.config.Config.{Config}
 use Rattle.rule_types.specs.declared.rule.Rule.{Rule}
 use Rattle.host_table.specs.declared.host_line.HostLine.{HostLine}
-use Rattle.record_jobs.specs.Way.{LinkedRecord, Way}
+use Rattle.record_jobs.specs.Way.{LinkedRecord, Way as JobsWay}
 use Rattle.record_jobs.specs.Jobs.{jobs, finishes}
 use Rattle.flow_lanes.specs.declared.answer.Hits.{Hits}
 use Rattle.flow_lanes.specs.declared.job.Job.{Job}
@@ -41,15 +41,15 @@ Alert = Beside LinkedRecord Event
 -- ---- from records to jobs
 
 -- what records are read by
-abbrev pub way_by : Checks → List HostLine → Config → Way
-way_by checks hosts config = record { checks = checks; hosts = hosts; frag = config.frag; stream = config.stream }
+abbrev pub jobs_way_by : Checks → List HostLine → Config → JobsWay
+jobs_way_by checks hosts config = record { checks = checks; hosts = hosts; frag = config.frag; stream = config.stream }
 
-abbrev pub way_of : Plan → Way
-way_of plan = way_by plan.checks plan.hosts plan.config
+abbrev pub jobs_way : Plan → JobsWay
+jobs_way plan = jobs_way_by plan.checks plan.hosts plan.config
 
 -- all jobs of records
 abbrev pub jobs_of : Plan → List LinkedRecord → List Job
-jobs_of plan records = trail (jobs (way_of plan)) records
+jobs_of plan records = trail (jobs (jobs_way plan)) records
 
 -- ---- from jobs to items with the rules that match
 
@@ -90,7 +90,7 @@ item_events config rules before hits =
 
 -- the events of a record behind earlier records
 unfoldable pub record_events : Plan → List LinkedRecord → LinkedRecord → List Event
-record_events plan = chained (item_events plan.config plan.rules) (chained (job_items (detection_of plan)) (jobs (way_of plan)))
+record_events plan = chained (item_events plan.config plan.rules) (chained (job_items (detection_of plan)) (jobs (jobs_way plan)))
 
 -- its alerts
 abbrev pub record_alerts : Plan → List LinkedRecord → LinkedRecord → List Alert
@@ -98,7 +98,7 @@ record_alerts plan = own (record_events plan)
 
 -- behind all records of a capture the flows that live then end: their items, and the alerts of these
 unfoldable pub closing_items : Plan → List LinkedRecord → List Hits
-closing_items plan records = trail_from (job_items (detection_of plan)) (jobs_of plan records) (finishes (way_of plan) records)
+closing_items plan records = trail_from (job_items (detection_of plan)) (jobs_of plan records) (finishes (jobs_way plan) records)
 
 unfoldable pub closing_events : Plan → List LinkedRecord → List Event
 closing_events plan records = trail_from (item_events plan.config plan.rules) (items_of plan records) (closing_items plan records)

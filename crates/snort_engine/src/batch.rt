@@ -1,10 +1,10 @@
 ghost use Rattle.std.specs.Prelude.{◌≡◌, ◌≢◌, ◌+◌, ◌-◌, ◌<◌, ◌≤◌, [], vec_len};
 ghost use Rattle.edge_io.specs.Told.{Rose};
 ghost use Rattle.pcap_input.specs.Savefile.{most_records};
-ghost use Rattle.snort_engine.specs.Reader.{IsFresh, IsNext, number_of};
-ghost use Rattle.snort_engine.specs.Batch.{IsFaultOf, ReadsOn, lacks_memory, more_of};
+ghost use Rattle.snort_engine.specs.Steps.Reader.{IsFresh, IsNext, number_of};
+ghost use Rattle.snort_engine.specs.Steps.Batch.{IsFaultOf, ReadsOn, lacks_memory, more_of};
 ghost use Rattle.snort_engine.specs.Outside.{OnlyRead};
-ghost use Rattle.snort_engine.specs.Watching.{most_at, room_behind};
+ghost use Rattle.snort_engine.specs.Steps.Watching.{most_at, room_behind};
 
 use crate::fault::ReadFault;
 use crate::reader::{LinkedRecord, RecordReader};

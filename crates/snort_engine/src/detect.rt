@@ -9,10 +9,10 @@ ghost use Rattle.record_jobs.specs.Way as ways;
 ghost use Rattle.record_jobs.specs.Ready.{AreReady};
 ghost use Rattle.record_jobs.specs.Fronts.{GivesFinishes};
 ghost use Rattle.snort_engine.specs.Beside.{by_place, source_in};
-ghost use Rattle.snort_engine.specs.Sourcing.{PlacesJobs};
-ghost use Rattle.snort_engine.specs.Watching.{plan_of, IsTest, IsShowStop};
-ghost use Rattle.snort_engine.specs.Detecting.{IsSoundPlan, IsNewInspection, counted, MakesJobs, Runs, RunsPart};
-ghost use Rattle.snort_engine.specs.Detecting.{Knows, DetectorStands, ShowsRecords, ShowsRecordsPart, Closes, ClosesPart};
+ghost use Rattle.snort_engine.specs.Steps.Sourcing.{PlacesJobs};
+ghost use Rattle.snort_engine.specs.Steps.Watching.{plan_of, IsTest, IsShowStop};
+ghost use Rattle.snort_engine.specs.Steps.Detecting.{IsSoundPlan, IsNewInspection, counted, MakesJobs, Runs, RunsPart};
+ghost use Rattle.snort_engine.specs.Steps.Detecting.{Knows, DetectorStands, ShowsRecords, ShowsRecordsPart, Closes, ClosesPart};
 
 use crate::context::Context;
 use crate::counts::{Counts, sum};

@@ -3,11 +3,11 @@ ghost use Rattle.std.specs.Prelude.{◌≡◌, ◌+◌, ◌≤◌, [], ◌∷◌
 ghost use Rattle.edge_io.specs.Told.{Rose};
 ghost use Rattle.conf_types.specs.Sound as conf;
 ghost use Rattle.rule_types.specs.Sound.{IsSound};
-ghost use Rattle.snort_engine.specs.Watching.{IsShowStop};
+ghost use Rattle.snort_engine.specs.Steps.Watching.{IsShowStop};
 ghost use Rattle.snort_engine.specs.Beside.{beside, by_place};
-ghost use Rattle.snort_engine.specs.Matching.{ShowsMatches, ShowsMatchesPart};
-ghost use Rattle.snort_engine.specs.Showing.{EventsStand, Shows, ShowsPart};
-ghost use Rattle.snort_engine.specs.Sourcing.{source_by, told_in};
+ghost use Rattle.snort_engine.specs.Steps.Matching.{ShowsMatches, ShowsMatchesPart};
+ghost use Rattle.snort_engine.specs.Steps.Showing.{EventsStand, Shows, ShowsPart};
+ghost use Rattle.snort_engine.specs.Steps.Sourcing.{source_by, sourced_items};
 
 use crate::counts::sum;
 use crate::form::Form;
@@ -165,11 +165,11 @@ fn show_hits<A: Sink>(
 ) -> Result<(), Stop>
     requires { All (IsSound config.now.classes) rules.now }
     ensures shown { OnOk result (Shows form config.now rules.now
-        (told_in (by_place (source_by sources.entry) 0 jobs.now))
+        (sourced_items (by_place (source_by sources.entry) 0 jobs.now))
         (record { events = events.old; written = A.written alerts.old })
         (record { events = events.new; written = A.written alerts.new })) }
     ensures stopped { OnErr result (ShowsPart form config.now rules.now
-        (told_in (by_place (source_by sources.entry) 0 jobs.now))
+        (sourced_items (by_place (source_by sources.entry) 0 jobs.now))
         (record { events = events.old; written = A.written alerts.old }) (A.written alerts.new)) }
     ensures kind { IfErr result IsShowStop }
     ensures fault { IsErrOf result Stop.CannotWrite → Rose (A.faults alerts.old) (A.faults alerts.new) }

@@ -7,9 +7,9 @@ ghost use Rattle.snort_engine.specs.Outside.{WritesPart};
 ghost use Rattle.snort_engine.specs.Beside.{beside};
 ghost use Rattle.snort_engine.specs.Trace.{event_of};
 ghost use Rattle.snort_engine.specs.Lines.{text_of};
-ghost use Rattle.snort_engine.specs.Gathering.{Gathers};
-ghost use Rattle.snort_engine.specs.Watching.{IsShowStop, IsWriteStop};
-ghost use Rattle.snort_engine.specs.Showing.{ShowsPlaces, places_lines, subject_of};
+ghost use Rattle.snort_engine.specs.Steps.Gathering.{Gathers};
+ghost use Rattle.snort_engine.specs.Steps.Watching.{IsShowStop, IsWriteStop};
+ghost use Rattle.snort_engine.specs.Steps.Showing.{ShowsPlaces, places_lines, subject_of};
 
 use crate::counts::sum;
 use crate::form::Form;

@@ -3,7 +3,7 @@ ghost use Rattle.std.specs.Prelude.{◌≡◌, ◌≤◌, Some, length, drop};
 ghost use Rattle.pcap_input.specs.Savefile.{file_header};
 ghost use Rattle.pcap_input.specs.Reader.{new_reader};
 ghost use Rattle.snort_engine.specs.declared.reader.RecordReader.TheVariants.{Savefile};
-ghost use Rattle.snort_engine.specs.MadeCapture.{left_of, made_head};
+ghost use Rattle.snort_engine.specs.Steps.MadeCapture.{left_of, made_head};
 
 use crate::reader::RecordReader;
 use edge_io::{Failed, Host, Link, LoadFault};
@@ -52,7 +52,7 @@ impl<'a> MadeCapture<'a> {
 impl Host for MadeCapture<'_> {
     ghost use Rattle.std.specs.Prelude.{Some};
     ghost use Rattle.std.specs.FinMap.{empty};
-    ghost use Rattle.snort_engine.specs.MadeCapture.{left_of};
+    ghost use Rattle.snort_engine.specs.Steps.MadeCapture.{left_of};
 
     ghost contents = { λ _. Some empty };
 

@@ -1,7 +1,7 @@
 ghost use Rattle.std.specs.Prelude.{◌≡◌};
 ghost use Rattle.record_jobs.specs.Way as ways;
-ghost use Rattle.snort_engine.specs.Trace.{way_by};
-ghost use Rattle.snort_engine.specs.Sources.{source_name};
+ghost use Rattle.snort_engine.specs.Trace.{jobs_way_by};
+ghost use Rattle.snort_engine.specs.Steps.Sources.{source_name};
 
 use crate::form::Form;
 use packet_decode::Checks;
@@ -53,7 +53,7 @@ pub(crate) struct Plan<'a, P> {
 
 /// What records are made into jobs by.
 pub(crate) fn front_config<'a, P>(plan: &'a Plan<'_, P>) -> FrontConfig<'a>
-    ensures way { ways.way_of result ≡ way_by plan.entry.now.checks plan.entry.now.setup.hosts plan.entry.now.setup.config }
+    ensures way { ways.way_of result ≡ jobs_way_by plan.entry.now.checks plan.entry.now.setup.hosts plan.entry.now.setup.config }
     ensures config { result.config.now ≡ plan.entry.now.setup.config }
 {
     FrontConfig {

@@ -15,11 +15,11 @@ ghost use Rattle.snort_setup.specs.Rules.{most_rules};
 ghost use Rattle.snort_setup.specs.Steps.{grown_by, Grows};
 ghost use Rattle.snort_setup.specs.Whole.{ready_of};
 ghost use Rattle.snort_engine.specs.Course.{IsFileless, IsForMade, setup_words, checks_of, form_of, way_of};
-ghost use Rattle.snort_engine.specs.Preparing.{IsPrepared, IsSetUp, KeepsSetup, HasCause, IsForFaultyWords, StopsFileless};
-ghost use Rattle.snort_engine.specs.Preparing.{OfWatch, task_way, way_for, told_of, way_by};
+ghost use Rattle.snort_engine.specs.Steps.Preparing.{IsPrepared, IsSetUp, KeepsSetup, HasCause, IsForFaultyWords, StopsFileless};
+ghost use Rattle.snort_engine.specs.Steps.Preparing.{OfWatch, task_way, way_for, told_of, way_by};
 ghost use Rattle.snort_engine.specs.Outside.{OnlyLoaded};
-ghost use Rattle.snort_engine.specs.Sources.{IsMade, IsSourceFor};
-ghost use Rattle.snort_engine.specs.Detecting.{IsRanged};
+ghost use Rattle.snort_engine.specs.Steps.Sources.{IsMade, IsSourceFor};
+ghost use Rattle.snort_engine.specs.Steps.Detecting.{IsRanged};
 
 use crate::form::Form;
 use crate::listing::list_records;

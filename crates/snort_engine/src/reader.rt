@@ -6,7 +6,7 @@ ghost use Rattle.edge_io.specs.Files.{Files, Lacks};
 ghost use Rattle.snort_engine.specs.declared.reader.RecordReader.TheVariants.{Savefile, Blocks};
 ghost use Rattle.snort_engine.specs.Outside.{OnlyRead};
 ghost use Rattle.snort_engine.specs.Trace.{no_record};
-ghost use Rattle.snort_engine.specs.Reader.{IsFresh, number_of, refusal_of, Gives, Opens, OpensSo};
+ghost use Rattle.snort_engine.specs.Steps.Reader.{IsFresh, number_of, refusal_of, Gives, Opens, OpensSo};
 
 use crate::fault::ReadFault;
 use edge_io::{Host, Link, Moment, Text};

@@ -3,8 +3,8 @@ ghost use Rattle.std.specs.Prelude.{◌≡◌, ◌≤◌, ◌++◌, true, OnOk};
 ghost use Rattle.std.specs.List.{concat};
 ghost use Rattle.edge_io.specs.Told.{Rose};
 ghost use Rattle.snort_engine.specs.Counts.{with_counts};
-ghost use Rattle.snort_engine.specs.Stop.{outcome_status, outcome_text};
-ghost use Rattle.snort_engine.specs.Reporting.{Reports, TellsOn, TellsLast, counts_due};
+ghost use Rattle.snort_engine.specs.Steps.Stop.{outcome_status, outcome_text};
+ghost use Rattle.snort_engine.specs.Steps.Reporting.{Reports, TellsOn, TellsLast, counts_due};
 
 use crate::Status;
 use crate::counts::Counts;

@@ -1,6 +1,6 @@
 //! The records that jobs were made of.
 ghost use Rattle.std.specs.Prelude.{◌≡◌, option_and_then, option_map, slice_get};
-ghost use Rattle.snort_engine.specs.Sourcing.{last_behind, lent_record, source_by};
+ghost use Rattle.snort_engine.specs.Steps.Sourcing.{last_behind, lent_record, source_by};
 
 use crate::reader::LinkedRecord;
 use flow_lanes::Job;

@@ -1,5 +1,5 @@
 ghost use Rattle.std.specs.Prelude.{◌≡◌};
-ghost use Rattle.snort_engine.specs.Stop.{is_whole, stop_status, stop_text};
+ghost use Rattle.snort_engine.specs.Steps.Stop.{is_whole, stop_status, stop_text};
 ghost use Rattle.snort_engine.specs.Messages.{cannot_read_text};
 ghost use Rattle.alert_fast.specs.Pieces.{pieces_text};
 
@@ -84,7 +84,7 @@ impl Stop {
     }
 
     /// Its message, with a line feed at its end, where the capture has this name.
-    #[tactic(auto, unfolding(crate::specs::Stop::stop_text, crate::specs::Messages::cannot_read_text, crate::specs::Messages::accepted_text, crate::specs::Messages::link_type_text, crate::specs::Messages::truncated_text, crate::specs::Messages::bad_block_text, crate::specs::Messages::bad_unified2_text))]
+    #[tactic(auto, unfolding(crate::specs::Steps::Stop::stop_text, crate::specs::Messages::cannot_read_text, crate::specs::Messages::accepted_text, crate::specs::Messages::link_type_text, crate::specs::Messages::truncated_text, crate::specs::Messages::bad_block_text, crate::specs::Messages::bad_unified2_text))]
     pub fn pieces<'a>(&'a self, source: &'a str) -> [Piece<'a>; 5]
         ensures { pieces_text result ≡ stop_text source.now self.now }
     {
@@ -204,7 +204,7 @@ impl From<WriteStop> for Stop {
 }
 
 impl From<ReadFault> for Stop {
-    ghost use Rattle.snort_engine.specs.Stop.{capture_stop};
+    ghost use Rattle.snort_engine.specs.Steps.Stop.{capture_stop};
 
     ghost from_gives = { λ why stop. stop ≡ capture_stop why };
 
@@ -223,7 +223,7 @@ impl From<ReadFault> for Stop {
 }
 
 impl From<SetupStop> for Stop {
-    ghost use Rattle.snort_engine.specs.Stop.{setup_stop};
+    ghost use Rattle.snort_engine.specs.Steps.Stop.{setup_stop};
 
     ghost from_gives = { λ why stop. stop ≡ setup_stop why };
 

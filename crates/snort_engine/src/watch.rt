@@ -5,16 +5,16 @@ ghost use Rattle.edge_io.specs.Told.{Rose};
 ghost use Rattle.pcap_input.specs.Savefile.{most_records};
 ghost use Rattle.flow_lanes.specs.Hits.{Test};
 ghost use Rattle.snort_engine.specs.Course.{Course, Goes};
-ghost use Rattle.snort_engine.specs.Reader.{IsFresh, number_of, OpensSo};
-ghost use Rattle.snort_engine.specs.Sources.{source_name};
+ghost use Rattle.snort_engine.specs.Steps.Reader.{IsFresh, number_of, OpensSo};
+ghost use Rattle.snort_engine.specs.Steps.Sources.{source_name};
 ghost use Rattle.snort_engine.specs.Outside.{OnlyRead, work};
 ghost use Rattle.snort_engine.specs.Ending.{Ends};
-ghost use Rattle.snort_engine.specs.Stop.{outcome_status};
-ghost use Rattle.snort_engine.specs.Reporting.{outcome_said};
+ghost use Rattle.snort_engine.specs.Steps.Stop.{outcome_status};
+ghost use Rattle.snort_engine.specs.Steps.Reporting.{outcome_said};
 ghost use Rattle.snort_engine.specs.Counts.{no_counts};
-ghost use Rattle.snort_engine.specs.Detecting.{IsSoundPlan, Knows, DetectorStands, ShowsRecordsPart};
-ghost use Rattle.snort_engine.specs.Watching.{plan_of, standing, streams, IsTest, Watches, ComesOver, IsCloseBehind};
-ghost use Rattle.snort_engine.specs.Watching.{GoesOn, StaysKnown, StaysFew, ClosesWatched};
+ghost use Rattle.snort_engine.specs.Steps.Detecting.{IsSoundPlan, Knows, DetectorStands, ShowsRecordsPart};
+ghost use Rattle.snort_engine.specs.Steps.Watching.{plan_of, standing, streams, IsTest, Watches, ComesOver, IsCloseBehind};
+ghost use Rattle.snort_engine.specs.Steps.Watching.{WatchesOn, StaysKnown, StaysFew, ClosesWatched};
 
 use crate::Status;
 use crate::batch::{give_back, lacks_memory, more, most_at, read_batch, room_behind};
@@ -65,7 +65,7 @@ fn watch_batch<H: Host, P: Pattern, G: Gate, A: Sink, R: Threads + Sync>(
     requires fresh { IsFresh reader.old }
     requires no_records { records.old.items ≡ [] }
     ensures goes_on { (matches : Test) → IsTest P.finds context.now.plan.now.setup.set matches
-        → GoesOn (plan_of matches context.now.plan.now)
+        → WatchesOn (plan_of matches context.now.plan.now)
         (standing H.Host A.Sink reader.old room.old detector.old host.old alerts.old)
         (standing H.Host A.Sink reader.new room.new detector.new host.new alerts.new)
         (Rose (H.faults host.old) (H.faults host.new)) result }

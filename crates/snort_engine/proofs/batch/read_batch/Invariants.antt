@@ -1,8 +1,8 @@
 -- Reading went on from where the batch began, by as many records as the batch has.
 use Rattle.std.proofs.Common.{◌≡◌, ◌+◌, ◌-◌, ◌<◌, ◌≤◌, [], vec_len}
 use Rattle.pcap_input.specs.Savefile.{most_records}
-use Rattle.snort_engine.specs.Reader.{IsFresh, number_of}
-use Rattle.snort_engine.specs.Batch.{ReadsOn}
+use Rattle.snort_engine.specs.Steps.Reader.{IsFresh, number_of}
+use Rattle.snort_engine.specs.Steps.Batch.{ReadsOn}
 use Rattle.snort_engine.specs.Outside.{OnlyRead}
 use Rattle.snort_engine.specs.declared.batch.Reached.TheVariants.{More}
 use Rattle.snort_engine.proofs.batch.read_batch.Given as goal

@@ -2,7 +2,7 @@
 use Rattle.std.proofs.Common.{◌≡◌, [], ◌∷◌, ◌++◌, Some, refl, ap, ◌∙◌, inl, inr}
 use Rattle.snort_engine.specs.declared.fault.ReadFault.{ReadFault}
 use Rattle.snort_engine.specs.declared.fault.ReadFault.TheVariants.{NoMemory}
-use Rattle.snort_engine.specs.Batch.{Place}
+use Rattle.snort_engine.specs.Steps.Batch.{Place}
 use Rattle.snort_engine.proofs.Batches.{reads_record, reads_end, reads_fault, reads_lacking}
 use Rattle.snort_engine.proofs.batch.read_one.Goals as goal
 

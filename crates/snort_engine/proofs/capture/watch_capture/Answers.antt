@@ -1,7 +1,7 @@
 use Rattle.std.proofs.Common.{refl, ap, ◌∙◌}
 use Rattle.snort_engine.specs.declared.plan.Source.{Source}
-use Rattle.snort_engine.specs.Sources.{way_from}
-use Rattle.snort_engine.specs.Watching.{plan_of}
+use Rattle.snort_engine.specs.Steps.Sources.{way_from}
+use Rattle.snort_engine.specs.Steps.Watching.{plan_of}
 use Rattle.snort_engine.proofs.capture.watch_capture.Goals as goal
 
 pub returns-in-File-clause-ends : goal.returns-in-File-clause-ends

@@ -1,7 +1,7 @@
 use Rattle.std.proofs.Common.{ℕ, List, Some, ◌≤◌, length, drop, ap, sym, ◌∙◌, subst}
 use Rattle.std.proofs.lemmas.Result.{err_from_is_err_and}
-use Rattle.snort_engine.specs.Stop.{stop_text}
-use Rattle.snort_engine.specs.Watching.{plan_of}
+use Rattle.snort_engine.specs.Steps.Stop.{stop_text}
+use Rattle.snort_engine.specs.Steps.Watching.{plan_of}
 use Rattle.snort_engine.proofs.MadeCaptures.{generated_long, made_ends, unmade_ends, never_rose}
 use Rattle.snort_engine.proofs.capture.watch_made.Goals as goal
 

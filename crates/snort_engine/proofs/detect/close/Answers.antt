@@ -3,8 +3,8 @@ use Rattle.std.proofs.lemmas.Result.{err_from_is_err_and}
 use Rattle.snort_engine.specs.declared.detect.Inspection.{Inspection}
 use Rattle.snort_engine.specs.declared.stop.Stop.{Stop}
 use Rattle.snort_engine.specs.declared.stop.Stop.TheVariants.{CannotWrite}
-use Rattle.snort_engine.specs.Trace.{way_by}
-use Rattle.snort_engine.specs.Watching.{plan_of}
+use Rattle.snort_engine.specs.Trace.{jobs_way_by}
+use Rattle.snort_engine.specs.Steps.Watching.{plan_of}
 use Rattle.snort_engine.proofs.Prefixes.{rose_since, same_stop}
 use Rattle.snort_engine.proofs.Stops.{write_kind}
 use Rattle.snort_engine.proofs.Detecting.{closed_nothing, closed_offered_part, closed_part, closed_whole, ready_closing, stands_on}
@@ -18,7 +18,7 @@ returns-in_err-jobs-clause-stopped g c = λ matches test.
 pub run_jobs-requires-clause-ready : goal.run_jobs-requires-clause-ready
 run_jobs-requires-clause-ready g c κs within =
     rw c.deref.ensures.value
-    (ready_closing _ (way_by c.args.context.now.plan.now.checks c.args.context.now.plan.now.setup.hosts c.args.context.now.plan.now.setup.config) c.args.context.now.plan.now.setup.set.rules c.args.detector c.in_ok-jobs.jobs.items refl c.requires.known c.in_ok-jobs.ensures c.requires.few)
+    (ready_closing _ (jobs_way_by c.args.context.now.plan.now.checks c.args.context.now.plan.now.setup.hosts c.args.context.now.plan.now.setup.config) c.args.context.now.plan.now.setup.set.rules c.args.detector c.in_ok-jobs.jobs.items refl c.requires.known c.in_ok-jobs.ensures c.requires.few)
 
 pub returns-in_err-run_jobs-clause-stopped : goal.returns-in_err-run_jobs-clause-stopped
 returns-in_err-run_jobs-clause-stopped g c = λ matches test.

@@ -1,8 +1,8 @@
 -- The records so far were taken, and each of their jobs has a place.
 use Rattle.std.proofs.Common.{◌≡◌, ◌+◌, length, take}
 use Rattle.record_jobs.specs.Way.{way_of}
-use Rattle.snort_engine.specs.Detecting.{MakesJobs}
-use Rattle.snort_engine.specs.Sourcing.{PlacesJobs}
+use Rattle.snort_engine.specs.Steps.Detecting.{MakesJobs}
+use Rattle.snort_engine.specs.Steps.Sourcing.{PlacesJobs}
 use Rattle.snort_engine.proofs.detect.make_jobs.Given as goal
 
 abbrev pub invariant-loop-record : goal.invariant-loop-record

@@ -1,6 +1,6 @@
 use Rattle.std.proofs.lemmas.Result.{err_from_is_err_and}
 use Rattle.snort_engine.specs.Trace.{detection_of}
-use Rattle.snort_engine.specs.Watching.{plan_of}
+use Rattle.snort_engine.specs.Steps.Watching.{plan_of}
 use Rattle.snort_engine.specs.Beside.{by_place, source_in}
 use Rattle.snort_engine.proofs.Detecting.{detects_by, runs_by, runs_nothing, runs_part_by}
 use Rattle.snort_engine.proofs.detect.run_jobs.Goals as goal

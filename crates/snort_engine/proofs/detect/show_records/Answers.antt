@@ -1,7 +1,7 @@
 use Rattle.std.proofs.Common.{refl, arith}
 use Rattle.std.proofs.lemmas.Result.{err_from_is_err_and}
-use Rattle.snort_engine.specs.Trace.{way_by}
-use Rattle.snort_engine.specs.Watching.{plan_of}
+use Rattle.snort_engine.specs.Trace.{jobs_way_by}
+use Rattle.snort_engine.specs.Steps.Watching.{plan_of}
 use Rattle.snort_engine.proofs.Stops.{write_kind}
 use Rattle.snort_engine.proofs.Detecting.{known_records, ready_records, records_nothing, records_offered_part, records_part, records_shown, stands_on}
 use Rattle.snort_engine.proofs.detect.show_records.Goals as goal
@@ -16,7 +16,7 @@ run_jobs-requires-clause-ready g c κs within =
     let makes = rw (c.front_config-by.ensures.way, c.deref.ensures.value) at c.in_ok-made.ensures.makes in
     let few = c.requires.few in
     rw c.deref-2.ensures.value
-    (ready_records _ (way_by c.args.context.now.plan.now.checks c.args.context.now.plan.now.setup.hosts c.args.context.now.plan.now.setup.config) c.args.context.now.plan.now.setup.set.rules c.args.detector.now c.args.records.now.items _ c.in_ok-made.made.jobs.items
+    (ready_records _ (jobs_way_by c.args.context.now.plan.now.checks c.args.context.now.plan.now.setup.hosts c.args.context.now.plan.now.setup.config) c.args.context.now.plan.now.setup.set.rules c.args.detector.now c.args.records.now.items _ c.in_ok-made.made.jobs.items
     refl c.requires.known makes (omega (arith, few)))
 
 pub returns-in_err-run_jobs-clause-stopped : goal.returns-in_err-run_jobs-clause-stopped
@@ -47,7 +47,7 @@ pub returns-clause-known : goal.returns-clause-known
 returns-clause-known g c =
     let makes = rw (c.front_config-by.ensures.way, c.deref.ensures.value) at c.in_ok-made.ensures.makes in
     let learns = rw c.deref-2.ensures.value at c.in_ok-run_jobs.ensures.learns in
-    known_records (way_by c.args.context.now.plan.now.checks c.args.context.now.plan.now.setup.hosts c.args.context.now.plan.now.setup.config) c.args.context.now.plan.now.setup.set.rules c.args.detector.now _ c.args.records.now.items c.in_ok-made.made.jobs.items
+    known_records (jobs_way_by c.args.context.now.plan.now.checks c.args.context.now.plan.now.setup.hosts c.args.context.now.plan.now.setup.config) c.args.context.now.plan.now.setup.set.rules c.args.detector.now _ c.args.records.now.items c.in_ok-made.made.jobs.items
     c.requires.known makes learns c.in_ok-run_jobs.ensures.groups_stay c.in_ok-offer.ensures.emptied
 
 pub returns-in_err-offer-clause-kind : goal.returns-in_err-offer-clause-kind

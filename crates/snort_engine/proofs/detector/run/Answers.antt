@@ -1,5 +1,5 @@
 use Rattle.std.proofs.Common.{refl, ◌∙◌, arith}
-use Rattle.snort_engine.specs.Preparing.{task_way}
+use Rattle.snort_engine.specs.Steps.Preparing.{task_way}
 use Rattle.snort_engine.specs.declared.prepare.Task.TheVariants.{Watch, Tell}
 use Rattle.snort_engine.proofs.FileWays.{listed_ends, no_host_stop, write_stop}
 use Rattle.snort_engine.proofs.Runs.{headline, stopped_run, watched_run, opens_made}

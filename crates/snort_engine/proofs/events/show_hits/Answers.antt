@@ -1,7 +1,7 @@
 use Rattle.std.proofs.Common.{◌≡◌, refl, take, arith}
 use Rattle.std.proofs.lemmas.List.{take_all}
 use Rattle.std.proofs.lemmas.Result.{err_from_is_err_and}
-use Rattle.snort_engine.specs.Sourcing.{source_by}
+use Rattle.snort_engine.specs.Steps.Sourcing.{source_by}
 use Rattle.snort_engine.proofs.Showing.{shows_none, jobs_step, jobs_part}
 use Rattle.snort_engine.proofs.events.show_hits.Goals as goal
 

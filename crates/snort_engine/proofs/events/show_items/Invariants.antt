@@ -1,7 +1,7 @@
 -- The items so far were shown.
 use Rattle.std.proofs.Common.{◌≤◌, map, take}
 use Rattle.snort_engine.specs.Beside.{beside}
-use Rattle.snort_engine.specs.Showing.{Shows}
+use Rattle.snort_engine.specs.Steps.Showing.{Shows}
 use Rattle.snort_engine.proofs.events.show_items.Given as goal
 
 abbrev pub invariant-loop-hits : goal.invariant-loop-hits

@@ -1,5 +1,5 @@
 use Rattle.std.proofs.lemmas.Result.{err_from_is_err_and}
-use Rattle.snort_engine.specs.Sourcing.{source_by}
+use Rattle.snort_engine.specs.Steps.Sourcing.{source_by}
 use Rattle.snort_engine.proofs.Matching.{matches_nothing, matches_part, shows_matches}
 use Rattle.snort_engine.proofs.events.show_matches.Goals as goal
 

@@ -1,5 +1,5 @@
 use Rattle.std.proofs.lemmas.Result.{err_from_is_err_and}
-use Rattle.snort_engine.specs.Showing.{subject_of}
+use Rattle.snort_engine.specs.Steps.Showing.{subject_of}
 use Rattle.snort_engine.proofs.Showing.{place_absent, place_part, place_passed, place_shown, place_there}
 use Rattle.snort_engine.proofs.lines.show_place.Goals as goal
 

@@ -1,6 +1,6 @@
 use Rattle.std.proofs.Common.{arith}
 use Rattle.std.proofs.lemmas.Result.{err_from_is_err_and}
-use Rattle.snort_engine.specs.Showing.{subject_of}
+use Rattle.snort_engine.specs.Steps.Showing.{subject_of}
 use Rattle.snort_engine.proofs.Showing.{places_none, places_nothing, places_step, places_part}
 use Rattle.snort_engine.proofs.lines.show_places.Goals as goal
 

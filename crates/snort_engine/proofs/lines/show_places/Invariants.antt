@@ -1,6 +1,6 @@
 -- The lines so far are those of the rules at the places so far.
 use Rattle.std.proofs.Common.{◌≤◌, take}
-use Rattle.snort_engine.specs.Showing.{ShowsPlaces, subject_of}
+use Rattle.snort_engine.specs.Steps.Showing.{ShowsPlaces, subject_of}
 use Rattle.snort_engine.proofs.lines.show_places.Given as goal
 
 abbrev pub invariant-loop-place : goal.invariant-loop-place

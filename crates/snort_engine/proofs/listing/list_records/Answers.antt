@@ -1,7 +1,7 @@
 use Rattle.std.proofs.Common.{ℕ, List, Some, Err, sym, ap, subst, ◌∙◌, arith}
 use Rattle.edge_io.specs.Told.{Rose}
 use Rattle.edge_io.specs.declared.host.LoadFault.{LoadFault}
-use Rattle.snort_engine.specs.Preparing.{StopsAtFile}
+use Rattle.snort_engine.specs.Steps.Preparing.{StopsAtFile}
 use Rattle.snort_engine.proofs.Loaded.{file_listed, file_unloaded}
 use Rattle.snort_engine.proofs.listing.list_records.Goals as goal
 

@@ -1,7 +1,7 @@
 use Rattle.std.proofs.lemmas.Result.{err_from_is_err_and}
 use Rattle.command_words.specs.Told.{run_of}
 use Rattle.snort_setup.specs.Whole.{ready_of}
-use Rattle.snort_engine.specs.Preparing.{way_for}
+use Rattle.snort_engine.specs.Steps.Preparing.{way_for}
 use Rattle.snort_engine.proofs.Prepared.{setup_stopped, setup_ready, setup_cause, kept_cause, kept_config, kept_ranges, kept_rules, kept_few, kept_meant}
 use Rattle.snort_engine.proofs.prepare.prepare_run.Goals as goal
 

@@ -2,7 +2,7 @@
 use Rattle.std.proofs.Common.{◌≤◌, true, take}
 use Rattle.std.specs.List.{concat}
 use Rattle.edge_io.specs.Told.{Rose}
-use Rattle.snort_engine.specs.Reporting.{TellsOn}
+use Rattle.snort_engine.specs.Steps.Reporting.{TellsOn}
 use Rattle.snort_engine.proofs.report.tell_all.Given as goal
 
 abbrev pub invariant-loop-text : goal.invariant-loop-text

@@ -1,6 +1,6 @@
 use Rattle.std.proofs.Common.{Err, refl, sym, ap, ◌∙◌, inl, inr}
 use Rattle.std.proofs.lemmas.Result.{err_from_is_err_and}
-use Rattle.snort_engine.specs.Watching.{ClosesWatched}
+use Rattle.snort_engine.specs.Steps.Watching.{ClosesWatched}
 use Rattle.snort_engine.proofs.watch.close_watched.Goals as goal
 
 pub returns-then-not-is_whole-clause-closes : goal.returns-then-not-is_whole-clause-closes

@@ -1,4 +1,4 @@
-use Rattle.snort_engine.specs.Watching.{plan_of}
+use Rattle.snort_engine.specs.Steps.Watching.{plan_of}
 use Rattle.snort_engine.proofs.Watched.{part_shown}
 use Rattle.snort_engine.proofs.watch.show_some.Goals as goal
 

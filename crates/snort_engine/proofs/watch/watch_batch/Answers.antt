@@ -1,7 +1,7 @@
 use Rattle.std.proofs.Common.{◌≡◌, ◌≤◌, ℕ, length, sym, ap, ◌∙◌, arith}
 use Rattle.std.proofs.lemmas.Result.{err_from_is_err_and}
 use Rattle.edge_io.specs.Told.{Rose}
-use Rattle.snort_engine.specs.Watching.{plan_of, most_at, room_behind, Standing}
+use Rattle.snort_engine.specs.Steps.Watching.{plan_of, most_at, room_behind, Standing}
 use Rattle.snort_engine.proofs.Watched.{nothing_left, batch_lacks, batch_shown, batch_stops}
 use Rattle.snort_engine.proofs.watch.watch_batch.Goals as goal
 

@@ -3,9 +3,9 @@ use Rattle.std.proofs.Common.{◌≡◌, ◌≤◌, ◌-◌, []}
 use Rattle.pcap_input.specs.Savefile.{most_records}
 use Rattle.flow_lanes.specs.Hits.{Test}
 use Rattle.snort_engine.specs.Outside.{OnlyRead}
-use Rattle.snort_engine.specs.Reader.{IsFresh, number_of}
-use Rattle.snort_engine.specs.Detecting.{Knows, DetectorStands}
-use Rattle.snort_engine.specs.Watching.{plan_of, IsTest, IsUnderWay}
+use Rattle.snort_engine.specs.Steps.Reader.{IsFresh, number_of}
+use Rattle.snort_engine.specs.Steps.Detecting.{Knows, DetectorStands}
+use Rattle.snort_engine.specs.Steps.Watching.{plan_of, IsTest, IsUnderWay}
 use Rattle.snort_engine.proofs.watch.watch_batches.Given as goal
 
 abbrev pub invariant-batches : goal.invariant-batches

@@ -1,5 +1,5 @@
 use Rattle.std.proofs.Common.{refl}
-use Rattle.snort_engine.specs.Showing.{tally_of}
+use Rattle.snort_engine.specs.Steps.Showing.{tally_of}
 use Rattle.snort_engine.proofs.events.Events.new.Goals as goal
 
 pub returns-clause-stand : goal.returns-clause-stand

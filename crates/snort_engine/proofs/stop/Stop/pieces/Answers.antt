@@ -1,5 +1,5 @@
 use Rattle.std.proofs.Common.{append_assoc}
-use Rattle.snort_engine.specs.Stop.{stop_text}
+use Rattle.snort_engine.specs.Steps.Stop.{stop_text}
 use Rattle.snort_engine.specs.Messages.{usage_text, version_text, command_line_text, cannot_write_text, no_memory_text, not_pcap_text, too_long_text, too_many_text}
 use Rattle.snort_engine.proofs.stop.Stop.pieces.Goals as goal
 

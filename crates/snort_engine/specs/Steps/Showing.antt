@@ -24,7 +24,7 @@ use Rattle.snort_engine.specs.Trace.{event_at, filtered_item, item_events}
 use Rattle.snort_engine.specs.Lines.{text_of, texts_from}
 use Rattle.snort_engine.specs.Counts.{hit_count}
 use Rattle.snort_engine.specs.Outside.{WritesPart}
-use Rattle.snort_engine.specs.Gathering.{Gathering, Gathers}
+use Rattle.snort_engine.specs.Steps.Gathering.{Gathering, Gathers}
 
 -- ---- the rules at some places
 
@@ -63,11 +63,11 @@ pub record ShowsPlaces (subject : Subject) (before : ℕ) (places : List ℕ) (c
 -- ---- items
 
 -- an item with all rules that match it, beside the record whose decoding made its job
-abbrev pub Told : Type 0
-Told = Beside LinkedRecord Hits
+abbrev pub SourcedItem : Type 0
+SourcedItem = Beside LinkedRecord Hits
 
 -- the lines of items behind earlier items, each of whose events was an alert
-unfoldable pub items_lines : Form → Config → List Rule → List Hits → List Told → List ℕ
+unfoldable pub items_lines : Form → Config → List Rule → List Hits → List SourcedItem → List ℕ
 items_lines form config rules before items =
     texts_from (text_of form config.classes) (length (trail (item_events config rules) before))
     (carried (item_events config rules) before items)
@@ -94,18 +94,18 @@ abbrev pub gathering_of : Showing → Gathering
 gathering_of showing = record { written = showing.written; block = showing.events.block.items }
 
 -- items came behind earlier items: the filters were given them, and their lines came behind those that wait
-pub record IsShown (form : Form) (config : Config) (rules : List Rule) (before : List Hits) (items : List Told)
+pub record IsShown (form : Form) (config : Config) (rules : List Rule) (before : List Hits) (items : List SourcedItem)
     (old new : Showing) : Type 0 where
   pub stands : EventsStand config rules (before ++ whats items) new.events
   pub came : Gathers (items_lines form config rules before items) (gathering_of old) (gathering_of new)
 
 -- the same, whatever items were given before
-unfoldable pub Shows : Form → Config → List Rule → List Told → Showing → Showing → Type 0
+unfoldable pub Shows : Form → Config → List Rule → List SourcedItem → Showing → Showing → Type 0
 Shows form config rules items old new =
     (before : List Hits) → EventsStand config rules before old.events → IsShown form config rules before items old new
 
 -- or no more than a part of their lines, and of those that wait, was written
-unfoldable pub ShowsPart : Form → Config → List Rule → List Told → Showing → Option (List ℕ) → Type 0
+unfoldable pub ShowsPart : Form → Config → List Rule → List SourcedItem → Showing → Option (List ℕ) → Type 0
 ShowsPart form config rules items old written =
     (before : List Hits) → EventsStand config rules before old.events
     → WritesPart old.written (old.events.block.items ++ items_lines form config rules before items) written

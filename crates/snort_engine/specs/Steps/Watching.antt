@@ -22,16 +22,16 @@ use Rattle.snort_engine.specs.declared.reader.RecordReader.{RecordReader}
 use Rattle.snort_engine.specs.declared.stop.Stop.{Stop}
 use Rattle.snort_engine.specs.declared.stop.Stop.TheVariants as stop
 use Rattle.snort_engine.specs.Course.{Plan}
-use Rattle.snort_engine.specs.Sources.{source_name}
+use Rattle.snort_engine.specs.Steps.Sources.{source_name}
 use Rattle.snort_engine.specs.Records.{AreWithin, Ending, Clean, Refused, Recording, first_of}
-use Rattle.snort_engine.specs.Reader.{recording_for, HasRead}
+use Rattle.snort_engine.specs.Steps.Reader.{recording_for, HasRead}
 use Rattle.snort_engine.specs.Trace.{Open, Closed, CaptureState}
 use Rattle.snort_engine.specs.Lines.{lines}
 use Rattle.snort_engine.specs.Counts.{counts_of}
 use Rattle.snort_engine.specs.ReadAhead.{batch, AreBatches}
 use Rattle.snort_engine.specs.Outside.{WritesPart}
-use Rattle.snort_engine.specs.Stop.{capture_stop, is_whole}
-use Rattle.snort_engine.specs.Detecting.{DetectorStands, Knows, Closes, ClosesPart}
+use Rattle.snort_engine.specs.Steps.Stop.{capture_stop, is_whole}
+use Rattle.snort_engine.specs.Steps.Detecting.{DetectorStands, Knows, Closes, ClosesPart}
 
 -- the test says which rules of a set match, by what its patterns find
 pub record IsTest {P : Type 0} (finds : P → List ℕ → Option Span) (set : Rules P) (test : Test) : Type 0 where
@@ -100,7 +100,7 @@ pub record IsWatched (plan : Plan) (reader : RecordReader) (rest : List ℕ) (en
   pub counted : counts ≡ counts_left plan reader rest
 
 -- the lines of the records that are whole within the bytes taken were written
-pub record IsCutOff (plan : Plan) (reader : RecordReader) (old new : Streams) : Type 0 where
+pub record IsReadCutShort (plan : Plan) (reader : RecordReader) (old new : Streams) : Type 0 where
   pub taken : List ℕ
   pub took : old.left ≡ before taken new.left
   pub wrote : new.written ≡ behind old.written (lines_left plan reader taken Open)
@@ -150,7 +150,7 @@ WatchesTo plan reader ending old new counts =
 -- want of memory; or at what can't be read
 abbrev pub Watches : Plan → RecordReader → Streams → Streams → Counts → Result (Unit {0}) Stop → Type 0
 Watches plan reader old new counts (Ok done) = WatchesTo plan reader Clean old new counts
-Watches plan reader old new counts (Err stop.CannotRead) = IsCutOff plan reader old new × WritesSome plan reader old new
+Watches plan reader old new counts (Err stop.CannotRead) = IsReadCutShort plan reader old new × WritesSome plan reader old new
 Watches plan reader old new counts (Err stop.CannotWrite) = WritesSome plan reader old new
 Watches plan reader old new counts (Err stop.NoMemory) = WritesSome plan reader old new
 Watches plan reader old new counts (Err why) =
@@ -207,7 +207,7 @@ pub record IsAtEnd (plan : Plan) (first : RecordReader) (start : Streams) (now :
 -- how the reading of all batches ends
 abbrev pub Comes : Plan → RecordReader → Streams → Streams → Detector → Result (Unit {0}) Stop → Type 0
 Comes plan first start now detector (Ok done) = IsAtEnd plan first start now detector Clean
-Comes plan first start now detector (Err stop.CannotRead) = IsCutOff plan first start now × WritesSome plan first start now
+Comes plan first start now detector (Err stop.CannotRead) = IsReadCutShort plan first start now × WritesSome plan first start now
 Comes plan first start now detector (Err stop.CannotWrite) = WritesSome plan first start now
 Comes plan first start now detector (Err stop.NoMemory) = WritesSome plan first start now
 Comes plan first start now detector (Err why) =
@@ -219,13 +219,13 @@ ComesOver plan first start now failed detector outcome =
     Comes plan first start now detector outcome × IsCloseBehind plan first start now failed outcome
 
 -- a watching that was under way is so still, behind one more batch, or all batches are read
-abbrev pub GoesOn : Plan → Standing → Standing → Type 0 → Result Bool Stop → Type 0
-GoesOn plan old new failed (Ok true) =
+abbrev pub WatchesOn : Plan → Standing → Standing → Type 0 → Result Bool Stop → Type 0
+WatchesOn plan old new failed (Ok true) =
     (first : RecordReader) (start : Streams) → IsUnderWay plan first start old → IsUnderWay plan first start new
-GoesOn plan old new failed (Ok false) =
+WatchesOn plan old new failed (Ok false) =
     (first : RecordReader) (start : Streams) → IsUnderWay plan first start old
     → ComesOver plan first start new.streams failed new.detector (Ok tt)
-GoesOn plan old new failed (Err why) =
+WatchesOn plan old new failed (Err why) =
     (first : RecordReader) (start : Streams) → IsUnderWay plan first start old
     → ComesOver plan first start new.streams failed new.detector (Err why)
 

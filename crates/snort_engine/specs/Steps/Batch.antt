@@ -11,11 +11,11 @@ use Rattle.snort_engine.specs.declared.reader.RecordReader.{RecordReader}
 use Rattle.snort_engine.specs.declared.fault.ReadFault.{ReadFault}
 use Rattle.snort_engine.specs.declared.fault.ReadFault.TheVariants as fault
 use Rattle.snort_engine.specs.Records.{Clean}
-use Rattle.snort_engine.specs.Reader.{IsFresh, HasRead, AreWhole, EndsWith, IsRefusedBy, refusal_of}
+use Rattle.snort_engine.specs.Steps.Reader.{IsFresh, HasRead, AreWhole, EndsWith, IsRefusedBy, refusal_of}
 use Rattle.snort_engine.specs.declared.batch.Reached.{Reached}
 use Rattle.snort_engine.specs.declared.batch.Reached.TheVariants.{More, End, Fault}
 use Rattle.snort_engine.specs.declared.stop.Stop.{Stop}
-use Rattle.snort_engine.specs.Stop.{capture_stop}
+use Rattle.snort_engine.specs.Steps.Stop.{capture_stop}
 
 -- where reading stands: the reader, the records of the batch so far, and what is left, where it is told
 pub record Place : Type 0 where

@@ -13,8 +13,8 @@ use Rattle.flow_lanes.specs.ItemHits.{is_matched, matched_entry}
 use Rattle.record_jobs.specs.Way.{LinkedRecord}
 use Rattle.snort_engine.specs.declared.form.Form.{Form}
 use Rattle.snort_engine.specs.Beside.{by_place}
-use Rattle.snort_engine.specs.Showing.{Showing, Shows, ShowsPart, Told}
-use Rattle.snort_engine.specs.Sourcing.{told_in}
+use Rattle.snort_engine.specs.Steps.Showing.{Showing, Shows, ShowsPart, SourcedItem}
+use Rattle.snort_engine.specs.Steps.Sourcing.{sourced_items}
 
 -- these are the matches of jobs with these items, and the number of all their items
 pub record AreMatchesOf (jobs : List JobHits) (found : Matches) : Type 0 where
@@ -22,15 +22,16 @@ pub record AreMatchesOf (jobs : List JobHits) (found : Matches) : Type 0 where
   pub items : found.items ≡ sum_by (λ (job : JobHits). length job.items) jobs
 
 -- of items beside their records those that a rule matches
-abbrev pub matched_told : List Told → List Told
-matched_told items = filter (λ (told : Told). is_matched told.what) items
+abbrev pub matched_sourced : List SourcedItem → List SourcedItem
+matched_sourced items = filter (λ (told : SourcedItem). is_matched told.what) items
 
 -- whatever jobs these are the matches of, all their items are shown
 abbrev pub ShowsMatches : Form → Config → List Rule → (ℕ → LinkedRecord) → Matches → Showing → Showing → Type 0
 ShowsMatches form config rules source found old new =
-    (jobs : List JobHits) → AreMatchesOf jobs found → Shows form config rules (told_in (by_place source 0 jobs)) old new
+    (jobs : List JobHits) → AreMatchesOf jobs found → Shows form config rules (sourced_items (by_place source 0 jobs)) old new
 
 -- or a part of their lines was written
 abbrev pub ShowsMatchesPart : Form → Config → List Rule → (ℕ → LinkedRecord) → Matches → Showing → Option (List ℕ) → Type 0
 ShowsMatchesPart form config rules source found old written =
-    (jobs : List JobHits) → AreMatchesOf jobs found → ShowsPart form config rules (told_in (by_place source 0 jobs)) old written
+    (jobs : List JobHits) → AreMatchesOf jobs found
+    → ShowsPart form config rules (sourced_items (by_place source 0 jobs)) old written

@@ -10,15 +10,10 @@ use Rattle.snort_engine.specs.declared.status.Status.{Status}
 use Rattle.snort_engine.specs.declared.status.Status.TheVariants as status
 use Rattle.snort_engine.specs.declared.stop.Stop.{Stop}
 use Rattle.snort_engine.specs.Outside.{WritesPart}
-use Rattle.snort_engine.specs.Stop.{is_whole, outcome_status, outcome_text}
+use Rattle.snort_engine.specs.Steps.Stop.{is_whole, outcome_status, outcome_text}
 use Rattle.snort_engine.specs.declared.counts.Counts.{Counts}
 use Rattle.snort_engine.specs.Counts.{told_counts, with_counts}
 use Rattle.snort_engine.specs.Messages.{no_memory_text}
-
--- the message was written, or a part of it where that sink's count rose
-pub record Tells (message : List ℕ) (old new : Option (List ℕ)) (rose : Type 0) : Type 0 where
-  pub part : WritesPart old message new
-  pub whole : (new ≡ behind old message) ⊎ rose
 
 -- a text was told, if the sink was well; it is well still where the whole text was written
 pub record TellsOn (text : List ℕ) (well : Bool) (old new : Option (List ℕ)) (rose : Type 0) (still : Bool) : Type 0 where

@@ -13,8 +13,7 @@ use Rattle.std.specs.Prelude.{◌≡◌, ℕ, ◌+◌, ◌<◌, List, [], ◌∷
 use Rattle.edge_io.specs.Told.{before, one_more}
 use Rattle.edge_io.specs.Files.{Files}
 use Rattle.std.specs.FinMap.{get}
-use Rattle.pcap_input.specs.declared.capture.CaptureFault.TheVariants.{NotPcap}
-use Rattle.pcap_input.specs.Savefile.{most_records, head_of}
+use Rattle.pcap_input.specs.Savefile.{most_records}
 use Rattle.pcap_input.specs.Reading.{cut_for}
 use Rattle.pcapng_input.specs.Blocks.{records_left}
 use Rattle.record_jobs.specs.Way.{LinkedRecord}
@@ -23,7 +22,7 @@ use Rattle.snort_engine.specs.declared.fault.ReadFault.TheVariants as fault
 use Rattle.snort_engine.specs.declared.reader.RecordReader.{RecordReader}
 use Rattle.snort_engine.specs.declared.reader.RecordReader.TheVariants.{Savefile, Blocks}
 use Rattle.snort_engine.specs.Records.{Ending, Clean, Refused, Recording, of_savefile, of_blocks, recording_of, recording_of_blocks}
-use Rattle.snort_engine.specs.Records.{records_in, first_of}
+use Rattle.snort_engine.specs.Records.{records_in, first_of, IsOther, IsToldOther}
 
 -- ---- a reader
 
@@ -131,17 +130,6 @@ IsRefusedOpening held why = IsRefusedAtOnce held why
 abbrev pub Opens : Option (List ℕ) → Result RecordReader ReadFault → Option (List ℕ) → Type 0
 Opens held (Ok reader) left = IsBegun held reader left
 Opens held (Err why) left = IsRefusedOpening held why × (IsBarelyOpen held left ⊎ ((why ≡ fault.Failed) × (left ≡ None)))
-
--- these bytes are told, and begin as no savefile does
-pub record IsOther (held : Option (List ℕ)) : Type 0 where
-  pub bytes : List ℕ
-  pub told : held ≡ Some bytes
-  pub head : head_of bytes ≡ Err NotPcap
-
--- the file of this name is told to begin so
-abbrev pub IsToldOther : Option Files → List ℕ → Type 0
-IsToldOther None name = ⊥
-IsToldOther (Some files) name = IsOther (get files name)
 
 -- or isn't told to begin otherwise
 abbrev pub MayBeOther : Option Files → List ℕ → Type 0

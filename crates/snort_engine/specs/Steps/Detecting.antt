@@ -15,7 +15,7 @@ use Rattle.snort_setup.specs.Rules.{most_rules}
 use Rattle.flow_lanes.specs.declared.job.Job.{Job}
 use Rattle.flow_lanes.specs.Standing.{AreNew, LanesStand}
 use Rattle.record_jobs.specs.declared.counts.RecordCounts.{RecordCounts}
-use Rattle.record_jobs.specs.Way.{LinkedRecord, Way}
+use Rattle.record_jobs.specs.Way.{LinkedRecord, Way as JobsWay}
 use Rattle.record_jobs.specs.Jobs.{jobs}
 use Rattle.record_jobs.specs.Fronts.{FrontState, StandsFor}
 use Rattle.record_jobs.specs.Ready.{HaveLearnt}
@@ -24,14 +24,14 @@ use Rattle.snort_engine.specs.declared.plan.Plan as code
 use Rattle.snort_engine.specs.declared.detect.Inspection.{Inspection}
 use Rattle.snort_engine.specs.declared.detect.Detector.{Detector}
 use Rattle.snort_engine.specs.Course.{Plan}
-use Rattle.snort_engine.specs.Trace.{Open, closing_alerts, detection_of, job_items, jobs_of, last_of, no_record, way_by, way_of}
+use Rattle.snort_engine.specs.Trace.{Open, closing_alerts, detection_of, job_items, jobs_of, last_of, no_record, jobs_way_by, jobs_way}
 use Rattle.snort_engine.specs.Lines.{alert_count, lines, text_of, texts_from}
 use Rattle.snort_engine.specs.Counts.{counts_of, try_count}
 use Rattle.snort_engine.specs.Outside.{WritesPart}
-use Rattle.snort_engine.specs.Gathering.{Gathering, Gathers}
-use Rattle.snort_engine.specs.Showing.{EventsStand, items_lines}
+use Rattle.snort_engine.specs.Steps.Gathering.{Gathering, Gathers}
+use Rattle.snort_engine.specs.Steps.Showing.{EventsStand, items_lines}
 use Rattle.snort_engine.specs.Beside.{carried, whats}
-use Rattle.snort_engine.specs.Sourcing.{Sourced}
+use Rattle.snort_engine.specs.Steps.Sourcing.{Sourced}
 
 -- ---- plans
 
@@ -99,23 +99,23 @@ RunsPart plan batch old written =
 -- ---- records
 
 -- the front took records behind these records: these are their jobs, and it stands for all
-pub record AreTaken (way : Way) (before records : List LinkedRecord) (new : FrontState) (made : List Job) : Type 0 where
+pub record AreTaken (way : JobsWay) (before records : List LinkedRecord) (new : FrontState) (made : List Job) : Type 0 where
   pub jobs_are : made ≡ trail_from (jobs way) before records
   pub stands : StandsFor way new (before ++ records)
 
 -- the same, whatever records stood before
-abbrev pub MakesJobs : Way → List LinkedRecord → FrontState → FrontState → List Job → Type 0
+abbrev pub MakesJobs : JobsWay → List LinkedRecord → FrontState → FrontState → List Job → Type 0
 MakesJobs way records old new made =
     (before : List LinkedRecord) → StandsFor way old before → AreTaken way before records new made
 
 -- a detector was given these records
 pub record DetectorStands (plan : Plan) (records : List LinkedRecord) (detector : Detector) : Type 0 where
-  pub front : StandsFor (way_of plan) detector.front records
+  pub front : StandsFor (jobs_way plan) detector.front records
   pub inspection : InspectionStands plan (jobs_of plan records) detector.inspection
   pub last : detector.inspection.last ≡ last_of records
 
 -- it was given some records, the lanes have learnt of all their jobs, and no line waits
-pub record IsKnown (way : Way) (rules : List Rule) (detector : Detector) : Type 0 where
+pub record IsKnown (way : JobsWay) (rules : List Rule) (detector : Detector) : Type 0 where
   pub records : List LinkedRecord
   pub front : StandsFor way detector.front records
   pub learnt : HaveLearnt detector.inspection.lanes (trail (jobs way) records)
@@ -123,7 +123,7 @@ pub record IsKnown (way : Way) (rules : List Rule) (detector : Detector) : Type 
   pub none : detector.inspection.events.block.items ≡ []
 
 abbrev pub Knows : {P : Type 0} → code.Plan P → Detector → Type 0
-Knows plan detector = IsKnown (way_by plan.checks plan.setup.hosts plan.setup.config) plan.setup.set.rules detector
+Knows plan detector = IsKnown (jobs_way_by plan.checks plan.setup.hosts plan.setup.config) plan.setup.set.rules detector
 
 -- the detector, and what was written where it is told
 pub record Detecting : Type 0 where

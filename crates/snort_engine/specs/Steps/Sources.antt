@@ -9,7 +9,7 @@ use Rattle.command_words.specs.CommandLine.{Run}
 use Rattle.snort_engine.specs.declared.plan.Source.{Source}
 use Rattle.snort_engine.specs.declared.plan.Source.TheVariants.{File, Made}
 use Rattle.snort_engine.specs.Course.{Plan, Way, Goes, Makes}
-use Rattle.snort_engine.specs.Reader.{IsToldOther, OpensSo}
+use Rattle.snort_engine.specs.Steps.Reader.{OpensSo}
 
 -- the name of the file; empty where there is none
 abbrev pub source_name : Source → List ℕ
@@ -36,11 +36,6 @@ way_from (Made seed count) plan = Makes plan seed count
 abbrev pub LacksCapture : Option Files → Way → Type 0
 LacksCapture told (Goes plan) = Lacks told plan.source
 LacksCapture told way = ⊥
-
--- the capture of this way is told to begin as no savefile does
-abbrev pub BeginsOtherwise : Option Files → Way → Type 0
-BeginsOtherwise told (Goes plan) = IsToldOther told plan.source
-BeginsOtherwise told way = ⊥
 
 -- how often a capture was opened on this way
 abbrev pub OpensOn : Option Files → Way → Type 0 → ℕ → ℕ → Type 0

@@ -24,9 +24,9 @@ use Rattle.snort_engine.specs.declared.stop.Stop.TheVariants as stop
 use Rattle.snort_engine.specs.Course.{Way, Stops, Lists, Course, Given, given, IsCourse, AreListed, IsFileWay, Reads}
 use Rattle.snort_engine.specs.Course.{AreRefused, setup_words, told_warnings}
 use Rattle.snort_engine.specs.Messages.{too_large_text}
-use Rattle.snort_engine.specs.Sources.{way_from}
-use Rattle.snort_engine.specs.Stop.{stop_status, stop_text}
-use Rattle.snort_engine.specs.Watching.{plan_of}
+use Rattle.snort_engine.specs.Steps.Sources.{way_from}
+use Rattle.snort_engine.specs.Steps.Stop.{stop_status, stop_text}
+use Rattle.snort_engine.specs.Steps.Watching.{plan_of}
 
 -- the words have a course of this way, with these warnings
 pub record HasWay (asked : Option Asked) (given : Given) (warnings : List (List ℕ)) (way : Way) : Type 0 where

@@ -8,12 +8,12 @@ use Rattle.std.specs.List.{flat_map}
 use Rattle.std.specs.Borrow.{Bor}
 use Rattle.flow_lanes.specs.declared.job.Job.{Job}
 use Rattle.flow_lanes.specs.declared.answer.JobHits.{JobHits}
-use Rattle.record_jobs.specs.Way.{LinkedRecord, Way}
+use Rattle.record_jobs.specs.Way.{LinkedRecord, Way as JobsWay}
 use Rattle.record_jobs.specs.Jobs.{jobs}
 use Rattle.record_jobs.specs.Fronts.{FrontState, StandsFor}
 use Rattle.snort_engine.specs.declared.sources.Sources.{Sources}
 use Rattle.snort_engine.specs.Beside.{Beside, beside, places_along, source_in}
-use Rattle.snort_engine.specs.Showing.{Told}
+use Rattle.snort_engine.specs.Steps.Showing.{SourcedItem}
 
 abbrev pub lent_record : Bor LinkedRecord → LinkedRecord
 lent_record lent = lent.now
@@ -32,10 +32,10 @@ abbrev pub Sourced : Type 0
 Sourced = Beside LinkedRecord Job
 
 -- the items of jobs, each beside the record of its job
-abbrev pub told_in : List (Beside LinkedRecord JobHits) → List Told
-told_in jobs = flat_map (λ (b : Beside LinkedRecord JobHits). map (beside b.source) b.what.items) jobs
+abbrev pub sourced_items : List (Beside LinkedRecord JobHits) → List SourcedItem
+sourced_items jobs = flat_map (λ (b : Beside LinkedRecord JobHits). map (beside b.source) b.what.items) jobs
 
 -- whatever records stood before, these are the places of the jobs of these records
-abbrev pub PlacesJobs : Way → List LinkedRecord → FrontState → List ℕ → Type 0
+abbrev pub PlacesJobs : JobsWay → List LinkedRecord → FrontState → List ℕ → Type 0
 PlacesJobs way records old places =
     (before : List LinkedRecord) → StandsFor way old before → places ≡ places_along (jobs way) before 0 records

@@ -1,0 +1,27 @@
+-- What the steps of the code do, from the words to the last line. None of it is part of the theorem's statement.
+-- what is known before a capture is opened
+pub mod Preparing
+-- where a capture comes from
+pub mod Sources
+-- a capture that is made, as a host
+pub mod MadeCapture
+-- what a reader stands for, and what reading knows
+pub mod Reader
+-- reading a batch of records
+pub mod Batch
+-- the watching of a capture, batch by batch
+pub mod Watching
+-- records on their way to lines
+pub mod Detecting
+-- which record each job was made of
+pub mod Sourcing
+-- the matches of jobs
+pub mod Matching
+-- items on their way to lines
+pub mod Showing
+-- lines that wait for a write
+pub mod Gathering
+-- what ends a run, as a message and a status
+pub mod Stop
+-- what is told on the error sink
+pub mod Reporting
