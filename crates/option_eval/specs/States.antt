@@ -72,10 +72,15 @@ AreSame old new = AreAmong old new × AreAmong new old
 
 -- the states behind an extraction where ways lead on: those that were there, and those that the options give
 -- from these places; and their values, where a list has those before
-pub record Leaves (means : Means) (payload : List ℕ) (options : List Opt) (values places : List ℕ) (old new : States) : Type 0 where
-  pub sound : MatchesFromSome means payload (behind_extraction options) new → MatchesFromSome means payload (behind_extraction options) old ⊎ MatchesFromOne means payload options values places
-  pub kept : MatchesFromSome means payload (behind_extraction options) old → MatchesFromSome means payload (behind_extraction options) new
-  pub complete : MatchesFromOne means payload options values places → MatchesFromSome means payload (behind_extraction options) new
+pub record Leaves (means : Means) (payload : List ℕ) (options : List Opt) (values places : List ℕ)
+    (old new : States) : Type 0 where
+  pub sound : MatchesFromSome means payload (behind_extraction options) new
+      → MatchesFromSome means payload (behind_extraction options) old ⊎ MatchesFromOne means payload options values places
+  pub kept : MatchesFromSome means payload (behind_extraction options) old
+      → MatchesFromSome means payload (behind_extraction options) new
+  pub complete : MatchesFromOne means payload options values places
+      → MatchesFromSome means payload (behind_extraction options) new
   pub have : (lists : List (List ℕ)) (listed : Option (List Standing))
       → ((p : ℕ) → Contains places p → HasValues means payload lists listed options (standing values p))
-      → HaveValues means payload lists listed (behind_extraction options) old → HaveValues means payload lists listed (behind_extraction options) new
+      → HaveValues means payload lists listed (behind_extraction options) old
+      → HaveValues means payload lists listed (behind_extraction options) new

@@ -60,4 +60,5 @@ HasValues means payload lists listed (option ∷ options) before =
 -- the list has what later options still read of the values behind each option of each way from the payload's
 -- start, and the values there; one of standings, if there is one, has those behind each extraction
 abbrev pub HasEachValueList : Means → List ℕ → List Opt → List (List ℕ) → Option (List Standing) → Type 0
-HasEachValueList means payload options lists listed = Contains lists start.values × HasValues means payload lists listed options start
+HasEachValueList means payload options lists listed =
+    Contains lists start.values × HasValues means payload lists listed options start

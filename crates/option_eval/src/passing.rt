@@ -46,7 +46,8 @@ pub(crate) fn is_passed<P: Pattern, L: Ledger>(
         → AllZip (IsMade P.finds means) options.now (map pattern_of made.now)
         → HasEachValueList means payload.now options.now lists (Some listed) → length listed ≤ part_standings
         → visits.new ≤ visits.old + length lists * visits_of options.now (length payload.now) }
-    ensures bounded_in_parts { (means : Means) → (lists : List (List ℕ)) → AllZip (IsMade P.finds means) options.now (map pattern_of made.now)
+    ensures bounded_in_parts { (means : Means) → (lists : List (List ℕ))
+        → AllZip (IsMade P.finds means) options.now (map pattern_of made.now)
         → HasEachValueList means payload.now options.now lists None
         → visits.new ≤ visits.old + visits_apart (length lists) options.now (length payload.now) }
 {
@@ -85,9 +86,11 @@ fn is_passed_behind<P: Pattern, L: Ledger>(
         → AllZip (IsMade P.finds means) options.now (map pattern_of made.now)
         → HaveValues means payload.now lists (Some listed) (behind_extraction options.now) states → length listed ≤ part_standings
         → visits.new ≤ visits.old + length lists * visits_of (behind_extraction options.now) (length payload.now) }
-    ensures bounded_in_parts { (means : Means) → (lists : List (List ℕ)) → AllZip (IsMade P.finds means) options.now (map pattern_of made.now)
+    ensures bounded_in_parts { (means : Means) → (lists : List (List ℕ))
+        → AllZip (IsMade P.finds means) options.now (map pattern_of made.now)
         → HaveValues means payload.now lists None (behind_extraction options.now) states
-        → visits.new ≤ visits.old + length lists * visits_apart (length lists) (behind_extraction options.now) (length payload.now) }
+        → visits.new ≤ visits.old + length lists * visits_apart (length lists) (behind_extraction options.now)
+        (length payload.now) }
 {
     let Some((later, made_later)) = behind_extraction(options, made) else {
         return Ok(false);
@@ -113,7 +116,8 @@ fn is_passed_from<P: Pattern, L: Ledger>(
         → AllZip (IsMade P.finds means) options.now (map pattern_of made.now)
         → HaveValues means payload.now lists (Some listed) options.now states → length listed ≤ part_standings
         → visits.new ≤ visits.old + length lists * visits_of options.now (length payload.now) }
-    ensures bounded_in_parts { (means : Means) → (lists : List (List ℕ)) → AllZip (IsMade P.finds means) options.now (map pattern_of made.now)
+    ensures bounded_in_parts { (means : Means) → (lists : List (List ℕ))
+        → AllZip (IsMade P.finds means) options.now (map pattern_of made.now)
         → HaveValues means payload.now lists None options.now states
         → visits.new ≤ visits.old + length lists * visits_apart (length lists) options.now (length payload.now) }
 {
@@ -157,12 +161,16 @@ fn is_part_passed<P: Pattern, L: Ledger>(
     ensures among { IfOk result (λ passed. AreAmong states.new states.old) }
     ensures few { IfOk result (λ passed. states.new.place_count ≤ 2 * part_standings) }
     ensures bounded { (means : Means) → (lists : List (List ℕ)) → (listed : List Standing)
-        → HaveValues means payload.now lists (Some listed) (behind_extraction options.now) states.old → length listed ≤ part_standings
+        → HaveValues means payload.now lists (Some listed) (behind_extraction options.now) states.old
+        → length listed ≤ part_standings
         → visits.new ≡ visits.old }
-    ensures bounded_in_parts { (means : Means) → (lists : List (List ℕ)) → AllZip (IsMade P.finds means) options.now (map pattern_of made.now)
+    ensures bounded_in_parts { (means : Means) → (lists : List (List ℕ))
+        → AllZip (IsMade P.finds means) options.now (map pattern_of made.now)
         → HaveValues means payload.now lists None (behind_extraction options.now) states.old
-        → visits.new ≤ visits.old + length lists * visits_apart (length lists) (behind_extraction options.now) (length payload.now) }
-    ensures forgotten { IfOk result (λ passed. (visits.new ≡ visits.old) ⊎ ((values : List ℕ) → places_at states.new values ≡ None)) }
+        → visits.new ≤ visits.old + length lists * visits_apart (length lists) (behind_extraction options.now)
+        (length payload.now) }
+    ensures forgotten { IfOk result (λ passed. (visits.new ≡ visits.old)
+        ⊎ ((values : List ℕ) → places_at states.new values ≡ None)) }
 {
     let part = taken_part(alloc, states)?;
     match part {
@@ -194,7 +202,8 @@ fn behind_extraction<'a, 'b, P>(
     ensures options { IfSome result (λ behind. behind.0.now ≡ behind_extraction options.now) }
     ensures fewer { IfSome result (λ behind. length behind.0.now < length options.now) }
     ensures ready { IfSome result (λ behind. AllZip IsReady behind.0.now behind.1.now) }
-    ensures made { (finds : P → List ℕ → Option Span) → (means : Means) → AllZip (IsMade finds means) options.now (map pattern_of made.now)
+    ensures made { (finds : P → List ℕ → Option Span) → (means : Means)
+        → AllZip (IsMade finds means) options.now (map pattern_of made.now)
         → IfSome result (λ behind. AllZip (IsMade finds means) behind.0.now (map pattern_of behind.1.now)) }
 {
     let [option, later @ ..] = options else {

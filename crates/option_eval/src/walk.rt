@@ -90,7 +90,8 @@ pub(crate) fn is_walked<P: Pattern, L: Ledger>(
     requires known_rising { AreRising (length at.now.payload.now + 1) behind.old.known }
     ensures right { (means : Means) → AllZip (IsMade P.finds means) options.now (map pattern_of made.now)
         → AreKnown means at.now.payload.now options.now behind.old.known
-        → IfOk result (λ walked. MatchBool walked (MatchesFromOne means at.now.payload.now options.now at.now.values.now at.now.places.now)
+        → IfOk result (λ walked. MatchBool walked (MatchesFromOne means at.now.payload.now options.now at.now.values.now
+        at.now.places.now)
         (Leaves means at.now.payload.now options.now at.now.values.now at.now.places.now behind.old.states behind.new.states)) }
     ensures within { AreWithin (length at.now.payload.now) behind.old.states
         → IfOk result (λ walked. AreWithin (length at.now.payload.now) behind.new.states) }
