@@ -309,7 +309,7 @@ impl Lanes {
     /// The answers to a batch of jobs: an entry for each job, in the order of the jobs, and how many
     /// candidates their items had (specs/Standing). The numbers of the jobs ascend, and are above those of
     /// all earlier jobs; each job is sound behind the earlier jobs of its flow; `groups` are those of the
-    /// set's rules.
+    /// set's rules. Of the jobs nothing is asked once memory was lacking.
     ///
     /// The answers are those of one list of jobs, taken one by one, for any number of lanes and any cut of
     /// the list into batches. The lanes that have jobs are spread evenly over threads, over two at least;
@@ -329,8 +329,8 @@ impl Lanes {
         groups: &Groups,
         gate: &G,
     ) -> Result<BatchOut, BatchFault>
-        requires sound { AreSoundFor (length stream.now.engines) self.old jobs.now }
-        requires next { AreNext self.old jobs.now }
+        requires sound { self.old.failed ≡ false → AreSoundFor (length stream.now.engines) self.old jobs.now }
+        requires next { self.old.failed ≡ false → AreNext self.old jobs.now }
         requires config { IsStreamConfig stream.now }
         requires groups { StandFor groups.now set.now.rules }
         requires triable { All IsTriable set.now.rules }
@@ -384,8 +384,8 @@ impl Lanes {
         gate: &G,
         out: &mut Matches,
     ) -> Result<(), BatchFault>
-        requires sound { AreSoundFor (length stream.now.engines) self.old jobs.now }
-        requires next { AreNext self.old jobs.now }
+        requires sound { self.old.failed ≡ false → AreSoundFor (length stream.now.engines) self.old jobs.now }
+        requires next { self.old.failed ≡ false → AreNext self.old jobs.now }
         requires config { IsStreamConfig stream.now }
         requires groups { StandFor groups.now set.now.rules }
         requires triable { All IsTriable set.now.rules }

@@ -1,4 +1,4 @@
-use Rattle.std.proofs.Common.{Some, length, ap, sym, ◌∙◌, arith}
+use Rattle.std.proofs.Common.{◌≡◌, false, Some, length, ap, sym, ◌∙◌, arith, rules}
 use Rattle.std.specs.Prelude.{fold}
 use Rattle.std.proofs.lemmas.List.{with_items_is}
 use Rattle.flow_lanes.specs.declared.job.Job.{Job}
@@ -7,10 +7,17 @@ use Rattle.flow_lanes.specs.Batching.{lanes_of}
 use Rattle.flow_lanes.proofs.Gathered.{have_learnt, sound_among}
 use Rattle.flow_lanes.proofs.batch.Lanes.batch.Goals as goal
 
+pub answer_batch-requires-clause-ascend : goal.answer_batch-requires-clause-ascend
+answer_batch-requires-clause-ascend g c κs within =
+    let here : c.self.inside.failed ≡ false = search rules in
+    (c.requires.next (ap (λ (lanes : LanesState). lanes.failed) (sym c.self.view_is) ∙ here)).ascend
+
 pub answer_batch-requires-clause-sound : goal.answer_batch-requires-clause-sound
 answer_batch-requires-clause-sound g c κs within =
+    let here : c.self.inside.failed ≡ false = search rules in
     sound_among (length c.args.stream.now.engines) c.deref_mut.result.now c.args.self.now c.args.jobs.now
-    (ap (λ (lanes : LanesState). lanes.lanes) (sym c.self.view_is) ∙ ap lanes_of (sym c.deref_mut.ensures.value)) c.requires.sound
+    (ap (λ (lanes : LanesState). lanes.lanes) (sym c.self.view_is) ∙ ap lanes_of (sym c.deref_mut.ensures.value))
+    (c.requires.sound (ap (λ (lanes : LanesState). lanes.failed) (sym c.self.view_is) ∙ here))
 
 pub returns-in-Ok-clause-answers : goal.returns-in-Ok-clause-answers
 returns-in-Ok-clause-answers g c =
