@@ -23,6 +23,7 @@ pub mod Reaching
 pub mod SideLaws
 pub mod ToldLaws
 pub mod TryingLaws
+pub mod Turns
 pub mod PartsLaws
 pub mod DetectLaws
 pub mod CutLaws

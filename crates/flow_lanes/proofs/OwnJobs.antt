@@ -16,7 +16,7 @@ use Rattle.flow_lanes.specs.declared.job.Job.{Job}
 use Rattle.flow_lanes.specs.Flows.{flow_of, same_flow}
 use Rattle.flow_lanes.specs.Sound.{IsSoundFor, facts_after, facts_behind}
 use Rattle.flow_lanes.specs.Standing.{LaneState, LearnsJob, Stands, is_in_lane, known_of, lane_of}
-use Rattle.flow_lanes.specs.Batching.{AddsOut, AddsOwn, AreSoundIn, GoesOn, SearchesJob, numbered_out, own_jobs}
+use Rattle.flow_lanes.specs.Batching.{AddsFound, AddsOwn, AreSoundIn, GoesOn, SearchesJob, numbered_out, own_jobs}
 use Rattle.flow_lanes.proofs.Orders.{is_in_lane-by_class}
 
 -- the element at a place stands between those before it and those behind it
@@ -55,7 +55,7 @@ own_jobs-of_flow count place other is (job ∷ jobs) = by_flow (same_flow other 
         dropped apart (is_in_lane count place job) ∙ rest ∙ sym (ap (λ c. cond c (job ∷ filter (same_flow other) jobs) (filter (same_flow other) jobs)) apart)
 
 -- one more job
-own_jobs-more : (count place : ℕ) (front : List Job) (job : Job) (b : Bool) → is_in_lane count place job ≡ b → own_jobs count place (front ++ job ∷ []) ≡ own_jobs count place front ++ cond b (job ∷ []) []
+pub own_jobs-more : (count place : ℕ) (front : List Job) (job : Job) (b : Bool) → is_in_lane count place job ≡ b → own_jobs count place (front ++ job ∷ []) ≡ own_jobs count place front ++ cond b (job ∷ []) []
 own_jobs-more count place front job b is = filter-append (is_in_lane count place) front (job ∷ []) ∙ ap (λ c. own_jobs count place front ++ cond c (job ∷ []) []) is
 
 module _ {P : Type 0} (finds : P → List ℕ → Option Span) (stream : StreamConfig) (set : Rules P) (all : Bool) where
@@ -92,9 +92,11 @@ module _ {P : Type 0} (finds : P → List ℕ → Option Span) (stream : StreamC
 
   -- a job of the lane goes on with it, and a job of another lane changes nothing
   pub AddsOwn-own : (count place : ℕ) (job : Job) (old new : LaneState) (outs more : List (Numbered JobFound)) → is_in_lane count place job ≡ true
-      → AddsOut finds stream set all job old outs new more → AddsOwn finds stream set all count place job old outs new more
+      → AddsFound finds stream set all job old outs new more → AddsOwn finds stream set all count place job old outs new more
   AddsOwn-own count place job old new outs more is adds start front done =
-      subst (λ jobs. GoesOn finds stream set all start jobs more new) (sym (own_jobs-more count place front job true is)) (adds start (own_jobs count place front) done)
+      subst (λ jobs. GoesOn finds stream set all start jobs more new) (sym (own_jobs-more count place front job true is))
+      (subst (λ (all_outs : List (Numbered JobFound)). GoesOn finds stream set all start (own_jobs count place front ++ job ∷ []) all_outs new) (sym adds.added)
+      (GoesOn-more start old new (own_jobs count place front) outs job adds.found done adds.searches adds.learns))
 
   pub AddsOwn-other : (count place : ℕ) (job : Job) (lane : LaneState) (outs : List (Numbered JobFound)) → is_in_lane count place job ≡ false → AddsOwn finds stream set all count place job lane outs lane outs
   AddsOwn-other count place job lane outs is start front done =

@@ -42,7 +42,7 @@ in_own_lane count flow = same (lane_of count flow)
     same : (n : ℕ) → (n == n) ≡ true
     same n = grind (arith, nat_tests)
 
-below_count : (count : ℕ) (flow : Option ℕ) → 0 < count → lane_of count flow < count
+pub below_count : (count : ℕ) (flow : Option ℕ) → 0 < count → lane_of count flow < count
 below_count count None some = some
 below_count count (Some flow) some = omega arith
 
@@ -73,7 +73,7 @@ AscendsBy-filter {X} key p xs ascends = rising (filter p xs) (AllPairs-filter (�
         omega arith
 
 -- an answer with its job's number goes by the jobs of its flow alone
-numbered_out-local : (all : Bool) (d : Detection) → IsLocal same_flow (numbered_out all d)
+pub numbered_out-local : (all : Bool) (d : Detection) → IsLocal same_flow (numbered_out all d)
 numbered_out-local all d before job =
     λ i. record {
       number = job.number;

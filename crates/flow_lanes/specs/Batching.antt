@@ -4,7 +4,7 @@
 -- which they are put into the order of the batch. Of the items of a job all are told, or those that a rule
 -- matches.
 -- To try it on: of two lanes and jobs of the flows 0, 1, 0, lane 0 does the first and the third, and lane 1
--- the second.
+-- the second. In turn, the lanes 0, 1 and 0 do them one after another, and what is found needs no order.
 use Rattle.std.specs.Prelude.{◌≡◌, ℕ, ◌<◌, Bool, true, List, [], ◌∷◌, ◌++◌, Option, Some, IfOk, filter, length, map, slice_get, slice_index_or}
 use Rattle.edge_io.specs.declared.pattern.Span.{Span}
 use Rattle.edge_io.specs.Along.{along_from, within}
@@ -20,7 +20,7 @@ use Rattle.flow_lanes.specs.declared.worker.Worker.{Worker}
 use Rattle.flow_lanes.specs.Flows.{Detection, answer, answer_tries, items, same_flow}
 use Rattle.flow_lanes.specs.ItemHits.{told_entry}
 use Rattle.flow_lanes.specs.Sound.{IsSoundFor, facts_after}
-use Rattle.flow_lanes.specs.Standing.{AnswersBatch, AreShort, DetectsBy, LaneState, LanesStand, LanesState, SearchesBatch, Stands, is_in_lane, known_in, known_of}
+use Rattle.flow_lanes.specs.Standing.{AnswersBatch, AreShort, DetectsBy, LaneState, LanesStand, LanesState, LearnsJob, SearchesBatch, Stands, is_in_lane, known_in, known_of}
 
 -- the jobs of one lane among so many
 abbrev pub own_jobs : ℕ → ℕ → List Job → List Job
@@ -73,16 +73,16 @@ pub record GoesOn {P : Type 0} (finds : P → List ℕ → Option Span) (stream 
   pub known : (other : Job) → known_of new other ≡ facts_after (known_of old other) (filter (same_flow other) jobs)
   pub numbers : map (λ (out : Numbered JobFound). out.number) outs ≡ map (λ (job : Job). job.number) jobs
 
--- a job more is answered, whatever the lane has gone on with before
-abbrev pub AddsOut : {P : Type 0} → (P → List ℕ → Option Span) → StreamConfig → Rules P → Bool → Job → LaneState
-    → List (Numbered JobFound) → LaneState → List (Numbered JobFound) → Type 0
-AddsOut finds stream set all job old outs new more =
-    (start : LaneState) (jobs : List Job) → GoesOn finds stream set all start jobs outs old
-    → GoesOn finds stream set all start (jobs ++ job ∷ []) more new
+-- a lane searches a job more, of which something is found: with the job's number it stands behind what was found
+-- before
+pub record AddsFound {P : Type 0} (finds : P → List ℕ → Option Span) (stream : StreamConfig) (set : Rules P) (all : Bool) (job : Job) (old : LaneState) (outs : List (Numbered JobFound)) (new : LaneState) (more : List (Numbered JobFound)) : Type 0 where
+  pub found : JobFound
+  pub added : more ≡ outs ++ record { number = job.number; value = found } ∷ []
+  pub searches : SearchesJob finds stream set all old job found new
+  pub learns : LearnsJob old job new
 
--- the same of a lane among so many, with which only its own jobs go on
-abbrev pub AddsOwn : {P : Type 0} → (P → List ℕ → Option Span) → StreamConfig → Rules P → Bool → ℕ → ℕ → Job → LaneState
-    → List (Numbered JobFound) → LaneState → List (Numbered JobFound) → Type 0
+-- a job of a batch is looked at by a lane among so many, with which only its own jobs go on
+abbrev pub AddsOwn : {P : Type 0} → (P → List ℕ → Option Span) → StreamConfig → Rules P → Bool → ℕ → ℕ → Job → LaneState → List (Numbered JobFound) → LaneState → List (Numbered JobFound) → Type 0
 AddsOwn finds stream set all count place job old outs new more =
     (start : LaneState) (front : List Job) → GoesOn finds stream set all start (own_jobs count place front) outs old
     → GoesOn finds stream set all start (own_jobs count place (front ++ job ∷ [])) more new

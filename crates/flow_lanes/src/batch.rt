@@ -10,9 +10,11 @@ ghost use Rattle.flow_lanes.specs.Standing.{AnswersBatch, AreNew, AreNext, AreSo
 ghost use Rattle.flow_lanes.specs.Batching.{AllGoOn, AreSoundAmong, AreSoundIn, GoesOn, HaveAnswered, HaveLearnt, HaveMatched, HaveSearched, lanes_of, own_jobs};
 
 use crate::answer::{BatchFault, BatchOut, JobFound, Matches};
-use crate::job::{Job, Work};
+use crate::in_turn::search_in_turn;
+use crate::job::Job;
+use crate::runner::{Runner, busy_lanes};
 use crate::spread::for_each_spread;
-use crate::worker::{Detector, Share, Worker, flow_of, lane_of};
+use crate::worker::{Detector, Share, Worker};
 use conf_types::StreamConfig;
 use edge_io::{Gate, Items, NoMemory, Pattern};
 use fast_pattern::Groups;
@@ -20,67 +22,7 @@ use option_eval::RuleSet;
 use ordered_merge::{Numbered, merge};
 use std::alloc::Global;
 use std::marker::Model;
-use std::thread::{Threads, available_parallelism};
-
-/// How many lanes there are at most.
-const MOST_LANES: usize = 64;
-
-/// About so much work as a job is whatever its data, in bytes that are looked at.
-const JOB_WORK: usize = 256;
-
-/// For less work than this a thread more is not worth its start, which costs some 44 µs with its join.
-const THREAD_WORK: usize = 32768;
-
-/// The lanes, of so many, that have jobs among these.
-fn busy_lanes(count: usize, jobs: &[Job]) -> [bool; MOST_LANES]
-    requires { 0 < count }
-{
-    let mut busy = [false; MOST_LANES];
-    for job in jobs {
-        let place = lane_of(count, flow_of(job));
-        if place < MOST_LANES {
-            busy[place] = true;
-        }
-    }
-    busy
-}
-
-/// The work of a job.
-fn job_work(job: &Job) -> usize {
-    match &job.work {
-        Work::Alone { payload, .. } => payload.bytes().len().saturating_add(JOB_WORK),
-        Work::Packet { payload, .. } => payload.bytes().len().saturating_add(JOB_WORK),
-        Work::Finish { .. } => JOB_WORK,
-    }
-}
-
-/// The work of jobs.
-fn batch_work(jobs: &[Job]) -> usize {
-    let mut work = 0usize;
-    for job in jobs {
-        work = work.saturating_add(job_work(job));
-    }
-    work
-}
-
-/// How many processors there are.
-fn processor_count<R: Threads>(rt: &R) -> usize {
-    match available_parallelism(rt) {
-        Ok(count) => count.get(),
-        Err(_) => 1,
-    }
-}
-
-/// Over how many threads the lanes that have jobs are spread, of so many lanes: as many as the work is worth
-/// and there are processors, but two at least, so that no two such lanes wait for one another in vain. The
-/// processors are asked for only where more than two threads are worth it.
-fn thread_count<R: Threads>(rt: &R, lanes: usize, jobs: &[Job]) -> usize {
-    let worth = (batch_work(jobs) / THREAD_WORK).min(lanes);
-    if worth <= 2 {
-        return 2;
-    }
-    worth.min(processor_count(rt)).max(2)
-}
+use std::thread::Threads;
 
 /// The greatest number behind these jobs.
 fn greatest_number(before: Option<u64>, jobs: &[Job]) -> Option<u64>
@@ -111,14 +53,14 @@ fn new_workers(
     Ok(workers)
 }
 
-/// All lanes do their own jobs of a batch: those that have any are spread evenly over threads.
+/// All lanes do their own jobs of a batch: those that have any are spread evenly over so many threads.
 fn run_all<P: Pattern, G: Gate, R: Threads + Sync>(
-    rt: &R,
+    runner: &Runner<'_, G, R>,
+    threads: usize,
     alloc: Global,
     workers: &mut [Worker],
     jobs: &[Job],
     detector: &Detector<'_, P>,
-    gate: &G,
 )
     requires some { 0 < length workers.old }
     requires few { length workers.old ≤ 64 }
@@ -130,9 +72,9 @@ fn run_all<P: Pattern, G: Gate, R: Threads + Sync>(
 {
     let count = workers.len();
     let busy = busy_lanes(count, jobs);
-    let threads = thread_count(rt, count, jobs);
+    let gate = runner.gate;
     for_each_spread(
-        rt,
+        runner.rt,
         workers,
         threads,
         &busy[..count],
@@ -179,14 +121,14 @@ fn batch_out(alloc: Global, merged: Vec<Numbered<JobFound>>) -> Result<BatchOut,
     })
 }
 
-/// What all lanes find of a batch, in the order of its jobs.
-fn search_batch<P: Pattern, G: Gate, R: Threads + Sync>(
-    rt: &R,
+/// What all lanes find of a batch, in the order of its jobs, where they do their own jobs beside each other.
+fn search_beside<P: Pattern, G: Gate, R: Threads + Sync>(
+    runner: &Runner<'_, G, R>,
+    threads: usize,
     alloc: Global,
     workers: &mut [Worker],
     jobs: &[Job],
     detector: &Detector<'_, P>,
-    gate: &G,
 ) -> Result<Vec<Numbered<JobFound>>, NoMemory>
     requires some { 0 < length workers.old }
     requires few { length workers.old ≤ 64 }
@@ -199,20 +141,46 @@ fn search_batch<P: Pattern, G: Gate, R: Threads + Sync>(
         detector.now.all (lanes_of workers.old) jobs.now found.items (lanes_of workers.new)) }
     ensures learns { OnOk result (HaveLearnt (lanes_of workers.old) jobs.now (lanes_of workers.new)) }
 {
-    run_all(rt, alloc, workers, jobs, detector, gate);
+    run_all(runner, threads, alloc, workers, jobs, detector);
     let parts = take_parts(alloc, workers)?;
     let found = merge(alloc, parts)?;
     Ok(found)
 }
 
-/// The answers of all lanes to a batch: all items are told.
-fn answer_batch<P: Pattern, G: Gate, R: Threads + Sync>(
-    rt: &R,
+/// What the lanes find of a batch, in the order of its jobs: in turn where one thread is enough.
+fn search_batch<P: Pattern, G: Gate, R: Threads + Sync>(
+    runner: &Runner<'_, G, R>,
     alloc: Global,
     workers: &mut [Worker],
     jobs: &[Job],
     detector: &Detector<'_, P>,
-    gate: &G,
+) -> Result<Vec<Numbered<JobFound>>, NoMemory>
+    requires some { 0 < length workers.old }
+    requires few { length workers.old ≤ 64 }
+    requires ascend { AscendsBy (λ (job : Job). job.number) jobs.now }
+    requires sound { AreSoundAmong (length detector.now.stream.now.engines) workers.old jobs.now }
+    requires config { IsStreamConfig detector.now.stream.now }
+    requires groups { StandFor detector.now.groups.now detector.now.set.now.rules }
+    requires triable { All IsTriable detector.now.set.now.rules }
+    ensures finds { IfOk result (λ found. HaveSearched P.finds detector.now.stream.now detector.now.set.now
+        detector.now.all (lanes_of workers.old) jobs.now found.items (lanes_of workers.new)) }
+    ensures learns { OnOk result (HaveLearnt (lanes_of workers.old) jobs.now (lanes_of workers.new)) }
+{
+    let threads = runner.threads(workers.len(), jobs);
+    if threads < 2 {
+        search_in_turn(alloc, workers, jobs, detector, runner.gate)
+    } else {
+        search_beside(runner, threads, alloc, workers, jobs, detector)
+    }
+}
+
+/// The answers of all lanes to a batch: all items are told.
+fn answer_batch<P: Pattern, G: Gate, R: Threads + Sync>(
+    runner: &Runner<'_, G, R>,
+    alloc: Global,
+    workers: &mut [Worker],
+    jobs: &[Job],
+    detector: &Detector<'_, P>,
 ) -> Result<BatchOut, NoMemory>
     requires all { detector.now.all ≡ true }
     requires some { 0 < length workers.old }
@@ -226,19 +194,18 @@ fn answer_batch<P: Pattern, G: Gate, R: Threads + Sync>(
         (lanes_of workers.old) jobs.now out (lanes_of workers.new)) }
     ensures learns { OnOk result (HaveLearnt (lanes_of workers.old) jobs.now (lanes_of workers.new)) }
 {
-    let found = search_batch(rt, alloc, workers, jobs, detector, gate)?;
+    let found = search_batch(runner, alloc, workers, jobs, detector)?;
     let out = batch_out(alloc, found)?;
     Ok(out)
 }
 
 /// The matches of all lanes in a batch: the items are told that a rule matches.
 fn match_batch<P: Pattern, G: Gate, R: Threads + Sync>(
-    rt: &R,
+    runner: &Runner<'_, G, R>,
     alloc: Global,
     workers: &mut [Worker],
     jobs: &[Job],
     detector: &Detector<'_, P>,
-    gate: &G,
     out: &mut Matches,
 ) -> Result<(), NoMemory>
     requires matched { detector.now.all ≡ false }
@@ -253,7 +220,7 @@ fn match_batch<P: Pattern, G: Gate, R: Threads + Sync>(
         (lanes_of workers.old) jobs.now out.new (lanes_of workers.new)) }
     ensures learns { OnOk result (HaveLearnt (lanes_of workers.old) jobs.now (lanes_of workers.new)) }
 {
-    let found = search_batch(rt, alloc, workers, jobs, detector, gate)?;
+    let found = search_batch(runner, alloc, workers, jobs, detector)?;
     out.fill(found)?;
     Ok(())
 }
@@ -312,9 +279,9 @@ impl Lanes {
     /// set's rules. Of the jobs nothing is asked once memory was lacking.
     ///
     /// The answers are those of one list of jobs, taken one by one, for any number of lanes and any cut of
-    /// the list into batches. The lanes that have jobs are spread evenly over threads, over two at least;
-    /// where there is one such lane it runs on the caller's thread. Each passes the gate at the start of its
-    /// work.
+    /// the list into batches. Where one thread is enough the jobs are done in turn on the caller's; else the
+    /// lanes that have jobs are spread evenly over threads. Each of these lanes passes the gate before its
+    /// first job.
     ///
     /// # Errors
     ///
@@ -353,7 +320,8 @@ impl Lanes {
             groups,
             all: true,
         };
-        match answer_batch(rt, alloc, &mut self.workers, jobs, &detector, gate) {
+        let runner = Runner { rt, gate };
+        match answer_batch(&runner, alloc, &mut self.workers, jobs, &detector) {
             Ok(out) => {
                 self.greatest = greatest_number(self.greatest, jobs);
                 Ok(out)
@@ -409,7 +377,8 @@ impl Lanes {
             groups,
             all: false,
         };
-        match match_batch(rt, alloc, &mut self.workers, jobs, &detector, gate, out) {
+        let runner = Runner { rt, gate };
+        match match_batch(&runner, alloc, &mut self.workers, jobs, &detector, out) {
             Ok(()) => {
                 self.greatest = greatest_number(self.greatest, jobs);
                 Ok(())

@@ -43,7 +43,7 @@ pub(crate) fn for_each_spread<R: Threads + Sync, T: Send, F: Fn(usize, &mut T) +
 }
 
 /// How many places are busy.
-fn busy_count(busy: &[bool]) -> usize {
+pub(crate) fn busy_count(busy: &[bool]) -> usize {
     busy.iter().filter(|is| **is).count()
 }
 

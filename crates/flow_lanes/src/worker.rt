@@ -8,7 +8,7 @@ ghost use Rattle.flow_lanes.specs.declared.job.Job.{Job};
 ghost use Rattle.flow_lanes.specs.Flows.{flow_of};
 ghost use Rattle.flow_lanes.specs.Sound.{IsSoundFor};
 ghost use Rattle.flow_lanes.specs.Standing.{LaneState, is_in_lane, known_of, lane_of, new_lane};
-ghost use Rattle.flow_lanes.specs.Batching.{AddsOut, AddsOwn, AreSoundIn, GoesOn, own_jobs};
+ghost use Rattle.flow_lanes.specs.Batching.{AddsFound, AddsOwn, AreSoundIn, GoesOn, own_jobs};
 
 use crate::answer::JobFound;
 use crate::job::{Job, Work};
@@ -60,7 +60,7 @@ pub(crate) fn lane_of(count: usize, flow: Option<u64>) -> usize
     }
 }
 
-/// Answers a job of the lane.
+/// Answers a job of the lane: what is found of it stands behind what was found before.
 fn answer<P: Pattern>(
     alloc: Global,
     lane: &mut Lane,
@@ -72,7 +72,7 @@ fn answer<P: Pattern>(
     requires config { IsStreamConfig detector.now.stream.now }
     requires groups { StandFor detector.now.groups.now detector.now.set.now.rules }
     requires triable { All IsTriable detector.now.set.now.rules }
-    ensures { OnOk result (AddsOut P.finds detector.now.stream.now detector.now.set.now detector.now.all job.now
+    ensures { OnOk result (AddsFound P.finds detector.now.stream.now detector.now.set.now detector.now.all job.now
         lane.old outs.old.items lane.new outs.new.items) }
 {
     let value = lane.search(alloc, job, detector)?;
@@ -163,7 +163,25 @@ impl Worker {
         }
     }
 
-    /// Does the lane's own jobs of a batch.
+    /// Answers a job of the lane, behind what other lanes have found of the batch.
+    pub fn answer_next<P: Pattern>(
+        &mut self,
+        alloc: Global,
+        job: &Job,
+        detector: &Detector<'_, P>,
+        found: &mut Vec<Numbered<JobFound>>,
+    ) -> Result<(), NoMemory>
+        requires sound { IsSoundFor (length detector.now.stream.now.engines) (known_of self.old.lane job.now) job.now }
+        requires config { IsStreamConfig detector.now.stream.now }
+        requires groups { StandFor detector.now.groups.now detector.now.set.now.rules }
+        requires triable { All IsTriable detector.now.set.now.rules }
+        ensures { OnOk result (AddsFound P.finds detector.now.stream.now detector.now.set.now detector.now.all job.now
+            self.old.lane found.old.items self.new.lane found.new.items) }
+    {
+        answer(alloc, &mut self.lane, job, detector, found)
+    }
+
+    /// Does the lane's own jobs of a batch, beside the other lanes.
     pub fn run<P: Pattern, G: Gate>(
         &mut self,
         alloc: Global,

@@ -1,5 +1,5 @@
 use Rattle.flow_lanes.proofs.Gathered.{gathered_learns, gathered_search, parts_apart, parts_ascend}
-use Rattle.flow_lanes.proofs.batch.search_batch.Goals as goal
+use Rattle.flow_lanes.proofs.batch.search_beside.Goals as goal
 
 pub merge-requires-clause-ascending : goal.merge-requires-clause-ascending
 merge-requires-clause-ascending g c =
