@@ -225,6 +225,15 @@ fn match_batch<P: Pattern, G: Gate, R: Threads + Sync>(
     Ok(())
 }
 
+/// About what all jobs of these lanes cost.
+fn cost_of(workers: &[Worker]) -> u64 {
+    let mut cost = 0u64;
+    for worker in workers {
+        cost = cost.saturating_add(worker.lane.cost());
+    }
+    cost
+}
+
 /// Lanes, each with flows of its own: flow f is in lane f modulo their number. Contracts see each lane,
 /// the greatest number of a job so far, and whether memory was lacking (`LanesState` of specs/Standing).
 #[derive(Drop)]
@@ -232,6 +241,8 @@ pub struct Lanes {
     workers: Vec<Worker>,
     greatest: Option<u64>,
     failed: bool,
+    /// About what the last batch cost. Only the number of threads goes by it.
+    cost: u64,
 }
 
 impl Model for Lanes {
@@ -270,6 +281,8 @@ impl Lanes {
             workers: new_workers(alloc, count, flush, inserts)?,
             greatest: None,
             failed: false,
+            // Nothing is known of the first batch: it is done in all threads that there may be.
+            cost: u64::MAX,
         })
     }
 
@@ -320,10 +333,16 @@ impl Lanes {
             groups,
             all: true,
         };
-        let runner = Runner { rt, gate };
+        let runner = Runner {
+            rt,
+            gate,
+            cost: self.cost,
+        };
+        let before = cost_of(&self.workers);
         match answer_batch(&runner, alloc, &mut self.workers, jobs, &detector) {
             Ok(out) => {
                 self.greatest = greatest_number(self.greatest, jobs);
+                self.cost = cost_of(&self.workers).saturating_sub(before);
                 Ok(out)
             }
             Err(_) => {
@@ -377,10 +396,16 @@ impl Lanes {
             groups,
             all: false,
         };
-        let runner = Runner { rt, gate };
+        let runner = Runner {
+            rt,
+            gate,
+            cost: self.cost,
+        };
+        let before = cost_of(&self.workers);
         match match_batch(&runner, alloc, &mut self.workers, jobs, &detector, out) {
             Ok(()) => {
                 self.greatest = greatest_number(self.greatest, jobs);
+                self.cost = cost_of(&self.workers).saturating_sub(before);
                 Ok(())
             }
             Err(_) => {

@@ -31,6 +31,8 @@ pub struct Lane {
     flush: u32,
     inserts: bool,
     flows: Flows,
+    /// About what all its jobs cost. No contract speaks of it.
+    cost: u64,
 }
 
 impl Model for Lane {
@@ -55,7 +57,12 @@ fn job_found(job: &Job, tally: Tally) -> JobFound
     ensures items { result.items ≡ tally.items }
     ensures tries { result.tries ≡ tally.tries }
 {
-    let Tally { hits, items, tries } = tally;
+    let Tally {
+        hits,
+        items,
+        tries,
+        cost: _,
+    } = tally;
     JobFound {
         hits: JobHits {
             number: job.number,
@@ -79,6 +86,7 @@ impl Lane {
             flush,
             inserts,
             flows: HashMap::new(alloc),
+            cost: 0,
         }
     }
 
@@ -117,6 +125,11 @@ impl Lane {
         })
     }
 
+    /// About what all its jobs cost.
+    pub(crate) fn cost(&self) -> u64 {
+        self.cost
+    }
+
     /// What is found of one job, of whose items those are told that the detector asks for (`job`).
     pub(crate) fn search<P: Pattern>(
         &mut self,
@@ -145,6 +158,7 @@ impl Lane {
         };
         let flows = &mut self.flows;
         let tally = do_work(&matcher, &settings, job.moment, &job.work, flows)?;
+        self.cost = self.cost.saturating_add(tally.cost);
         Ok(job_found(job, tally))
     }
 }

@@ -34,6 +34,7 @@ mod streams;
 mod tally;
 mod worker;
 mod working;
+mod worth;
 
 pub use answer::{BatchFault, BatchOut, Hits, JobHits, JobOut, Matches};
 pub use batch::Lanes;

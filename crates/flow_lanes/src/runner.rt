@@ -1,21 +1,16 @@
-//! What runs a batch: where its threads start from, and the gate that its lanes pass.
+//! What runs a batch: where its threads start from, the gate that its lanes pass, and how much work it is thought to be.
 
 ghost use Rattle.std.specs.Prelude.{◌<◌};
 
-use crate::job::{Job, Work};
+use crate::job::Job;
 use crate::spread::busy_count;
 use crate::worker::{flow_of, lane_of};
+use crate::worth::threads_worth;
 use edge_io::Gate;
 use std::thread::{Threads, available_parallelism};
 
 /// How many lanes there are at most.
 pub(crate) const MOST_LANES: usize = 64;
-
-/// About so much work as a job is whatever its data, in bytes that are looked at.
-const JOB_WORK: usize = 256;
-
-/// For less work than this a thread more is not worth its start, which costs some 44 µs with its join.
-const THREAD_WORK: usize = 32768;
 
 /// The lanes, of so many, that have jobs among these.
 pub(crate) fn busy_lanes(count: usize, jobs: &[Job]) -> [bool; MOST_LANES]
@@ -29,24 +24,6 @@ pub(crate) fn busy_lanes(count: usize, jobs: &[Job]) -> [bool; MOST_LANES]
         }
     }
     busy
-}
-
-/// The work of a job.
-fn job_work(job: &Job) -> usize {
-    match &job.work {
-        Work::Alone { payload, .. } => payload.bytes().len().saturating_add(JOB_WORK),
-        Work::Packet { payload, .. } => payload.bytes().len().saturating_add(JOB_WORK),
-        Work::Finish { .. } => JOB_WORK,
-    }
-}
-
-/// The work of jobs.
-fn batch_work(jobs: &[Job]) -> usize {
-    let mut work = 0usize;
-    for job in jobs {
-        work = work.saturating_add(job_work(job));
-    }
-    work
 }
 
 /// How many processors there are.
@@ -64,32 +41,37 @@ pub(crate) struct Runner<'a, G, R> {
     pub rt: &'a R,
     /// What each lane that has jobs passes before its first.
     pub gate: &'a G,
+    /// About what the batch is thought to cost.
+    pub cost: u64,
 }
 
 impl<G: Gate, R: Threads> Runner<'_, G, R> {
-    /// How many threads there are at least where two lanes have jobs: two, so that they meet at a gate that wants it.
+    /// How many threads there are at least where two lanes have jobs: lanes can meet at a gate only in two.
     fn least_threads(&self) -> usize {
         if self.gate.wants_threads() { 2 } else { 1 }
     }
 
-    /// Over how many threads a batch is spread, of so many lanes. One thread is the caller's, who does the jobs in turn.
-    ///
-    /// There are as many as the work is worth, but no more than lanes that have jobs or processors. These are asked for
-    /// only where more threads are worth it than there are at least.
-    pub fn threads(&self, lanes: usize, jobs: &[Job]) -> usize {
-        let least = self.least_threads();
-        let worth = batch_work(jobs) / THREAD_WORK;
-        if lanes < 2 || worth.max(least) < 2 {
-            return 1;
-        }
-        let busy = busy_count(&busy_lanes(lanes, jobs));
+    /// Over how many threads so many lanes that have jobs are spread: as many as the work is worth and there are
+    /// processors. These are asked for only where the answer can depend on them, since that costs some 8 µs.
+    fn threads_of(&self, busy: usize) -> usize {
         if busy < 2 {
             return 1;
         }
-        let most = worth.min(busy);
-        if most <= least {
+        let least = self.least_threads();
+        let worth = threads_worth(self.cost).min(busy as u64) as usize;
+        if worth <= least {
             return least;
         }
-        most.min(processor_count(self.rt)).max(least)
+        worth.min(processor_count(self.rt)).max(least)
+    }
+
+    /// Over how many threads these jobs are spread, among so many lanes. In one thread, the caller's, they are done in
+    /// turn; and where no more are worth it, it is not asked which lanes have jobs.
+    pub fn threads(&self, lanes: usize, jobs: &[Job]) -> usize {
+        let is_enough = self.least_threads() < 2 && threads_worth(self.cost) < 2;
+        if lanes < 2 || is_enough {
+            return 1;
+        }
+        self.threads_of(busy_count(&busy_lanes(lanes, jobs)))
     }
 }

@@ -16,6 +16,7 @@ use crate::arrival::Arrival;
 use crate::hits::matching_among;
 use crate::item::Item;
 use crate::matcher::Matcher;
+use crate::worth::item_cost;
 use edge_io::{Items, NoMemory, Pattern};
 use flowbit_state::Bits;
 use packet_decode::{ItemHead, SessionFacts};
@@ -30,6 +31,8 @@ pub(crate) struct Tally {
     pub items: u64,
     /// How many candidates they had.
     pub tries: u64,
+    /// About what they cost.
+    pub cost: u64,
 }
 
 impl Tally {
@@ -43,16 +46,18 @@ impl Tally {
             hits: Vec::new(alloc),
             items: 0,
             tries: 0,
+            cost: 0,
         }
     }
 
-    /// One item more, of so many candidates. A job of which the items or the candidates cannot be counted has
-    /// more items than memory holds.
-    fn count(&mut self, tries: usize) -> Result<(), NoMemory>
+    /// One item more, of so many bytes and candidates. A job of which the items or the candidates cannot be counted
+    /// has more items than memory holds.
+    fn count(&mut self, bytes: usize, tries: usize) -> Result<(), NoMemory>
         ensures items { OnOk result (self.new.items ≡ self.old.items + 1) }
         ensures tries { OnOk result (self.new.tries ≡ self.old.tries + tries) }
         ensures hits { self.new.hits.items ≡ self.old.hits.items }
     {
+        self.cost = self.cost.saturating_add(item_cost(bytes, tries));
         self.items = self.items.checked_add(1).ok_or(NoMemory)?;
         self.tries = self.tries.checked_add(tries as u64).ok_or(NoMemory)?;
         Ok(())
@@ -110,7 +115,7 @@ fn try_candidates<P: Pattern>(
     ensures more { OnOk result (length tally.old.hits.items ≤ length tally.new.hits.items) }
 {
     let rules = matching_among(matcher.alloc, matcher.set, places, head, payload, bits)?;
-    tally.count(places.len())?;
+    tally.count(payload.len(), places.len())?;
     tally.tell(matcher.all, head, rules)?;
     Ok(())
 }
@@ -159,7 +164,7 @@ fn try_packet<P: Pattern>(
 {
     let places = item_candidates(matcher, p.head, p.payload)?;
     if places.is_empty() && !matcher.all {
-        return tally.count(0);
+        return tally.count(p.payload.len(), 0);
     }
     let head = ItemHead {
         session: facts,

@@ -1,0 +1,41 @@
+//! What work is worth: about how long items take, and how many threads such work is worth.
+//!
+//! Bytes don't tell: a payload that no rule asks for costs a glance, and one with candidates is searched for each of
+//! them. So items are counted as they are tried, each by what such items took when they were measured, and a batch is
+//! thought to take what the one before it took. All costs are in nanoseconds. To try it on: a thread is worth 1,000 items
+//! without data, or 57 packets of 256 bytes with one candidate each.
+
+/// What an item costs whatever it is: its flow, its session, the test for candidates.
+const ITEM_COST: u64 = 150;
+
+/// How many bytes of a payload are sieved for one nanosecond.
+const SIEVED_BYTES: u64 = 4;
+
+/// What a candidate costs whatever the payload is.
+const CANDIDATE_COST: u64 = 400;
+
+/// What a candidate costs for each byte of the payload.
+const SEARCH_COST: u64 = 8;
+
+/// The work that a thread is worth. Its start and its join took 44 µs on a quiet machine, and over 100 µs on others.
+const THREAD_COST: u64 = 150_000;
+
+/// About what an item costs, by the bytes of its payload and the number of its candidates.
+#[inline]
+pub(crate) fn item_cost(bytes: usize, candidates: usize) -> u64 {
+    let bytes = bytes as u64;
+    let sieved = ITEM_COST + bytes / SIEVED_BYTES;
+    if candidates == 0 {
+        return sieved;
+    }
+    let each = bytes
+        .saturating_mul(SEARCH_COST)
+        .saturating_add(CANDIDATE_COST);
+    each.saturating_mul(candidates as u64)
+        .saturating_add(sieved)
+}
+
+/// How many threads work of this cost is worth.
+pub(crate) fn threads_worth(cost: u64) -> u64 {
+    cost / THREAD_COST
+}
