@@ -1,0 +1,12 @@
+use Rattle.std.proofs.Common.{arith, sym, subst}
+use Rattle.flow_lanes.specs.Standing.{AreSoundFor}
+use Rattle.flow_lanes.proofs.Course.{course_next, course_sound}
+use Rattle.assembly_tests.proofs.lanes.first_fault.Goals as goal
+
+pub batch-requires-clause-sound : goal.batch-requires-clause-sound
+batch-requires-clause-sound g c κs within = λ working.
+    subst (λ engines. AreSoundFor engines c.args.lanes.now c.args.jobs.now) (sym c.requires.engines)
+    (course_sound c.args.lanes.now 0 c.args.jobs.now c.requires.course c.requires.jobs (omega arith))
+
+pub batch-requires-clause-next : goal.batch-requires-clause-next
+batch-requires-clause-next g c κs within = λ working. course_next c.args.lanes.now 0 c.args.jobs.now c.requires.course c.requires.jobs
