@@ -75,14 +75,17 @@ pub record GoesOn {P : Type 0} (finds : P → List ℕ → Option Span) (stream 
 
 -- a lane searches a job more, of which something is found: with the job's number it stands behind what was found
 -- before
-pub record AddsFound {P : Type 0} (finds : P → List ℕ → Option Span) (stream : StreamConfig) (set : Rules P) (all : Bool) (job : Job) (old : LaneState) (outs : List (Numbered JobFound)) (new : LaneState) (more : List (Numbered JobFound)) : Type 0 where
+pub record AddsFound {P : Type 0} (finds : P → List ℕ → Option Span) (stream : StreamConfig) (set : Rules P) (all : Bool)
+    (job : Job) (old : LaneState) (outs : List (Numbered JobFound)) (new : LaneState)
+    (more : List (Numbered JobFound)) : Type 0 where
   pub found : JobFound
   pub added : more ≡ outs ++ record { number = job.number; value = found } ∷ []
   pub searches : SearchesJob finds stream set all old job found new
   pub learns : LearnsJob old job new
 
 -- a job of a batch is looked at by a lane among so many, with which only its own jobs go on
-abbrev pub AddsOwn : {P : Type 0} → (P → List ℕ → Option Span) → StreamConfig → Rules P → Bool → ℕ → ℕ → Job → LaneState → List (Numbered JobFound) → LaneState → List (Numbered JobFound) → Type 0
+abbrev pub AddsOwn : {P : Type 0} → (P → List ℕ → Option Span) → StreamConfig → Rules P → Bool → ℕ → ℕ → Job → LaneState
+    → List (Numbered JobFound) → LaneState → List (Numbered JobFound) → Type 0
 AddsOwn finds stream set all count place job old outs new more =
     (start : LaneState) (front : List Job) → GoesOn finds stream set all start (own_jobs count place front) outs old
     → GoesOn finds stream set all start (own_jobs count place (front ++ job ∷ [])) more new
