@@ -4,8 +4,8 @@ use crate::page::Page;
 use crate::row::Row;
 use crate::trial::Answer;
 use crate::{
-    alerts, batches, candidates, commands, configurations, dialogues, events, headers, hosts,
-    lists, payloads, rules, setups,
+    alerts, batches, candidates, captures, commands, configurations, dialogues, events, headers,
+    hosts, lists, packets, payloads, rules, setups,
 };
 use std::thread::Threads;
 
@@ -37,6 +37,8 @@ impl Answer for Calls {
                     || rules::call(page, row, call, given)
                     || payloads::call(page, row, call, given)
                     || candidates::call(page, row, call, given)
+                    || captures::call(page, row, call, given)
+                    || packets::call(page, row, call, given)
                     || headers::call(page, row, call, given);
             }
         }

@@ -10,7 +10,40 @@ use flow_lanes::Lane;
 use host_table::Hosts;
 use net_lists::{AddrList, PortList, Vars};
 use option_eval::RuleSet;
+use packet_decode::{Checks, ItemHead, Packet, Skip};
+use pcap_input::{CaptureFault, CaptureHead, CaptureReader, Record};
+use pcapng_input::{NgFault, NgReader, NgRecord};
 use snort_setup::Setup;
+
+/// Types of captures.
+fn captures() {
+    sendable::<CaptureFault>();
+    shareable::<CaptureFault>();
+    sendable::<CaptureHead>();
+    shareable::<CaptureHead>();
+    sendable::<CaptureReader>();
+    shareable::<CaptureReader>();
+    sendable::<Record>();
+    shareable::<Record>();
+    sendable::<NgFault>();
+    shareable::<NgFault>();
+    sendable::<NgReader>();
+    shareable::<NgReader>();
+    sendable::<NgRecord>();
+    shareable::<NgRecord>();
+}
+
+/// Types of packets.
+fn packets() {
+    sendable::<Checks>();
+    shareable::<Checks>();
+    sendable::<Packet<'static>>();
+    shareable::<Packet<'static>>();
+    sendable::<Skip>();
+    shareable::<Skip>();
+    sendable::<ItemHead>();
+    shareable::<ItemHead>();
+}
 
 /// Types of the readers.
 fn readers() {
@@ -45,6 +78,8 @@ fn detectors() {
 
 /// All of them.
 pub(crate) fn types_cross_threads() {
+    captures();
+    packets();
     readers();
     detectors();
 }

@@ -8,8 +8,10 @@
 mod addresses;
 mod alerts;
 mod batches;
+mod bytes;
 mod calls;
 mod candidates;
+mod captures;
 mod commands;
 mod configurations;
 mod counted;
@@ -23,6 +25,7 @@ mod hosts;
 mod items;
 mod lists;
 mod notation;
+mod packets;
 mod page;
 mod payloads;
 mod row;

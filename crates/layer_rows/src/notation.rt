@@ -61,14 +61,22 @@ fn apply_repeated(
 
 /// A line that stands several times, each time with its own number in place of `#`.
 #[derive(Clone, Copy)]
-struct NumberedLine<'a> {
-    times: u32,
+pub(crate) struct NumberedLine<'a> {
+    pub times: u32,
     first: u32,
     line: &'a str,
 }
 
+impl NumberedLine<'_> {
+    /// The line of this turn, counted from 0.
+    pub fn at(&self, alloc: Global, turn: u32) -> Result<String, AllocError> {
+        let number = format!(in alloc; "{}", self.first.saturating_add(turn))?;
+        self.line.replace(alloc, "#", number.as_str())
+    }
+}
+
 /// What `numbered N FIRST LINE` says.
-fn numbered_line(line: &str) -> Option<NumberedLine<'_>> {
+pub(crate) fn numbered_line(line: &str) -> Option<NumberedLine<'_>> {
     let (times, rest) = line.strip_prefix("numbered ")?.split_once(' ')?;
     let (first, line) = rest.split_once(' ')?;
     Some(NumberedLine {
@@ -84,10 +92,10 @@ fn apply_numbered(
     numbered: NumberedLine<'_>,
 ) -> Result<Applied, AllocError> {
     for turn in 0..numbered.times {
-        let number = format!(in alloc; "{}", numbered.first.saturating_add(turn))?;
-        let line = numbered.line.replace(alloc, "#", number.as_str())?;
-        if apply_once(alloc, row, line.as_str())? != Applied::Taken {
-            return Ok(Applied::Wrong);
+        let line = numbered.at(alloc, turn)?;
+        let applied = apply_once(alloc, row, line.as_str())?;
+        if applied != Applied::Taken {
+            return Ok(applied);
         }
     }
     Ok(Applied::Taken)

@@ -1,6 +1,6 @@
 //! Rows, tried one by one.
 
-use crate::notation::{Applied, apply, written};
+use crate::notation::{Applied, apply, numbered_line, written};
 use crate::page::Page;
 use crate::row::Row;
 use std::alloc::{AllocError, Global};
@@ -85,7 +85,26 @@ fn try_call<R: Print + Threads + Sync, A: Answer>(
     println!(rt; "{}: {}: {}", row.label, line, page.text)
 }
 
-/// Applies a line to its row, or makes its call.
+/// Makes the call of a line, or those that it numbers.
+fn try_calls<R: Print + Threads + Sync, A: Answer>(
+    rt: &R,
+    calls: &A,
+    alloc: Global,
+    row: &Row,
+    line: &str,
+    count: &mut Count,
+) -> io::Result<()> {
+    let Some(numbered) = numbered_line(line) else {
+        return try_call(rt, calls, alloc, row, line, count);
+    };
+    for turn in 0..numbered.times {
+        let line = numbered.at(alloc, turn)?;
+        try_call(rt, calls, alloc, row, line.as_str(), count)?;
+    }
+    Ok(())
+}
+
+/// Applies a line to its row, or makes its calls.
 fn try_line<R: Print + Threads + Sync, A: Answer>(
     rt: &R,
     calls: &A,
@@ -103,7 +122,7 @@ fn try_line<R: Print + Threads + Sync, A: Answer>(
         }
         Applied::Call => {
             if row.label.contains(only) || line.contains(only) {
-                try_call(rt, calls, alloc, row, line, count)?;
+                try_calls(rt, calls, alloc, row, line, count)?;
             }
             row.close_call();
             Ok(())

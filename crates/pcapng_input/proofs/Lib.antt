@@ -16,3 +16,4 @@ pub mod Numbers
 pub mod Beginnings
 pub mod Endings
 pub mod Calls
+pub mod Held

@@ -4,3 +4,4 @@ pub mod Blocks
 pub mod Steps
 pub mod Reader
 pub mod Calls
+pub mod Whole

@@ -5,7 +5,7 @@
 //! piece by piece and gives exactly the records and the ending that the whole text has by that
 //! definition. At each record it has taken the bytes up to the end of that record's block, and none
 //! behind them. Bytes that nothing is read from are passed over and never held. A record is that of
-//! `pcap_input`, beside the link of its own interface.
+//! `pcap_input`, beside the link of its own interface. `read_up_to` reads a whole capture by these calls.
 #![tactic(auto)]
 
 mod block;
@@ -19,7 +19,9 @@ mod reader;
 mod resolution;
 mod step;
 mod walk;
+mod whole;
 
 pub use capture::{NgFault, NgRecord};
 pub use laws::calls_give_the_records;
 pub use reader::NgReader;
+pub use whole::{Found, read_up_to};

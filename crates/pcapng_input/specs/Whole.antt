@@ -4,9 +4,10 @@
 -- behind none; so it is under every limit but 0, under which no refusal came.
 use Rattle.std.specs.Prelude.{◌≡◌, ℕ, List, Option, Some, None, Result, Ok, Err}
 use Rattle.pcapng_input.specs.declared.capture.NgFault.{NgFault}
+use Rattle.pcapng_input.specs.declared.capture.NgFault.TheVariants as fault
 use Rattle.pcapng_input.specs.Blocks.{Ending, Clean, Refused, ng_records}
 use Rattle.pcapng_input.specs.Calls.{IsOfBytes}
-use Rattle.decode_tests.specs.declared.whole.Found.{Found}
+use Rattle.pcapng_input.specs.declared.whole.Found.{Found}
 
 -- the refusal behind the records is this ending
 abbrev pub IsEndingOf : Option NgFault → Ending → Type 0
@@ -19,3 +20,8 @@ IsHeld (Ok found) limit bytes =
     (ending : Ending) → IsEndingOf found.refused ending
     → ng_records bytes (Some limit) ≡ Ok (record { records = found.records; ending = ending })
 IsHeld (Err why) limit bytes = IsOfBytes why → ng_records bytes (Some limit) ≡ Err why
+
+-- the host failed: the capture wasn't opened, or the reading of it was broken off
+abbrev pub HasFailed : Result Found NgFault → Type 0
+HasFailed (Ok found) = found.refused ≡ Some fault.Failed
+HasFailed (Err why) = why ≡ fault.Failed

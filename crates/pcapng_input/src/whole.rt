@@ -1,10 +1,13 @@
 //! A whole pcapng capture as a list of its records, read by the calls of the reader one after another.
-ghost use Rattle.std.specs.Prelude.{◌≡◌, List, ℕ};
-ghost use Rattle.pcap_input.specs.Reader.{Tells};
-ghost use Rattle.decode_tests.specs.Whole.{IsHeld};
 
+ghost use Rattle.std.specs.Prelude.{◌≡◌, ◌≤◌, ◌⊎◌, List, ℕ, length, IfOk};
+ghost use Rattle.edge_io.specs.Told.{one_more, Rose};
+ghost use Rattle.edge_io.specs.Files.{Lacks};
+ghost use Rattle.pcap_input.specs.Reader.{Tells};
+ghost use Rattle.pcapng_input.specs.Whole.{IsHeld, HasFailed};
+
+use crate::{NgFault, NgReader, NgRecord};
 use edge_io::{Host, Items};
-use pcapng_input::{NgFault, NgReader, NgRecord};
 use std::alloc::Global;
 
 /// What was read of a capture.
@@ -31,7 +34,12 @@ pub fn read_up_to<H: Host>(
     name: &str,
     limit: usize,
 ) -> Result<Found, NgFault>
-    ensures { (bytes : List ℕ) → Tells (H.contents host.old) name.now bytes → IsHeld result limit bytes }
+    ensures held { (bytes : List ℕ) → Tells (H.contents host.old) name.now bytes → IsHeld result limit bytes }
+    ensures failed { HasFailed result → Rose (H.faults host.old) (H.faults host.new) ⊎ Lacks (H.contents host.old) name.now }
+    ensures within { IfOk result (λ found. length found.records ≤ limit) }
+    ensures same_contents { H.contents host.new ≡ H.contents host.old }
+    ensures counted { H.opens host.new ≡ one_more (H.opens host.old) }
+    ensures later { H.faults host.old ≤ H.faults host.new }
 {
     let mut reader = NgReader::open(alloc, host, name)?;
     let mut records = Items::new(alloc);

@@ -1,14 +1,18 @@
 -- What is returned is what the law of the calls says.
-use Rattle.std.proofs.Common.{◌≡◌, ℕ, ◌+◌, ◌<◌, List, [], ◌∷◌, ◌++◌, Option, Some, None, Ok, Err, length, sym, ap, subst, inl, inr, ◌∙◌}
+use Rattle.std.proofs.Common.{◌≡◌, ℕ, ◌+◌, ◌<◌, ◌≤◌, ◌⊎◌, List, [], ◌∷◌, ◌++◌, Option, Some, None, Ok, Err, length, sym, ap, subst, inl, inr, ◌∙◌, arith}
 use Rattle.std.proofs.lemmas.List.{length-append}
+use Rattle.std.proofs.lemmas.Option.{none-some}
+use Rattle.std.proofs.lemmas.Bool.Decides.{nat_tests}
 use Rattle.edge_io.specs.Files.{Files}
+use Rattle.edge_io.specs.Told.{Rose}
 use Rattle.pcapng_input.specs.declared.capture.NgRecord.{NgRecord}
 use Rattle.pcapng_input.specs.declared.capture.NgFault.{NgFault}
+use Rattle.pcapng_input.specs.declared.capture.NgFault.TheVariants as fault
 use Rattle.pcap_input.specs.Reader.{Tells}
 use Rattle.pcapng_input.specs.Reader.{Reading}
 use Rattle.pcapng_input.specs.Calls.{IsOpenCall, IsNextCall, HasRead}
 use Rattle.pcapng_input.proofs.Calls.{reads_all, read-none, read-more}
-use Rattle.decode_tests.specs.Whole.{IsHeld}
+use Rattle.pcapng_input.specs.Whole.{IsHeld}
 
 -- ---- reading
 
@@ -72,3 +76,15 @@ held-refused contents name limit records reader new why left left_new read below
       read = read;
       ended = inr (below, record { new = new; left_new = left_new; answer = Err why; call = call; ends = is });
     })
+
+-- ---- why the host failed
+
+-- a count that rose from later on rose from earlier on
+rose-since : (old middle new : ℕ) → old ≤ middle → Rose middle new → Rose old new
+rose-since old middle new later rose = grind (arith, nat_tests)
+
+-- the host failed at the last call, and not before
+pub failed-last : (old middle new : ℕ) (refused : Option NgFault) (lacks : Type 0) → old ≤ middle → refused ≡ None
+    → Rose middle new ⊎ (refused ≡ Some fault.Failed) → Rose old new ⊎ lacks
+failed-last old middle new refused lacks later fresh (inl rose) = inl (rose-since old middle new later rose)
+failed-last old middle new refused lacks later fresh (inr was) = absurd (none-some fault.Failed (sym fresh ∙ was))
