@@ -117,7 +117,8 @@ pub(crate) fn next_known<P: Pattern, L: Ledger>(
     ensures found { (means : Means) → IsMade P.finds means option.now (pattern_of made.now)
         → IsKnown means at.now.payload.now option.now (needs_place later.now) (known_at known.old (length later.now))
         → IfOk result (λ next. Gathers (needs_place later.now)
-        (IsLedTo (LeadsFrom means at.now.payload.now at.now.values.now option.now) at.now.places.now) (next_set next at.now.places.now)) }
+        (IsLedTo (LeadsFrom means at.now.payload.now at.now.values.now option.now) at.now.places.now)
+        (next_set next at.now.places.now)) }
     ensures alike { (means : Means) → IsMade P.finds means option.now (pattern_of made.now)
         → IsKnown means at.now.payload.now option.now (needs_place later.now) (known_at known.old (length later.now))
         → is_free option.now ≡ true → IfOk result (LeadsAlike means at.now.payload.now option.now (needs_place later.now)) }

@@ -152,7 +152,8 @@ fn is_walked_from<P: Pattern, L: Ledger>(
         → AreKnown means at.now.payload.now options.now behind.old.known
         → IfOk result (λ walked. MatchBool walked
         (MatchesFromOne means at.now.payload.now options.now at.now.values.now (next_set next.now at.now.places.now))
-        (Leaves means at.now.payload.now options.now at.now.values.now (next_set next.now at.now.places.now) behind.old.states behind.new.states)) }
+        (Leaves means at.now.payload.now options.now at.now.values.now (next_set next.now at.now.places.now)
+        behind.old.states behind.new.states)) }
     ensures within { AreWithin (length at.now.payload.now) behind.old.states
         → IfOk result (λ walked. AreWithin (length at.now.payload.now) behind.new.states) }
     ensures nowhere { ExtractsNothing options.now → behind.new.states ≡ behind.old.states }
