@@ -12,7 +12,7 @@ use Rattle.record_jobs.specs.Way.{Way, is_due}
 abbrev pub is_one_for_all : Way → Bool
 is_one_for_all way =
     (length way.stream.engines == 1) && is_some (position (λ engine. is_none engine.bind) way.stream.engines)
-        && (length way.hosts == 0)
+    && (length way.hosts == 0)
 
 -- what a packet's data go by at the engine at this place, where the host table says this of the address
 abbrev pub toward_by : Way → Bool → Time → ℕ → Option StreamPolicy → Toward

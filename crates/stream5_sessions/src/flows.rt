@@ -73,8 +73,12 @@ impl Model for Flows {
 
     ghost Value = { FlowsState };
 
-    ghost view = { λ flows. record { max = record { tcp = flows.tcp.cap; udp = flows.udp.cap }; next = flows.next;
-        tcp = flows.tcp.entries; udp = flows.udp.entries } };
+    ghost view = { λ flows. record {
+      max = record { tcp = flows.tcp.cap; udp = flows.udp.cap };
+      next = flows.next;
+      tcp = flows.tcp.entries;
+      udp = flows.udp.entries;
+    } };
 }
 
 impl Flows {
