@@ -136,18 +136,17 @@ fn next_fault<R: Threads + Sync>(
     requires triable { All IsTriable course.set.now.rules }
     ensures { HasFailed lanes.new }
 {
-    match lanes.batch(
-        rt,
-        alloc,
-        jobs,
-        course.stream,
-        course.set,
-        course.groups,
-        &OpenGate,
-    ) {
-        Ok(_) => None,
-        Err(fault) => Some(fault),
-    }
+    lanes
+        .batch(
+            rt,
+            alloc,
+            jobs,
+            course.stream,
+            course.set,
+            course.groups,
+            &OpenGate,
+        )
+        .err()
 }
 
 /// Lanes that have failed answer `Failed` to a batch without jobs, and to one of jobs that are sound behind nothing and

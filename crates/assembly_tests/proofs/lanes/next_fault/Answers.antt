@@ -8,5 +8,5 @@ batch-requires-clause-sound g c κs within = λ working. absurd (true≢false (s
 pub batch-requires-clause-next : goal.batch-requires-clause-next
 batch-requires-clause-next g c κs within = λ working. absurd (true≢false (sym c.requires.failed ∙ working))
 
-pub returns-in-Ok : goal.returns-in-Ok
-returns-in-Ok g c = let never = c.in-Ok.ensures.failed.1 c.requires.failed in cc
+pub returns : goal.returns
+returns g c = rw (c.batch.ensures.failed.1 c.requires.failed) at c.batch.ensures.fails
