@@ -10,9 +10,10 @@
 -- one's complement sum is ddf2. With the checksum 220d among them the plain sum is 2fffd, three times
 -- ffff, which is right.
 -- The law `ones_sum-is_all_ones` of proofs/Carries says the same of the sum that adds carries back in.
-use Rattle.std.specs.Prelude.{ℕ, zero, suc, ◌+◌, ◌/◌, ◌%◌, Bool, ◌&&◌, nat_lt, ◌==◌}
+use Rattle.std.specs.Prelude.{ℕ, zero, suc, ◌+◌, ◌*◌, ◌/◌, ◌%◌, List, Bool, ◌&&◌, nat_lt, ◌==◌}
 use Rattle.edge_io.specs.declared.address.Addr.{Addr}
 use Rattle.edge_io.specs.declared.address.Addr.TheVariants.{V4, V6}
+use Rattle.edge_io.specs.Bytes.{word_sum}
 
 -- the plain sum of the lowest `count` 16-bit words of a number
 unfoldable pub words_of : ℕ → ℕ → ℕ
@@ -22,6 +23,11 @@ words_of (suc count) number = number % 65536 + words_of count (number / 65536)
 -- the one's complement sum of words with this plain sum is all ones
 unfoldable pub is_all_ones : ℕ → Bool
 is_all_ones sum = nat_lt 0 sum && (sum % 65535 == 0)
+
+-- the words that a sum in the machine's byte order stands for, the low byte of each first, sum to all
+-- ones with those of these bytes
+abbrev pub sums_to_all_ones : ℕ → List ℕ → Bool
+sums_to_all_ones total bytes = is_all_ones (256 * total + word_sum bytes)
 
 -- the plain sum of the words of an address: 4 bytes of version 4, or 16 of version 6
 unfoldable pub address_sum : Addr → ℕ

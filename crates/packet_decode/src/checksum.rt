@@ -1,70 +1,167 @@
-ghost use Rattle.std.specs.Prelude.{◌≡◌, ℕ, ◌+◌, ◌^◌, ◌<◌, length};
+//! Checksums (RFC 1071), with the words summed in the machine's own byte order.
+//!
+//! A word whose bytes are exchanged is 256 times the word modulo 65535, since 256 * 256 is 65536, and
+//! 256 times a sum is divisible by 65535 exactly where the sum is. So the bytes are read as they lie,
+//! and only the sum of the pseudo header, which comes from numbers, is multiplied by 256.
+ghost use Rattle.std.specs.Prelude.{◌≡◌, ℕ, ◌+◌, ◌-◌, ◌*◌, ◌^◌, ◌<◌, ◌≤◌, max, length};
 ghost use Rattle.edge_io.specs.Bytes.{word_sum};
-ghost use Rattle.packet_decode.specs.Checksum.{is_all_ones, address_sum, pseudo_sum};
+ghost use Rattle.packet_decode.specs.Checksum.{is_all_ones, sums_to_all_ones, address_sum, pseudo_sum};
 ghost use Rattle.packet_decode.specs.Decoding.{is_segment_right, is_message_right};
 
 use crate::{IpHead, IpVersion};
-use byteorder::{BigEndian, ByteOrder};
+use byteorder::{ByteOrder, LittleEndian};
 use edge_io::Addr;
 
-/// A sum of words has a one's complement sum of all ones, as it has where a checksum is right.
-fn is_all_ones(sum: u128) -> bool
-    ensures { result ≡ is_all_ones sum }
+/// The length of a wide word, which counts as its four words of 16 bits.
+const WIDE_LEN: usize = 8;
+
+/// How many bytes are added at once where there are as many.
+const ROW_LEN: usize = 32;
+
+/// A sum of words as a number of 64 bits that counts as much.
+fn folded(sum: u128) -> u64
+    requires { sum < 2 ^ 127 }
+    ensures { is_all_ones result ≡ is_all_ones sum }
 {
-    let mut folded = sum;
-    while folded > 0xffff {
-        folded = (folded & 0xffff) + (folded >> 16);
-    }
-    folded == 0xffff
+    let high = (sum >> 64) as u64;
+    let low = (sum & 0xFFFF_FFFF_FFFF_FFFF) as u64;
+    high + (low >> 32) + (low & 0xFFFF_FFFF)
 }
 
-/// Adds the words of all but the last few bytes, four at a time, and gives the bytes that are left.
+/// A sum of words has a one's complement sum of all ones, as it has where a checksum is right.
+#[tactic(auto, unfolding(crate::specs::Checksum::is_all_ones))]
+fn is_all_ones(sum: u128) -> bool
+    requires { sum < 2 ^ 127 }
+    ensures { result ≡ is_all_ones sum }
+{
+    let total = folded(sum);
+    total > 0 && total % 0xFFFF == 0
+}
+
+/// Adds the wide word in the first bytes, and gives the bytes behind it.
+fn add_wide(total: u128, bytes: &[u8]) -> (u128, &[u8])
+    requires room { total < 2 ^ 126 }
+    requires long { 8 ≤ length bytes.now }
+    ensures same { sums_to_all_ones result.0 result.1.now ≡ sums_to_all_ones total bytes.now }
+    ensures bound { result.0 < total + 2 ^ 64 }
+    ensures behind { length result.1.now + 8 ≡ length bytes.now }
+{
+    let (front, rest) = bytes.split_at(WIDE_LEN);
+    (total + u128::from(LittleEndian::read_u64(front)), rest)
+}
+
+/// Adds the four wide words in the first bytes, and gives the bytes behind them.
+fn add_row(total: u128, bytes: &[u8]) -> (u128, &[u8])
+    requires room { total < 2 ^ 125 }
+    requires long { 32 ≤ length bytes.now }
+    ensures same { sums_to_all_ones result.0 result.1.now ≡ sums_to_all_ones total bytes.now }
+    ensures bound { result.0 < total + 2 ^ 66 }
+    ensures behind { length result.1.now + 32 ≡ length bytes.now }
+{
+    let (one, behind_one) = add_wide(total, bytes);
+    let (two, behind_two) = add_wide(one, behind_one);
+    let (three, behind_three) = add_wide(two, behind_two);
+    add_wide(three, behind_three)
+}
+
+/// Adds the words of all but the last few bytes, row by row, and gives the bytes that are left.
 ///
-/// A word of 64 bits is its four words of 16 bits as far as their one's complement sum goes, and no
-/// slice is long enough to overflow the sum.
-fn add_wide(start: u128, bytes: &[u8]) -> (u128, &[u8])
-    requires { start < 2 ^ 68 }
-    ensures same { is_all_ones (result.0 + word_sum result.1.now)
-        ≡ is_all_ones (start + word_sum bytes.now) }
-    ensures bound { result.0 < 2 ^ 127 }
-    ensures few { length result.1.now < 8 }
+/// No slice is long enough to overflow the sum.
+fn add_rows(start: u128, bytes: &[u8]) -> (u128, &[u8])
+    requires { start < 2 ^ 76 }
+    ensures same { sums_to_all_ones result.0 result.1.now ≡ sums_to_all_ones start bytes.now }
+    ensures bound { result.0 < 2 ^ 125 }
+    ensures few { length result.1.now < 32 }
 {
     let mut total = start;
     let mut rest = bytes;
-    while rest.len() >= 8 {
-        let (front, back) = rest.split_at(8);
-        total += u128::from(BigEndian::read_u64(front));
-        rest = back;
+    while rest.len() >= ROW_LEN {
+        let (sum, behind) = add_row(total, rest);
+        total = sum;
+        rest = behind;
     }
     (total, rest)
 }
 
-/// Adds the words of a few bytes; an odd last one is the upper half of a word.
-fn add_last(start: u128, bytes: &[u8]) -> u128
-    requires bound { start < 2 ^ 127 }
-    requires few { length bytes.now < 8 }
-    ensures { result ≡ start + word_sum bytes.now }
+/// Adds the wide word in the first bytes, if there are as many, and gives the bytes that are left.
+fn add_eight(total: u128, bytes: &[u8]) -> (u128, &[u8])
+    requires room { total < 2 ^ 126 }
+    ensures same { sums_to_all_ones result.0 result.1.now ≡ sums_to_all_ones total bytes.now }
+    ensures bound { result.0 < total + 2 ^ 64 }
+    ensures few { length result.1.now ≤ max 7 (length bytes.now - 8) }
 {
-    let mut total = start;
-    let mut rest = bytes;
-    while rest.len() >= 2 {
-        let (front, back) = rest.split_at(2);
-        total += u128::from(BigEndian::read_u16(front));
-        rest = back;
+    if bytes.len() < WIDE_LEN {
+        return (total, bytes);
     }
-    if rest.len() == 1 {
-        total += u128::from(rest[0]) * 256;
-    }
-    total
+    add_wide(total, bytes)
 }
 
-/// The words of the bytes, and those that `start` stands for, sum to all ones.
-fn sums_to_all_ones(start: u128, bytes: &[u8]) -> bool
-    requires { start < 2 ^ 68 }
-    ensures { result ≡ is_all_ones (start + word_sum bytes.now) }
+/// Adds the words of a part of a row up to the last few bytes, and gives these.
+fn add_part(start: u128, bytes: &[u8]) -> (u128, &[u8])
+    requires room { start < 2 ^ 125 }
+    requires few { length bytes.now < 32 }
+    ensures same { sums_to_all_ones result.0 result.1.now ≡ sums_to_all_ones start bytes.now }
+    ensures bound { result.0 < start + 2 ^ 66 }
+    ensures few { length result.1.now < 8 }
 {
-    let (total, rest) = add_wide(start, bytes);
-    is_all_ones(add_last(total, rest))
+    let (one, behind_one) = add_eight(start, bytes);
+    let (two, behind_two) = add_eight(one, behind_one);
+    add_eight(two, behind_two)
+}
+
+/// Adds the two words in the first four bytes, if there are as many, and gives the bytes that are left.
+fn add_four(total: u128, bytes: &[u8]) -> (u128, &[u8])
+    requires room { total < 2 ^ 126 }
+    requires few { length bytes.now < 8 }
+    ensures same { sums_to_all_ones result.0 result.1.now ≡ sums_to_all_ones total bytes.now }
+    ensures bound { result.0 < total + 2 ^ 32 }
+    ensures few { length result.1.now < 4 }
+{
+    if bytes.len() < 4 {
+        return (total, bytes);
+    }
+    let (front, rest) = bytes.split_at(4);
+    (total + u128::from(LittleEndian::read_u32(front)), rest)
+}
+
+/// Adds the word in the first two bytes, if there are as many, and gives the bytes that are left.
+fn add_two(total: u128, bytes: &[u8]) -> (u128, &[u8])
+    requires room { total < 2 ^ 126 + 2 ^ 32 }
+    requires few { length bytes.now < 4 }
+    ensures same { sums_to_all_ones result.0 result.1.now ≡ sums_to_all_ones total bytes.now }
+    ensures bound { result.0 < total + 2 ^ 16 }
+    ensures few { length result.1.now < 2 }
+{
+    if bytes.len() < 2 {
+        return (total, bytes);
+    }
+    let (front, rest) = bytes.split_at(2);
+    (total + u128::from(LittleEndian::read_u16(front)), rest)
+}
+
+/// Adds the words of a few bytes; an odd last one is followed by a byte of zeros.
+fn add_last(start: u128, bytes: &[u8]) -> u128
+    requires room { start < 2 ^ 126 }
+    requires few { length bytes.now < 8 }
+    ensures same { is_all_ones result ≡ sums_to_all_ones start bytes.now }
+    ensures bound { result < 2 ^ 127 }
+{
+    let (fours, behind_fours) = add_four(start, bytes);
+    let (twos, behind_twos) = add_two(fours, behind_fours);
+    match behind_twos {
+        [last] => twos + u128::from(*last),
+        _ => twos,
+    }
+}
+
+/// The words that `start` stands for, and those of the bytes, sum to all ones.
+fn sums_to_all_ones(start: u128, bytes: &[u8]) -> bool
+    requires { start < 2 ^ 76 }
+    ensures { result ≡ sums_to_all_ones start bytes.now }
+{
+    let (rows, behind_rows) = add_rows(start, bytes);
+    let (part, behind_part) = add_part(rows, behind_rows);
+    is_all_ones(add_last(part, behind_part))
 }
 
 /// An address as a sum that stands for its words.
@@ -78,16 +175,17 @@ fn address_total(addr: Addr) -> u128
     }
 }
 
-/// The pseudo header of a segment of `len` bytes, as a sum that stands for its words.
+/// The pseudo header of a segment of `len` bytes, as a sum that stands for its words in the machine's
+/// byte order.
 fn pseudo_total(ip: &IpHead, len: usize) -> u128
-    ensures same { (more : ℕ) → is_all_ones (result + more)
+    ensures same { (more : ℕ) → is_all_ones (256 * result + more)
         ≡ is_all_ones (pseudo_sum ip.now.src ip.now.dst ip.now.protocol len + more) }
-    ensures bound { result < 2 ^ 68 }
+    ensures bound { result < 2 ^ 76 }
 {
     let source = address_total(ip.src);
     let destination = address_total(ip.dst);
     let protocol = ip.protocol;
-    source + destination + u128::from(protocol) + len as u128
+    (source + destination + u128::from(protocol) + len as u128) * 256
 }
 
 /// The checksum over a part of a packet is right, where it has no pseudo header.

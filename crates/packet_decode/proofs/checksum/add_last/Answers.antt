@@ -1,14 +1,9 @@
 use Rattle.std.proofs.Common.{arith}
-use Rattle.edge_io.proofs.Words.{two, last, nothing}
+use Rattle.packet_decode.proofs.Sums.{one, none_left}
 use Rattle.packet_decode.proofs.checksum.add_last.Goals as goal
 
-pub loop-rest-preserved : goal.loop-rest-preserved
-loop-rest-preserved c =
-    let counted = two c.loop-rest.total c.loop-rest.rest.now (omega arith) in
-    record { same = cc; room = omega arith }
+pub returns-in-len1-clause-same : goal.returns-in-len1-clause-same
+returns-in-len1-clause-same c = let counted = one c.add_two-twos.result.0 c.add_two-twos.result.1.now (omega arith) in cc
 
-pub returns-then-rest-eq1 : goal.returns-then-rest-eq1
-returns-then-rest-eq1 c = let counted = last c.loop-rest.rest.now (omega arith) in omega arith
-
-pub returns-else-rest-eq1 : goal.returns-else-rest-eq1
-returns-else-rest-eq1 c = let counted = nothing c.loop-rest.rest.now (omega arith) in omega arith
+pub returns-in_default-clause-same : goal.returns-in_default-clause-same
+returns-in_default-clause-same c = let counted = none_left c.add_two-twos.result.0 c.add_two-twos.result.1.now (omega arith) in cc

@@ -1,11 +1,11 @@
 use Rattle.std.proofs.Common.{◌≡◌, ◌+◌, ◌*◌, ◌<◌, ◌^◌, length}
-use Rattle.edge_io.specs.Bytes.{word_sum}
-use Rattle.packet_decode.proofs.checksum.add_last.Given as goal
+use Rattle.packet_decode.specs.Checksum.{sums_to_all_ones}
+use Rattle.packet_decode.proofs.checksum.add_rows.Given as goal
 
 abbrev pub invariant-loop-rest : goal.invariant-loop-rest
 invariant-loop-rest l = record {
-  same : l.total + word_sum l.rest ≡ l.fn.start + word_sum l.fn.bytes;
-  room : l.total + length l.rest * 65536 < 2 ^ 127 + 2 ^ 20;
+  same : sums_to_all_ones l.total l.rest ≡ sums_to_all_ones l.fn.start l.fn.bytes;
+  room : l.total + length l.rest * 2 ^ 61 < 2 ^ 125;
 }
 
 abbrev pub decreases-loop-rest : goal.decreases-loop-rest
