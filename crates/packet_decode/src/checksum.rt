@@ -64,7 +64,7 @@ fn add_row(total: u128, bytes: &[u8]) -> (u128, &[u8])
     add_wide(three, behind_three)
 }
 
-/// Adds the words of all but the last few bytes, row by row, and gives the bytes that are left.
+/// Adds the wide words, row by row while there are rows, and gives the bytes that are left.
 ///
 /// No slice is long enough to overflow the sum.
 fn add_rows(start: u128, bytes: &[u8]) -> (u128, &[u8])
@@ -96,8 +96,8 @@ fn add_eight(total: u128, bytes: &[u8]) -> (u128, &[u8])
     add_wide(total, bytes)
 }
 
-/// Adds the words of a part of a row up to the last few bytes, and gives these.
-fn add_part(start: u128, bytes: &[u8]) -> (u128, &[u8])
+/// Adds the wide words in less than a row, and gives the bytes that are left.
+fn add_wides(start: u128, bytes: &[u8]) -> (u128, &[u8])
     requires room { start < 2 ^ 125 }
     requires few { length bytes.now < 32 }
     ensures same { sums_to_all_ones result.0 result.1.now ≡ sums_to_all_ones start bytes.now }
@@ -112,10 +112,9 @@ fn add_part(start: u128, bytes: &[u8]) -> (u128, &[u8])
 /// Adds the two words in the first four bytes, if there are as many, and gives the bytes that are left.
 fn add_four(total: u128, bytes: &[u8]) -> (u128, &[u8])
     requires room { total < 2 ^ 126 }
-    requires few { length bytes.now < 8 }
     ensures same { sums_to_all_ones result.0 result.1.now ≡ sums_to_all_ones total bytes.now }
     ensures bound { result.0 < total + 2 ^ 32 }
-    ensures few { length result.1.now < 4 }
+    ensures few { length result.1.now ≤ max 3 (length bytes.now - 4) }
 {
     if bytes.len() < 4 {
         return (total, bytes);
@@ -127,10 +126,9 @@ fn add_four(total: u128, bytes: &[u8]) -> (u128, &[u8])
 /// Adds the word in the first two bytes, if there are as many, and gives the bytes that are left.
 fn add_two(total: u128, bytes: &[u8]) -> (u128, &[u8])
     requires room { total < 2 ^ 126 + 2 ^ 32 }
-    requires few { length bytes.now < 4 }
     ensures same { sums_to_all_ones result.0 result.1.now ≡ sums_to_all_ones total bytes.now }
     ensures bound { result.0 < total + 2 ^ 16 }
-    ensures few { length result.1.now < 2 }
+    ensures few { length result.1.now ≤ max 1 (length bytes.now - 2) }
 {
     if bytes.len() < 2 {
         return (total, bytes);
@@ -160,8 +158,8 @@ fn sums_to_all_ones(start: u128, bytes: &[u8]) -> bool
     ensures { result ≡ sums_to_all_ones start bytes.now }
 {
     let (rows, behind_rows) = add_rows(start, bytes);
-    let (part, behind_part) = add_part(rows, behind_rows);
-    is_all_ones(add_last(part, behind_part))
+    let (wides, behind_wides) = add_wides(rows, behind_rows);
+    is_all_ones(add_last(wides, behind_wides))
 }
 
 /// An address as a sum that stands for its words.
@@ -193,6 +191,21 @@ pub fn is_part_right(part: &[u8]) -> bool
     ensures { result ≡ is_all_ones (word_sum part.now) }
 {
     sums_to_all_ones(0, part)
+}
+
+/// The checksum over an IPv4 header is right; most have no options.
+pub fn is_header_right(header: &[u8]) -> bool
+    requires { 20 ≤ length header.now }
+    ensures { result ≡ is_all_ones (word_sum header.now) }
+{
+    let (eight, behind_eight) = add_wide(0, header);
+    let (sixteen, behind_sixteen) = add_wide(eight, behind_eight);
+    let (twenty, options) = add_four(sixteen, behind_sixteen);
+    if options.is_empty() {
+        is_all_ones(twenty)
+    } else {
+        sums_to_all_ones(twenty, options)
+    }
 }
 
 /// The checksum over a segment with its pseudo header is right.

@@ -2,7 +2,7 @@ ghost use Rattle.std.specs.Prelude.{◌≡◌, ◌+◌, ◌≤◌, None, length,
 ghost use Rattle.std.specs.Result.{result_err};
 ghost use Rattle.packet_decode.specs.Decoding.{seen, placed, transport_at, datagram_at, decoded};
 
-use crate::checksum::is_part_right;
+use crate::checksum::is_header_right;
 use crate::ipv4::{Bounds, data_bounds, ip_head, is_fragment};
 use crate::start::link_start;
 use crate::transport::transport;
@@ -40,7 +40,7 @@ fn datagram(
     ensures within { OnOk result (out.new.start + out.new.len ≤ length bytes.now) }
     ensures small { OnOk result (out.new.len ≤ 65535) }
 {
-    if checks.ip && !is_part_right(&bytes[start..bounds.start]) {
+    if checks.ip && !is_header_right(&bytes[start..bounds.start]) {
         return Err(Skip::Checksum);
     }
     out.ip = ip_head(bytes, start);
