@@ -9,7 +9,7 @@ use Rattle.rule_types.specs.declared.option.Opt.{Opt}
 use Rattle.rule_types.specs.declared.option.Opt.TheVariants as opt
 use Rattle.rule_types.specs.declared.rule.Rule.{Rule}
 use Rattle.option_eval.specs.Numbers.{Standing, Fetched, fetched, number_of, origin, rounded_up}
-use Rattle.option_eval.specs.Places.{Means, Sought, StandsAt, Leads, Compares, SharesBit, Unless, IsWay, PayloadMatches, at_place, is_only, jump, sought, start}
+use Rattle.option_eval.specs.Places.{Means, Sought, StandsAt, Leads, Compares, SharesBit, Unless, IsWay, PayloadMatches, at_place, byte_jump_len, is_only, sought, start}
 use Rattle.option_eval.specs.Walks.{MatchesFrom}
 use Rattle.option_eval.proofs.Sweeping.{occurs_fits}
 use Rattle.flow_lanes.proofs.Deciding.{Decided, decided_yes, decided_no, decided_like, decided_both, decided_three, decided_not, decided_same, decided_le, decided_same_z, decided_lt_z, decided_le_z, decided_if, decided_if_some, decided_each_below, decided_some}
@@ -166,7 +166,7 @@ module _ (Q : Standing → Type 0) (each : (s : Standing) → Decided (Q s)) whe
       test_led (fetched payload fetch before) (λ read. Unless not (Compares how read.number (number_of before.values value)))
       (λ read. decided_unless not (Compares how read.number (number_of before.values value)) (decided_compares how read.number (number_of before.values value))) before
   led means payload (opt.ByteJump fetch times align beginning post) before =
-      jump_led (fetched payload fetch before) (λ read. pos ((cond beginning 0 read.stop) + jump times align read.number) +ℤ post) (length payload) before.values
+      jump_led (fetched payload fetch before) (λ read. pos ((cond beginning 0 read.stop) + byte_jump_len times align read.number) +ℤ post) (length payload) before.values
   led means payload (opt.ByteExtract fetch name times align) before =
       extract_led (fetched payload fetch before) (λ read. record { place = read.stop; values = slice_set before.values name (rounded_up align (read.number * times)) })
   led means payload (opt.IsDataAt at relative negated) before =

@@ -36,7 +36,7 @@ use Rattle.rule_types.specs.declared.rule.Proto.TheVariants as proto
 use Rattle.rule_types.specs.declared.rule.Rule.{Rule}
 use Rattle.header_eval.specs.declared.header.End.{End}
 
--- The header.
+-- ---- the header
 
 -- the item is of the rule's protocol: every item is of ip, a stretch of a stream is of tcp, and a
 -- fragment is of ip alone
@@ -93,7 +93,7 @@ HeaderHolds rule head =
     (is_of rule.proto head.body ≡ true) × (IsWay rule (source_of head) (destination_of head)
     ⊎ ((rule.both ≡ true) × IsWay rule (destination_of head) (source_of head)))
 
--- The values of fields: none where the item lacks the field.
+-- ---- the values of fields: none where the item lacks the field
 
 -- a stretch of a stream
 abbrev pub is_stream : ItemKind → Bool
@@ -115,14 +115,14 @@ tcp_of kind.Stream body = None
 tcp_of kind (body.Tcp head) = Some head
 tcp_of kind body = None
 
--- the four numbers of an ICMP packet
-abbrev pub icmp_kind : Body → Option ℕ
-icmp_kind (body.Icmp kind code id seq) = Some kind
-icmp_kind body = None
+-- itype, icode, icmp_id, icmp_seq: the four numbers of an ICMP packet
+abbrev pub itype : Body → Option ℕ
+itype (body.Icmp kind code id seq) = Some kind
+itype body = None
 
-abbrev pub icmp_code : Body → Option ℕ
-icmp_code (body.Icmp kind code id seq) = Some code
-icmp_code body = None
+abbrev pub icode : Body → Option ℕ
+icode (body.Icmp kind code id seq) = Some code
+icode body = None
 
 abbrev pub icmp_id : Body → Option ℕ
 icmp_id (body.Icmp kind code id seq) = Some id
@@ -142,13 +142,13 @@ field_value field.IpProto head len = Some head.ip.protocol
 field_value field.Seq head len = option_map (λ tcp. tcp.seq) (tcp_of head.kind head.body)
 field_value field.Ack head len = option_map (λ tcp. tcp.ack) (tcp_of head.kind head.body)
 field_value field.Window head len = option_map (λ tcp. tcp.window) (tcp_of head.kind head.body)
-field_value field.Itype head len = icmp_kind head.body
-field_value field.Icode head len = icmp_code head.body
+field_value field.Itype head len = itype head.body
+field_value field.Icode head len = icode head.body
 field_value field.IcmpId head len = icmp_id head.body
 field_value field.IcmpSeq head len = icmp_seq head.body
 field_value field.Dsize head len = of_packet head len
 
--- Comparisons.
+-- ---- comparisons
 
 -- a number against another, or against two ends which are inside
 abbrev pub compares : Cmp → ℕ → ℕ → ℕ → Bool
@@ -173,21 +173,23 @@ bits_hold mode.All set bits = bit_and set bits == bits
 bits_hold mode.Any set bits = not (bit_and set bits == 0)
 bits_hold mode.NoneSet set bits = bit_and set bits == 0
 
--- Flags: those of the mask don't count.
+-- ---- fragbits
 
+-- more fragments is 1, don't fragment 2, the reserved bit 4
+abbrev pub fragbits : IpHead → ℕ
+fragbits ip = (if ip.more then 1 else 0) + (if ip.dont then 2 else 0) + (if ip.reserved then 4 else 0)
+
+abbrev pub fragbits_hold : ItemHead → Mode → ℕ → Bool
+fragbits_hold head mode bits = not (is_stream head.kind) && bits_hold mode (fragbits head.ip) bits
+
+-- ---- flags
+
+-- the flags of a TCP packet, against those of an option: those of the mask don't count
 abbrev pub flags_hold : Option TcpHead → Mode → ℕ → ℕ → Bool
 flags_hold None mode bits mask = false
 flags_hold (Some tcp) mode bits mask = bits_hold mode (bit_and tcp.flags (255 - mask)) bits
 
--- Fragment bits: more fragments is 1, don't fragment 2, the reserved bit 4.
-
-abbrev pub frag_bits : IpHead → ℕ
-frag_bits ip = (if ip.more then 1 else 0) + (if ip.dont then 2 else 0) + (if ip.reserved then 4 else 0)
-
-abbrev pub frag_bits_hold : ItemHead → Mode → ℕ → Bool
-frag_bits_hold head mode bits = not (is_stream head.kind) && bits_hold mode (frag_bits head.ip) bits
-
--- Flow.
+-- ---- flow
 
 -- what is asked of a fact, if anything is
 abbrev pub agrees : Option Bool → Bool → Bool
@@ -208,23 +210,24 @@ flow_holds flow head =
     && (agrees_known flow.from_client head.session.from_client
     && (agrees flow.stream (is_stream head.kind) && agrees flow.frag (is_rebuilt head.kind)))
 
--- How much the sides of a session have sent, where it is known.
+-- ---- stream_size
 
-abbrev pub sizes_hold : Option (ℕ × ℕ) → Side → Cmp → ℕ → Bool
-sizes_hold None side cmp size = false
-sizes_hold (Some sizes) side.Client cmp size = compares cmp sizes.0 size size
-sizes_hold (Some sizes) side.Server cmp size = compares cmp sizes.1 size size
-sizes_hold (Some sizes) side.Both cmp size = compares cmp sizes.0 size size && compares cmp sizes.1 size size
-sizes_hold (Some sizes) side.Either cmp size = compares cmp sizes.0 size size || compares cmp sizes.1 size size
+-- how much the sides of a session have sent, where it is known
+abbrev pub stream_size_holds : Option (ℕ × ℕ) → Side → Cmp → ℕ → Bool
+stream_size_holds None side cmp size = false
+stream_size_holds (Some sizes) side.Client cmp size = compares cmp sizes.0 size size
+stream_size_holds (Some sizes) side.Server cmp size = compares cmp sizes.1 size size
+stream_size_holds (Some sizes) side.Both cmp size = compares cmp sizes.0 size size && compares cmp sizes.1 size size
+stream_size_holds (Some sizes) side.Either cmp size = compares cmp sizes.0 size size || compares cmp sizes.1 size size
 
--- Options.
+-- ---- all options
 
 -- an option holds of an item with `len` bytes of payload; one that tests no field does so always
 unfoldable pub field_holds : Opt → ItemHead → ℕ → Bool
 field_holds (opt.Flow flow) head len = flow_holds flow head
 field_holds (opt.Flags mode bits mask) head len = flags_hold (tcp_of head.kind head.body) mode bits mask
-field_holds (opt.FragBits mode bits) head len = frag_bits_hold head mode bits
+field_holds (opt.FragBits mode bits) head len = fragbits_hold head mode bits
 field_holds (opt.Compare field cmp low high) head len = value_compares (field_value field head len) cmp low high
 field_holds opt.SameIp head len = same_addr head.ip.src head.ip.dst
-field_holds (opt.StreamSize side cmp size) head len = sizes_hold head.session.sizes side cmp size
+field_holds (opt.StreamSize side cmp size) head len = stream_size_holds head.session.sizes side cmp size
 field_holds opt head len = true

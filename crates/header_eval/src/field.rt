@@ -1,12 +1,12 @@
 //! The options that look at fields.
 ghost use Rattle.std.specs.Prelude.{◌≡◌};
 ghost use Rattle.edge_io.specs.Addresses.{same_addr};
-ghost use Rattle.header_eval.specs.Fields.{of_packet, icmp_kind, icmp_code, icmp_id, icmp_seq, field_value, value_compares, flags_hold, frag_bits, frag_bits_hold, field_holds};
+ghost use Rattle.header_eval.specs.Fields.{of_packet, itype, icode, icmp_id, icmp_seq, field_value, value_compares, flags_hold, fragbits, fragbits_hold, field_holds};
 
 use crate::compare::{bits_hold, compares};
 use crate::flow::flow_holds;
 use crate::kind::{is_stream, tcp_of};
-use crate::sizes::sizes_hold;
+use crate::stream_size::stream_size_holds;
 use edge_io::Addr;
 use packet_decode::{Body, IpHead, ItemHead, TcpHead};
 use rule_types::{Cmp, Field, Mode, Opt};
@@ -23,8 +23,8 @@ fn of_packet(head: &ItemHead, number: u64) -> Option<u64>
 }
 
 /// The type of an ICMP packet (RFC 792).
-fn icmp_kind(body: &Body) -> Option<u64>
-    ensures { result ≡ icmp_kind body.now }
+fn itype(body: &Body) -> Option<u64>
+    ensures { result ≡ itype body.now }
 {
     match body {
         Body::Icmp { kind, .. } => Some(u64::from(*kind)),
@@ -33,8 +33,8 @@ fn icmp_kind(body: &Body) -> Option<u64>
 }
 
 /// Its code.
-fn icmp_code(body: &Body) -> Option<u64>
-    ensures { result ≡ icmp_code body.now }
+fn icode(body: &Body) -> Option<u64>
+    ensures { result ≡ icode body.now }
 {
     match body {
         Body::Icmp { code, .. } => Some(u64::from(*code)),
@@ -76,8 +76,8 @@ fn field_value(field: Field, head: &ItemHead, len: usize) -> Option<u64>
         Field::Seq => tcp_of(head).map(|tcp| u64::from(tcp.seq)),
         Field::Ack => tcp_of(head).map(|tcp| u64::from(tcp.ack)),
         Field::Window => tcp_of(head).map(|tcp| u64::from(tcp.window)),
-        Field::Itype => icmp_kind(&head.body),
-        Field::Icode => icmp_code(&head.body),
+        Field::Itype => itype(&head.body),
+        Field::Icode => icode(&head.body),
         Field::IcmpId => icmp_id(&head.body),
         Field::IcmpSeq => icmp_seq(&head.body),
         Field::Dsize => of_packet(head, len as u64),
@@ -105,8 +105,8 @@ fn flags_hold(tcp: Option<TcpHead>, mode: Mode, bits: u8, mask: u8) -> bool
 }
 
 /// The three bits: more fragments 1, don't fragment 2, reserved 4.
-fn frag_bits(ip: &IpHead) -> u8
-    ensures { result ≡ frag_bits ip.now }
+fn fragbits(ip: &IpHead) -> u8
+    ensures { result ≡ fragbits ip.now }
 {
     let more = if ip.more { 1 } else { 0 };
     let dont = if ip.dont { 2 } else { 0 };
@@ -115,14 +115,14 @@ fn frag_bits(ip: &IpHead) -> u8
 }
 
 /// Whether the fragment bits of a packet are as the option asks.
-fn frag_bits_hold(head: &ItemHead, mode: Mode, bits: u8) -> bool
-    ensures { result ≡ frag_bits_hold head.now mode bits }
+fn fragbits_hold(head: &ItemHead, mode: Mode, bits: u8) -> bool
+    ensures { result ≡ fragbits_hold head.now mode bits }
 {
-    !is_stream(head.kind) && bits_hold(mode, frag_bits(&head.ip), bits)
+    !is_stream(head.kind) && bits_hold(mode, fragbits(&head.ip), bits)
 }
 
 /// Whether two addresses are the same.
-fn same_address(a: Addr, b: Addr) -> bool
+fn sameip_holds(a: Addr, b: Addr) -> bool
     ensures { result ≡ same_addr a b }
 {
     a == b
@@ -137,16 +137,16 @@ pub fn field_matches(opt: &Opt, head: &ItemHead, len: usize) -> bool
     match opt {
         Opt::Flow(flow) => flow_holds(flow, head),
         Opt::Flags { mode, bits, mask } => flags_hold(tcp_of(head), *mode, *bits, *mask),
-        Opt::FragBits { mode, bits } => frag_bits_hold(head, *mode, *bits),
+        Opt::FragBits { mode, bits } => fragbits_hold(head, *mode, *bits),
         Opt::Compare {
             field,
             cmp,
             low,
             high,
         } => value_compares(field_value(*field, head, len), *cmp, *low, *high),
-        Opt::SameIp => same_address(head.ip.src, head.ip.dst),
+        Opt::SameIp => sameip_holds(head.ip.src, head.ip.dst),
         Opt::StreamSize { side, cmp, value } => {
-            sizes_hold(head.session.sizes, *side, *cmp, *value)
+            stream_size_holds(head.session.sizes, *side, *cmp, *value)
         }
         Opt::Content(_)
         | Opt::Pcre { .. }

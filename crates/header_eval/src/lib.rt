@@ -11,7 +11,7 @@ mod field;
 mod flow;
 mod header;
 mod kind;
-mod sizes;
+mod stream_size;
 
 pub use field::field_matches;
 pub use header::header_matches;

@@ -12,7 +12,7 @@ use Rattle.rule_types.specs.declared.option.Opt.TheVariants as opt
 use Rattle.option_eval.specs.Kinds.{is_test}
 use Rattle.option_eval.specs.RuleSet.{IsMade}
 use Rattle.option_eval.specs.Numbers.{Standing, Fetched, fetched, number_of}
-use Rattle.option_eval.specs.Places.{Means, Leads, Compares, Unless, jump, is_only, at_place, StandsAt, sought}
+use Rattle.option_eval.specs.Places.{Means, Leads, Compares, Unless, byte_jump_len, is_only, at_place, StandsAt, sought}
 use Rattle.option_eval.specs.Sets.{LeadsFrom, LeadsOnlyTo, PlaceIn, StandsFrom, standing}
 
 -- a fact or its opposite
@@ -40,11 +40,11 @@ module _ (means : Means) (payload values : List ℕ) (place : ℕ) where
               both.1 (subst (λ (r : Fetched). Unless negated (Compares how r.number (number_of values value))) same led.2),
         )
 
-  pub data_at : (at : Num) (relative negated holds answer : Bool) → answer ≡ cond negated (not holds) holds
+  pub isdataat : (at : Num) (relative negated holds answer : Bool) → answer ≡ cond negated (not holds) holds
       → (IsTrue holds → (pos (cond relative place 0) +ℤ number_of values at) <ℤ pos (length payload)) × ((pos (cond relative place 0) +ℤ number_of values at) <ℤ pos (length payload) → IsTrue holds)
       → (IsTrue answer → LeadsFrom means payload values (opt.IsDataAt at relative negated) place place) × (LeadsFrom means payload values (opt.IsDataAt at relative negated) place place → IsTrue answer)
   unfolding Leads
-  data_at at relative negated holds answer is h =
+  isdataat at relative negated holds answer is h =
       let both = unless_same negated holds answer ((pos (cond relative place 0) +ℤ number_of values at) <ℤ pos (length payload)) is h in
       (λ yes. (both.0 yes, refl), λ led. both.1 led.0)
 
@@ -75,39 +75,39 @@ module _ (means : Means) (payload values : List ℕ) (place : ℕ) where
     byte_jump_none none q h = let e = h.1 in cc
 
     pub byte_jump_some : (read : Fetched) (r : Option ℕ) → Some read ≡ fetched payload fetch (standing values place)
-        → PlaceIn (pos ((cond beginning 0 read.stop) + jump times align read.number) +ℤ post) (length payload) r
+        → PlaceIn (pos ((cond beginning 0 read.stop) + byte_jump_len times align read.number) +ℤ post) (length payload) r
         → LeadsOnlyTo (LeadsFrom means payload values (opt.ByteJump fetch times align beginning post) place) r
     unfolding Leads
     byte_jump_some read None some outside = λ q h.
         let e = h.1 in
         let same : h.0 ≡ read = cc in
-        outside q h.3 (subst (λ (r : Fetched). pos q ≡ (pos ((cond beginning 0 r.stop) + jump times align r.number) +ℤ post)) same h.4)
+        outside q h.3 (subst (λ (r : Fetched). pos q ≡ (pos ((cond beginning 0 r.stop) + byte_jump_len times align r.number) +ℤ post)) same h.4)
     byte_jump_some read (Some place') some inside = (
       (read, sym some, refl, inside.0, inside.1),
       λ q h.
           let e = h.1 in
           let same : h.0 ≡ read = cc in
-          let there = subst (λ (r : Fetched). pos q ≡ (pos ((cond beginning 0 r.stop) + jump times align r.number) +ℤ post)) same h.4 in
+          let there = subst (λ (r : Fetched). pos q ≡ (pos ((cond beginning 0 r.stop) + byte_jump_len times align r.number) +ℤ post)) same h.4 in
           let both : pos q ≡ pos place' = there ∙ sym inside.1 in
           cc,
     )
 
   module _ (text : List ℕ) (flags : PatternFlags) (relative : Bool) where
     -- a negated pattern holds where nothing is found
-    pub pattern_absent : (found : Option Span) (answer : Bool) → found ≡ means text flags (drop (cond relative place 0) payload) → is_some found ≡ not answer
+    pub pcre_absent : (found : Option Span) (answer : Bool) → found ≡ means text flags (drop (cond relative place 0) payload) → is_some found ≡ not answer
         → (IsTrue answer → LeadsFrom means payload values (opt.Pcre text flags relative true) place place) × (LeadsFrom means payload values (opt.Pcre text flags relative true) place place → IsTrue answer)
     unfolding Leads
-    pattern_absent None true is none = (λ yes. (sym is, refl), λ led. refl)
-    pattern_absent None false is none = absurd (false≢true none)
-    pattern_absent (Some span) true is none = absurd (false≢true (sym none))
-    pattern_absent (Some span) false is none = (λ yes. absurd (false≢true yes), λ led. let e = led.0 in absurd (cc))
+    pcre_absent None true is none = (λ yes. (sym is, refl), λ led. refl)
+    pcre_absent None false is none = absurd (false≢true none)
+    pcre_absent (Some span) true is none = absurd (false≢true (sym none))
+    pcre_absent (Some span) false is none = (λ yes. absurd (false≢true yes), λ led. let e = led.0 in absurd (cc))
 
     -- a pattern leads to the end of what it finds
-    pub pattern_only : (found : Option Span) → found ≡ means text flags (drop (cond relative place 0) payload)
+    pub pcre_only : (found : Option Span) → found ≡ means text flags (drop (cond relative place 0) payload)
         → LeadsOnlyTo (LeadsFrom means payload values (opt.Pcre text flags relative false) place) (option_map (λ span. cond relative place 0 + span.end) found)
     unfolding Leads
-    pattern_only None is = λ q led. let e = led.1 in cc
-    pattern_only (Some span) is = (
+    pcre_only None is = λ q led. let e = led.1 in cc
+    pcre_only (Some span) is = (
       (span, sym is, refl),
       λ q led.
           let e = led.1 in

@@ -1,4 +1,4 @@
--- The option that an extraction is.
+-- The option that an extraction is: byte_extract.
 use Rattle.rule_types.specs.declared.option.Opt.{Opt}
 use Rattle.rule_types.specs.declared.option.Opt.TheVariants as opt
 use Rattle.option_eval.specs.declared.extract.Extraction.{Extraction}

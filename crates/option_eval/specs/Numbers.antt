@@ -20,6 +20,14 @@ pub record Standing : Type 0 where
   pub place : ℕ
   pub values : List ℕ
 
+-- ---- relative
+
+-- where an option counts from: the place before it if it is relative, else the payload's start
+abbrev pub origin : Bool → Standing → ℕ
+origin relative before = if relative then before.place else 0
+
+-- ---- a number, or the name of one
+
 -- a number of an option: told, or the value of its name
 abbrev pub number_of : List ℕ → Num → ℤ
 number_of values (num.Value number) = number
@@ -29,9 +37,7 @@ number_of values (num.Name name) = pos (slice_index values name)
 abbrev pub number_if : List ℕ → Option Num → Option ℤ
 number_if values number = option_map (number_of values) number
 
--- where an option counts from: the place before it if it is relative, else the payload's start
-abbrev pub origin : Bool → Standing → ℕ
-origin relative before = if relative then before.place else 0
+-- ---- string, dec, hex, oct
 
 -- the value of a digit, in any base up to sixteen; sixteen for another byte
 abbrev pub digit_of : ℕ → ℕ
@@ -54,13 +60,17 @@ text_number radix text =
     let digits = front_digits radix text in
     if length digits == 0 then None else Some (digits_number radix digits)
 
--- the number in bytes
+-- ---- big, little
+
+-- the number in bytes, in a byte order or as a text
 unfoldable pub bytes_number : Base → List ℕ → Option ℕ
 bytes_number (base.Binary little) bytes =
     Some (if little then little_from 0 (length bytes) bytes else big_from 0 (length bytes) bytes)
 bytes_number base.Dec bytes = text_number 10 bytes
 bytes_number base.Hex bytes = text_number 16 bytes
 bytes_number base.Oct bytes = text_number 8 bytes
+
+-- ---- byte_test, byte_jump, byte_extract: the number that they take
 
 -- a whole number as a place of the payload; none below its start
 abbrev pub place_of : ℤ → Option ℕ
@@ -84,6 +94,8 @@ fetched payload fetch before = do
   bytes ← bytes_from payload fetch.bytes start
   number ← bytes_number fetch.base bytes
   Some (record { number = number; stop = start + fetch.bytes })
+
+-- ---- align
 
 -- a number rounded up to a multiple of `step`, or as it is where that is 0
 abbrev pub rounded_up : ℕ → ℕ → ℕ

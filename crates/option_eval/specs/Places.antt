@@ -16,6 +16,8 @@ use Rattle.rule_types.specs.declared.option.Cmp.TheVariants as cmp
 use Rattle.rule_types.specs.declared.option.Content.{Content}
 use Rattle.rule_types.specs.declared.option.FastMode.{FastMode}
 use Rattle.rule_types.specs.declared.option.FastMode.TheVariants as fast
+use Rattle.rule_types.specs.declared.option.Fetch.{Fetch}
+use Rattle.rule_types.specs.declared.option.Num.{Num}
 use Rattle.rule_types.specs.declared.option.Opt.{Opt}
 use Rattle.rule_types.specs.declared.option.Opt.TheVariants as opt
 use Rattle.rule_types.specs.declared.rule.Rule.{Rule}
@@ -29,33 +31,43 @@ Means = List ℕ → PatternFlags → List ℕ → Option Span
 abbrev pub at_place : Standing → ℕ → Standing
 at_place before place = record before { place = place }
 
--- how a content is sought: in either case or as it is, from a place on, and up to a place if there is one
-pub record Sought : Type 0 where
-  pub nocase : Bool
-  pub from : ℤ
-  pub until : Option ℤ
+-- a fact, or under `!` that it doesn't hold
+abbrev pub Unless : Bool → Type 0 → Type 0
+Unless negated P = MatchBool negated (¬ P) P
 
--- fast_pattern:only, which asks for the content anywhere and in either case
+-- ---- offset, depth, distance, within
+
+-- `offset`, or `distance` from the place before: where the window of a content begins
+abbrev pub window_start : Content → Standing → ℤ
+window_start content before = pos (origin content.relative before) +ℤ unwrap_or (number_if before.values content.from) (pos 0)
+
+-- `depth`, or `within`: the place so many bytes on, by which the content ends
+abbrev pub window_end : Content → Standing → Option ℤ
+window_end content before = option_map (λ room. window_start content before +ℤ room) (number_if before.values content.room)
+
+-- ---- fast_pattern
+
+-- `fast_pattern:only`, which asks for the content anywhere and in either case
 abbrev pub is_only : FastMode → Bool
 is_only fast.Only = true
 is_only _ = false
 
--- the place from which the content's place and room count on
-abbrev pub content_start : Content → Standing → ℤ
-content_start content before = pos (origin content.relative before) +ℤ unwrap_or (number_if before.values content.from) (pos 0)
+-- ---- content, nocase
+
+-- how a content is sought: under `nocase` in either case, from a place on, and up to a place if there is one
+pub record Sought : Type 0 where
+  pub nocase : Bool
+  pub from : ℤ
+  pub until : Option ℤ
 
 -- how the content is sought from a standing
 abbrev pub sought : Content → Standing → Sought
 sought content before =
     if is_only content.fast
     then record { nocase = true; from = pos 0; until = None }
-    else record {
-      nocase = content.nocase;
-      from = content_start content before;
-      until = option_map (λ room. content_start content before +ℤ room) (number_if before.values content.room);
-    }
+    else record { nocase = content.nocase; from = window_start content before; until = window_end content before }
 
--- bytes stand in the payload at place i, within what is sought
+-- bytes stand in the payload at place i, as they are sought
 pub record StandsAt (bytes payload : List ℕ) (how : Sought) (i : ℕ) : Type 0 where
   pub from : how.from ≤ℤ pos i
   pub until : IfSome how.until (λ end. pos (i + length bytes) ≤ℤ end)
@@ -70,14 +82,25 @@ ContentLeads content payload before after =
     (((i : ℕ) → ¬ Stands i) × (after ≡ before))
     ((i : ℕ) × Stands i × (after ≡ (if is_only content.fast then before else at_place before (i + length content.bytes))))
 
--- a pattern leads to the end of the one match that it finds, in the bytes from the place on if it is
--- relative; a negated one stays, where it finds nothing
-abbrev pub PatternLeads : (List ℕ → Option Span) → Bool → Bool → List ℕ → Standing → Standing → Type 0
-PatternLeads finds relative negated payload before after =
+-- ---- isdataat
+
+-- isdataat stays, where the payload has a byte so far from where it counts, or under `!` has none
+abbrev pub IsDataAtLeads : Num → Bool → Bool → List ℕ → Standing → Standing → Type 0
+IsDataAtLeads at relative negated payload before after =
+    Unless negated ((pos (origin relative before) +ℤ number_of before.values at) <ℤ pos (length payload)) × (after ≡ before)
+
+-- ---- pcre
+
+-- pcre leads to the end of the one match that its pattern finds, in the bytes from the place on if it is
+-- relative; a negated one stays, where nothing is found
+abbrev pub PcreLeads : (List ℕ → Option Span) → Bool → Bool → List ℕ → Standing → Standing → Type 0
+PcreLeads finds relative negated payload before after =
     let found = finds (drop (origin relative before) payload) in
     MatchBool negated
     ((found ≡ None) × (after ≡ before))
     ((span : Span) × (found ≡ Some span) × (after ≡ at_place before (origin relative before + span.end)))
+
+-- ---- byte_test
 
 -- two numbers have a bit in common
 abbrev pub SharesBit : ℕ → ℤ → Type 0
@@ -95,32 +118,50 @@ Compares cmp.Ge number value = value ≤ℤ pos number
 Compares cmp.And number value = SharesBit number value
 Compares cmp.Within number value = pos number ≡ value
 
--- a fact, or that it doesn't hold
-abbrev pub Unless : Bool → Type 0 → Type 0
-Unless negated P = MatchBool negated (¬ P) P
+-- byte_test stays, where the number compares so, or under `!` doesn't
+abbrev pub ByteTestLeads : Fetch → Bool → Cmp → Num → List ℕ → Standing → Standing → Type 0
+ByteTestLeads fetch negated cmp value payload before after =
+    (read : Fetched) × (fetched payload fetch before ≡ Some read)
+    × Unless negated (Compares cmp read.number (number_of before.values value)) × (after ≡ before)
 
--- the jump of a fetched number
-abbrev pub jump : ℕ → Bool → ℕ → ℕ
-jump times align number = rounded_up (if align then 4 else 0) (number * times)
+-- ---- byte_jump
+
+-- `multiplier`, then `align`: how far a number jumps
+abbrev pub byte_jump_len : ℕ → Bool → ℕ → ℕ
+byte_jump_len times align number = rounded_up (if align then 4 else 0) (number * times)
+
+-- byte_jump leads so far from the place after the number, or under `from_beginning` from the payload's
+-- start, and `post_offset` bytes more; no further than the payload's end
+abbrev pub ByteJumpLeads : Fetch → ℕ → Bool → Bool → ℤ → List ℕ → Standing → Standing → Type 0
+ByteJumpLeads fetch times align beginning post payload before after =
+    (read : Fetched) × (fetched payload fetch before ≡ Some read) × (after.values ≡ before.values)
+    × (after.place ≤ length payload)
+    × (pos after.place ≡ (pos ((if beginning then 0 else read.stop) + byte_jump_len times align read.number) +ℤ post))
+
+-- ---- byte_extract
+
+-- byte_extract leads behind the number, which the name has from there on
+abbrev pub ByteExtractLeads : Fetch → ℕ → ℕ → ℕ → List ℕ → Standing → Standing → Type 0
+ByteExtractLeads fetch name times align payload before after =
+    (read : Fetched) × (fetched payload fetch before ≡ Some read)
+    × (after ≡ record { place = read.stop; values = slice_set before.values name (rounded_up align (read.number * times)) })
+
+-- ---- all options of a rule
 
 -- from a standing an option leads to another, which has the place and the values behind it; an option
 -- that asks nothing of the payload leads nowhere else
 unfoldable pub Leads : Means → List ℕ → Opt → Standing → Standing → Type 0
 Leads means payload (opt.Content content) before after = ContentLeads content payload before after
-Leads means payload (opt.Pcre text flags relative negated) before after =
-    PatternLeads (means text flags) relative negated payload before after
-Leads means payload (opt.ByteTest fetch not cmp value) before after =
-    (read : Fetched) × (fetched payload fetch before ≡ Some read)
-    × Unless not (Compares cmp read.number (number_of before.values value)) × (after ≡ before)
-Leads means payload (opt.ByteJump fetch times align beginning post) before after =
-    (read : Fetched) × (fetched payload fetch before ≡ Some read) × (after.values ≡ before.values)
-    × (after.place ≤ length payload)
-    × (pos after.place ≡ (pos ((if beginning then 0 else read.stop) + jump times align read.number) +ℤ post))
-Leads means payload (opt.ByteExtract fetch name times align) before after =
-    (read : Fetched) × (fetched payload fetch before ≡ Some read)
-    × (after ≡ record { place = read.stop; values = slice_set before.values name (rounded_up align (read.number * times)) })
 Leads means payload (opt.IsDataAt at relative negated) before after =
-    Unless negated ((pos (origin relative before) +ℤ number_of before.values at) <ℤ pos (length payload)) × (after ≡ before)
+    IsDataAtLeads at relative negated payload before after
+Leads means payload (opt.Pcre text flags relative negated) before after =
+    PcreLeads (means text flags) relative negated payload before after
+Leads means payload (opt.ByteTest fetch negated cmp value) before after =
+    ByteTestLeads fetch negated cmp value payload before after
+Leads means payload (opt.ByteJump fetch times align beginning post) before after =
+    ByteJumpLeads fetch times align beginning post payload before after
+Leads means payload (opt.ByteExtract fetch name times align) before after =
+    ByteExtractLeads fetch name times align payload before after
 Leads means payload _ before after = after ≡ before
 
 -- a way through the options: the standings behind each of them

@@ -64,23 +64,6 @@ pub record Adds (every : Bool) (P : ℕ → Type 0) (old new : List ℕ) : Type 
   pub kept : (q : ℕ) → Contains old q → Contains new q
   pub complete : (q : ℕ) → P q → IsGot every new q
 
--- a content's reach from its origin, whether it folds case, and its origin, where a place stands before it
-abbrev pub reach_from : Content → List ℕ → ℤ
-reach_from content values = if is_only content.fast then pos 0 else unwrap_or (number_if values content.from) (pos 0)
-
-abbrev pub reach_room : Content → List ℕ → Option ℤ
-reach_room content values = if is_only content.fast then None else number_if values content.room
-
-abbrev pub folds_case : Content → Bool
-folds_case content = is_only content.fast || content.nocase
-
-abbrev pub content_origin : Content → ℕ → ℕ
-content_origin content place = if not (is_only content.fast) && content.relative then place else 0
-
--- the content stands somewhere, seen from a place
-abbrev pub StandsFrom : List ℕ → Content → List ℕ → ℕ → Type 0
-StandsFrom payload content values place = (i : ℕ) × StandsAt content.bytes payload (sought content (standing values place)) i
-
 -- a whole number is this place of a payload of so many bytes, or is none
 abbrev pub PlaceIn : ℤ → ℕ → Option ℕ → Type 0
 PlaceIn place len None = (q : ℕ) → q ≤ len → ¬ (pos q ≡ place)
@@ -95,3 +78,25 @@ with_if places (Some place) = places ++ place ∷ []
 abbrev pub IsAscending : ℕ → List ℕ → Type 0
 IsAscending low [] = Unit {0}
 IsAscending low (x ∷ xs) = (low ≤ x) × IsAscending x xs
+
+-- ---- content: offset, depth, distance, within; nocase
+
+-- `offset`, or `distance`: how far from its origin a content stands at least
+abbrev pub reach_from : Content → List ℕ → ℤ
+reach_from content values = if is_only content.fast then pos 0 else unwrap_or (number_if values content.from) (pos 0)
+
+-- `depth`, or `within`: in how many bytes from there it lies
+abbrev pub reach_room : Content → List ℕ → Option ℤ
+reach_room content values = if is_only content.fast then None else number_if values content.room
+
+-- `nocase`: in either case
+abbrev pub folds_case : Content → Bool
+folds_case content = is_only content.fast || content.nocase
+
+-- where it counts from
+abbrev pub content_origin : Content → ℕ → ℕ
+content_origin content place = if not (is_only content.fast) && content.relative then place else 0
+
+-- the content stands somewhere, seen from a place
+abbrev pub StandsFrom : List ℕ → Content → List ℕ → ℕ → Type 0
+StandsFrom payload content values place = (i : ℕ) × StandsAt content.bytes payload (sought content (standing values place)) i

@@ -21,113 +21,10 @@ use smallvec::SmallVec;
 use std::alloc::Global;
 use std::sync::ledger::Ledger;
 
-/// Whether the content is sought anywhere and in either case, and asks nothing else.
-pub(crate) fn is_only(content: &Content) -> bool
-    ensures { result ≡ is_only content.now.fast }
-{
-    matches!(content.fast, FastMode::Only)
-}
+// ---- content
 
-/// A number that may be absent.
-fn number_if(values: &Values, wanted: Option<Num>) -> Option<i128>
-    ensures value { result ≡ number_if values.now wanted }
-    ensures small { ForSome result IsSmall }
-{
-    match wanted {
-        None => None,
-        Some(wanted) => Some(number(values, wanted)),
-    }
-}
-
-/// How far from its origin the content may stand.
-fn reach(content: &Content, values: &Values) -> Reach
-    ensures from { result.from ≡ reach_from content.now values.now }
-    ensures room { result.room ≡ reach_room content.now values.now }
-{
-    if is_only(content) {
-        return Reach {
-            from: 0,
-            room: None,
-        };
-    }
-    Reach {
-        from: number_if(values, content.from).unwrap_or(0),
-        room: number_if(values, content.room),
-    }
-}
-
-/// The bytes of the content, as they are sought.
-fn needle<'a>(content: &'a Content, finder: &'a Finder<'static>) -> Needle<'a>
-    ensures bytes { result.bytes.now ≡ content.now.bytes }
-    ensures finder { result.finder.now ≡ finder.now }
-    ensures nocase { result.nocase ≡ folds_case content.now }
-{
-    Needle {
-        bytes: content.bytes.bytes(),
-        finder,
-        nocase: is_only(content) || content.nocase,
-    }
-}
-
-/// Where the content counts from.
-fn content_origin(content: &Content, place: usize) -> usize
-    ensures { result ≡ content_origin content.now place }
-{
-    if !is_only(content) && content.relative {
-        place
-    } else {
-        0
-    }
-}
-
-/// Whether the bytes stand within reach of a place.
-fn stands(needle: &Needle, reach: &Reach, payload: &[u8], place: usize) -> bool
-    requires same { needle.now.finder.now ≡ needle.now.bytes.now }
-    requires some { 1 ≤ length needle.now.bytes.now }
-    requires fits { length needle.now.bytes.now ≤ length payload.now }
-    ensures { IsTrue result ↔ ((i : ℕ) × IsWithin reach.now (length needle.now.bytes.now) place i
-        × Occurs needle.now.nocase payload.now needle.now.bytes.now i) }
-{
-    let size = needle.bytes.len();
-    let bound = payload.len() - size + 1;
-    let end = reach.end(place, size, bound);
-    let low = reach.low(place, bound).min(end);
-    needle.first_in(payload, low, end).is_some()
-}
-
-/// Whether the content stands somewhere, seen from a place.
-pub(crate) fn content_stands(
-    content: &Content,
-    finder: &Finder<'static>,
-    payload: &[u8],
-    place: usize,
-    values: &Values,
-) -> bool
-    requires same { finder.now ≡ content.now.bytes }
-    requires some { 1 ≤ length content.now.bytes }
-    ensures { IsTrue result ↔ StandsFrom payload.now content.now values.now place }
-{
-    let needle = needle(content, finder);
-    if needle.bytes.len() > payload.len() {
-        return false;
-    }
-    stands(
-        &needle,
-        &reach(content, values),
-        payload,
-        content_origin(content, place),
-    )
-}
-
-/// The places that a content is asked from: the payload's start alone, unless it is relative.
-fn asked_from(relative: bool, places: &[usize]) -> &[usize]
-    ensures { MatchBool relative (result.now ≡ places.now) (result.now ≡ 0 ∷ []) }
-{
-    if relative { places } else { &[0] }
-}
-
-/// Where a content leads from a set of places.
-pub(crate) fn content_places<L: Ledger>(
+/// Where a `content` leads from a set of places: to the ends of the bytes in its windows.
+pub(crate) fn places_after_content<L: Ledger>(
     alloc: Global,
     content: &Content,
     finder: &Finder<'static>,
@@ -163,8 +60,8 @@ pub(crate) fn content_places<L: Ledger>(
     )
 }
 
-/// The places of the set from which a negated content holds that counts from them.
-pub(crate) fn content_absent<L: Ledger>(
+/// The places of the set from which a `content:!` holds that counts from them, by `distance` or `within`.
+pub(crate) fn places_after_negated_content<L: Ledger>(
     alloc: Global,
     content: &Content,
     finder: &Finder<'static>,
@@ -192,4 +89,116 @@ pub(crate) fn content_absent<L: Ledger>(
         places,
         visits,
     )
+}
+
+/// Whether the content stands somewhere, seen from a place.
+pub(crate) fn content_stands(
+    content: &Content,
+    finder: &Finder<'static>,
+    payload: &[u8],
+    place: usize,
+    values: &Values,
+) -> bool
+    requires same { finder.now ≡ content.now.bytes }
+    requires some { 1 ≤ length content.now.bytes }
+    ensures { IsTrue result ↔ StandsFrom payload.now content.now values.now place }
+{
+    let needle = needle(content, finder);
+    if needle.bytes.len() > payload.len() {
+        return false;
+    }
+    stands(
+        &needle,
+        &reach(content, values),
+        payload,
+        content_origin(content, place),
+    )
+}
+
+/// Whether the bytes stand within reach of a place.
+fn stands(needle: &Needle, reach: &Reach, payload: &[u8], place: usize) -> bool
+    requires same { needle.now.finder.now ≡ needle.now.bytes.now }
+    requires some { 1 ≤ length needle.now.bytes.now }
+    requires fits { length needle.now.bytes.now ≤ length payload.now }
+    ensures { IsTrue result ↔ ((i : ℕ) × IsWithin reach.now (length needle.now.bytes.now) place i
+        × Occurs needle.now.nocase payload.now needle.now.bytes.now i) }
+{
+    let size = needle.bytes.len();
+    let bound = payload.len() - size + 1;
+    let end = reach.end(place, size, bound);
+    let low = reach.low(place, bound).min(end);
+    needle.first_in(payload, low, end).is_some()
+}
+
+// ---- nocase
+
+/// The bytes of the content, as they are sought: under `nocase`, or `fast_pattern:only`, in either case.
+fn needle<'a>(content: &'a Content, finder: &'a Finder<'static>) -> Needle<'a>
+    ensures bytes { result.bytes.now ≡ content.now.bytes }
+    ensures finder { result.finder.now ≡ finder.now }
+    ensures nocase { result.nocase ≡ folds_case content.now }
+{
+    Needle {
+        bytes: content.bytes.bytes(),
+        finder,
+        nocase: is_only(content) || content.nocase,
+    }
+}
+
+// ---- offset, depth, distance, within
+
+/// The window of the content, as seen from its origin: from `offset` or `distance` on, and within the bytes of
+/// `depth` or `within`.
+fn reach(content: &Content, values: &Values) -> Reach
+    ensures from { result.from ≡ reach_from content.now values.now }
+    ensures room { result.room ≡ reach_room content.now values.now }
+{
+    if is_only(content) {
+        return Reach {
+            from: 0,
+            room: None,
+        };
+    }
+    Reach {
+        from: number_if(values, content.from).unwrap_or(0),
+        room: number_if(values, content.room),
+    }
+}
+
+/// A number that may be absent.
+fn number_if(values: &Values, wanted: Option<Num>) -> Option<i128>
+    ensures value { result ≡ number_if values.now wanted }
+    ensures small { ForSome result IsSmall }
+{
+    match wanted {
+        None => None,
+        Some(wanted) => Some(number(values, wanted)),
+    }
+}
+
+/// Where the content counts from: `distance` and `within` from the place before it.
+fn content_origin(content: &Content, place: usize) -> usize
+    ensures { result ≡ content_origin content.now place }
+{
+    if !is_only(content) && content.relative {
+        place
+    } else {
+        0
+    }
+}
+
+/// The places that a content is asked from: the payload's start alone, unless it is relative.
+fn asked_from(relative: bool, places: &[usize]) -> &[usize]
+    ensures { MatchBool relative (result.now ≡ places.now) (result.now ≡ 0 ∷ []) }
+{
+    if relative { places } else { &[0] }
+}
+
+// ---- fast_pattern
+
+/// `fast_pattern:only`: whether the content is sought anywhere and in either case, and asks nothing else.
+pub(crate) fn is_only(content: &Content) -> bool
+    ensures { result ≡ is_only content.now.fast }
+{
+    matches!(content.fast, FastMode::Only)
 }

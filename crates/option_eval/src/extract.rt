@@ -1,4 +1,4 @@
-//! The states behind an extraction.
+//! `byte_extract`: the states behind an extraction.
 
 ghost use Rattle.std.specs.Prelude.{◌≡◌, ℕ, ◌+◌, ◌<◌, ◌≤◌, [], ◌∷◌, List, Contains, length, slice_set, IfOk, OnOk, bytes_eq};
 ghost use Rattle.rule_types.specs.declared.option.Opt.{Opt};
@@ -18,7 +18,7 @@ use edge_io::NoMemory;
 use rule_types::Fetch;
 use std::sync::ledger::Ledger;
 
-/// An extraction, and which values the options behind it still read.
+/// A `byte_extract`, and which values the options behind it still read.
 #[derive(Clone, Copy)]
 pub(crate) struct Extraction {
     pub fetch: Fetch,
@@ -45,7 +45,7 @@ impl Extraction {
         requires rising { IsRising 0 places.now (length payload.now + 1) }
         ensures right { (means : Means) → (later : List Opt) → self.now.read ≡ names_read later → OnOk result
             (Leaves means payload.now (extract_option self.now ∷ later) values.now places.now states.old states.new) }
-        ensures within { AreWithin (length payload.now) states.old → OnOk result (AreWithin (length payload.now) states.new) }
+        ensures inside { AreWithin (length payload.now) states.old → OnOk result (AreWithin (length payload.now) states.new) }
         ensures bounded { visits.new ≤ visits.old + (length payload.now + 1) }
     {
         self.extract_each(
@@ -69,7 +69,7 @@ impl Extraction {
         requires in_range { IsInRange (extract_option self.now) }
         ensures right { (means : Means) → (later : List Opt) → self.now.read ≡ names_read later → OnOk result
             (Leaves means payload.now (extract_option self.now ∷ later) values.now places.now states.old states.new) }
-        ensures within { AreWithin (length payload.now) states.old → OnOk result (AreWithin (length payload.now) states.new) }
+        ensures inside { AreWithin (length payload.now) states.old → OnOk result (AreWithin (length payload.now) states.new) }
         ensures bounded { visits.new ≤ visits.old + length places.now }
         ensures counted { OnOk result (visits.new ≡ visits.old + length places.now) }
     {
@@ -93,7 +93,7 @@ impl Extraction {
         requires in_range { IsInRange (extract_option self.now) }
         ensures right { (means : Means) → (later : List Opt) → self.now.read ≡ names_read later → OnOk result
             (Leaves means payload.now (extract_option self.now ∷ later) values.now (place ∷ []) states.old states.new) }
-        ensures within { AreWithin (length payload.now) states.old → OnOk result (AreWithin (length payload.now) states.new) }
+        ensures inside { AreWithin (length payload.now) states.old → OnOk result (AreWithin (length payload.now) states.new) }
     {
         match fetched_number(&self.fetch, payload, place, values) {
             None => Ok(()),

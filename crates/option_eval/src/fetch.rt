@@ -51,7 +51,7 @@ fn digit_of(byte: u8) -> u8
 
 fn digit_count(radix: u8, text: &[u8]) -> usize
     ensures value { result ≡ prefix_len (λ byte. nat_lt (digit_of byte) radix) text.now }
-    ensures within { result ≤ length text.now }
+    ensures inside { result ≤ length text.now }
 {
     text.iter()
         .take_while(|byte| digit_of(**byte) < radix)
@@ -113,7 +113,7 @@ pub(crate) fn fetched_number(
     ensures value { option_map (λ f. record { number = f.number; stop = f.stop }) result
         ≡ fetched payload.now fetch.now (standing values.now place) }
     ensures small { IfSome result (λ f. f.number < 2 ^ 41) }
-    ensures within { IfSome result (λ f. f.stop ≤ length payload.now) }
+    ensures inside { IfSome result (λ f. f.stop ≤ length payload.now) }
 {
     let start = origin(fetch.relative, place) as i128 + number(values, fetch.offset);
     let start = usize::try_from(start).ok()?;

@@ -1,9 +1,10 @@
 //! Whether a payload matches a rule's payload options.
 //!
 //! A rule's options are gone through in their order, each from the places to which those before it led
-//! (Snort Users Manual 2.9, section 3.5; specs/Numbers, specs/Places). A `RuleSet` keeps the rules with
-//! what was made of them once, and `payload_matches` says whether some way leads through all options of
-//! a rule. The lanes of flows stand on this crate.
+//! (Snort Users Manual 2.9, section 3.5; specs/Numbers, specs/Places, which have a heading an option). Where
+//! an option leads is found in src/content, src/leads (isdataat, pcre, byte_test, byte_jump) and src/extract. A
+//! `RuleSet` keeps the rules with what was made of them once, and `payload_matches` says whether some way
+//! leads through all options of a rule. The lanes of flows stand on this crate.
 #![tactic(auto)]
 
 mod absent;
@@ -14,7 +15,7 @@ mod fetch;
 mod kept;
 mod kind;
 mod known;
-mod led;
+mod leads;
 mod made;
 mod making;
 mod needle;

@@ -10,10 +10,10 @@ ghost use Rattle.option_eval.specs.RuleSet.{IsMade};
 ghost use Rattle.option_eval.specs.Sets.{IsRising, Gathers, IsLedTo, LeadsFrom, with_if};
 
 use crate::Steps;
-use crate::content::{content_absent, content_places};
+use crate::content::{places_after_content, places_after_negated_content};
 use crate::fetch::Values;
 use crate::kind::{is_payload_option, is_relative, is_test};
-use crate::led::{led_place, test_holds};
+use crate::leads::{place_after_jump, test_holds};
 use crate::made::Made;
 use crate::sweep::Places;
 use edge_io::{NoMemory, Pattern};
@@ -29,17 +29,6 @@ pub(crate) enum Next {
     Same,
     /// These.
     To(Places),
-}
-
-/// How many visits a test of the first place is: where a content isn't negated, the places where it is
-/// compared.
-fn cost(option: &Opt, payload: &[u8]) -> u64
-    ensures { result ≤ length payload.now + 1 }
-{
-    match option {
-        Opt::Content(content) if !content.negated => payload.len() as u64,
-        _ => 1,
-    }
 }
 
 /// Where an option other than an extraction leads from a set of places. Every place is given if every
@@ -68,13 +57,26 @@ pub(crate) fn next_places<P: Pattern, L: Ledger>(
         return Ok(Next::Same);
     }
     if is_test(option) {
-        return tested(alloc, option, made, payload, places, values, visits);
+        return places_after_test(alloc, option, made, payload, places, values, visits);
     }
-    moved(alloc, option, made, payload, places, values, every, visits)
+    places_after_move(alloc, option, made, payload, places, values, every, visits)
 }
 
-/// The places at which a test holds.
-fn tested<P: Pattern, L: Ledger>(
+/// How many visits a test of the first place is: where a content isn't negated, the places where it is
+/// compared.
+fn cost(option: &Opt, payload: &[u8]) -> u64
+    ensures { result ≤ length payload.now + 1 }
+{
+    match option {
+        Opt::Content(content) if !content.negated => payload.len() as u64,
+        _ => 1,
+    }
+}
+
+// ---- content:!, fast_pattern:only, isdataat, pcre:!, byte_test
+
+/// The places at which a test holds: an option that leads nowhere but to the place before it.
+fn places_after_test<P: Pattern, L: Ledger>(
     alloc: Global,
     option: &Opt,
     made: &Made<P>,
@@ -95,7 +97,9 @@ fn tested<P: Pattern, L: Ledger>(
     ensures bounded { visits.new ≤ visits.old + (length payload.now + 1) }
 {
     if is_relative(option) {
-        return Ok(Next::To(places_kept(alloc, option, made, payload, places, values, visits)?));
+        return Ok(Next::To(places_after_relative_test(
+            alloc, option, made, payload, places, values, visits,
+        )?));
     }
     visits.tick_by(cost(option, payload));
     if test_holds(option, made, payload, places[0], values)? {
@@ -106,7 +110,7 @@ fn tested<P: Pattern, L: Ledger>(
 }
 
 /// The places at which a relative test holds. A content is asked from all of them together.
-fn places_kept<P: Pattern, L: Ledger>(
+fn places_after_relative_test<P: Pattern, L: Ledger>(
     alloc: Global,
     option: &Opt,
     made: &Made<P>,
@@ -128,14 +132,14 @@ fn places_kept<P: Pattern, L: Ledger>(
     match (option, made) {
         (Opt::Content(content), Made::Needle(finder))
             if content.bytes.bytes().len() <= payload.len() => {
-            content_absent(alloc, content, finder, payload, places, values, visits)
+            places_after_negated_content(alloc, content, finder, payload, places, values, visits)
         }
-        _ => kept_places(alloc, option, made, payload, places, values, visits),
+        _ => places_where_test_holds(alloc, option, made, payload, places, values, visits),
     }
 }
 
 /// The places at which a relative test holds, each asked.
-fn kept_places<P: Pattern, L: Ledger>(
+fn places_where_test_holds<P: Pattern, L: Ledger>(
     alloc: Global,
     option: &Opt,
     made: &Made<P>,
@@ -166,18 +170,10 @@ fn kept_places<P: Pattern, L: Ledger>(
     Ok(next)
 }
 
-/// The places, and one more if it is wanted.
-pub(crate) fn with_place(mut places: Places, wanted: bool, place: usize) -> Result<Places, NoMemory>
-    ensures { IfOk result (λ next. next.items ≡ (if wanted then places.items ++ place ∷ [] else places.items)) }
-{
-    if wanted {
-        places.push(place)?;
-    }
-    Ok(places)
-}
+// ---- content, pcre, byte_jump
 
-/// Where an option that isn't a test leads.
-fn moved<P: Pattern, L: Ledger>(
+/// Where a `content`, a `pcre` or a `byte_jump` leads: to other places.
+fn places_after_move<P: Pattern, L: Ledger>(
     alloc: Global,
     option: &Opt,
     made: &Made<P>,
@@ -199,27 +195,16 @@ fn moved<P: Pattern, L: Ledger>(
     ensures bounded { visits.new ≤ visits.old + (length payload.now + 1) }
 {
     match (option, made) {
-        (Opt::Content(content), Made::Needle(finder)) => Ok(Next::To(content_places(
+        (Opt::Content(content), Made::Needle(finder)) => Ok(Next::To(places_after_content(
             alloc, content, finder, payload, places, values, every, visits,
         )?)),
         (Opt::Content(_), _) => Ok(Next::Same),
-        _ => Ok(Next::To(jumped(alloc, option, made, payload, places, values, visits)?)),
+        _ => Ok(Next::To(places_after_jump(alloc, option, made, payload, places, values, visits)?)),
     }
 }
 
-/// The places that are asked: the first alone, unless the option is relative.
-pub(crate) fn asked_of(relative: bool, places: &[usize]) -> &[usize]
-    ensures { result.now ≡ (if relative then places.now else take 1 places.now) }
-{
-    if relative {
-        places
-    } else {
-        &places[..places.len().min(1)]
-    }
-}
-
-/// Where jumps lead, each place asked.
-fn jumped<P: Pattern, L: Ledger>(
+/// Where a `pcre` or a `byte_jump` leads, each place asked.
+fn places_after_jump<P: Pattern, L: Ledger>(
     alloc: Global,
     option: &Opt,
     made: &Made<P>,
@@ -238,7 +223,7 @@ fn jumped<P: Pattern, L: Ledger>(
     ensures rising { IfOk result (λ next. IsRising 0 next.items (length payload.now + 1)) }
     ensures bounded { visits.new ≤ visits.old + (length payload.now + 1) }
 {
-    let led = led_places(
+    let led = jump_places(
         alloc,
         option,
         made,
@@ -250,17 +235,8 @@ fn jumped<P: Pattern, L: Ledger>(
     rising(alloc, sorted(led).as_slice())
 }
 
-/// The places in order.
-pub(crate) fn sorted(mut places: Places) -> Places
-    ensures same { IsPermutation places.items result.items }
-    ensures order { IsNonDecreasing result.items }
-{
-    places.as_mut_slice().sort_unstable();
-    places
-}
-
-/// Where jumps lead from these places, in the order of the places.
-fn led_places<P: Pattern, L: Ledger>(
+/// The same from these places, in their order.
+fn jump_places<P: Pattern, L: Ledger>(
     alloc: Global,
     option: &Opt,
     made: &Made<P>,
@@ -271,31 +247,63 @@ fn led_places<P: Pattern, L: Ledger>(
 ) -> Result<Places, NoMemory>
     requires ready { IsReady option.now made.now }
     requires jumps { IsJump option.now }
-    requires within { (p : ℕ) → Contains places.now p → p ≤ length payload.now }
+    requires inside { (p : ℕ) → Contains places.now p → p ≤ length payload.now }
     ensures found { (means : Means) → IsMade P.finds means option.now (pattern_of made.now) → IfOk result (λ led. (q : ℕ) →
         Contains led.items q ↔ IsLedTo (LeadsFrom means payload.now values.now option.now) places.now q) }
-    ensures within { IfOk result (λ led. (q : ℕ) → Contains led.items q → q ≤ length payload.now) }
+    ensures inside { IfOk result (λ led. (q : ℕ) → Contains led.items q → q ≤ length payload.now) }
     ensures bounded { visits.new ≤ visits.old + length places.now }
 {
     let mut led = SmallVec::new(alloc);
     let mut rest = places;
     while let [place, later @ ..] = rest {
         visits.tick();
-        let next = led_place(option, made, payload, *place, values)?;
-        led = with_led(led, next)?;
+        let next = place_after_jump(option, made, payload, *place, values)?;
+        led = with_if(led, next)?;
         rest = later;
     }
     Ok(led)
 }
 
+// ---- sets of places
+
+/// The places that are asked: the first alone, unless the option is relative.
+pub(crate) fn asked_of(relative: bool, places: &[usize]) -> &[usize]
+    ensures { result.now ≡ (if relative then places.now else take 1 places.now) }
+{
+    if relative {
+        places
+    } else {
+        &places[..places.len().min(1)]
+    }
+}
+
+/// The places, and one more if it is wanted.
+pub(crate) fn with_place(mut places: Places, wanted: bool, place: usize) -> Result<Places, NoMemory>
+    ensures { IfOk result (λ next. next.items ≡ (if wanted then places.items ++ place ∷ [] else places.items)) }
+{
+    if wanted {
+        places.push(place)?;
+    }
+    Ok(places)
+}
+
 /// The places, and one more if there is one.
-fn with_led(mut places: Places, led: Option<usize>) -> Result<Places, NoMemory>
+fn with_if(mut places: Places, led: Option<usize>) -> Result<Places, NoMemory>
     ensures { IfOk result (λ next. next.items ≡ with_if places.items led) }
 {
     if let Some(place) = led {
         places.push(place)?;
     }
     Ok(places)
+}
+
+/// The places in order.
+pub(crate) fn sorted(mut places: Places) -> Places
+    ensures same { IsPermutation places.items result.items }
+    ensures order { IsNonDecreasing result.items }
+{
+    places.as_mut_slice().sort_unstable();
+    places
 }
 
 /// Sorted places, each once.

@@ -77,7 +77,7 @@ fn is_passed_behind<P: Pattern, L: Ledger>(
     visits: &mut Steps<L>,
 ) -> Result<bool, NoMemory>
     requires ready { AllZip IsReady options.now made.now }
-    requires within { AreWithin (length payload.now) states }
+    requires inside { AreWithin (length payload.now) states }
     requires nowhere { ExtractsNothing options.now → (values : List ℕ) → places_at states values ≡ None }
     ensures right { (means : Means) → AllZip (IsMade P.finds means) options.now (map pattern_of made.now)
         → IfOk result (λ passed. IsTrue passed ↔ MatchesFromSome means payload.now (behind_extraction options.now) states) }
@@ -109,7 +109,7 @@ fn is_passed_from<P: Pattern, L: Ledger>(
     visits: &mut Steps<L>,
 ) -> Result<bool, NoMemory>
     requires ready { AllZip IsReady options.now made.now }
-    requires within { AreWithin (length payload.now) states }
+    requires inside { AreWithin (length payload.now) states }
     ensures right { (means : Means) → AllZip (IsMade P.finds means) options.now (map pattern_of made.now)
         → IfOk result (λ passed. IsTrue passed ↔ MatchesFromSome means payload.now options.now states) }
     ensures bounded { (means : Means) → (lists : List (List ℕ)) → (listed : List Standing)
@@ -152,7 +152,7 @@ fn is_part_passed<P: Pattern, L: Ledger>(
     visits: &mut Steps<L>,
 ) -> Result<bool, NoMemory>
     requires ready { AllZip IsReady options.now made.now }
-    requires within { AreWithin (length payload.now) states.old }
+    requires inside { AreWithin (length payload.now) states.old }
     requires nowhere { ExtractsNothing options.now → (values : List ℕ) → places_at states.old values ≡ None }
     ensures right { (means : Means) → AllZip (IsMade P.finds means) options.now (map pattern_of made.now)
         → IfOk result (λ passed. MatchBool passed (MatchesFromSome means payload.now (behind_extraction options.now) states.old)

@@ -1,13 +1,15 @@
-//! How far from a place a content may stand.
+//! The window of a content, as `offset` and `depth`, or `distance` and `within`, give it.
 
 ghost use Rattle.std.specs.Prelude.{◌≡◌, ℕ, ◌+◌, ◌<◌, ◌≤◌, pos, ◌+ℤ◌, ◌≤ℤ◌, ◌↔◌, ◌^◌, IfSome};
 ghost use Rattle.std.specs.Option.{ForSome};
 ghost use Rattle.option_eval.specs.Ranges.{IsSmall, IsSpan};
 
-/// How far from a place a content may stand: so far on at least, and within so many bytes from there.
+/// How far from a place a content may stand.
 #[derive(Clone, Copy)]
 pub(crate) struct Reach {
+    /// `offset`, or `distance`: so far on at least.
     pub from: i128,
+    /// `depth`, or `within`: in so many bytes from there.
     pub room: Option<i128>,
     ghost from_small: { IsSmall from },
     ghost room_small: { ForSome room IsSmall },
@@ -24,7 +26,7 @@ impl Reach {
 
     /// The first place within reach, or `bound`.
     pub fn low(&self, place: usize, bound: usize) -> usize
-        ensures within { result ≤ bound }
+        ensures inside { result ≤ bound }
         ensures low { (i : ℕ) → i < bound → ((pos place +ℤ self.now.from) ≤ℤ pos i) ↔ (result ≤ i) }
     {
         first_from(self.start(place), bound)
@@ -32,7 +34,7 @@ impl Reach {
 
     /// The place behind the last within reach of a content of this size, or `bound`.
     pub fn end(&self, place: usize, size: usize, bound: usize) -> usize
-        ensures within { result ≤ bound }
+        ensures inside { result ≤ bound }
         ensures end { (i : ℕ) → i < bound
             → (IfSome self.now.room (λ room. pos (i + size) ≤ℤ ((pos place +ℤ self.now.from) +ℤ room))) ↔ (i < result) }
     {
@@ -47,7 +49,7 @@ impl Reach {
 fn first_past(start: i128, room: i128, size: usize, bound: usize) -> usize
     requires start { IsSpan start }
     requires room { IsSmall room }
-    ensures within { result ≤ bound }
+    ensures inside { result ≤ bound }
     ensures end { (i : ℕ) → i < bound → (pos (i + size) ≤ℤ (start +ℤ room)) ↔ (i < result) }
 {
     let last = start + room - size as i128;
@@ -56,7 +58,7 @@ fn first_past(start: i128, room: i128, size: usize, bound: usize) -> usize
 
 /// The first place from a whole number on, or `bound`.
 fn first_from(start: i128, bound: usize) -> usize
-    ensures within { result ≤ bound }
+    ensures inside { result ≤ bound }
     ensures from { (i : ℕ) → i < bound → (start ≤ℤ pos i) ↔ (result ≤ i) }
 {
     if start <= 0 {

@@ -47,13 +47,13 @@ pub(crate) fn is_state_walked<P: Pattern, L: Ledger>(
     visits: &mut Steps<L>,
 ) -> Result<bool, NoMemory>
     requires ready { AllZip IsReady options.now made.now }
-    requires within { (p : ℕ) → Contains state.places.items p → p ≤ length payload.now }
+    requires inside { (p : ℕ) → Contains state.places.items p → p ≤ length payload.now }
     requires known_rising { AreRising (length payload.now + 1) behind.old.known }
     ensures right { (means : Means) → AllZip (IsMade P.finds means) options.now (map pattern_of made.now)
         → AreKnown means payload.now options.now behind.old.known
         → IfOk result (λ walked. MatchBool walked (MatchesFromOne means payload.now options.now state.values state.places.items)
         (Leaves means payload.now options.now state.values state.places.items behind.old.states behind.new.states)) }
-    ensures within { AreWithin (length payload.now) behind.old.states
+    ensures inside { AreWithin (length payload.now) behind.old.states
         → IfOk result (λ walked. AreWithin (length payload.now) behind.new.states) }
     ensures nowhere { ExtractsNothing options.now → behind.new.states ≡ behind.old.states }
     ensures bounded { visits.new ≤ visits.old + visits_of (upto_extraction options.now) (length payload.now) }
@@ -93,7 +93,7 @@ pub(crate) fn is_walked<P: Pattern, L: Ledger>(
         → IfOk result (λ walked. MatchBool walked (MatchesFromOne means at.now.payload.now options.now at.now.values.now
         at.now.places.now)
         (Leaves means at.now.payload.now options.now at.now.values.now at.now.places.now behind.old.states behind.new.states)) }
-    ensures within { AreWithin (length at.now.payload.now) behind.old.states
+    ensures inside { AreWithin (length at.now.payload.now) behind.old.states
         → IfOk result (λ walked. AreWithin (length at.now.payload.now) behind.new.states) }
     ensures nowhere { ExtractsNothing options.now → behind.new.states ≡ behind.old.states }
     ensures bounded { visits.new ≤ visits.old + visits_of (upto_extraction options.now) (length at.now.payload.now) }
@@ -154,7 +154,7 @@ fn is_walked_from<P: Pattern, L: Ledger>(
         (MatchesFromOne means at.now.payload.now options.now at.now.values.now (next_set next.now at.now.places.now))
         (Leaves means at.now.payload.now options.now at.now.values.now (next_set next.now at.now.places.now)
         behind.old.states behind.new.states)) }
-    ensures within { AreWithin (length at.now.payload.now) behind.old.states
+    ensures inside { AreWithin (length at.now.payload.now) behind.old.states
         → IfOk result (λ walked. AreWithin (length at.now.payload.now) behind.new.states) }
     ensures nowhere { ExtractsNothing options.now → behind.new.states ≡ behind.old.states }
     ensures bounded { visits.new ≤ visits.old + visits_of (upto_extraction options.now) (length at.now.payload.now) }

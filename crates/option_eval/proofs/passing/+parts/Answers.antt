@@ -32,7 +32,7 @@ is_passed_behind-returns-clause-bounded_in_parts g t c = λ means lists made hav
     (c.is_passed_from.ensures.bounded_in_parts means lists (c.in-Some.ensures.made g.P.Pattern.finds means made) have_later)
 
 pub is_part_passed-taken_part-requires : goal.is_part_passed-taken_part-requires
-is_part_passed-taken_part-requires g t c = record { small = each_weaker c.args.states.now (λ v. ⊤) (λ v. ⊤) (λ v p. p ≤ length c.args.payload.now) (λ v p. p < 2 ^ 63) (λ v key. tt) (λ v p below. omega arith) c.requires.within }
+is_part_passed-taken_part-requires g t c = record { small = each_weaker c.args.states.now (λ v. ⊤) (λ v. ⊤) (λ v p. p ≤ length c.args.payload.now) (λ v p. p < 2 ^ 63) (λ v key. tt) (λ v p below. omega arith) c.requires.inside }
 
 pub is_part_passed-returns-in-None-clause-right : goal.is_part_passed-returns-in-None-clause-right
 is_part_passed-returns-in-None-clause-right g t c = λ means made m.
@@ -45,9 +45,9 @@ is_part_passed-returns-in-None-clause-among g t c = let same = rw c.in-None.is a
 pub is_part_passed-returns-in-None-clause-forgotten : goal.is_part_passed-returns-in-None-clause-forgotten
 is_part_passed-returns-in-None-clause-forgotten g t c = inl refl
 
-pub is_part_passed-is_passed_behind-requires-clause-within : goal.is_part_passed-is_passed_behind-requires-clause-within
-is_part_passed-is_passed_behind-requires-clause-within g t c κs within = let same = rw c.in-Some.is at c.in_ok-part.ensures.part in
-    each_among c.in-Some.taken c.args.states.now same.1 (λ v. ⊤) (λ v p. p ≤ length c.args.payload.now) c.requires.within
+pub is_part_passed-is_passed_behind-requires-clause-inside : goal.is_part_passed-is_passed_behind-requires-clause-inside
+is_part_passed-is_passed_behind-requires-clause-inside g t c κs within = let same = rw c.in-Some.is at c.in_ok-part.ensures.part in
+    each_among c.in-Some.taken c.args.states.now same.1 (λ v. ⊤) (λ v p. p ≤ length c.args.payload.now) c.requires.inside
 
 pub is_part_passed-is_passed_behind-requires-clause-nowhere : goal.is_part_passed-is_passed_behind-requires-clause-nowhere
 is_part_passed-is_passed_behind-requires-clause-nowhere g t c κs within = λ nothing.
@@ -94,11 +94,11 @@ is_passed_from-loop-state-init g t c = record {
   owing = λ means lists made have. owing_first (visits_apart (length lists) c.args.options.now (length c.args.payload.now)) (length lists * visits_apart (length lists) (behind_extraction c.args.options.now) (length c.args.payload.now)) lists c.args.states c.new.result (λ v p. IsListed None v p × HasValues means c.args.payload.now lists None c.args.options.now (standing v p)) c.args.visits.now c.new.ensures.nowhere have;
 }
 
-pub is_passed_from-is_state_walked-requires-clause-within : goal.is_passed_from-is_state_walked-requires-clause-within
-is_passed_from-is_state_walked-requires-clause-within g t c κs within = (c.requires.within c.in-Some.state.values c.in-Some.state.places.items (c.loop-state.invariant.left_was c.in-Some.state.values c.in-Some.state.places.items c.in-Some.ensures.taken)).1
+pub is_passed_from-is_state_walked-requires-clause-inside : goal.is_passed_from-is_state_walked-requires-clause-inside
+is_passed_from-is_state_walked-requires-clause-inside g t c κs within = (c.requires.inside c.in-Some.state.values c.in-Some.state.places.items (c.loop-state.invariant.left_was c.in-Some.state.values c.in-Some.state.places.items c.in-Some.ensures.taken)).1
 
-pub is_passed_from-is_part_passed-requires-clause-within : goal.is_passed_from-is_part_passed-requires-clause-within
-is_passed_from-is_part_passed-requires-clause-within g t c κs within = c.in_ok-walked.ensures.within c.loop-state.invariant.within
+pub is_passed_from-is_part_passed-requires-clause-inside : goal.is_passed_from-is_part_passed-requires-clause-inside
+is_passed_from-is_part_passed-requires-clause-inside g t c κs within = c.in_ok-walked.ensures.inside c.loop-state.invariant.within
 
 pub is_passed_from-is_part_passed-requires-clause-nowhere : goal.is_passed_from-is_part_passed-requires-clause-nowhere
 is_passed_from-is_part_passed-requires-clause-nowhere g t c κs within = λ nothing.
@@ -113,7 +113,7 @@ is_passed_from-loop-state-preserved g t c =
           (match_false _ _ _ c.if-walked.false (c.in_ok-walked.ensures.right means made (c.loop-state.invariant.known means made))) in
           gone_fewer means c.args.payload.now c.args.options.now c.args.states c.take_first.new.self c.is_state_walked.new.behind.states c.is_part_passed.new.states c.in_ok-passed.ensures.among (match_false _ _ _ c.if-passed.false (c.in_ok-passed.ensures.right means made)) gone;
       left_was = λ v ps found. old.left_was v ps (left_was c.loop-state.left c.take_first.new.self c.in-Some.state.values c.in-Some.state.places.items c.in-Some.ensures.taken c.in-Some.ensures.left v ps found).0;
-      within = each_among c.is_part_passed.new.states c.is_state_walked.new.behind.states c.in_ok-passed.ensures.among (λ v. ⊤) (λ v p. p ≤ length c.args.payload.now) (c.in_ok-walked.ensures.within old.within);
+      within = each_among c.is_part_passed.new.states c.is_state_walked.new.behind.states c.in_ok-passed.ensures.among (λ v. ⊤) (λ v p. p ≤ length c.args.payload.now) (c.in_ok-walked.ensures.inside old.within);
       nowhere = λ nothing. nowhere_among c.is_part_passed.new.states c.is_state_walked.new.behind.states c.in_ok-passed.ensures.among (subst (λ (s : States). (q : List ℕ) → places_at s q ≡ None) (sym (c.is_state_walked.ensures.nowhere nothing)) (old.nowhere nothing));
       known = λ means made. c.in_ok-walked.ensures.known means made (old.known means made);
       known_rising = c.in_ok-walked.ensures.known_rising;

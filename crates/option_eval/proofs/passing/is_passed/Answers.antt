@@ -39,9 +39,9 @@ returns-then-branch-clause-bounded_by_values g c = λ means lists listed made ea
 pub is_walked-requires-clause-known_rising : goal.is_walked-requires-clause-known_rising
 is_walked-requires-clause-known_rising g c κs within = rising_nothing c.nothing.result (length c.args.payload.now + 1) c.nothing.ensures
 
-pub is_passed_behind-requires-clause-within : goal.is_passed_behind-requires-clause-within
-is_passed_behind-requires-clause-within g c κs within =
-    c.in_ok-is_walked.ensures.within (each_nowhere (λ v. ⊤) (λ v p. p ≤ length c.args.payload.now) c.new.result c.new.ensures.nowhere)
+pub is_passed_behind-requires-clause-inside : goal.is_passed_behind-requires-clause-inside
+is_passed_behind-requires-clause-inside g c κs within =
+    c.in_ok-is_walked.ensures.inside (each_nowhere (λ v. ⊤) (λ v p. p ≤ length c.args.payload.now) c.new.result c.new.ensures.nowhere)
 
 pub returns-clause-right : goal.returns-clause-right
 returns-clause-right g c = λ means made.

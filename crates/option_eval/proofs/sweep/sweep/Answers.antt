@@ -16,7 +16,7 @@ loop-rest-preserved g c =
     let a = c.max.ensures in
     let b = c.min-low.ensures in
     let within = old.within in
-    let most = c.end.ensures.within in
+    let most = c.end.ensures.inside in
     let counted = old.counted in
     let ticks = c.tick_by.ensures in
     rw c.joined-from.ensures (record {

@@ -8,7 +8,7 @@ use Rattle.option_eval.proofs.walk.is_state_walked.Goals as goal
 pub rising-requires-clause-small : goal.rising-requires-clause-small
 rising-requires-clause-small g c = λ q has.
     let in_state = (sorted_same c.args.state.places.items c.sorted.result.items c.as_slice-2.result.now c.as_slice-2.result.now c.sorted.ensures.same c.as_slice-2.ensures (λ p. (λ x. x, λ x. x)) q).0 has in
-    let within = c.requires.within q in_state in
+    let within = c.requires.inside q in_state in
     omega arith
 
 pub returns-then-is_empty-clause-right : goal.returns-then-is_empty-clause-right
@@ -22,7 +22,7 @@ pub is_walked-requires-clause-rising : goal.is_walked-requires-clause-rising
 is_walked-requires-clause-rising g c κs within =
     let places = c.in_ok-places.places.items in
     let same = sorted_same c.args.state.places.items c.sorted.result.items c.as_slice-2.result.now c.as_slice-2.result.now c.sorted.ensures.same c.as_slice-2.ensures (λ p. (λ x. x, λ x. x)) in
-    let risen = c.in_ok-places.ensures.rising (length c.args.payload.now + 1) (λ q has. let below = c.requires.within q ((same q).0 has) in omega arith) in
+    let risen = c.in_ok-places.ensures.rising (length c.args.payload.now + 1) (λ q has. let below = c.requires.inside q ((same q).0 has) in omega arith) in
     subst (λ (xs : List ℕ). IsRising 0 xs (length c.args.payload.now + 1)) (sym c.as_slice-3.ensures) risen
 
 pub returns-clause-right : goal.returns-clause-right

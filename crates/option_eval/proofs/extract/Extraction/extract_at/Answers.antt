@@ -21,8 +21,8 @@ returns-in-Some-clause-right c = λ means later reads.
     (c.kept_values-behind.ensures later reads ∙ ap (kept_values later) full) c.args.states.now c.add.new.self added)
     c.add.ensures
 
-pub returns-in-Some-clause-within : goal.returns-in-Some-clause-within
-returns-in-Some-clause-within c = λ before.
+pub returns-in-Some-clause-inside : goal.returns-in-Some-clause-inside
+returns-in-Some-clause-inside c = λ before.
     IfOk-weaker c.add.result _ _
-    (λ done added. each_added c.args.states.now c.add.new.self c.kept_values-behind.result c.in-Some.read.stop added (λ v. ⊤) (λ v p. p ≤ length c.args.payload.now) before tt c.in-Some.ensures.within)
+    (λ done added. each_added c.args.states.now c.add.new.self c.kept_values-behind.result c.in-Some.read.stop added (λ v. ⊤) (λ v p. p ≤ length c.args.payload.now) before tt c.in-Some.ensures.inside)
     c.add.ensures

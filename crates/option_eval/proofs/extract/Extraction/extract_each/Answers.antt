@@ -17,7 +17,7 @@ loop-rest-preserved g c =
     record {
       asked = λ means later reads. asked_next means c.args.payload.now (extract_option c.args.self.now ∷ later) c.args.values.now c.args.places.now rest c.args.states.now c.loop-rest.states c.extract_at.new.states some
           (old.asked means later reads) (c.in_ok-extract_at.ensures.right means later reads);
-      within = λ h. c.in_ok-extract_at.ensures.within (old.within h);
+      within = λ h. c.in_ok-extract_at.ensures.inside (old.within h);
     }
 
 pub returns-clause-right : goal.returns-clause-right

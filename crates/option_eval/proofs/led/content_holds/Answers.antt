@@ -1,6 +1,0 @@
-use Rattle.option_eval.proofs.Leading.{content_stays}
-use Rattle.option_eval.proofs.led.content_holds.Goals as goal
-
-pub returns-in-Needle : goal.returns-in-Needle
-returns-in-Needle g c = λ means.
-    content_stays means c.args.payload.now c.args.values.now c.args.place c.args.content.now c.content_stands.result c.unless.result c.requires.test c.unless.ensures c.content_stands.ensures

@@ -1,0 +1,19 @@
+-- The places before the rest were asked.
+use Rattle.std.proofs.Common.{◌+◌, ◌≤◌, ℕ, length, Contains}
+use Rattle.option_eval.specs.Ready.{pattern_of}
+use Rattle.option_eval.specs.RuleSet.{IsMade}
+use Rattle.option_eval.specs.Places.{Means}
+use Rattle.option_eval.specs.Sets.{LeadsFrom}
+use Rattle.option_eval.proofs.Asking.{Led}
+use Rattle.option_eval.proofs.next.jump_places.Given as goal
+
+abbrev pub invariant-loop-rest : goal.invariant-loop-rest
+invariant-loop-rest g l = record {
+  led : (means : Means) → IsMade g.P.Pattern.finds means l.option (pattern_of l.made) → Led (LeadsFrom means l.payload l.values l.option) l.places l.rest l.led.items;
+  rest_within : (p : ℕ) → Contains l.rest p → p ≤ length l.payload;
+  within : (q : ℕ) → Contains l.led.items q → q ≤ length l.payload;
+  counted : l.visits + length l.rest ≤ l.fn.visits + length l.places;
+}
+
+abbrev pub decreases-loop-rest : goal.decreases-loop-rest
+decreases-loop-rest g l = length l.rest

@@ -1,0 +1,19 @@
+-- The places before the rest were asked.
+use Rattle.std.proofs.Common.{◌+◌, ◌≤◌, length}
+use Rattle.option_eval.specs.Ready.{pattern_of}
+use Rattle.option_eval.specs.RuleSet.{IsMade}
+use Rattle.option_eval.specs.Places.{Means}
+use Rattle.option_eval.specs.Sets.{IsRising, LeadsFrom}
+use Rattle.option_eval.proofs.Asking.{Kept}
+use Rattle.option_eval.proofs.next.places_where_test_holds.Given as goal
+
+abbrev pub invariant-loop-rest : goal.invariant-loop-rest
+invariant-loop-rest g l = record {
+  kept : (means : Means) → IsMade g.P.Pattern.finds means l.option (pattern_of l.made) → Kept (λ p. LeadsFrom means l.payload l.values l.option p p) l.places l.rest l.next.items;
+  rest_rising : IsRising l.done l.rest (length l.payload + 1);
+  rising : IsRising 0 l.next.items l.done;
+  counted : l.visits + length l.rest ≤ l.fn.visits + length l.places;
+}
+
+abbrev pub decreases-loop-rest : goal.decreases-loop-rest
+decreases-loop-rest g l = length l.rest
