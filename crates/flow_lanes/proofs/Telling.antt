@@ -14,7 +14,7 @@ use Rattle.rule_types.specs.declared.rule.Proto.TheVariants as proto
 use Rattle.rule_types.specs.declared.rule.Rule.{Rule}
 use Rattle.header_eval.specs.Fields.{HasPort, HeaderHolds, IsEnd, IsWay, PortHolds, destination_port, field_holds, is_of, source_port}
 use Rattle.option_eval.specs.Places.{Means}
-use Rattle.flow_lanes.specs.Hits.{Bits, Item, RuleMatches, Tells, Test, bit_holds}
+use Rattle.flow_lanes.specs.Hits.{Bits, Item, RuleMatches, Tells, Test, flowbit_holds}
 use Rattle.flow_lanes.proofs.Deciding.{Decided, decided_yes, decided_no, decided_like, decided_both, decided_either, decided_not, decided_true, decided_false, decided_le, decided_all, decided_any}
 use Rattle.flow_lanes.proofs.Ways.{decided_payload}
 
@@ -74,7 +74,7 @@ decided_rule means rule item bits =
     (λ h. ((h.header, h.fields), (h.bits_hold, h.payload)))
     (decided_both
     (decided_both (decided_header rule item.head) (decided_all (λ option. IsTrue (field_holds option item.head (length item.payload))) (λ option. decided_true (field_holds option item.head (length item.payload))) rule.opts))
-    (decided_both (decided_all (λ option. IsTrue (bit_holds bits option)) (λ option. decided_true (bit_holds bits option)) rule.opts) (decided_payload means rule item.payload)))
+    (decided_both (decided_all (λ option. IsTrue (flowbit_holds bits option)) (λ option. decided_true (flowbit_holds bits option)) rule.opts) (decided_payload means rule item.payload)))
 
 -- the test of each rule
 pub test_of : Means → Test

@@ -28,16 +28,16 @@ bits_seen bits = unwrap_or bits empty
 
 -- A rule and an item.
 
--- a test of a bit holds; any other option does so always
-abbrev pub bit_holds : Bits → Opt → Bool
-bit_holds bits (opt.BitTest bit want) = if want then contains bits bit else not (contains bits bit)
-bit_holds bits option = true
+-- isset, isnotset: a test of a flowbit holds; any other option does so always
+abbrev pub flowbit_holds : Bits → Opt → Bool
+flowbit_holds bits (opt.BitTest bit want) = if want then contains bits bit else not (contains bits bit)
+flowbit_holds bits option = true
 
 -- the rule matches an item of these bits
 pub record RuleMatches (means : Means) (rule : Rule) (item : Item) (bits : Bits) : Type 0 where
   pub header : HeaderHolds rule item.head
   pub fields : All (λ option. IsTrue (field_holds option item.head (length item.payload))) rule.opts
-  pub bits_hold : All (λ option. IsTrue (bit_holds bits option)) rule.opts
+  pub bits_hold : All (λ option. IsTrue (flowbit_holds bits option)) rule.opts
   pub payload : PayloadMatches means rule item.payload
 
 -- the bits behind an option of a rule that matches

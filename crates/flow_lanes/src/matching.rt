@@ -6,7 +6,7 @@ ghost use Rattle.fast_pattern.specs.Candidates.{is_candidate};
 ghost use Rattle.header_eval.specs.Fields.{field_holds};
 ghost use Rattle.option_eval.specs.Places.{Means, PayloadMatches};
 ghost use Rattle.option_eval.specs.RuleSet.{FindWhatIsMeant, IsRuleAt};
-ghost use Rattle.flow_lanes.specs.Hits.{AreHits, Bits as Seen, Item, RuleMatches, Tells, Test, bit_holds};
+ghost use Rattle.flow_lanes.specs.Hits.{AreHits, Bits as Seen, Item, RuleMatches, Tells, Test, flowbit_holds};
 
 use edge_io::{NoMemory, Pattern};
 use flowbit_state::Bits;
@@ -25,9 +25,9 @@ fn fields_hold(opts: &[Opt], head: &ItemHead, len: usize) -> bool
     opts.iter().all(|opt| field_matches(opt, head, len))
 }
 
-/// Whether a test of a bit holds; any other option does so always.
-fn bit_holds(opt: &Opt, bits: &Bits) -> bool
-    ensures { result ≡ bit_holds bits.now opt.now }
+/// Whether an `isset` or an `isnotset` holds; any other option does so always.
+fn flowbit_holds(opt: &Opt, bits: &Bits) -> bool
+    ensures { result ≡ flowbit_holds bits.now opt.now }
 {
     match opt {
         Opt::BitTest { bit, want } => bits.test(*bit) == *want,
@@ -37,9 +37,9 @@ fn bit_holds(opt: &Opt, bits: &Bits) -> bool
 
 /// Whether every test of a bit holds.
 fn bits_hold(opts: &[Opt], bits: &Bits) -> bool
-    ensures { IsTrue result ↔ All (λ option. IsTrue (bit_holds bits.now option)) opts.now }
+    ensures { IsTrue result ↔ All (λ option. IsTrue (flowbit_holds bits.now option)) opts.now }
 {
-    opts.iter().all(|opt| bit_holds(opt, bits))
+    opts.iter().all(|opt| flowbit_holds(opt, bits))
 }
 
 /// Whether some way leads through the rule's payload options, looked for with a count of its own.
