@@ -7,4 +7,6 @@ pub mod Endings
 pub mod Steps
 pub mod Reading
 pub mod Making
+pub mod MadeCaptures
+pub mod Sections
 pub mod Words

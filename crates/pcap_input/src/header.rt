@@ -1,4 +1,4 @@
-ghost use Rattle.std.specs.Prelude.{◌≡◌, ◌+◌, ◌<◌, ◌≤◌, ◌^◌, length};
+ghost use Rattle.std.specs.Prelude.{◌≡◌, ℕ, ◌+◌, ◌<◌, ◌≤◌, ◌^◌, false, List, length, Err};
 ghost use Rattle.pcap_input.specs.Savefile.{file_header, record_header, number_at, head_with, head_behind, head_of, captured_length, moment_of};
 
 use crate::number::{u16_at, u32_at};
@@ -136,3 +136,10 @@ impl CaptureHead {
         }
     }
 }
+
+/// A law for callers: a file that begins with 0a0d0d0a, as a section header of pcapng does
+/// (draft-ietf-opsawg-pcapng), is no savefile.
+pub fn sections_are_no_savefiles()
+    ensures { (bytes : List ℕ) → file_header ≤ length bytes → number_at false 0 4 bytes ≡ 0x0a0d_0d0a
+        → head_of bytes ≡ Err CaptureFault.NotPcap }
+{}

@@ -22,5 +22,6 @@ pub mod spares;
 mod traffic;
 
 pub use capture::{CaptureFault, CaptureHead, Record};
-pub use generate::make_capture;
+pub use generate::{made_captures_are_whole, make_capture};
+pub use header::sections_are_no_savefiles;
 pub use reader::CaptureReader;

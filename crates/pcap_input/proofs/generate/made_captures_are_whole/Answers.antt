@@ -1,0 +1,8 @@
+use Rattle.pcap_input.proofs.MadeCaptures.{generated-head, made_cut-whole}
+use Rattle.pcap_input.proofs.generate.made_captures_are_whole.Goals as goal
+
+pub returns-clause-head : goal.returns-clause-head
+returns-clause-head c = generated-head
+
+pub returns-clause-whole : goal.returns-clause-whole
+returns-clause-whole c = made_cut-whole

@@ -1,0 +1,5 @@
+use Rattle.pcap_input.proofs.Sections.{section-head}
+use Rattle.pcap_input.proofs.header.sections_are_no_savefiles.Goals as goal
+
+pub returns : goal.returns
+returns c = section-head
