@@ -14,3 +14,4 @@ pub mod Numbers
 pub mod CacheSteps
 pub mod Numbered
 pub mod Living
+pub mod NoTouch

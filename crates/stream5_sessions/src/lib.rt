@@ -11,6 +11,7 @@
 mod flow_numbers;
 mod flows;
 mod key;
+mod laws;
 mod lives;
 mod rows;
 mod segment;
@@ -23,5 +24,6 @@ mod tests;
 
 pub use flows::{Flows, Touch};
 pub use key::{End, Key};
+pub use laws::no_touch_no_flow;
 pub use session::Session;
 pub use step::{SessionRules, Step};

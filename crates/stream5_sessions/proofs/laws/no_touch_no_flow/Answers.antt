@@ -1,0 +1,5 @@
+use Rattle.stream5_sessions.proofs.NoTouch.{live_flows-none}
+use Rattle.stream5_sessions.proofs.laws.no_touch_no_flow.Goals as goal
+
+pub returns : goal.returns
+returns c = live_flows-none
