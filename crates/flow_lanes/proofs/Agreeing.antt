@@ -1,10 +1,11 @@
 -- There is one list of the rules that match an item, and one answer to a job: whichever test tells which
 -- rules match.
-use Rattle.std.proofs.Common.{◌≡◌, ℕ, ◌+◌, Bool, true, false, cond, List, [], ◌∷◌, Option, refl, sym, ap, ◌∙◌, inl, inr}
+use Rattle.std.proofs.Common.{◌≡◌, ℕ, ◌+◌, Bool, true, false, cond, List, [], ◌∷◌, Option, refl, sym, ap, subst, ◌∙◌, inl, inr, ◌↔◌}
 use Rattle.std.proofs.lemmas.Bool.{false≢true}
 use Rattle.rule_types.specs.declared.rule.Rule.{Rule}
 use Rattle.option_eval.specs.Places.{Means}
-use Rattle.flow_lanes.specs.Hits.{AreMatches, Bits, Item, Tells, Test, bits_after, bits_seen, places_from}
+use Rattle.flow_lanes.specs.Hits.{AreHits, AreMatches, Bits, Item, Tells, Test, bits_after, bits_seen, places_from}
+use Rattle.flow_lanes.specs.ItemHits.{Trying, matching}
 
 -- there is at most one list of all rules that match
 pub AreMatches-unique : (means : Means) (item : Item) (place : ℕ) (rules : List Rule) (bits : Option Bits) (xs ys : List ℕ)
@@ -30,6 +31,17 @@ places_from-are means test tells item place (rule ∷ rules) bits =
         → AreMatches means item place (rule ∷ rules) bits (cond b (place ∷ places_from test item (place + 1) rules (bits_after bits rule)) (places_from test item (place + 1) rules bits))
     by_case true is matched missed = inl ((tells rule item (bits_seen bits)).0 is, (places_from test item (place + 1) rules (bits_after bits rule), refl, matched))
     by_case false is matched missed = inr ((λ matches. false≢true (sym is ∙ (tells rule item (bits_seen bits)).1 matches)), missed)
+
+-- so the list that is told with an item is that of all rules that match it, and no other is
+pub matching-hits : (means : Means) (trying : Trying) → Tells means trying.matches → (item : Item) (bits : Option Bits) (places : List ℕ)
+    → (AreHits means trying.rules item bits places ↔ (places ≡ matching trying item bits))
+unfolding matching
+matching-hits means trying tells item bits places =
+    let told = places_from trying.matches item 0 trying.rules bits in
+    let told_are : AreHits means trying.rules item bits told = places_from-are means trying.matches tells item 0 trying.rules bits in (
+      λ are. AreMatches-unique means item 0 trying.rules bits places told are told_are,
+      λ is. subst (λ (xs : List ℕ). AreHits means trying.rules item bits xs) (sym is) told_are,
+    )
 
 -- two truths of one fact are one
 agree : (a b : Bool) → (a ≡ true → b ≡ true) → (b ≡ true → a ≡ true) → a ≡ b

@@ -1,14 +1,25 @@
-//! Laws about the answers to jobs, for callers.
+//! Laws about the answers to jobs, and about all rules that match an item, for callers.
 
-ghost use Rattle.std.specs.Prelude.{◌≡◌, ℕ, ◌<◌, List, Option, filter, length};
+ghost use Rattle.std.specs.Prelude.{◌≡◌, ℕ, ◌<◌, ◌↔◌, List, Option, filter, length};
 ghost use Rattle.std.specs.List.{flat_map};
 ghost use Rattle.std.specs.List.Sorted.{IsPermutation};
 ghost use Rattle.edge_io.specs.Along.{AscendsBy, along_from, within};
+ghost use Rattle.option_eval.specs.Places.{Means};
 ghost use Rattle.flow_lanes.specs.declared.answer.JobHits.{JobHits};
 ghost use Rattle.flow_lanes.specs.declared.job.Job.{Job};
 ghost use Rattle.flow_lanes.specs.Flows.{Detection, answer, items, same_flow};
+ghost use Rattle.flow_lanes.specs.Hits.{AreHits, Bits, Item, Tells};
+ghost use Rattle.flow_lanes.specs.ItemHits.{Trying, matching};
 ghost use Rattle.flow_lanes.specs.Sound.{FlowFacts, IsSoundFor};
 ghost use Rattle.flow_lanes.specs.Standing.{AreLaneAnswers, AreShort, answers_of_flow, is_of_flow};
+
+/// All rules that match an item, as a relation and by a test, are the same: where the test tells which rules
+/// match, these places are of all that do exactly if they are those that are told with the item.
+pub fn tests_tell_the_hits()
+    ensures { (means : Means) (trying : Trying) → Tells means trying.matches
+        → (item : Item) (bits : Option Bits) (places : List ℕ)
+        → (AreHits means trying.rules item bits places ↔ (places ≡ matching trying item bits)) }
+{}
 
 /// The stream items of a sound job of a flow have at most 16384 bytes, whatever jobs stand before it.
 pub fn stream_items_are_short()
