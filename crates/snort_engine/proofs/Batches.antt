@@ -1,5 +1,5 @@
 -- The steps of reading a batch, one lemma for each answer of `next`.
-use Rattle.std.proofs.Common.{◌≡◌, ℕ, List, [], ◌∷◌, ◌++◌, Option, refl, sym, ap, subst, append_assoc, ◌∙◌}
+use Rattle.std.proofs.Common.{◌≡◌, ℕ, zero, suc, ◌+◌, ◌<◌, ◌≤◌, Bool, true, List, [], ◌∷◌, ◌++◌, Option, Ok, Err, refl, sym, ap, subst, append_assoc, ◌∙◌, arith}
 use Rattle.record_jobs.specs.Way.{LinkedRecord}
 use Rattle.snort_engine.specs.declared.fault.ReadFault.{ReadFault}
 use Rattle.snort_engine.specs.declared.fault.ReadFault.TheVariants as fault
@@ -13,7 +13,7 @@ use Rattle.snort_engine.specs.Steps.Batch.{Place, HasStopped, Reaches, ReadsOn, 
 use Rattle.snort_engine.specs.declared.status.Status.TheVariants as status
 use Rattle.snort_engine.specs.declared.stop.Stop.{Stop}
 use Rattle.snort_engine.specs.declared.stop.Stop.TheVariants as stop
-use Rattle.snort_engine.specs.Steps.Stop.{stop_status, outcome_status}
+use Rattle.snort_engine.specs.Steps.Stop.{stop_status, outcome_status, is_whole}
 use Rattle.snort_engine.specs.Steps.Watching.{IsShowStop}
 
 -- reading went no record further than what was read so far
@@ -85,3 +85,20 @@ pub showing_reads_nothing : (why : Stop) → IsShowStop why → stop_status why 
 showing_reads_nothing stop.CannotWrite kind is = cc
 showing_reads_nothing stop.NoMemory kind is = cc
 showing_reads_nothing why kind is = absurd kind
+
+-- showing lines leaves nothing to close where it stops
+pub showing_cuts : (why : Stop) → IsShowStop why → is_whole {A = Bool} (Err why) ≡ true → ⊥
+showing_cuts stop.CannotWrite kind whole = cc
+showing_cuts stop.NoMemory kind whole = cc
+showing_cuts why kind whole = absurd kind
+
+-- more may follow only where a batch is full
+pub more_reached : (reached : Reached) → more_of reached ≡ Ok true → reached ≡ More
+more_reached More is = refl
+more_reached End is = absurd cc
+more_reached (Fault why) is = absurd cc
+
+-- behind a batch no more records were shown than a capture may have
+pub within_batch : (shown number count most : ℕ) → shown ≤ number → number ≤ most → (0 < count → number + count ≤ most) → shown + count ≤ most
+within_batch shown number zero most behind within more = omega arith
+within_batch shown number (suc count) most behind within more = let most_read = more (omega arith) in omega (arith, most_read)

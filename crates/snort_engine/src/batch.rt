@@ -1,8 +1,8 @@
 ghost use Rattle.std.specs.Prelude.{◌≡◌, ◌≢◌, ◌+◌, ◌-◌, ◌<◌, ◌≤◌, [], vec_len};
 ghost use Rattle.edge_io.specs.Told.{Rose};
 ghost use Rattle.pcap_input.specs.Savefile.{most_records};
-ghost use Rattle.snort_engine.specs.Steps.Reader.{IsFresh, IsNext, number_of};
-ghost use Rattle.snort_engine.specs.Steps.Batch.{IsFaultOf, ReadsOn, lacks_memory, more_of};
+ghost use Rattle.snort_engine.specs.Steps.Reader.{HasGoneOn, IsFresh, IsNext, number_of};
+ghost use Rattle.snort_engine.specs.Steps.Batch.{IsFaultOf, IsFilled, ReadsOn, lacks_memory, more_of};
 ghost use Rattle.snort_engine.specs.Outside.{OnlyRead};
 ghost use Rattle.snort_engine.specs.Steps.Watching.{most_at, room_behind};
 
@@ -96,14 +96,9 @@ pub(crate) fn read_batch<H: Host>(
     ensures reads { ReadsOn
         (record { reader = reader.old; records = []; left = H.left host.old })
         (record { reader = reader.new; records = records.new.items; left = H.left host.new }) result }
-    ensures few { vec_len records.new ≤ most }
-    ensures full { result ≡ Reached.More → vec_len records.new ≡ most }
-    ensures fewer { result ≢ Reached.More → vec_len records.new < most }
-    ensures further { result ≡ Reached.More → number_of reader.old < number_of reader.new }
-    ensures goes_on { result ≡ Reached.More → IsFresh reader.new }
-    ensures within { result ≡ Reached.More → number_of reader.new ≤ most_records }
-    ensures numbered { result ≡ Reached.More → number_of reader.new ≡ number_of reader.old + vec_len records.new }
-    ensures filled { 0 < vec_len records.new → number_of reader.old + vec_len records.new ≤ most_records }
+    ensures filled { IsFilled most (vec_len records.new) result }
+    ensures goes_on { result ≡ Reached.More → HasGoneOn reader.old reader.new (vec_len records.new) }
+    ensures within { 0 < vec_len records.new → number_of reader.old + vec_len records.new ≤ most_records }
     ensures own { (why : ReadFault) → result ≡ Reached.Fault why → IsFaultOf reader.new why }
     ensures failed { result ≡ Reached.Fault ReadFault.Failed → Rose (H.faults host.old) (H.faults host.new) }
     ensures host { OnlyRead H.Host host.old host.new }

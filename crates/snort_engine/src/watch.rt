@@ -2,10 +2,9 @@ ghost use Rattle.std.specs.Prelude.{◌≡◌, ◌+◌, ◌^◌, ◌<◌, ◌≤
 ghost use Rattle.std.specs.List.{concat};
 ghost use Rattle.edge_io.specs.Files.{Files, Lacks};
 ghost use Rattle.edge_io.specs.Told.{Rose};
-ghost use Rattle.pcap_input.specs.Savefile.{most_records};
 ghost use Rattle.flow_lanes.specs.Hits.{Test};
 ghost use Rattle.snort_engine.specs.Course.{Course, Goes};
-ghost use Rattle.snort_engine.specs.Steps.Reader.{IsFresh, number_of, OpensSo};
+ghost use Rattle.snort_engine.specs.Steps.Reader.{IsReadable, number_of, OpensSo};
 ghost use Rattle.snort_engine.specs.Steps.Sources.{source_name};
 ghost use Rattle.snort_engine.specs.Outside.{OnlyRead, work};
 ghost use Rattle.snort_engine.specs.Ending.{Ends};
@@ -14,7 +13,7 @@ ghost use Rattle.snort_engine.specs.Steps.Reporting.{outcome_said};
 ghost use Rattle.snort_engine.specs.Counts.{no_counts};
 ghost use Rattle.snort_engine.specs.Steps.Detecting.{IsSoundPlan, Knows, DetectorStands, ShowsRecordsPart};
 ghost use Rattle.snort_engine.specs.Steps.Watching.{plan_of, standing, streams, IsTest, Watches, ComesOver, IsCloseBehind};
-ghost use Rattle.snort_engine.specs.Steps.Watching.{WatchesOn, StaysKnown, StaysFew, ClosesWatched};
+ghost use Rattle.snort_engine.specs.Steps.Watching.{WatchesOn, MayGoOn, MayClose, ClosesWatched};
 
 use crate::Status;
 use crate::batch::{give_back, lacks_memory, more, most_at, read_batch, room_behind};
@@ -59,10 +58,7 @@ fn watch_batch<H: Host, P: Pattern, G: Gate, A: Sink, R: Threads + Sync>(
     alerts: &mut A,
 ) -> Result<bool, Stop>
     requires plan { IsSoundPlan context.now.plan.now }
-    requires known { Knows context.now.plan.now detector.old }
-    requires behind { detector.old.front.counts.records ≤ number_of reader.old }
-    requires within { number_of reader.old ≤ most_records }
-    requires fresh { IsFresh reader.old }
+    requires ready { MayGoOn context.now.plan.now reader.old detector.old }
     requires no_records { records.old.items ≡ [] }
     ensures goes_on { (matches : Test) → IsTest P.finds context.now.plan.now.setup.set matches
         → WatchesOn (plan_of matches context.now.plan.now)
@@ -70,12 +66,9 @@ fn watch_batch<H: Host, P: Pattern, G: Gate, A: Sink, R: Threads + Sync>(
         (standing H.Host A.Sink reader.new room.new detector.new host.new alerts.new)
         (Rose (H.faults host.old) (H.faults host.new)) result }
     ensures further { result ≡ Ok true → number_of reader.old < number_of reader.new }
-    ensures within { result ≡ Ok true → number_of reader.new ≤ most_records }
-    ensures fresh { result ≡ Ok true → IsFresh reader.new }
-    ensures behind { result ≡ Ok true → detector.new.front.counts.records ≤ number_of reader.new }
+    ensures ready { result ≡ Ok true → MayGoOn context.now.plan.now reader.new detector.new }
     ensures shown { OnOk result (records.new.items ≡ []) }
-    ensures known { StaysKnown context.now.plan.now detector.new result }
-    ensures few { StaysFew detector.new result }
+    ensures closable { MayClose context.now.plan.now detector.new result }
     ensures write_fault { IsErrOf result Stop.CannotWrite → Rose (A.faults alerts.old) (A.faults alerts.new) }
     ensures read_fault { outcome_status result ≡ Status.HostFault → Rose (H.faults host.old) (H.faults host.new) }
     ensures host { OnlyRead H.Host host.old host.new }
@@ -107,17 +100,13 @@ fn watch_batches<H: Host, P: Pattern, G: Gate, A: Sink, R: Threads + Sync>(
     alerts: &mut A,
 ) -> Result<(), Stop>
     requires plan { IsSoundPlan context.now.plan.now }
-    requires known { Knows context.now.plan.now detector.old }
-    requires none { detector.old.front.counts.records ≡ 0 }
-    requires within { number_of reader.old ≤ most_records }
-    requires fresh { IsFresh reader.old }
+    requires ready { MayGoOn context.now.plan.now reader.old detector.old }
     ensures comes { (matches : Test) → IsTest P.finds context.now.plan.now.setup.set matches
         → DetectorStands (plan_of matches context.now.plan.now) [] detector.old
         → ComesOver (plan_of matches context.now.plan.now) reader.old
         (streams H.Host A.Sink host.old alerts.old) (streams H.Host A.Sink host.new alerts.new)
         (Rose (H.faults host.old) (H.faults host.new)) detector.new result }
-    ensures known { StaysKnown context.now.plan.now detector.new result }
-    ensures few { StaysFew detector.new result }
+    ensures closable { MayClose context.now.plan.now detector.new result }
     ensures write_fault { IsErrOf result Stop.CannotWrite → Rose (A.faults alerts.old) (A.faults alerts.new) }
     ensures read_fault { outcome_status result ≡ Status.HostFault → Rose (H.faults host.old) (H.faults host.new) }
     ensures host { OnlyRead H.Host host.old host.new }
@@ -147,8 +136,7 @@ fn close_watched<P: Pattern, G: Gate, A: Sink, R: Threads + Sync>(
     counts: &mut Counts,
 ) -> Result<(), Stop>
     requires plan { IsSoundPlan context.now.plan.now }
-    requires known { StaysKnown context.now.plan.now detector watched }
-    requires few { StaysFew detector watched }
+    requires closable { MayClose context.now.plan.now detector watched }
     ensures closes { (matches : Test) → IsTest P.finds context.now.plan.now.setup.set matches
         → ClosesWatched (plan_of matches context.now.plan.now) detector watched
         (A.written alerts.old) (A.written alerts.new) counts.new result }
@@ -175,8 +163,7 @@ pub(crate) fn watch_records<H: Host, P: Pattern, G: Gate, A: Sink, R: Threads + 
     counts: &mut Counts,
 ) -> Result<(), Stop>
     requires plan { IsSoundPlan context.now.plan.now }
-    requires within { number_of reader.old ≤ most_records }
-    requires fresh { IsFresh reader.old }
+    requires readable { IsReadable reader.old }
     ensures watches { (matches : Test) → IsTest P.finds context.now.plan.now.setup.set matches
         → Watches (plan_of matches context.now.plan.now) reader.old
         (streams H.Host A.Sink host.old alerts.old) (streams H.Host A.Sink host.new alerts.new) counts.new result }

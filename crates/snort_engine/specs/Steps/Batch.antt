@@ -5,7 +5,7 @@
 -- the capture's end, or a fault behind the records that were read; these are whole, whatever comes.
 -- To try it on: of three records and 3 bytes of a fourth's header, reading reaches three places and then
 -- Truncated, and the three records are all that are whole within the bytes taken.
-use Rattle.std.specs.Prelude.{◌≡◌, ◌⊎◌, ℕ, Bool, true, false, List, ◌++◌, Option, Some, Result, Ok, Err}
+use Rattle.std.specs.Prelude.{◌≡◌, ◌≢◌, ◌<◌, ◌≤◌, ◌⊎◌, ℕ, Bool, true, false, List, ◌++◌, Option, Some, Result, Ok, Err}
 use Rattle.record_jobs.specs.Way.{LinkedRecord}
 use Rattle.snort_engine.specs.declared.reader.RecordReader.{RecordReader}
 use Rattle.snort_engine.specs.declared.fault.ReadFault.{ReadFault}
@@ -43,6 +43,12 @@ abbrev pub ReadsOn : Place → Place → Reached → Type 0
 ReadsOn old new reached = (first : RecordReader) (shown : List LinkedRecord) (left_first : Option (List ℕ))
     → HasRead first old.reader (shown ++ old.records) left_first old.left
     → Reaches first (shown ++ new.records) left_first new reached
+
+-- of at most so many records a batch has all where more may follow, and fewer elsewhere
+pub record IsFilled (most count : ℕ) (reached : Reached) : Type 0 where
+  pub few : count ≤ most
+  pub full : reached ≡ More → count ≡ most
+  pub fewer : reached ≢ More → count < most
 
 -- a fault is what the reader refused; or memory was lacking for a record that the reader wasn't asked for
 abbrev pub IsFaultOf : RecordReader → ReadFault → Type 0

@@ -12,6 +12,7 @@ use Rattle.rule_types.specs.Sound.{IsSound}
 use Rattle.rule_types.specs.declared.rule.Rule.{Rule}
 use Rattle.fast_pattern.specs.Grouping.{StandFor}
 use Rattle.snort_setup.specs.Rules.{most_rules}
+use Rattle.pcap_input.specs.Savefile.{most_records}
 use Rattle.flow_lanes.specs.declared.job.Job.{Job}
 use Rattle.flow_lanes.specs.Standing.{AreNew, LanesStand}
 use Rattle.record_jobs.specs.declared.counts.RecordCounts.{RecordCounts}
@@ -124,6 +125,11 @@ pub record IsKnown (way : JobsWay) (rules : List Rule) (detector : Detector) : T
 
 abbrev pub Knows : {P : Type 0} → code.Plan P → Detector → Type 0
 Knows plan detector = IsKnown (jobs_way_by plan.checks plan.setup.hosts plan.setup.config) plan.setup.set.rules detector
+
+-- what a capture is closed with: a detector that is known, and was given no more records than a capture may have
+pub record IsClosable {P : Type 0} (plan : code.Plan P) (detector : Detector) : Type 0 where
+  pub known : Knows plan detector
+  pub few : detector.front.counts.records ≤ most_records
 
 -- the detector, and what was written where it is told
 pub record Detecting : Type 0 where

@@ -9,7 +9,7 @@
 -- To try it on: behind a section header, an interface and one packet, and 3 bytes of a further block, the
 -- first reader gives that packet and then Truncated; the bytes of all three were taken, and those 3, and the
 -- one record is all that is whole within them.
-use Rattle.std.specs.Prelude.{◌≡◌, ℕ, ◌+◌, ◌<◌, List, [], ◌∷◌, ◌++◌, Option, Some, None, option_map, Result, Ok, Err, ⊤, ◌⊎◌}
+use Rattle.std.specs.Prelude.{◌≡◌, ℕ, ◌+◌, ◌<◌, ◌≤◌, List, [], ◌∷◌, ◌++◌, Option, Some, None, option_map, Result, Ok, Err, ⊤, ◌⊎◌}
 use Rattle.edge_io.specs.Told.{before, one_more}
 use Rattle.edge_io.specs.Files.{Files}
 use Rattle.std.specs.FinMap.{get}
@@ -50,6 +50,16 @@ recording_for (Blocks reader) rest = recording_of_blocks (records_left reader.wa
 pub record IsNext (reader next : RecordReader) : Type 0 where
   pub number : number_of next ≡ number_of reader + 1
   pub within : number_of reader < most_records
+
+-- it may be asked for records: it has refused nothing, and has given no more of them than a capture may have
+pub record IsReadable (reader : RecordReader) : Type 0 where
+  pub fresh : IsFresh reader
+  pub within : number_of reader ≤ most_records
+
+-- it has given so many records more, and may be asked for others
+pub record HasGoneOn (old new : RecordReader) (count : ℕ) : Type 0 where
+  pub number : number_of new ≡ number_of old + count
+  pub readable : IsReadable new
 
 -- ---- reading
 

@@ -9,7 +9,6 @@ use Rattle.edge_io.specs.Told.{before, behind}
 use Rattle.edge_io.specs.declared.host.Host.{Ghosts as HostOf}
 use Rattle.edge_io.specs.declared.pattern.Span.{Span}
 use Rattle.edge_io.specs.declared.sink.Sink.{Ghosts as SinkOf}
-use Rattle.pcap_input.specs.Savefile.{most_records}
 use Rattle.option_eval.specs.Places.{Means}
 use Rattle.option_eval.specs.RuleSet.{Rules, FindWhatIsMeant}
 use Rattle.flow_lanes.specs.Hits.{Test, Tells}
@@ -24,14 +23,14 @@ use Rattle.snort_engine.specs.declared.stop.Stop.TheVariants as stop
 use Rattle.snort_engine.specs.Course.{Plan}
 use Rattle.snort_engine.specs.Steps.Sources.{source_name}
 use Rattle.snort_engine.specs.Records.{AreWithin, Ending, Clean, Refused, Recording, first_of}
-use Rattle.snort_engine.specs.Steps.Reader.{recording_for, HasRead}
+use Rattle.snort_engine.specs.Steps.Reader.{recording_for, number_of, HasRead, IsReadable}
 use Rattle.snort_engine.specs.Trace.{Open, Closed, CaptureState}
 use Rattle.snort_engine.specs.Lines.{lines}
 use Rattle.snort_engine.specs.Counts.{counts_of}
 use Rattle.snort_engine.specs.ReadAhead.{batch, AreBatches}
 use Rattle.snort_engine.specs.Outside.{WritesPart}
 use Rattle.snort_engine.specs.Steps.Stop.{capture_stop, is_whole}
-use Rattle.snort_engine.specs.Steps.Detecting.{DetectorStands, Knows, Closes, ClosesPart}
+use Rattle.snort_engine.specs.Steps.Detecting.{DetectorStands, IsClosable, Knows, Closes, ClosesPart}
 
 -- the test says which rules of a set match, by what its patterns find
 pub record IsTest {P : Type 0} (finds : P → List ℕ → Option Span) (set : Rules P) (test : Test) : Type 0 where
@@ -185,6 +184,13 @@ abbrev pub standing : {H A : Type 0} → HostOf H → SinkOf A → RecordReader 
 standing h a reader room detector host alerts =
     record { reader = reader; room = room; detector = detector; streams = streams h a host alerts }
 
+-- a batch may come: the reader may be asked for records, and the detector is known and was given no more than the
+-- reader gave
+pub record MayGoOn {P : Type 0} (plan : code.Plan P) (reader : RecordReader) (detector : Detector) : Type 0 where
+  pub readable : IsReadable reader
+  pub known : Knows plan detector
+  pub behind : detector.front.counts.records ≤ number_of reader
+
 -- from the first reader on some records were given, in whole batches or all that may be, the detector stands for
 -- them, and their lines were written
 pub record IsUnderWay (plan : Plan) (first : RecordReader) (start : Streams) (now : Standing) : Type 0 where
@@ -231,13 +237,9 @@ WatchesOn plan old new failed (Err why) =
 
 -- ---- the end
 
--- what a capture is closed with, where the work on it came to its end so: a detector that is known, and
--- was given no more records than a capture has
-abbrev pub StaysKnown : {P A : Type 0} → code.Plan P → Detector → Result A Stop → Type 0
-StaysKnown plan detector outcome = is_whole outcome ≡ true → Knows plan detector
-
-abbrev pub StaysFew : {A : Type 0} → Detector → Result A Stop → Type 0
-StaysFew detector outcome = is_whole outcome ≡ true → detector.front.counts.records ≤ most_records
+-- where the work on a capture came to its end so, it may be closed with this detector
+abbrev pub MayClose : {P A : Type 0} → code.Plan P → Detector → Result A Stop → Type 0
+MayClose plan detector outcome = is_whole outcome ≡ true → IsClosable plan detector
 
 -- what was cut short is left as it was
 abbrev pub IsLeft : Result (Unit {0}) Stop → Result (Unit {0}) Stop → Option (List ℕ) → Option (List ℕ) → Type 0

@@ -1,5 +1,6 @@
-use Rattle.std.proofs.Common.{ℕ, List, Some, ◌≤◌, length, drop, ap, sym, ◌∙◌, subst}
+use Rattle.std.proofs.Common.{ℕ, List, Some, ◌≤◌, length, drop, refl, ap, sym, ◌∙◌, subst, arith}
 use Rattle.std.proofs.lemmas.Result.{err_from_is_err_and}
+use Rattle.snort_engine.specs.Steps.Reader.{IsReadable}
 use Rattle.snort_engine.specs.Steps.Stop.{stop_text}
 use Rattle.snort_engine.specs.Steps.Watching.{plan_of}
 use Rattle.snort_engine.proofs.MadeCaptures.{generated_long, made_ends, unmade_ends, never_rose}
@@ -7,6 +8,10 @@ use Rattle.snort_engine.proofs.capture.watch_made.Goals as goal
 
 pub new-made-requires : goal.new-made-requires
 new-made-requires g c = subst (λ (xs : List ℕ). 24 ≤ length xs) (sym (c.deref.ensures.value ∙ c.in_ok-bytes.ensures)) (generated_long c.args.seed c.args.count)
+
+pub watch_records-requires-clause-readable : goal.watch_records-requires-clause-readable
+watch_records-requires-clause-readable g c κs within =
+    subst IsReadable (sym c.made_reader-reader.ensures) (record { fresh = refl; within = omega arith })
 
 pub returns-in_err-bytes-clause-ends : goal.returns-in_err-bytes-clause-ends
 unfolding stop_text

@@ -1,4 +1,4 @@
-use Rattle.std.proofs.Common.{Err, refl, sym, ap, ◌∙◌, inl, inr}
+use Rattle.std.proofs.Common.{Err, refl, sym, ap, ◌∙◌, inl, inr, arith}
 use Rattle.std.proofs.lemmas.Result.{err_from_is_err_and}
 use Rattle.snort_engine.specs.Steps.Watching.{ClosesWatched}
 use Rattle.snort_engine.proofs.watch.close_watched.Goals as goal
@@ -8,7 +8,12 @@ unfolding ClosesWatched
 returns-then-not-is_whole-clause-closes g c = λ matches test. inl (sym c.is_whole.ensures ∙ c.if-not-is_whole.true, refl, refl)
 
 pub close-requires-clause-known : goal.close-requires-clause-known
-close-requires-clause-known g c κs within = c.requires.known (sym c.is_whole.ensures ∙ c.if-not-is_whole.false)
+close-requires-clause-known g c κs within = (c.requires.closable (sym c.is_whole.ensures ∙ c.if-not-is_whole.false)).known
+
+pub close-requires-clause-few : goal.close-requires-clause-few
+close-requires-clause-few g c κs within =
+    let few = (c.requires.closable (sym c.is_whole.ensures ∙ c.if-not-is_whole.false)).few in
+    omega (arith, few)
 
 pub returns-in_err-counts-clause-closes : goal.returns-in_err-counts-clause-closes
 unfolding ClosesWatched

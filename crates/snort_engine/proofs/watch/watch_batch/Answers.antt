@@ -1,9 +1,37 @@
-use Rattle.std.proofs.Common.{◌≡◌, ◌≤◌, ℕ, length, sym, ap, ◌∙◌, arith}
+use Rattle.std.proofs.Common.{◌≡◌, ◌≤◌, ℕ, length, vec_len, sym, ap, subst, ◌∙◌, arith}
 use Rattle.std.proofs.lemmas.Result.{err_from_is_err_and}
 use Rattle.edge_io.specs.Told.{Rose}
-use Rattle.snort_engine.specs.Steps.Watching.{plan_of, most_at, room_behind, Standing}
+use Rattle.pcap_input.specs.Savefile.{most_records}
+use Rattle.snort_engine.specs.declared.reader.RecordReader.{RecordReader}
+use Rattle.snort_engine.specs.Steps.Reader.{number_of}
+use Rattle.snort_engine.specs.Steps.Watching.{plan_of, most_at, room_behind, MayGoOn, Standing}
+use Rattle.snort_engine.proofs.Batches.{more_reached, showing_cuts, within_batch}
 use Rattle.snort_engine.proofs.Watched.{nothing_left, batch_lacks, batch_shown, batch_stops}
 use Rattle.snort_engine.proofs.watch.watch_batch.Goals as goal
+
+pub read_batch-reached-requires-clause-fresh : goal.read_batch-reached-requires-clause-fresh
+read_batch-reached-requires-clause-fresh g c = c.requires.ready.readable.fresh
+
+pub room_behind-requires : goal.room_behind-requires
+room_behind-requires g c = omega (arith, c.len.ensures, c.read_batch-reached.ensures.filled.few, c.most_at-most.ensures, c.read_batch-reached.new.records.ok.0)
+
+pub show_some-requires-clause-known : goal.show_some-requires-clause-known
+show_some-requires-clause-known g c κs within = c.requires.ready.known
+
+pub show_some-requires-clause-few : goal.show_some-requires-clause-few
+show_some-requires-clause-few g c κs within =
+    let ready = c.requires.ready in
+    let few = within_batch c.args.detector.now.front.counts.records (number_of c.args.reader.now) (vec_len c.read_batch-reached.new.records) most_records ready.behind ready.readable.within c.read_batch-reached.ensures.within in
+    omega (arith, few, c.read_batch-reached.new.records.ok.0)
+
+pub show_records-requires-clause-known : goal.show_records-requires-clause-known
+show_records-requires-clause-known g c κs within = c.requires.ready.known
+
+pub show_records-requires-clause-few : goal.show_records-requires-clause-few
+show_records-requires-clause-few g c κs within =
+    let ready = c.requires.ready in
+    let few = within_batch c.args.detector.now.front.counts.records (number_of c.args.reader.now) (vec_len c.read_batch-reached.new.records) most_records ready.behind ready.readable.within c.read_batch-reached.ensures.within in
+    omega (arith, few, c.read_batch-reached.new.records.ok.0)
 
 pub returns-then-most-eq0-clause-goes_on : goal.returns-then-most-eq0-clause-goes_on
 returns-then-most-eq0-clause-goes_on g c = λ matches test.
@@ -12,7 +40,7 @@ returns-then-most-eq0-clause-goes_on g c = λ matches test.
 
 pub returns-then-lacks_memory-clause-goes_on : goal.returns-then-lacks_memory-clause-goes_on
 returns-then-lacks_memory-clause-goes_on g c = λ matches test.
-    let few : length c.read_batch-reached.new.records.items ≤ most_at c.args.room.now = omega (arith, c.read_batch-reached.ensures.few, c.most_at-most.ensures, c.read_batch-reached.new.records.ok.0) in
+    let few : length c.read_batch-reached.new.records.items ≤ most_at c.args.room.now = omega (arith, c.read_batch-reached.ensures.filled.few, c.most_at-most.ensures, c.read_batch-reached.new.records.ok.0) in
     let old : Standing = record { reader = c.args.reader.now; room = c.args.room.now; detector = c.args.detector.now; streams = record { left = g.H.Host.left c.args.host.now; written = g.A.Sink.written c.args.alerts.now } } in
     let new : Standing = record { reader = c.read_batch-reached.new.reader; room = c.room_behind.result; detector = c.show_some.new.detector; streams = record { left = g.H.Host.left c.read_batch-reached.new.host; written = g.A.Sink.written c.show_some.new.alerts } } in
     batch_lacks (plan_of matches c.args.context.now.plan.now) c.read_batch-reached.new.records.items old new _ c.read_batch-reached.result few c.read_batch-reached.ensures.reads (c.show_some.ensures.part matches test)
@@ -20,20 +48,20 @@ returns-then-lacks_memory-clause-goes_on g c = λ matches test.
 pub returns-in_err-show_records-clause-goes_on : goal.returns-in_err-show_records-clause-goes_on
 returns-in_err-show_records-clause-goes_on g c = λ matches test.
     let p = err_from_is_err_and c.from_residual.result c.from_residual.ensures.1 in
-    let few : length c.read_batch-reached.new.records.items ≤ most_at c.args.room.now = omega (arith, c.read_batch-reached.ensures.few, c.most_at-most.ensures, c.read_batch-reached.new.records.ok.0) in
+    let few : length c.read_batch-reached.new.records.items ≤ most_at c.args.room.now = omega (arith, c.read_batch-reached.ensures.filled.few, c.most_at-most.ensures, c.read_batch-reached.new.records.ok.0) in
     let stopped = c.in_err-show_records.ensures.stopped matches test in
     let old : Standing = record { reader = c.args.reader.now; room = c.args.room.now; detector = c.args.detector.now; streams = record { left = g.H.Host.left c.args.host.now; written = g.A.Sink.written c.args.alerts.now } } in
     let new : Standing = record { reader = c.read_batch-reached.new.reader; room = c.room_behind.result; detector = c.show_records.new.detector; streams = record { left = g.H.Host.left c.read_batch-reached.new.host; written = g.A.Sink.written c.show_records.new.alerts } } in
     rw (p.1, p.2) (batch_stops (plan_of matches c.args.context.now.plan.now) c.read_batch-reached.new.records.items old new (Rose (g.H.Host.faults c.args.host.now) (g.H.Host.faults c.read_batch-reached.new.host)) c.read_batch-reached.result c.in_err-show_records.field-0.0
     few
-    (λ more. omega (arith, c.read_batch-reached.ensures.full more, c.most_at-most.ensures, c.read_batch-reached.new.records.ok.0))
-    (λ other. omega (arith, c.read_batch-reached.ensures.fewer other, c.most_at-most.ensures, c.read_batch-reached.new.records.ok.0))
+    (λ more. omega (arith, c.read_batch-reached.ensures.filled.full more, c.most_at-most.ensures, c.read_batch-reached.new.records.ok.0))
+    (λ other. omega (arith, c.read_batch-reached.ensures.filled.fewer other, c.most_at-most.ensures, c.read_batch-reached.new.records.ok.0))
     c.read_batch-reached.ensures.failed (sym c.lacks_memory.ensures ∙ c.if-lacks_memory.false)
     c.read_batch-reached.ensures.reads c.in_err-show_records.ensures.kind stopped)
 
 pub returns-clause-goes_on : goal.returns-clause-goes_on
 returns-clause-goes_on g c = λ matches test.
-    let few : length c.read_batch-reached.new.records.items ≤ most_at c.args.room.now = omega (arith, c.read_batch-reached.ensures.few, c.most_at-most.ensures, c.read_batch-reached.new.records.ok.0) in
+    let few : length c.read_batch-reached.new.records.items ≤ most_at c.args.room.now = omega (arith, c.read_batch-reached.ensures.filled.few, c.most_at-most.ensures, c.read_batch-reached.new.records.ok.0) in
     let shown = c.in_ok-show_records.ensures.shown matches test in
     let old : Standing = record { reader = c.args.reader.now; room = c.args.room.now; detector = c.args.detector.now; streams = record { left = g.H.Host.left c.args.host.now; written = g.A.Sink.written c.args.alerts.now } } in
     let new : Standing = record { reader = c.read_batch-reached.new.reader; room = c.room_behind.result; detector = c.show_records.new.detector; streams = record { left = g.H.Host.left c.read_batch-reached.new.host; written = g.A.Sink.written c.show_records.new.alerts } } in
@@ -41,6 +69,63 @@ returns-clause-goes_on g c = λ matches test.
     let room_is : c.room_behind.result ≡ room_behind c.args.room.now (length c.read_batch-reached.new.records.items) = c.room_behind.ensures ∙ ap (λ (n : ℕ). room_behind c.args.room.now n) count in
     rw (c.more.ensures, c.give_back.ensures.same) (batch_shown (plan_of matches c.args.context.now.plan.now) c.read_batch-reached.new.records.items old new _ c.read_batch-reached.result
     few room_is
-    (λ more. omega (arith, c.read_batch-reached.ensures.full more, c.most_at-most.ensures, c.read_batch-reached.new.records.ok.0))
-    (λ other. omega (arith, c.read_batch-reached.ensures.fewer other, c.most_at-most.ensures, c.read_batch-reached.new.records.ok.0))
+    (λ more. omega (arith, c.read_batch-reached.ensures.filled.full more, c.most_at-most.ensures, c.read_batch-reached.new.records.ok.0))
+    (λ other. omega (arith, c.read_batch-reached.ensures.filled.fewer other, c.most_at-most.ensures, c.read_batch-reached.new.records.ok.0))
     c.read_batch-reached.ensures.reads shown)
+
+-- nothing was read: the detector may be closed
+pub returns-then-most-eq0-clause-ready : goal.returns-then-most-eq0-clause-ready
+returns-then-most-eq0-clause-ready g c = λ on. absurd cc
+
+pub returns-then-most-eq0-clause-closable : goal.returns-then-most-eq0-clause-closable
+returns-then-most-eq0-clause-closable g c = λ whole.
+    let ready = c.requires.ready in
+    let within = ready.readable.within in
+    let behind = ready.behind in
+    record { known = ready.known; few = omega (arith, within, behind) }
+
+-- it was cut short
+pub returns-then-lacks_memory-clause-ready : goal.returns-then-lacks_memory-clause-ready
+returns-then-lacks_memory-clause-ready g c = λ on. absurd cc
+
+pub returns-then-lacks_memory-clause-closable : goal.returns-then-lacks_memory-clause-closable
+returns-then-lacks_memory-clause-closable g c = λ whole. absurd cc
+
+pub returns-in_err-show_records-clause-ready : goal.returns-in_err-show_records-clause-ready
+returns-in_err-show_records-clause-ready g c = λ on.
+    let p = err_from_is_err_and c.from_residual.result c.from_residual.ensures.1 in
+    absurd (cc (p.1, on))
+
+pub returns-in_err-show_records-clause-closable : goal.returns-in_err-show_records-clause-closable
+returns-in_err-show_records-clause-closable g c =
+    let p = err_from_is_err_and c.from_residual.result c.from_residual.ensures.1 in
+    rw (p.1, p.2) (λ whole. absurd (showing_cuts c.in_err-show_records.field-0.0 c.in_err-show_records.ensures.kind whole))
+
+-- the reader gave the records of the batch, and the detector was given them
+pub returns-clause-further : goal.returns-clause-further
+returns-clause-further g c = λ on.
+    let reached = more_reached c.read_batch-reached.result (sym c.more.ensures ∙ on) in
+    let number = (c.read_batch-reached.ensures.goes_on reached).number in
+    let full = c.read_batch-reached.ensures.filled.full reached in
+    rw c.give_back.ensures.same (omega (arith, number, full, c.if-most-eq0.false))
+
+pub returns-clause-ready : goal.returns-clause-ready
+returns-clause-ready g c = λ on.
+    let gone = c.read_batch-reached.ensures.goes_on (more_reached c.read_batch-reached.result (sym c.more.ensures ∙ on)) in
+    let number = gone.number in
+    let before = c.requires.ready.behind in
+    let ready : MayGoOn c.args.context.now.plan.now c.read_batch-reached.new.reader c.show_records.new.detector = record {
+      readable = gone.readable;
+      known = c.in_ok-show_records.ensures.known;
+      behind = omega (arith, number, before, c.in_ok-show_records.ensures.records, c.read_batch-reached.new.records.ok.0);
+    } in
+    subst (λ (reader : RecordReader). MayGoOn c.args.context.now.plan.now reader c.show_records.new.detector) (sym c.give_back.ensures.same) ready
+
+pub returns-clause-closable : goal.returns-clause-closable
+returns-clause-closable g c = λ whole.
+    let ready = c.requires.ready in
+    let few = within_batch c.args.detector.now.front.counts.records (number_of c.args.reader.now) (vec_len c.read_batch-reached.new.records) most_records ready.behind ready.readable.within c.read_batch-reached.ensures.within in
+    record {
+      known = c.in_ok-show_records.ensures.known;
+      few = omega (arith, few, c.in_ok-show_records.ensures.records, c.read_batch-reached.new.records.ok.0);
+    }

@@ -8,11 +8,8 @@ use Rattle.snort_engine.proofs.watch.watch_batches.Goals as goal
 
 pub batches-init : goal.batches-init
 batches-init g c = record {
-  going = λ matches test stands. under_way-start (plan_of matches c.args.context.now.plan.now) _ _ _ _ c.requires.fresh refl stands;
-  known = c.requires.known;
-  behind = let none = c.requires.none in omega (arith, none);
-  within = c.requires.within;
-  fresh = c.requires.fresh;
+  going = λ matches test stands. under_way-start (plan_of matches c.args.context.now.plan.now) _ _ _ _ c.requires.ready.readable.fresh refl stands;
+  ready = c.requires.ready;
   shown = c.new-records.ensures.items;
   host = read_not g.H.Host c.args.host.now;
   later_alerts = omega arith;
@@ -37,11 +34,14 @@ batches-preserved g c =
     let on = rw c.if-branch.true at c.in_ok-watch_batch.ensures.goes_on in
     record {
       going = λ matches test stands. on matches test _ _ (c.batches.invariant.going matches test stands);
-      known = c.in_ok-watch_batch.ensures.known refl;
-      behind = c.in_ok-watch_batch.ensures.behind (ap Ok c.if-branch.true);
-      within = c.in_ok-watch_batch.ensures.within (ap Ok c.if-branch.true);
-      fresh = c.in_ok-watch_batch.ensures.fresh (ap Ok c.if-branch.true);
+      ready = c.in_ok-watch_batch.ensures.ready (ap Ok c.if-branch.true);
       shown = c.in_ok-watch_batch.ensures.shown;
       host = read_on g.H.Host _ _ _ c.batches.invariant.host c.in_ok-watch_batch.ensures.host;
       later_alerts = omega (arith, c.in_ok-watch_batch.ensures.later_alerts, c.batches.invariant.later_alerts);
     }
+
+pub batches-smaller : goal.batches-smaller
+batches-smaller g c =
+    let further = c.in_ok-watch_batch.ensures.further (ap Ok c.if-branch.true) in
+    let within = (c.in_ok-watch_batch.ensures.ready (ap Ok c.if-branch.true)).readable.within in
+    omega (arith, further, within)

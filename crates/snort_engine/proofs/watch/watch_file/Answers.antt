@@ -6,6 +6,11 @@ use Rattle.snort_engine.proofs.Captures.{open_stops, capture_ends}
 use Rattle.snort_engine.proofs.Opening.{opens_later}
 use Rattle.snort_engine.proofs.watch.watch_file.Goals as goal
 
+pub watch_records-requires-clause-readable : goal.watch_records-requires-clause-readable
+watch_records-requires-clause-readable g c κs within =
+    let none = c.in_ok-reader.ensures.fresh.1 in
+    record { fresh = c.in_ok-reader.ensures.fresh.0; within = omega (arith, none) }
+
 pub returns-in_err-reader-clause-ends : goal.returns-in_err-reader-clause-ends
 returns-in_err-reader-clause-ends g c = λ matches test files course told goes.
     let named = sym c.requires.named in

@@ -1,8 +1,16 @@
+use Rattle.std.proofs.Common.{arith}
 use Rattle.std.proofs.lemmas.Result.{err_from_is_err_and}
 use Rattle.snort_engine.specs.Steps.Watching.{plan_of}
 use Rattle.snort_engine.proofs.Prefixes.{WritesPart-none}
 use Rattle.snort_engine.proofs.Watched.{close-start, closed_watch, closed_behind}
 use Rattle.snort_engine.proofs.watch.watch_records.Goals as goal
+
+pub watch_batches-watched-requires-clause-ready : goal.watch_batches-watched-requires-clause-ready
+watch_batches-watched-requires-clause-ready g c κs within = record {
+  readable = c.requires.readable;
+  known = c.in_ok-detector.ensures.known;
+  behind = omega (arith, c.in_ok-detector.ensures.none);
+}
 
 pub returns-in_err-detector-clause-watches : goal.returns-in_err-detector-clause-watches
 returns-in_err-detector-clause-watches g c = λ matches test.
@@ -12,7 +20,7 @@ returns-in_err-detector-clause-watches g c = λ matches test.
 pub returns-in_err-detector-clause-close : goal.returns-in_err-detector-clause-close
 returns-in_err-detector-clause-close g c = λ matches test.
     let p = err_from_is_err_and c.from_residual.result c.from_residual.ensures.1 in
-    rw (p.1, p.2) (close-start (plan_of matches c.args.context.now.plan.now) c.args.reader.now _ _ c.requires.fresh)
+    rw (p.1, p.2) (close-start (plan_of matches c.args.context.now.plan.now) c.args.reader.now _ _ c.requires.readable.fresh)
 
 pub returns-clause-watches : goal.returns-clause-watches
 returns-clause-watches g c = λ matches test.
