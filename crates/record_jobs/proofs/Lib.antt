@@ -7,6 +7,7 @@ pub mod Sizes
 pub mod Straight
 pub mod Taking
 pub mod Ending
+pub mod NoRecords
 pub mod Knowing
 pub mod Sounding
 pub mod Running

@@ -48,6 +48,10 @@ abbrev pub is_malformed : Skip → Bool
 is_malformed skip.Malformed = true
 is_malformed reason = false
 
+-- nothing was counted
+abbrev pub none_counted : RecordCounts
+none_counted = record { records = 0; short = 0; other = 0; checksum = 0; malformed = 0; fragments = 0; rebuilt = 0; flows = 0 }
+
 -- the counts of these records
 unfoldable pub counts : Way → List LinkedRecord → RecordCounts
 counts way records = record {

@@ -4,7 +4,9 @@ ghost use Rattle.std.specs.Prelude.{◌≡◌, ℕ, Bool, List, [], ◌++◌, le
 ghost use Rattle.flow_lanes.specs.declared.job.Job.{Job};
 ghost use Rattle.flow_lanes.specs.Standing.{AreNew, LanesState, LearnsBatch};
 ghost use Rattle.record_jobs.specs.Addresses.{KeepEnds};
+ghost use Rattle.record_jobs.specs.Counts.{counts, none_counted};
 ghost use Rattle.record_jobs.specs.Fronts.{FrontState, StandsFor};
+ghost use Rattle.record_jobs.specs.Jobs.{finishes};
 ghost use Rattle.record_jobs.specs.Ready.{AreInOrder, AreNumbered, AreReady, AreSound, HaveLearnt};
 ghost use Rattle.record_jobs.specs.Way.{LinkedRecord, Way};
 
@@ -12,6 +14,12 @@ ghost use Rattle.record_jobs.specs.Way.{LinkedRecord, Way};
 /// says, each is sound behind the earlier jobs of its flow.
 pub fn jobs_are_in_order()
     ensures { (way : Way) (records : List LinkedRecord) → AreInOrder way records }
+{}
+
+/// Behind no records no flow ends, and nothing was counted.
+pub fn no_records_no_jobs()
+    ensures finishes { (way : Way) → finishes way [] ≡ [] }
+    ensures counts { (way : Way) → counts way [] ≡ none_counted }
 {}
 
 /// A front counts the records that it stands for.

@@ -22,4 +22,7 @@ mod touches;
 pub use config::FrontConfig;
 pub use counts::RecordCounts;
 pub use front::Front;
-pub use laws::{datagrams_keep_addresses, jobs_are_in_order, lanes_may_run, records_are_counted};
+pub use laws::{
+    datagrams_keep_addresses, jobs_are_in_order, lanes_may_run, no_records_no_jobs,
+    records_are_counted,
+};
