@@ -6,9 +6,7 @@ use Rattle.edge_io.proofs.Along.{trail_from-append, trail-append, trail-chained}
 use Rattle.flow_lanes.specs.declared.answer.Hits.{Hits}
 use Rattle.record_jobs.specs.Way.{LinkedRecord}
 use Rattle.record_jobs.specs.Jobs.{jobs, finishes}
-use Rattle.record_jobs.specs.Touches.{touches}
-use Rattle.record_jobs.specs.Counts.{counts}
-use Rattle.stream5_sessions.specs.Liveness.{live_flows}
+use Rattle.record_jobs.proofs.NoRecords.{counts-none, finishes-none}
 use Rattle.snort_engine.specs.Course.{Plan}
 use Rattle.snort_engine.specs.Beside.{beside, carried, own}
 use Rattle.snort_engine.specs.Trace.{Alert, CaptureState, Open, Closed, closing_alerts, closing_events, closing_items, detection_of, item_events, items_of, job_items, jobs_of, last_of, record_alerts, record_events, trace, jobs_way}
@@ -57,9 +55,18 @@ unfolding lines trace
 lines-nil plan before = refl
 
 -- behind no records no flow lives that could end
+closing_items-nil : (plan : Plan) → closing_items plan [] ≡ []
+unfolding closing_items
+closing_items-nil plan = ap (trail_from (job_items (detection_of plan)) []) (finishes-none (jobs_way plan))
+
+closing_alerts-nil : (plan : Plan) → closing_alerts plan [] ≡ []
+unfolding closing_alerts closing_events
+closing_alerts-nil plan =
+    ap (λ (items : List Hits). map (beside (last_of [])) (trail_from (item_events plan.config plan.rules) (items_of plan []) items)) (closing_items-nil plan)
+
 pub closing_lines-nil : (plan : Plan) → closing_lines plan [] ≡ []
-unfolding closing_lines closing_alerts closing_events closing_items finishes live_flows touches
-closing_lines-nil plan = refl
+unfolding closing_lines
+closing_lines-nil plan = ap (texts_from (text_by plan) (alert_count plan [])) (closing_alerts-nil plan)
 
 -- a capture that has ended has the lines of its records, and then those of the flows that end with it
 pub lines-closed : (plan : Plan) (records : List LinkedRecord) → lines plan [] records Closed ≡ lines plan [] records Open ++ closing_lines plan records
@@ -76,8 +83,8 @@ lines-none plan = lines-closed plan [] ∙ ap (λ (x : List ℕ). lines plan [] 
 
 -- nothing is counted of no records
 pub no_counts-are : (plan : Plan) → no_counts ≡ counts_of plan []
-unfolding counts_of counts trace items_of closing_items closing_alerts closing_events finishes live_flows touches
-no_counts-are plan = refl
+unfolding counts_of trace items_of
+no_counts-are plan = rw (counts-none (jobs_way plan), closing_items-nil plan, closing_alerts-nil plan, finishes-none (jobs_way plan)) refl
 
 -- the first records, and then more of them
 take_split : (records : List LinkedRecord) (r s : ℕ) → r ≤ s → take s records ≡ take r records ++ drop r (take s records)

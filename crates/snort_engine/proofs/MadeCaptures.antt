@@ -1,10 +1,11 @@
 -- How the watching of a capture that is made follows its answer.
-use Rattle.std.proofs.Common.{◌≡◌, ℕ, ◌≤◌, List, ◌++◌, Option, Some, Result, Ok, length, drop, refl, sym, ap, subst, ◌∙◌, arith}
-use Rattle.std.proofs.lemmas.List.{length-append, drop_at}
-use Rattle.pcap_input.specs.Savefile.{head_of, head_behind, head_with, number_at}
+use Rattle.std.proofs.Common.{◌≡◌, ℕ, ◌≤◌, List, ◌++◌, Option, Some, Result, Ok, length, take, drop, refl, sym, ap, subst, ◌∙◌, arith}
+use Rattle.std.proofs.lemmas.List.{length-take-le, take-append-drop}
+use Rattle.pcap_input.specs.Savefile.{head_of}
 use Rattle.pcap_input.specs.Reader.{new_reader}
-use Rattle.pcap_input.specs.Generated.{generated, capture_of, frames, first_traffic, header_bytes, records_from}
+use Rattle.pcap_input.specs.Generated.{generated, made_head}
 use Rattle.pcap_input.proofs.Laws.{head_of-append}
+use Rattle.pcap_input.proofs.MadeCaptures.{generated-head}
 use Rattle.snort_engine.specs.declared.status.Status.{Status}
 use Rattle.snort_engine.specs.declared.status.Status.TheVariants as status
 use Rattle.snort_engine.specs.declared.stop.Stop.{Stop}
@@ -14,7 +15,6 @@ use Rattle.snort_engine.specs.declared.counts.Counts.{Counts}
 use Rattle.edge_io.specs.Files.{Files}
 use Rattle.edge_io.specs.Told.{Rose}
 use Rattle.snort_engine.specs.Course.{Plan, Makes, Course}
-use Rattle.snort_engine.specs.Steps.MadeCapture.{made_head}
 use Rattle.snort_engine.specs.Answer.{answer_of, capture_answer, way_answer}
 use Rattle.snort_engine.specs.Messages.{no_memory_text}
 use Rattle.snort_engine.specs.Outside.{Work, WritesPart}
@@ -24,21 +24,19 @@ use Rattle.snort_engine.specs.Steps.Stop.{outcome_status}
 use Rattle.snort_engine.specs.Steps.Watching.{Watches}
 use Rattle.snort_engine.proofs.Finishing.{ahead_made, ends_lacking}
 use Rattle.snort_engine.proofs.Prefixes.{WritesPart-none}
-use Rattle.snort_engine.proofs.Opening.{savefile_begins}
+use Rattle.snort_engine.proofs.Opening.{long_enough, savefile_begins}
 use Rattle.snort_engine.proofs.Captures.{said, warned, watched_by}
 
-head_of_header : head_of header_bytes ≡ Ok made_head
-unfolding head_of head_behind head_with number_at
-head_of_header = refl
-
--- a capture that is made begins with a file header
-pub generated_head : (seed count : ℕ) → head_of (generated seed count) ≡ Ok made_head
-unfolding generated capture_of
-generated_head seed count = head_of-append header_bytes (records_from 0 (frames count (first_traffic seed))) (omega arith) ∙ head_of_header
-
+-- it has a file header
 pub generated_long : (seed count : ℕ) → 24 ≤ length (generated seed count)
-unfolding generated capture_of
-generated_long seed count = omega (arith, length-append header_bytes (records_from 0 (frames count (first_traffic seed))))
+generated_long seed count = long_enough (generated seed count) made_head (generated-head seed count)
+
+-- and this alone has its head
+header_head : (seed count : ℕ) → head_of (take 24 (generated seed count)) ≡ Ok made_head
+header_head seed count =
+    let made = generated seed count in
+    let whole = length-take-le 24 made (generated_long seed count) in
+    sym (head_of-append (take 24 made) (drop 24 made) (omega (arith, whole))) ∙ ap head_of (take-append-drop 24 made) ∙ generated-head seed count
 
 -- the host and its count stay
 abbrev pub with_alerts : Work → Option (List ℕ) → Work
@@ -47,14 +45,6 @@ with_alerts before alerts = record before { alerts = alerts }
 apart : (before : Work) (alerts : Option (List ℕ)) (ended : Status) → (ended ≡ status.HostFault → ⊥) → IsApart before (with_alerts before alerts) ended
 apart before alerts ended never = record { left = refl; opens = refl; no_host_fault = never }
 
--- the records of a capture that is made, behind its file header
-made_records : (seed count : ℕ) → List ℕ
-made_records seed count = records_from 0 (frames count (first_traffic seed))
-
-generated_joined : (seed count : ℕ) → generated seed count ≡ header_bytes ++ made_records seed count
-unfolding generated capture_of made_records
-generated_joined seed count = refl
-
 -- it was made and watched, by a reader that had given no record
 pub made_ends : (plan : Plan) (files : Files) (course : Course) (seed count : ℕ) (bytes : List ℕ) (reader : RecordReader) (left_first left_last old new : Option (List ℕ)) (before : Work) (counts : Counts) (outcome : Result (Unit {0}) Stop)
     → course.way ≡ Makes plan seed count → before.alerts ≡ old → bytes ≡ generated seed count → reader ≡ Savefile (new_reader made_head) → left_first ≡ Some (drop 24 bytes)
@@ -62,15 +52,16 @@ pub made_ends : (plan : Plan) (files : Files) (course : Course) (seed count : �
     → (outcome_status outcome ≡ status.HostFault → ⊥)
     → Ends files course before (with_alerts before new) (outcome_status outcome) (warned course ++ said plan outcome counts)
 made_ends plan files course seed count bytes reader left_first left_last old new before counts outcome makes same are by told watches never =
-    let joined = are ∙ generated_joined seed count in
+    let made = generated seed count in
+    let whole = length-take-le 24 made (generated_long seed count) in
     watched_by plan files course left_first left_last bytes (Savefile (new_reader made_head)) before (with_alerts before new) counts outcome
     (record {
       answers = ap (way_answer files (warned course)) makes ∙ ap (λ (x : List ℕ). capture_answer plan (warned course) (Some x)) (sym are);
-      front = header_bytes;
-      rest = made_records seed count;
-      joined = joined;
-      told = told ∙ ap Some (ap (drop 24) joined ∙ drop_at header_bytes (made_records seed count) 24 refl);
-      begins = savefile_begins header_bytes made_head head_of_header (omega arith);
+      front = take 24 made;
+      rest = drop 24 made;
+      joined = are ∙ sym (take-append-drop 24 made);
+      told = told ∙ ap (λ (x : List ℕ). Some (drop 24 x)) are;
+      begins = savefile_begins (take 24 made) made_head (header_head seed count) (omega (arith, whole));
     })
     (subst (λ (r : RecordReader). Watches plan r (record { left = left_first; written = before.alerts }) (record { left = left_last; written = new }) counts outcome) by
     (subst (λ (w : Option (List ℕ)). Watches plan reader (record { left = left_first; written = w }) (record { left = left_last; written = new }) counts outcome) (sym same) watches))

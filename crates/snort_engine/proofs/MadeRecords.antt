@@ -1,116 +1,18 @@
--- A capture that is made is whole: so many records as were asked for, and a clean ending.
-use Rattle.std.proofs.Common.{◌≡◌, ℕ, zero, suc, ◌+◌, ◌^◌, ◌<◌, ◌≤◌, Bool, true, false, List, [], ◌++◌, Option, Some, None, length, take, drop, refl, sym, ap, subst, ◌∙◌, arith, append_assoc, length-append, ◌==◌}
-use Rattle.std.specs.Prelude.{codes, min, nat_le, if◌then◌else◌}
-use Rattle.std.proofs.lemmas.List.{length-drop, length-map, length-take-le, drop_at}
+-- What a plan reads of a capture that is made: so many records as were asked for, up to its limit, and a clean ending.
+use Rattle.std.proofs.Common.{◌≡◌, ℕ, ◌<◌, ◌≤◌, Bool, true, false, Option, Some, None, length, take, drop, refl, sym, ap, subst, ◌∙◌, arith}
+use Rattle.std.specs.Prelude.{min, nat_le}
+use Rattle.std.proofs.lemmas.List.{length-map, length-take-le}
 use Rattle.std.proofs.lemmas.Bool.Decides.{nat_tests}
-use Rattle.byteorder.specs.Numbers.{little_number-reads_back}
-use Rattle.pcap_input.specs.Savefile.{Cut, Clean, Stands, captured_length, number_at, next_of, place_behind, records_left, record_of}
-use Rattle.pcap_input.specs.Frames.{ip_fields, ip_header, tcp_fields, tcp_header, udp_header, frame, tcp_frame, udp_frame}
-use Rattle.pcap_input.specs.Generated.{step, draw, letters, marked, payload_drawn, has_payload, payload_at, text_drawn, with_state, made, made_datagram, made_segment, made_of_session, frames, record_fields, record_bytes, records_from, header_bytes, first_traffic, capture_of, generated}
-use Rattle.pcap_input.proofs.Laws.{bytes_stand, next_of_header, next_of_nothing}
-use Rattle.pcap_input.proofs.Records.{records_left-ends, records_left-stands}
-use Rattle.pcap_input.proofs.Making.{text-short}
-use Rattle.record_jobs.specs.Way.{linked}
+use Rattle.pcap_input.specs.Savefile.{Cut}
+use Rattle.pcap_input.specs.Generated.{IsWholeCut, generated, made_cut, made_head}
 use Rattle.pcap_input.specs.Reader.{new_reader}
+use Rattle.pcap_input.proofs.MadeCaptures.{generated-head, made_cut-whole}
+use Rattle.record_jobs.specs.Way.{linked}
 use Rattle.snort_engine.specs.declared.reader.RecordReader.TheVariants.{Savefile}
 use Rattle.snort_engine.specs.Records as recordings
-use Rattle.snort_engine.specs.Records.{Recording, recording_of, records_of, first_of, limited, IsWhole, MadeIsWhole}
+use Rattle.snort_engine.specs.Records.{Recording, recording_of, first_of, limited, IsWhole, MadeIsWhole}
 use Rattle.snort_engine.specs.Steps.Reader.{recording_for}
 use Rattle.snort_engine.proofs.Opening.{records_in-ok}
-use Rattle.snort_engine.proofs.MadeCaptures.{generated_head}
-use Rattle.snort_engine.specs.Steps.MadeCapture.{made_head}
-
--- ---- frames are short
-
-length-letters : (count state : ℕ) → length (letters count state) ≡ count
-unfolding letters
-length-letters zero state = refl
-length-letters (suc count) state = ap suc (length-letters count (step state))
-
-marked_short : (mark : Bool) (text : List ℕ) → length text ≡ 64 → length (marked mark text) ≤ 100
-unfolding marked
-marked_short true text is = omega (arith, length-append (codes "attack") (drop 6 text), length-drop 6 text)
-marked_short false text is = omega arith
-
-payload_short : (turn : _) (state : ℕ) → length (payload_at turn state) ≤ 100
-unfolding payload_at payload_drawn
-payload_short turn state = by_turn (has_payload turn)
-  where
-    by_turn : (test : Bool) → length (if test then payload_drawn state else []) ≤ 100
-    by_turn true = marked_short (draw 50 state == 0) (letters 64 (step state)) (length-letters 64 (step state))
-    by_turn false = omega arith
-
-tcp_short : (segment : _) (payload : List ℕ) → length payload ≤ 100 → length (tcp_frame segment payload) < 1000
-unfolding tcp_frame frame ip_header ip_fields tcp_header tcp_fields
-tcp_short segment payload short = omega (arith, short)
-
-udp_short : (source destination : _) (payload : List ℕ) → length payload ≤ 100 → length (udp_frame source destination payload) < 1000
-unfolding udp_frame frame ip_header ip_fields udp_header
-udp_short source destination payload short = omega (arith, short)
-
-drawn_below : (state : ℕ) → draw 1000 state < 1000
-unfolding draw
-drawn_below state = omega arith
-
-datagram_short : (traffic : _) → length (made_datagram traffic).frame < 1000
-unfolding made_datagram text_drawn
-datagram_short traffic =
-    let text = text_drawn (step traffic.draws.state) in
-    udp_short _ _ text (text-short (draw 1000 (step traffic.draws.state)) text (drawn_below (step traffic.draws.state)) refl)
-
-segment_short : (traffic : _) → length (made_segment traffic).frame < 1000
-unfolding made_segment made_of_session
-segment_short traffic = tcp_short _ _ (payload_short _ _)
-
-made_short : (traffic : _) → length (made traffic).frame < 1000
-unfolding made
-made_short traffic = by_draw (draw 4 traffic.draws.state == 0) refl
-  where
-    by_draw : (test : Bool) → (draw 4 traffic.draws.state == 0) ≡ test → length (made traffic).frame < 1000
-    by_draw true is = rw is (datagram_short (with_state traffic (step traffic.draws.state)))
-    by_draw false is = rw is (segment_short (with_state traffic (step traffic.draws.state)))
-
--- ---- their records stand
-
-captured : (millis size : ℕ) → size < 2 ^ 32 → captured_length made_head (record_fields millis size) ≡ size
-unfolding captured_length number_at record_fields
-captured millis size small = little_number-reads_back 4 size [] small
-
-fields_long : (millis size : ℕ) → length (record_fields millis size) ≡ 16
-unfolding record_fields
-fields_long millis size = refl
-
-record_stands : (number place millis : ℕ) (bytes more : List ℕ) → number < 4294967295 → length bytes < 1000
-    → next_of made_head number place (record_bytes millis bytes ++ more) ≡ Stands (record_of made_head number (record_fields millis (length bytes)) bytes) more
-unfolding record_bytes
-record_stands number place millis bytes more few short =
-    let fields = record_fields millis (length bytes) in
-    ap (next_of made_head number place) (append_assoc fields bytes more)
-    ∙ next_of_header made_head number place fields (bytes ++ more) (fields_long millis (length bytes)) few
-    ∙ bytes_stand made_head number place fields bytes more (captured millis (length bytes) (omega arith)) (omega arith)
-
--- so many records, and a clean ending
-record IsCutWhole (count : ℕ) (cut : Cut) : Type 0 where
-  count_is : length cut.records ≡ count
-  clean : cut.ending ≡ Clean
-
-records_whole : (count number place millis : ℕ) (traffic : _) → number + count ≤ 4294967295 → IsCutWhole count (records_left made_head number place (records_from millis (frames count traffic)))
-unfolding frames records_from
-records_whole zero number place millis traffic few =
-    let none = records_left-ends made_head number place [] Clean (next_of_nothing made_head number place) in
-    record { count_is = ap (λ (cut : Cut). length cut.records) none; clean = ap (λ (cut : Cut). cut.ending) none }
-records_whole (suc count) number place millis traffic few =
-    let bytes = (made traffic).frame in
-    let more = records_from (millis + 1) (frames count (made traffic).behind) in
-    let first = record_of made_head number (record_fields millis (length bytes)) bytes in
-    let is = records_left-stands made_head number place (record_bytes millis bytes ++ more) first more (record_stands number place millis bytes more (omega arith) (made_short traffic)) in
-    let later = records_whole count (number + 1) (place_behind place first) (millis + 1) (made traffic).behind (omega arith) in
-    record {
-      count_is = ap (λ (cut : Cut). length cut.records) is ∙ ap suc later.count_is;
-      clean = ap (λ (cut : Cut). cut.ending) is ∙ later.clean;
-    }
-
--- ---- what a plan reads of it
 
 limit_whole : (limit : Option ℕ) (count : ℕ) (recording : Recording) → IsWhole count recording → IsWhole (limited limit count) (first_of limit recording)
 unfolding first_of
@@ -127,18 +29,15 @@ limit_whole (Some limit) count recording whole = by_test (nat_le limit (length r
         rw is (record { count_is = omega (arith, fewer, whole.count_is); clean = whole.clean })
 
 -- a cut that is whole, as a recording
-recording_whole : (count : ℕ) (cut : Cut) → IsCutWhole count cut → IsWhole count (recording_of made_head.link cut)
+recording_whole : (count : ℕ) (cut : Cut) → IsWholeCut count cut → IsWhole count (recording_of made_head.link cut)
 recording_whole count cut whole = record {
   count_is = length-map cut.records (linked made_head.link) ∙ whole.count_is;
   clean = ap recordings.savefile_ending whole.clean;
 }
 
 pub made_is_whole : MadeIsWhole
-unfolding recording_for generated capture_of
+unfolding recording_for
 made_is_whole plan seed count few =
-    let frames_are = frames count (first_traffic seed) in
-    let behind : drop 24 (generated seed count) ≡ records_from 0 frames_are = drop_at header_bytes (records_from 0 frames_are) 24 refl in
-    let whole : IsCutWhole count (records_left made_head 0 24 (drop 24 (generated seed count))) =
-    subst (λ (rest : List ℕ). IsCutWhole count (records_left made_head 0 24 rest)) (sym behind) (records_whole count 0 24 0 (first_traffic seed) (omega arith)) in
-    subst (IsWhole (limited plan.limit count)) (sym (records_in-ok plan.limit (generated seed count) made_head (generated_head seed count)))
-    (limit_whole plan.limit count (recording_for (Savefile (new_reader made_head)) (drop 24 (generated seed count))) (recording_whole count _ whole))
+    subst (IsWhole (limited plan.limit count)) (sym (records_in-ok plan.limit (generated seed count) made_head (generated-head seed count)))
+    (limit_whole plan.limit count (recording_for (Savefile (new_reader made_head)) (drop 24 (generated seed count)))
+    (recording_whole count (made_cut seed count) (made_cut-whole seed count few)))

@@ -17,6 +17,7 @@ use Rattle.pcap_input.proofs.Endings.{savefile-ok, savefile-err}
 use Rattle.pcap_input.proofs.Heads.{head_of_truncated}
 use Rattle.pcap_input.proofs.Laws.{head_of-append, next_of_nothing}
 use Rattle.pcap_input.proofs.Records as classic_records
+use Rattle.pcap_input.proofs.Sections.{section-head}
 use Rattle.pcap_input.proofs.Told.{split_told}
 use Rattle.pcapng_input.specs.declared.capture.NgFault.{NgFault}
 use Rattle.pcapng_input.specs.declared.capture.NgFault.TheVariants as blocks_fault
@@ -43,23 +44,12 @@ use Rattle.snort_engine.proofs.Recordings.{recording_of-first, recording_of_bloc
 
 -- ---- which of the two a file is
 
--- four bytes that are the type of a section header are no magic number of a savefile, in either order
-magics_apart : (bytes : List ℕ) → number_at false 0 4 bytes ≡ section_type → (number_at true 0 4 bytes ≡ 0xa1b2_c3d4 → ⊥) × (number_at true 0 4 bytes ≡ 0xa1b2_3c4d → ⊥)
-unfolding number_at
-magics_apart bytes is = (λ other. omega (arith, is, other), λ other. omega (arith, is, other))
-
 -- blocks begin as no savefile does
 pub other_head : (bytes : List ℕ) → is_of_blocks bytes ≡ true → head_of bytes ≡ Err savefile_fault.NotPcap
-unfolding head_of
 other_head bytes is =
     let begins : number_at false 0 4 bytes ≡ section_type = grind (arith, nat_tests, is) in
-    let long : nat_lt (length bytes) 24 ≡ false = grind (arith, nat_tests, is) in
-    let apart = magics_apart bytes begins in
-    let one : (number_at false 0 4 bytes == 0xa1b2_c3d4) ≡ false = grind (arith, nat_tests, begins) in
-    let two : (number_at false 0 4 bytes == 0xa1b2_3c4d) ≡ false = grind (arith, nat_tests, begins) in
-    let three : (number_at true 0 4 bytes == 0xa1b2_c3d4) ≡ false = grind (arith, nat_tests, apart.0) in
-    let four : (number_at true 0 4 bytes == 0xa1b2_3c4d) ≡ false = grind (arith, nat_tests, apart.1) in
-    rw (long, one, two, three, four) refl
+    let long : 24 ≤ length bytes = grind (arith, nat_tests, is) in
+    section-head bytes long begins
 
 -- so a file that begins otherwise isn't of blocks
 not_blocks_by : (bytes : List ℕ) (read : Result CaptureHead CaptureFault) (test : Bool) → head_of bytes ≡ read → (read ≡ Err savefile_fault.NotPcap → ⊥) → is_of_blocks bytes ≡ test → is_of_blocks bytes ≡ false
@@ -92,7 +82,7 @@ records_in-err : (limit : Option ℕ) (bytes : List ℕ) (why : CaptureFault) �
 records_in-err limit bytes why is other = as_savefile limit bytes other ∙ ap recording_in (savefile-err bytes limit why is)
 
 -- the head of a file that has one takes 24 bytes
-long_enough : (bytes : List ℕ) (head : CaptureHead) → head_of bytes ≡ Ok head → 24 ≤ length bytes
+pub long_enough : (bytes : List ℕ) (head : CaptureHead) → head_of bytes ≡ Ok head → 24 ≤ length bytes
 long_enough bytes head is = at_least (length bytes) 24 (λ few. let truncated = head_of_truncated bytes few in cc)
   where
     at_least : (a b : ℕ) → (a < b → ⊥) → b ≤ a

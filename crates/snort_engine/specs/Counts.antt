@@ -9,7 +9,7 @@
 use Rattle.std.specs.Prelude.{ℕ, Bool, List, [], ◌++◌, Option, None, Some, length, sum, sum_by, codes, decimal, if◌then◌else◌}
 use Rattle.edge_io.specs.Along.{along}
 use Rattle.record_jobs.specs.Way.{LinkedRecord}
-use Rattle.record_jobs.specs.Counts.{counts}
+use Rattle.record_jobs.specs.Counts.{counts, none_counted}
 use Rattle.record_jobs.specs.Ready.{all_jobs}
 use Rattle.flow_lanes.specs.declared.answer.Hits.{Hits}
 use Rattle.flow_lanes.specs.declared.job.Job.{Job}
@@ -42,13 +42,7 @@ counts_of plan records = record {
 
 -- nothing was counted
 abbrev pub no_counts : Counts
-no_counts = record {
-  seen = record { records = 0; short = 0; other = 0; checksum = 0; malformed = 0; fragments = 0; rebuilt = 0; flows = 0 };
-  items = 0;
-  hits = 0;
-  alerts = 0;
-  tries = 0;
-}
+no_counts = record { seen = none_counted; items = 0; hits = 0; alerts = 0; tries = 0 }
 
 -- a count on its line
 abbrev pub count_line : List ℕ → ℕ → List ℕ

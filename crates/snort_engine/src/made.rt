@@ -1,9 +1,10 @@
 //! A capture that was made in memory, as a host that can't fail.
 ghost use Rattle.std.specs.Prelude.{◌≡◌, ◌≤◌, Some, length, drop};
+ghost use Rattle.pcap_input.specs.Generated.{made_head};
 ghost use Rattle.pcap_input.specs.Savefile.{file_header};
 ghost use Rattle.pcap_input.specs.Reader.{new_reader};
 ghost use Rattle.snort_engine.specs.declared.reader.RecordReader.TheVariants.{Savefile};
-ghost use Rattle.snort_engine.specs.Steps.MadeCapture.{left_of, made_head};
+ghost use Rattle.snort_engine.specs.Steps.MadeCapture.{left_of};
 
 use crate::reader::RecordReader;
 use edge_io::{Failed, Host, Link, LoadFault};
