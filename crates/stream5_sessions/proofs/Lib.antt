@@ -15,3 +15,4 @@ pub mod CacheSteps
 pub mod Numbered
 pub mod Living
 pub mod NoTouch
+pub mod Guessed

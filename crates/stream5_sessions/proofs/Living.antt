@@ -26,7 +26,7 @@ abbrev pub named : Numbered → Key
 named n = n.key
 
 -- the derived test of a key with its number
-test_parts : (a b : Numbered) → eq-value.it a b ≡ (same_key a.key b.key && eqb a.number b.number)
+pub test_parts : (a b : Numbered) → eq-value.it a b ≡ (same_key a.key b.key && eqb a.number b.number)
 test_parts a b = ap (λ (x : Bool). x && eqb a.number b.number) (eq-same_key a.key b.key)
 
 one_number : (o : Option ℕ) (m n : ℕ) → o ≡ Some m → o ≡ Some n → m ≡ n

@@ -10,6 +10,7 @@
 
 mod flow_numbers;
 mod flows;
+mod guesses;
 mod key;
 mod laws;
 mod lives;

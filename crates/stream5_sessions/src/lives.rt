@@ -1,9 +1,10 @@
 //! The keys of one protocol that live, with their flows' numbers, by their last touches.
 //!
 //! A sender chooses the keys, and could choose many that one hash table keeps in one place. So no key is
-//! hashed: a tree has the number of each key's flow, and the cache hashes that number alone, which counts up.
-ghost use Rattle.std.specs.Prelude.{◌≡◌, ◌≤◌, ◌-◌, [], None, slice_get, option_map, if◌then◌else◌};
-ghost use Rattle.std.specs.Prelude.{IfOk, OnOk, OnErr};
+//! hashed: a tree has the number of each key's flow, and the cache hashes that number alone, which counts up. The
+//! cache compares the key too, so a number may be guessed before the tree is asked.
+ghost use Rattle.std.specs.Prelude.{◌≡◌, ◌≤◌, ◌-◌, [], None, Some, slice_get, option_map, if◌then◌else◌};
+ghost use Rattle.std.specs.Prelude.{IfOk, IfSome, MatchOption, OnOk, OnErr};
 ghost use Rattle.std.specs.Map.{lookup, values_of};
 ghost use Rattle.lru.specs.LruCache.{promoted};
 ghost use Rattle.stream5_sessions.specs.Keys.{same_key};
@@ -14,6 +15,7 @@ ghost use Rattle.stream5_sessions.specs.declared.key.Key.{Key};
 
 use crate::Key;
 use crate::flow_numbers::FlowNumbers;
+use crate::guesses::Guesses;
 use edge_io::NoMemory;
 use lru::LruCache;
 use std::alloc::Global;
@@ -49,6 +51,8 @@ pub(crate) struct Lives {
     /// The number of each key's flow.
     numbers: FlowNumbers,
     cache: LruCache<Numbered, u64>,
+    /// What is tried before `numbers`.
+    guesses: Guesses,
 }
 
 impl Model for Lives {
@@ -62,7 +66,7 @@ impl Model for Lives {
 }
 
 impl Lives {
-    /// No key, and room for so many. Memory is taken as keys come.
+    /// No key, and room for so many. Memory for keys is taken as they come.
     pub fn new(alloc: Global, most: u32) -> Result<Lives, NoMemory>
         requires { 1 ≤ most }
         ensures { IfOk result (λ lives. lives ≡ lives_with [] most) }
@@ -71,6 +75,7 @@ impl Lives {
         Ok(Lives {
             numbers: FlowNumbers::new(alloc),
             cache: LruCache::sparse(alloc, most)?,
+            guesses: Guesses::new(alloc)?,
         })
     }
 
@@ -79,8 +84,37 @@ impl Lives {
         ensures value { result ≡ lookup (same_key key.now) self.old.entries }
         ensures after { self.new ≡ lives_with (promoted (same_key key.now) self.old.entries) self.old.cap }
     {
+        match self.by_guess(key) {
+            Some(flow) => Some(flow),
+            None => self.by_tree(key),
+        }
+    }
+
+    /// As `again`, where the flow's number is the guess; else nothing.
+    fn by_guess(&mut self, key: &Key) -> Option<u64>
+        ensures value { IfSome result (λ flow. lookup (same_key key.now) self.old.entries ≡ Some flow) }
+        ensures after { MatchOption result (self.new ≡ self.old)
+            (λ flow. self.new ≡ lives_with (promoted (same_key key.now) self.old.entries) self.old.cap) }
+    {
+        let guess = self.guesses.of(key);
+        let entry = Numbered {
+            key: *key,
+            number: guess,
+        };
+        self.cache.get(&entry).copied()
+    }
+
+    /// As `again`, with the number that the tree has. Seldom called, so its code stands apart.
+    #[inline(never)]
+    fn by_tree(&mut self, key: &Key) -> Option<u64>
+        ensures value { result ≡ lookup (same_key key.now) self.old.entries }
+        ensures after { self.new ≡ lives_with (promoted (same_key key.now) self.old.entries) self.old.cap }
+    {
         match self.numbers.get(key) {
-            Some(number) => self.cache.get(&Numbered { key: *key, number }).copied(),
+            Some(number) => {
+                self.guesses.set(key, number);
+                self.cache.get(&Numbered { key: *key, number }).copied()
+            }
             None => None,
         }
     }
@@ -98,6 +132,7 @@ impl Lives {
         let is_within = self.cache.len() <= self.cache.cap().get();
         prove!(is_within);
         self.numbers.insert(key, next)?;
+        self.guesses.set(key, next);
         let entry = Numbered {
             key: *key,
             number: next,

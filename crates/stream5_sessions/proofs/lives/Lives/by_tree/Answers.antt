@@ -9,7 +9,7 @@ use Rattle.stream5_sessions.specs.Trees.{number_in}
 use Rattle.stream5_sessions.proofs.CacheSteps.{promoted-none}
 use Rattle.stream5_sessions.proofs.Living.{numbered, named, alike, missing, indexed-promoted}
 use Rattle.stream5_sessions.proofs.Numbered.{lookup-plain, promoted-plain}
-use Rattle.stream5_sessions.proofs.lives.Lives.again.Goals as goal
+use Rattle.stream5_sessions.proofs.lives.Lives.by_tree.Goals as goal
 
 pub returns-in-Some-clause-value : goal.returns-in-Some-clause-value
 returns-in-Some-clause-value c =
