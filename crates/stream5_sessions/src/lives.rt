@@ -96,7 +96,7 @@ impl Lives {
         ensures after { MatchOption result (self.new ≡ self.old)
             (λ flow. self.new ≡ lives_with (promoted (same_key key.now) self.old.entries) self.old.cap) }
     {
-        let guess = self.guesses.of(key);
+        let guess = self.guesses.of(key)?;
         let entry = Numbered {
             key: *key,
             number: guess,

@@ -8,14 +8,14 @@ use Rattle.stream5_sessions.proofs.lives.Lives.by_guess.Goals as goal
 pub invariant_of-self : goal.invariant_of-self
 invariant_of-self c =
     subst (λ (x : LruCache Numbered ℕ). IsIndexed c.self.inside.numbers x.entries) (sym c.get.follows.holds-at-none)
-    (indexed-guessed c.self.inside.numbers c.args.key.now c.of-guess.result c.self.inside.cache c.self.invariant)
+    (indexed-guessed c.self.inside.numbers c.args.key.now c.in_ok-guess.guess c.self.inside.cache c.self.invariant)
 
 pub returns-clause-value : goal.returns-clause-value
 returns-clause-value c =
-    by_guess-value c.self.inside.numbers c.args.key.now c.of-guess.result c.self.inside.cache c.self.invariant c.args.self.now c.self.view_is c.copied.result
+    by_guess-value c.self.inside.numbers c.args.key.now c.in_ok-guess.guess c.self.inside.cache c.self.invariant c.args.self.now c.self.view_is c.copied.result
     (c.copied.ensures ∙ c.get.ensures.value)
 
 pub returns-clause-after : goal.returns-clause-after
 returns-clause-after c =
-    by_guess-after c.self.inside.numbers c.args.key.now c.of-guess.result c.self.inside.cache c.self.invariant c.args.self.now c.self.view_is c.copied.result _
+    by_guess-after c.self.inside.numbers c.args.key.now c.in_ok-guess.guess c.self.inside.cache c.self.invariant c.args.self.now c.self.view_is c.copied.result _
     (c.copied.ensures ∙ c.get.ensures.value) c.get.follows.holds-at-none
