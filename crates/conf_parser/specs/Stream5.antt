@@ -1,5 +1,5 @@
 -- The stream5 lines: which sessions are tracked, and how their data are put together. (Snort Users Manual 2.9,
--- section 2.2.2.)
+-- sections 2.2.2 and 2.2.3.)
 --
 -- Settings stand between commas outside brackets; the first word names the setting, and the rest is its value.
 -- A setting that is given again replaces the one before, but several `ports` add up. A setting without its

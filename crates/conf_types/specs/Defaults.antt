@@ -1,4 +1,4 @@
--- What an engine says where no line says otherwise. (Snort Users Manual 2.9, sections 2.2.1 and 2.2.2.)
+-- What an engine says where no line says otherwise. (Snort Users Manual 2.9, sections 2.2.1 to 2.2.3.)
 --
 -- A reader starts each engine from these values, and a packet whose address no engine has goes by them.
 -- An engine of streams is named by its place among those of the configuration; their number names the

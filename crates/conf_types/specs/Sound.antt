@@ -1,6 +1,6 @@
 -- When a configuration is sound: each number in it lies in its range, and nothing is more than its limit.
 --
--- (Snort Users Manual 2.9, sections 2.1.3, 2.2.1, 2.2.2, 2.4 and 3.4.6.)
+-- (Snort Users Manual 2.9, sections 2.1.3, 2.2.1 to 2.2.3, 2.4 and 3.4.6.)
 -- To try it on: a stream engine that queues 0 bytes is not sound, since 0 in a line is read as 1073741824;
 -- nor is a class of the priority 0.
 use Rattle.std.specs.Prelude.{ℕ, ◌≤◌, List, length, IfSome, All}

@@ -56,7 +56,7 @@ pub struct FragConfig {
     pub engines: Items<FragEngine>,
 }
 
-/// One `stream5_tcp` line (section 2.2.2).
+/// One `stream5_tcp` line (section 2.2.3).
 #[derive(Debug, Drop)]
 pub struct StreamEngine {
     /// The hosts that it speaks of; None where it speaks of all that no other line has.

@@ -1,4 +1,4 @@
-//! What an engine says where no line says otherwise (Snort Users Manual 2.9, sections 2.2.1 and 2.2.2).
+//! What an engine says where no line says otherwise (Snort Users Manual 2.9, sections 2.2.1 to 2.2.3).
 ghost use Rattle.std.specs.Prelude.{◌≡◌, slice_get};
 ghost use Rattle.std.specs.Option.{option_copied};
 ghost use Rattle.conf_types.specs.Defaults.{stream_engine_at};

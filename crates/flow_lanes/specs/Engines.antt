@@ -1,7 +1,7 @@
 -- Which engine, which limits and which ports a side of a session goes by.
 --
 -- Data sent to an end are put together by that end's engine: its limits and its ports, and the end's
--- preference among segments that overlap (Snort Users Manual 2.9, section 2.2.2). An engine is named by its
+-- preference among segments that overlap (Snort Users Manual 2.9, section 2.2.3). An engine is named by its
 -- place among those of the configuration; their number names the defaults.
 -- To try it on: where no line gives an engine, the data that a client sends to port 80 are put together,
 -- and those of its server are not.

@@ -5,7 +5,7 @@
 -- flushes; then, with its data added, the streams of a session that it ends; last the packet itself. At the
 -- end of a flow stand what is left, and the streams of the session at hand. Of two sides the client's
 -- streams come first. This order is this project's own; what a session, an acknowledgement and a segment
--- are stands in RFC 9293, and what is a stream item in the Snort Users Manual 2.9, section 2.2.2.
+-- are stands in RFC 9293, and what is a stream item in the Snort Users Manual 2.9, section 2.2.3.
 -- To try it on: with the flush point 1, "ab" of the client and then an acknowledgement of it by the server
 -- give two jobs: the first has the packet "ab", the second the stream "ab" and then the packet without data.
 use Rattle.std.specs.Prelude.{ℕ, Bool, true, false, not, ◌&&◌, List, [], ◌∷◌, ◌++◌, Option, Some, None, map, option_map, unwrap_or, if◌then◌else◌}

@@ -3,7 +3,7 @@
 -- Each side sends data to the other. While it is on, its data make a stretch: the segments that count are
 -- queued, each whole, and flushed as they are acknowledged (stream5_reassembly specs/Segments, where
 -- `segment_fate` says what becomes of a segment). A side is on from its session's begin where the ports of
--- the receiving end's engine say so (Snort Users Manual 2.9, section 2.2.2, `ports`), and is turned on and
+-- the receiving end's engine say so (Snort Users Manual 2.9, section 2.2.3, `ports`), and is turned on and
 -- off by rules (section 3.6, `stream_reassemble`). A stretch that begins with the session starts at the base
 -- that the session's phases set; any other, and one for which they set none, at its first data.
 -- To try it on: a side that is on from the begin, with the base 1, queues "ab" at 1; turned off, it leaves

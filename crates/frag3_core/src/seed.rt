@@ -13,7 +13,7 @@ pub(crate) struct Seed {
 }
 
 impl Seed {
-    /// The seed of a fragment: its moment, its key and its part of the datagram.
+    /// The seed of a fragment: its moment, its datagram's addresses and identification, and its part.
     pub fn of(ip: &IpHead, part: &[u8], moment: Moment) -> Seed {
         let mut initial = DefaultHasher::new();
         moment.nanos.hash(&mut initial);

@@ -4,7 +4,7 @@
 -- It gives an entry behind those before it, or is refused: as given twice where one of those has the same
 -- version, prefix length and address bits, and else as a bad line. A table has 65536 entries; each line behind
 -- them is bad, whatever it holds. (The form of the table is our own. It stands in place of Snort's host attribute
--- table, Snort Users Manual 2.9, section 2.7; policies as in sections 2.2.1 and 2.2.2.)
+-- table, Snort Users Manual 2.9, section 2.7; policies as in sections 2.2.1 and 2.2.3.)
 -- To try it on: `10.1.2.3/8 last -` is the network 10.0.0.0 of 8 bits with the fragment policy last and no
 -- stream policy; behind it `10.0.0.0/8 - linux` is given twice, and `10.0.0.0/9 - linux` is not.
 use Rattle.std.specs.Prelude.{ℕ, ◌==◌, ◌&&◌, Bool, Option, Some, None, Result, Ok, Err, List, [], ◌∷◌, length, codes, bytes_eq, nat_lt, if◌then◌else◌}

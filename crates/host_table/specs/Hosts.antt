@@ -2,7 +2,7 @@
 --
 -- A table is read line by line; the first line that is refused ends it. Of an address the line with the longest
 -- prefix that has it decides, and that line alone: where it gives no policy, the address has none. An address is
--- looked for among those of its own version. (Longest prefix as in RFC 1519, section 4.1; the host table is our
+-- looked for among those of its own version. (Longest prefix as in RFC 4632, section 5.1; the host table is our
 -- own.)
 -- To try it on: by the lines `10.0.0.0/8 last linux` and `10.1.0.0/16 - -` the address 10.2.0.1 has the fragment
 -- policy last, and 10.1.0.1 and 11.0.0.1 have none.

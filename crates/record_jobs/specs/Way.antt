@@ -1,7 +1,7 @@
 -- What records are made into jobs by, and what of it goes by an address.
 --
 -- An address goes by one engine: the first line whose `bind_to` has it, else the line without `bind_to`,
--- else the defaults (Snort Users Manual 2.9, sections 2.2.1 and 2.2.2). How its host puts together pieces
+-- else the defaults (Snort Users Manual 2.9, sections 2.2.1 and 2.2.3). How its host puts together pieces
 -- that overlap is what the host table says of it, else its engine's policy (Novak 2005; Novak and Sturges
 -- 2007).
 -- To try it on: of the lines `stream5_tcp: policy linux` and `stream5_tcp: policy last, bind_to 10.0.0.0/8`,

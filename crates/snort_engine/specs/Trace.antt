@@ -7,7 +7,7 @@
 -- stage depends on what came to it before, and on nothing else: not on lanes or batches. Where the capture
 -- has ended, the flows that live then end too, and the last stages go on over these jobs, whose alerts
 -- stand beside the last record.
--- (Snort Users Manual 2.9, sections 2.2.1 and 2.2.2 for what is put together, 2.4 and 3 for events.)
+-- (Snort Users Manual 2.9, sections 2.2.1 to 2.2.3 for what is put together, 2.4 and 3 for events.)
 -- To try it on: a packet with payload `abc` and the rules for `bc`, `x` and `a` shows the alerts of
 -- the first and of the third.
 use Rattle.std.specs.Prelude.{ℕ, List, [], ◌++◌, fold, map, slice_get, option_map}

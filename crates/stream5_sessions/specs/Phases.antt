@@ -4,8 +4,8 @@
 -- 3.5): SYN, SYN with ACK, ACK; data and acknowledgements; a FIN of each side and its acknowledgement;
 -- or RST. The phases and the rows are this project's own, since a watcher sees the packets of both
 -- sides and may come in at any time: a session that was under way is taken up in Mid, unless
--- require_3whs asks for a handshake (Snort Users Manual 2.9, section 2.2.3, Stream5 TCP
--- Configuration), and is watched in Off without its data then.
+-- require_3whs asks for a handshake (Snort Users Manual 2.9, section 2.2.3, `stream5_tcp`),
+-- and is watched in Off without its data then.
 --
 -- Of each phase the rows stand from top to bottom, and the first one that fits decides; the last one
 -- of each phase always fits, so each packet meets exactly one row.
