@@ -8,7 +8,7 @@ use Rattle.overlap_core.specs.Segments.{Segment}
 use Rattle.overlap_core.specs.Joined.{byte_in}
 use Rattle.overlap_core.specs.Overlap.{chosen_byte}
 use Rattle.overlap_core.specs.Pieces.{HoldChosen, kept_in, Piece}
-use Rattle.overlap_core.specs.Runs.{AppendsRuns, AreBytes}
+use Rattle.overlap_core.specs.Runs.{AppendsBytes, AppendsRuns, AreBytes}
 use Rattle.overlap_core.proofs.Arrivals.{chosen_byte-kept}
 use Rattle.overlap_core.proofs.Joining.{AreRuns-along}
 
@@ -30,3 +30,7 @@ bytes-along f g floor out false same holds = tt
 
 pub appends-along : (f g : ℕ → Option ℕ) (low high : ℕ) (old new : List Run) → ((place : ℕ) → low ≤ place → f place ≡ g place) → AppendsRuns f low high old new → AppendsRuns g low high old new
 appends-along f g low high old new same appended = (appended.0, appended.1, AreRuns-along f g low high appended.0 same appended.2)
+
+pub appends_bytes-along : (f g : ℕ → Option ℕ) (low count : ℕ) (old new : List ℕ) (answer : Bool) → ((place : ℕ) → low ≤ place → f place ≡ g place) → OnTrue answer (AppendsBytes f low count old new) → OnTrue answer (AppendsBytes g low count old new)
+appends_bytes-along f g low count old new true same added = (added.0, added.1, added.2, λ k below. sym (same (low + k) (omega arith)) ∙ added.3 k below)
+appends_bytes-along f g low count old new false same added = tt

@@ -8,32 +8,33 @@ use Rattle.overlap_core.specs.Joined.{byte_in}
 use Rattle.overlap_core.specs.Pieces.{IsRow, Kept, kept_in, Piece, piece_end}
 use Rattle.overlap_core.proofs.Telling.{IsRow-lower, kept_in-ahead, kept_in-before_row, kept_in-behind, kept_in-here}
 
-pub record IsFilling (whole rest : List Piece) (floor done : ℕ) (out : List ℕ) (top : ℕ) : Type 0 where
+-- `done` of `len` places are passed, and `out` begins with their bytes
+pub record IsFilling (whole rest : List Piece) (floor done len : ℕ) (out : List ℕ) (top : ℕ) : Type 0 where
   pub row : IsRow (floor + done) rest top
-  pub same : done < length out → (place : ℕ) → floor + done ≤ place → kept_in rest place ≡ kept_in whole place
+  pub same : done < len → (place : ℕ) → floor + done ≤ place → kept_in rest place ≡ kept_in whole place
   pub bytes : (k : ℕ) → k < done → byte_in whole (floor + k) ≡ Some (get_or out k 0)
 
 abbrev byte_of_kept : Option Kept → Option ℕ
 byte_of_kept = option_map (λ (k : Kept). k.byte)
 
-pub filling-begins : (whole : List Piece) (floor : ℕ) (out : List ℕ) (top : ℕ) → IsRow floor whole top → IsFilling whole whole floor 0 out top
-filling-begins whole floor out top row = record { row = subst (λ n. IsRow n whole top) (omega arith) row; same = λ more place from. refl; bytes = λ k below. absurd (omega (arith, below)) }
+pub filling-begins : (whole : List Piece) (floor len : ℕ) (out : List ℕ) (top : ℕ) → IsRow floor whole top → IsFilling whole whole floor 0 len out top
+filling-begins whole floor len out top row = record { row = subst (λ n. IsRow n whole top) (omega arith) row; same = λ more place from. refl; bytes = λ k below. absurd (omega (arith, below)) }
 
 -- a place without a byte refutes that all have one
 pub some_missing : (whole : List Piece) (floor len k : ℕ) → k < len → byte_in whole (floor + k) ≡ None → IsTrue false ↔ ((k : ℕ) → k < len → IsSome (byte_in whole (floor + k)))
 some_missing whole floor len k below none = (λ is. cc, λ all. subst (λ (o : Option ℕ). IsSome o) none (all k below))
 
-pub none_left : (whole : List Piece) (floor done : ℕ) (out : List ℕ) (top : ℕ) → IsFilling whole [] floor done out top → done < length out → byte_in whole (floor + done) ≡ None
-none_left whole floor done out top now more = ap byte_of_kept (sym (now.same more (floor + done) (omega arith)))
+pub none_left : (whole : List Piece) (floor done len : ℕ) (out : List ℕ) (top : ℕ) → IsFilling whole [] floor done len out top → done < len → byte_in whole (floor + done) ≡ None
+none_left whole floor done len out top now more = ap byte_of_kept (sym (now.same more (floor + done) (omega arith)))
 
-pub none_here : (whole rest : List Piece) (piece : Piece) (floor done : ℕ) (out : List ℕ) (top : ℕ) → IsFilling whole (piece ∷ rest) floor done out top → done < length out → (piece.start ≡ floor + done → ⊥) → byte_in whole (floor + done) ≡ None
-none_here whole rest piece floor done out top now more apart =
+pub none_here : (whole rest : List Piece) (piece : Piece) (floor done len : ℕ) (out : List ℕ) (top : ℕ) → IsFilling whole (piece ∷ rest) floor done len out top → done < len → (piece.start ≡ floor + done → ⊥) → byte_in whole (floor + done) ≡ None
+none_here whole rest piece floor done len out top now more apart =
     let ahead : floor + done < piece.start = elim (cases_lt (floor + done) piece.start) as (λ _. floor + done < piece.start) [ inl here ↦ here | inr there ↦ absurd (apart (omega (arith, there, now.row.0))) ] in
     ap byte_of_kept (sym (now.same more (floor + done) (omega arith)) ∙ kept_in-ahead piece rest (floor + done) ahead ∙ kept_in-before_row (piece_end piece) top rest (floor + done) now.row.2 (omega (arith, ahead)))
 
-pub filling_more : (whole rest : List Piece) (piece : Piece) (floor done count : ℕ) (out more : List ℕ) (top : ℕ) → IsFilling whole (piece ∷ rest) floor done out top → done < length out → piece.start ≡ floor + done → count ≡ min (length piece.bytes) (length out - done)
-    → length more ≡ length out → ((k : ℕ) → k < done → get_or more k 0 ≡ get_or out k 0) → ((k : ℕ) → k < count → get_or more (done + k) 0 ≡ get_or piece.bytes k 0) → IsFilling whole rest floor (done + count) more top
-filling_more whole rest piece floor done count out more top now within here counted long old new = record {
+pub filling_more : (whole rest : List Piece) (piece : Piece) (floor done len count later : ℕ) (out more : List ℕ) (top : ℕ) → IsFilling whole (piece ∷ rest) floor done len out top → done < len → piece.start ≡ floor + done → count ≡ min (length piece.bytes) (len - done)
+    → later ≡ len → ((k : ℕ) → k < done → get_or more k 0 ≡ get_or out k 0) → ((k : ℕ) → k < count → get_or more (done + k) 0 ≡ get_or piece.bytes k 0) → IsFilling whole rest floor (done + count) later more top
+filling_more whole rest piece floor done len count later out more top now within here counted long old new = record {
   row = IsRow-lower (piece_end piece) (floor + (done + count)) top rest (omega (arith, here, counted)) now.row.2;
   same = λ inside place from.
       let passed : count ≡ length piece.bytes = omega (arith, counted, inside, long) in
@@ -48,8 +49,17 @@ filling_more whole rest piece floor done count out more top now within here coun
   ];
 }
 
-pub all_filled : (whole rest : List Piece) (floor done : ℕ) (out : List ℕ) (top : ℕ) → IsFilling whole rest floor done out top → length out ≤ done → IsTrue true ↔ ((k : ℕ) → k < length out → IsSome (byte_in whole (floor + k)))
-all_filled whole rest floor done out top now all = (λ _ k below. subst (λ (o : Option ℕ). IsSome o) (sym (now.bytes k (omega (arith, below, all)))) refl, λ _. refl)
+-- the same where the bytes are appended
+pub filling_appended : (whole rest : List Piece) (piece : Piece) (floor done len count : ℕ) (bytes : List ℕ) (top : ℕ) → IsFilling whole (piece ∷ rest) floor done len bytes top → done ≡ length bytes → done < len → piece.start ≡ floor + done → count ≡ min (length piece.bytes) (len - done)
+    → IsFilling whole rest floor (done + count) len (bytes ++ take count piece.bytes) top
+filling_appended whole rest piece floor done len count bytes top now passed within here counted =
+    let more = take count piece.bytes in
+    filling_more whole rest piece floor done len count len bytes (bytes ++ more) top now within here counted refl
+    (λ k below. get_or_append_left bytes more 0 k (omega (arith, below, passed)))
+    (λ k below. ap (λ n. get_or (bytes ++ more) (n + k) 0) passed ∙ get_or-append-add bytes more k 0 ∙ get_or-take count piece.bytes k 0 below)
+
+pub all_filled : (whole rest : List Piece) (floor done len : ℕ) (out : List ℕ) (top : ℕ) → IsFilling whole rest floor done len out top → len ≤ done → IsTrue true ↔ ((k : ℕ) → k < len → IsSome (byte_in whole (floor + k)))
+all_filled whole rest floor done len out top now all = (λ _ k below. subst (λ (o : Option ℕ). IsSome o) (sym (now.bytes k (omega (arith, below, all)))) refl, λ _. refl)
 
 -- a slice with its middle written over
 pub put_old : (done n : ℕ) (out mid : List ℕ) (k : ℕ) → k < done → done ≤ length out → get_or (put_mid done n out mid) k 0 ≡ get_or out k 0

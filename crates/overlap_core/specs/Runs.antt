@@ -28,6 +28,10 @@ abbrev pub AreRuns : (ℕ → Option ℕ) → ℕ → ℕ → List Run → Type 
 AreRuns byte low high [] = NoByte byte low high
 AreRuns byte low high (run ∷ runs) = IsFirstRun byte low high run × AreRuns byte (run.start + length run.bytes) high runs
 
+-- the new list is the old one with so many bytes behind it, those from the place `low` on
+abbrev pub AppendsBytes : (ℕ → Option ℕ) → ℕ → ℕ → List ℕ → List ℕ → Type 0
+AppendsBytes byte low count old new = (bytes : List ℕ) × (new ≡ old ++ bytes) × (length bytes ≡ count) × AreBytes byte low bytes
+
 -- the new list is the old one with the maximal runs behind it
 abbrev pub AppendsRuns : (ℕ → Option ℕ) → ℕ → ℕ → List Run → List Run → Type 0
 AppendsRuns byte low high old new = (runs : List Run) × (new ≡ old ++ runs) × AreRuns byte low high runs

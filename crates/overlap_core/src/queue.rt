@@ -1,13 +1,13 @@
-ghost use Rattle.std.specs.Prelude.{◌≡◌, ℕ, ◌+◌, ◌^◌, ◌<◌, ◌≤◌, ◌↔◌, [], None, Some, length, IsTrue, IsSome, OnOk, OnErr};
-ghost use Rattle.std.specs.Bool.{OnTrue};
+ghost use Rattle.std.specs.Prelude.{◌≡◌, ℕ, ◌+◌, ◌^◌, ◌<◌, ◌≤◌, ◌↔◌, [], None, Some, length, IsTrue, IsSome, OnOk, OnErr, vec_len, vec_capacity};
+ghost use Rattle.std.specs.Bool.{OnFalse, OnTrue};
 ghost use Rattle.overlap_core.specs.Overlap.{chosen_byte, covered_end, is_covered, IsCoveredEnd};
 ghost use Rattle.overlap_core.specs.Pieces.{bytes_held, HoldChosen, IsRow};
 ghost use Rattle.overlap_core.specs.QueueState.{byte_of, with_room, with_segment, from_floor};
-ghost use Rattle.overlap_core.specs.Runs.{AppendsRuns, AreBytes};
+ghost use Rattle.overlap_core.specs.Runs.{AppendsBytes, AppendsRuns, AreBytes};
 
 use crate::arriving::{Arrivals, Arriving};
 use crate::room::{Buffers, add_behind, lay_over, room_for};
-use crate::runs::{byte_of, filled, take_below};
+use crate::runs::{append_places, byte_of, filled, take_below};
 use crate::{Bounds, Piece, Run};
 use edge_io::{NoMemory, Preference};
 use piece_list::PieceList;
@@ -176,6 +176,25 @@ impl Queue {
         ensures bytes { OnTrue result (AreBytes (chosen_byte self.now.preference self.now.segments) self.now.floor out.new) }
     {
         filled(&self.pieces, self.floor, out)
+    }
+
+    /// Whether every place from the floor on has a byte, `len` places; then these bytes are appended to
+    /// `out`, which must have room for them. Otherwise `out` stays. Takes no memory.
+    pub fn append_to(&self, len: usize, out: &mut Vec<u8>) -> bool
+        requires fits { self.now.floor + len < 2 ^ 64 }
+        requires room { vec_len out.old + len ≤ vec_capacity out.old }
+        ensures whole { IsTrue result ↔ ((k : ℕ) → k < len
+            → IsSome (chosen_byte self.now.preference self.now.segments (self.now.floor + k))) }
+        ensures bytes { OnTrue result (AppendsBytes (chosen_byte self.now.preference self.now.segments) self.now.floor len
+            out.old.items out.new.items) }
+        ensures stays { OnFalse result (out.new.items ≡ out.old.items) }
+    {
+        let before = out.len();
+        if append_places(&self.pieces, self.floor, len, out) {
+            return true;
+        }
+        out.truncate(before);
+        false
     }
 
     /// Appends the maximal runs of covered places from the floor on and below `below`, in order,

@@ -4,7 +4,7 @@ ghost use Rattle.std.specs.Bool.{OnTrue};
 ghost use Rattle.overlap_core.specs.Pieces.{IsRow, Piece as Kept, piece_end};
 ghost use Rattle.overlap_core.specs.Joined.{byte_in, end_of_run, run_of, with_run};
 ghost use Rattle.overlap_core.specs.Rows.{raised};
-ghost use Rattle.overlap_core.specs.Runs.{AppendsRuns, AreBytes, AreRuns};
+ghost use Rattle.overlap_core.specs.Runs.{AppendsBytes, AppendsRuns, AreBytes, AreRuns};
 
 use crate::row::raise;
 use crate::{Piece, Run};
@@ -49,6 +49,49 @@ pub fn filled(pieces: &PieceList<Piece>, floor: u64, out: &mut [u8]) -> bool
         done += count;
     }
     true
+}
+
+/// Whether every place from the floor on has a byte, `len` places; then `out`, which has room for them, ends
+/// with these bytes. What stood in `out` stays its front.
+pub fn append_places(pieces: &PieceList<Piece>, floor: u64, len: usize, out: &mut Vec<u8>) -> bool
+    requires fits { floor + len < 2 ^ 64 }
+    requires room { vec_len out.old + len ≤ vec_capacity out.old }
+    ensures whole { (top : ℕ) → IsRow floor pieces.now.list top → IsTrue result
+        ↔ ((k : ℕ) → k < len → IsSome (byte_in pieces.now.list (floor + k))) }
+    ensures bytes { (top : ℕ) → IsRow floor pieces.now.list top
+        → OnTrue result (AppendsBytes (byte_in pieces.now.list) floor len out.old.items out.new.items) }
+    ensures front { take (vec_len out.old) out.new.items ≡ out.old.items }
+{
+    let mut rest = pieces.iter();
+    let mut done = 0;
+    while done < len {
+        let Some(piece) = rest.next() else {
+            return false;
+        };
+        let place = floor + done as u64;
+        if piece.start() != place {
+            return false;
+        }
+        let bytes = piece.bytes();
+        let count = bytes.len().min(len - done);
+        append(out, &bytes[..count]);
+        done += count;
+    }
+    true
+}
+
+/// Appends bytes for which there is room.
+fn append(out: &mut Vec<u8>, bytes: &[u8])
+    requires { vec_len out.old + length bytes.now ≤ vec_capacity out.old }
+    ensures items { out.new.items ≡ out.old.items ++ bytes.now }
+    ensures len { vec_len out.new ≡ vec_len out.old + length bytes.now }
+    ensures room { vec_capacity out.old ≤ vec_capacity out.new }
+{
+    match out.extend_from_slice(bytes) {
+        Ok(()) => {}
+        // There is room, as the caller has to see to.
+        Err(_) => unreachable!(),
+    }
 }
 
 /// Appends the maximal runs of places that the pieces have below a place, in order, and gives up what

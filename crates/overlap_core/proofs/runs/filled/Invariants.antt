@@ -9,5 +9,5 @@ invariant-loop-done l = record {
   can : (goal.iterator-loop-done).can_next l.rest;
   finite : (goal.iterator-loop-done).is_finite l.rest;
   within : l.done ≤ length l.out;
-  filling : (top : ℕ) → IsRow l.floor l.pieces.list top → IsFilling l.pieces.list l.rest l.floor l.done l.out top;
+  filling : (top : ℕ) → IsRow l.floor l.pieces.list top → IsFilling l.pieces.list l.rest l.floor l.done (length l.out) l.out top;
 }
