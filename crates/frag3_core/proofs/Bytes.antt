@@ -1,15 +1,14 @@
 -- The bytes of a datagram: as a queue's answers tell them, and that fewer bytes than places leave a gap.
-use Rattle.std.proofs.Common.{◌≡◌, ℕ, zero, suc, ◌+◌, ◌-◌, ◌<◌, ◌≤◌, Bool, true, false, cond, ltb, leb, ◌&&◌, ◌||◌, List, [], ◌∷◌, Option, Some, None, IsSome, length, max, take, drop, ◌++◌, min, ◌^◌, refl, sym, ap, ◌∙◌, arith}
+use Rattle.std.proofs.Common.{◌≡◌, ℕ, zero, suc, ◌+◌, ◌-◌, ◌<◌, ◌≤◌, Bool, true, false, cond, ltb, leb, ◌&&◌, ◌||◌, List, [], ◌∷◌, Option, Some, None, IsSome, length, max, ◌++◌, min, ◌^◌, refl, sym, ap, ◌∙◌, arith}
 use Rattle.std.specs.List.{range_with_len}
 use Rattle.std.specs.Option.{is_some, option_map, option_and_then}
 use Rattle.std.proofs.lemmas.Bool.Decides.{nat_tests}
-use Rattle.std.proofs.lemmas.List.{take_all, drop_all, append-nil}
 use Rattle.std.proofs.lemmas.List.Sums.{sum_by-cons, sum_by_push}
 use Rattle.std.specs.Option.{ForSome}
 use Rattle.edge_io.specs.declared.policy.Preference.{Preference}
 use Rattle.overlap_core.specs.Segments.{Segment}
 use Rattle.overlap_core.specs.Overlap.{chosen_byte, covers, end_of, is_covered}
-use Rattle.overlap_core.specs.Runs.{AreBytes}
+use Rattle.overlap_core.specs.Runs.{AppendsBytes, AreBytes}
 use Rattle.overlap_core.proofs.Arrivals.{chosen_byte-is_some}
 use Rattle.frag3_core.specs.Inside.{byte_count}
 use Rattle.frag3_core.specs.Parts.{IsRoomFor}
@@ -29,6 +28,12 @@ bytes_at-from_AreBytes byte low (b ∷ bs) are =
     (bytes_at-from_AreBytes byte (low + 1) bs (λ k below.
     let moved : (low + 1) + k ≡ low + suc k = omega arith in
     ap byte moved ∙ are (suc k) (omega arith)))
+
+-- bytes that were appended to nothing are the bytes at these places
+pub bytes_at-appended : (byte : ℕ → Option ℕ) (count : ℕ) (old new : List ℕ) → old ≡ [] → AppendsBytes byte 0 count old new → bytes_at byte (range_with_len 0 count) ≡ Some new
+bytes_at-appended byte count old new none added =
+    let same : new ≡ added.0 = added.1 ∙ ap (λ bs. bs ++ added.0) none in
+    ap (λ n. bytes_at byte (range_with_len 0 n)) (sym added.2) ∙ bytes_at-from_AreBytes byte 0 added.0 added.3 ∙ ap Some (sym same)
 
 head_some : (found : Option ℕ) (rest : Option (List ℕ)) (bytes : List ℕ) → option_and_then (λ first. option_map (λ later. first ∷ later) rest) found ≡ Some bytes → is_some found ≡ true
 head_some None rest bytes is = cc
@@ -108,12 +113,6 @@ pub bytes_at-short : (preference : Preference) (segments : List Segment) (n : �
 bytes_at-short preference segments n short = bytes_at-none (chosen_byte preference segments) n (λ each.
     let covered = count-all (is_covered segments) 0 n (λ k below. sym (chosen_byte-is_some preference segments (0 + k)) ∙ each k below) in
     omega (arith, covered, count-covered segments 0 n))
-
--- a list written over another of its length
-pub written_over : (n : ℕ) (new old : List ℕ) → length new ≡ length old → n ≡ length old → take n (new ++ drop (length new) old) ≡ new
-written_over n new old same is =
-    let none = drop_all (length new) old (omega arith) in
-    ap (λ rest. take n (new ++ rest)) none ∙ ap (take n) (append-nil new) ∙ take_all n new (omega arith)
 
 -- the count of bytes with one segment more, where the sum may stand at its type's end
 pub byte_count_push : (segments : List Segment) (new : Segment) (held : ℕ) → min (byte_count segments) (2 ^ 64 - 1) ≤ held → min (byte_count (segments ++ new ∷ [])) (2 ^ 64 - 1) ≤ min (held + length new.bytes) (2 ^ 64 - 1)

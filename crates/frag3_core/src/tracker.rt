@@ -1,6 +1,5 @@
-ghost use Rattle.std.specs.Prelude.{◌≡◌, ◌^◌, ◌<◌, ◌≤◌, length, IfOk, OnOk, OnErr, option_and_then, vec_len};
+ghost use Rattle.std.specs.Prelude.{◌≡◌, ◌^◌, ◌<◌, ◌≤◌, length, IfOk, OnOk, OnErr, option_and_then};
 ghost use Rattle.frag3_core.specs.Trackers.{begun, datagram_of, end_of, is_timed_out, joined};
-ghost use Rattle.std.specs.Option.{option_map};
 ghost use Rattle.frag3_core.specs.Parts.{IsRoomFor, first_bytes};
 
 use crate::FragRules;
@@ -94,33 +93,62 @@ impl Tracker {
     }
 }
 
+/// Memory for the bytes of a datagram. Contracts see how many these are.
+#[derive(Drop)]
+struct Room {
+    len: usize,
+    bytes: Vec<u8>,
+}
+
+impl Model for Room {
+    ghost use Rattle.std.specs.Prelude.{◌≡◌, ℕ, ◌≤◌, [], vec_capacity};
+
+    ghost Value = { ℕ };
+
+    ghost view = { λ room. room.len };
+
+    ghost invariant = { λ room. (room.bytes.items ≡ []) × (room.len ≤ vec_capacity room.bytes) };
+}
+
+impl Room {
+    /// Memory for so many bytes.
+    fn new(alloc: Global, len: usize) -> Result<Room, NoMemory>
+        ensures { IfOk result (λ room. room ≡ len) }
+    {
+        Ok(Room {
+            len,
+            bytes: Vec::with_capacity(alloc, len)?,
+        })
+    }
+}
+
 /// Memory for the bytes of the whole datagram, where its length is known and the bytes held may
 /// cover it.
-fn room_for(alloc: Global, end: Option<u64>, held: u64) -> Result<Option<Vec<u8>>, NoMemory>
-    ensures { IfOk result (λ room. IsRoomFor end held (option_map (λ (v : _). vec_len v) room)) }
+fn room_for(alloc: Global, end: Option<u64>, held: u64) -> Result<Option<Room>, NoMemory>
+    ensures { IfOk result (λ room. IsRoomFor end held room) }
 {
     match end {
-        Some(end) if end <= held => Ok(Some(vec![in alloc; 0; end as usize]?)),
+        Some(end) if end <= held => Ok(Some(Room::new(alloc, end as usize)?)),
         _ => Ok(None),
     }
 }
 
 /// The bytes from place 0 on, as many as there is room for, if each place has one. None without room.
-fn whole_bytes(queue: &Queue, room: Option<Vec<u8>>) -> Option<Text>
+fn whole_bytes(queue: &Queue, room: Option<Room>) -> Option<Text>
     requires { queue.now.floor ≡ 0 }
-    ensures { result ≡ option_and_then (first_bytes queue.now)
-        (option_map (λ (v : _). vec_len v) room) }
+    ensures { result ≡ option_and_then (first_bytes queue.now) room }
 {
     filled(queue, room?)
 }
 
 /// The same, with room.
-fn filled(queue: &Queue, mut room: Vec<u8>) -> Option<Text>
+fn filled(queue: &Queue, room: Room) -> Option<Text>
     requires { queue.now.floor ≡ 0 }
-    ensures { result ≡ first_bytes queue.now (vec_len room) }
+    ensures { result ≡ first_bytes queue.now room }
 {
-    if queue.fill(&mut room) {
-        Some(Text::from_vec(room))
+    let Room { len, mut bytes } = room;
+    if queue.append_to(len, &mut bytes) {
+        Some(Text::from_vec(bytes))
     } else {
         None
     }

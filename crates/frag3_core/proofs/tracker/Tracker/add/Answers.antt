@@ -1,5 +1,5 @@
-use Rattle.std.proofs.Common.{◌≡◌, ◌*◌, ◌-◌, ◌^◌, ◌≤◌, ◌∷◌, [], ◌++◌, min, ap, ◌∙◌, arith, vec_len}
-use Rattle.std.specs.Option.{ForSome, option_map}
+use Rattle.std.proofs.Common.{◌≡◌, ◌*◌, ◌-◌, ◌^◌, ◌≤◌, ◌∷◌, [], ◌++◌, min, ap, ◌∙◌, arith}
+use Rattle.std.specs.Option.{ForSome}
 use Rattle.std.proofs.lemmas.Grind.{common_steps}
 use Rattle.overlap_core.specs.Segments.{Segment}
 use Rattle.overlap_core.specs.QueueState.{QueueState}
@@ -20,4 +20,4 @@ returns-clause-bytes c =
     let pushed = byte_count_push old.queue.segments new old.bytes c.self.invariant.bytes in
     let counted : min (byte_count queue.segments) (2 ^ 64 - 1) ≤ held = omega (arith, pushed, ap byte_count segments) in
     let within : ForSome c.or-end.result (λ e. e ≤ 65535) = grind (arith, common_steps) in
-    c.whole_bytes.ensures ∙ datagram_by_room t held (option_map (λ v. vec_len v) c.in_ok-room.room) within counted c.in_ok-room.ensures
+    c.whole_bytes.ensures ∙ datagram_by_room t held c.in_ok-room.room within counted c.in_ok-room.ensures
