@@ -4,8 +4,8 @@ use crate::page::Page;
 use crate::row::Row;
 use crate::trial::Answer;
 use crate::{
-    alerts, batches, candidates, captures, commands, configurations, dialogues, events, headers,
-    hosts, lists, packets, payloads, rules, setups,
+    alerts, batches, candidates, captures, commands, configurations, dialogues, events, flows,
+    headers, hosts, lists, packets, payloads, rules, sessions, setups,
 };
 use std::thread::Threads;
 
@@ -29,6 +29,9 @@ impl Answer for Calls {
             "setup" => setups::setup(page, row, given),
             "events" => events::events(page, row),
             "alert" => alerts::alert(page, row, given),
+            "key" => flows::key(page, given),
+            "flows" => flows::flows(page, row, given),
+            "session" => sessions::session(page, row, given),
             "dialogue" => dialogues::dialogue(page, row, given),
             "batches" => batches::batches(rt, page, row, given),
             _ => {

@@ -14,6 +14,7 @@ use packet_decode::{Checks, ItemHead, Packet, Skip};
 use pcap_input::{CaptureFault, CaptureHead, CaptureReader, Record};
 use pcapng_input::{NgFault, NgReader, NgRecord};
 use snort_setup::Setup;
+use stream5_sessions::{End, Flows, Key, Session, SessionRules, Step, Touch};
 
 /// Types of captures.
 fn captures() {
@@ -64,6 +65,24 @@ fn readers() {
     sendable::<ChecksumMode>();
 }
 
+/// Types of flows and sessions.
+fn sessions() {
+    sendable::<End>();
+    shareable::<End>();
+    sendable::<Key>();
+    shareable::<Key>();
+    sendable::<Flows>();
+    shareable::<Flows>();
+    sendable::<Touch>();
+    shareable::<Touch>();
+    sendable::<Session>();
+    shareable::<Session>();
+    sendable::<SessionRules>();
+    shareable::<SessionRules>();
+    sendable::<Step>();
+    shareable::<Step>();
+}
+
 /// Types of what is ready and goes on.
 fn detectors() {
     sendable::<Setup<Literal>>();
@@ -81,5 +100,6 @@ pub(crate) fn types_cross_threads() {
     captures();
     packets();
     readers();
+    sessions();
     detectors();
 }

@@ -20,6 +20,7 @@ mod crossing;
 mod dialogues;
 mod events;
 mod file;
+mod flows;
 mod headers;
 mod hosts;
 mod items;
@@ -30,6 +31,7 @@ mod page;
 mod payloads;
 mod row;
 mod rules;
+mod sessions;
 mod setups;
 mod trial;
 

@@ -20,8 +20,6 @@ mod session;
 mod state;
 mod staying;
 mod step;
-#[cfg(test)]
-mod tests;
 
 pub use flows::{Flows, Touch};
 pub use key::{End, Key};
