@@ -1,7 +1,7 @@
 -- How the bytes of pieces are joined to runs.
 --
 -- "ab" at 0 and "cd" at 2 are one run, "abcd" at 0; "e" at 5 begins another.
-use Rattle.std.specs.Prelude.{ℕ, ◌+◌, List, [], ◌∷◌, ◌++◌, Option, length, nat_eq, if◌then◌else◌}
+use Rattle.std.specs.Prelude.{ℕ, ◌+◌, ◌≤◌, List, [], ◌∷◌, ◌++◌, Option, length, nat_eq, if◌then◌else◌}
 use Rattle.std.specs.Option.{option_map}
 use Rattle.overlap_core.specs.declared.segment.Run.{Run}
 use Rattle.overlap_core.specs.Pieces.{Kept, kept_in, Piece}
@@ -13,6 +13,11 @@ byte_in pieces place = option_map (λ (kept : Kept). kept.byte) (kept_in pieces 
 -- a piece as a run
 abbrev pub run_of : Piece → Run
 run_of piece = record { start = piece.start; bytes = piece.bytes }
+
+-- the first of the pieces begins at a place or behind it, if there is one
+abbrev pub FirstFrom : ℕ → List Piece → Type 0
+FirstFrom at [] = Unit {0}
+FirstFrom at (piece ∷ pieces) = at ≤ piece.start
 
 -- the place behind a run's last byte
 abbrev pub end_of_run : Run → ℕ

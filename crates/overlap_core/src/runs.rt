@@ -1,15 +1,15 @@
 //! Bytes of many places: one byte, whole ranges, and the maximal runs of covered places.
-ghost use Rattle.std.specs.Prelude.{◌≡◌, ℕ, ◌+◌, ◌-◌, ◌^◌, ◌<◌, ◌≤◌, ◌↔◌, ◌++◌, ◌∷◌, [], length, take, IfOk, IsTrue, IsSome, OnOk, OnErr, vec_len, vec_capacity};
+ghost use Rattle.std.specs.Prelude.{◌≡◌, ℕ, ◌+◌, ◌-◌, ◌^◌, ◌<◌, ◌≤◌, ◌↔◌, ◌++◌, ◌∷◌, [], List, length, take, IfOk, IsTrue, IsSome, OnOk, OnErr, vec_len, vec_capacity};
 ghost use Rattle.std.specs.Bool.{OnTrue};
-ghost use Rattle.overlap_core.specs.Pieces.{IsRow, Piece as Kept, piece_end};
-ghost use Rattle.overlap_core.specs.Joined.{byte_in, end_of_run, run_of, with_run};
+ghost use Rattle.overlap_core.specs.Pieces.{bytes_held, IsRow, Piece as Kept, piece_end};
+ghost use Rattle.overlap_core.specs.Joined.{byte_in, end_of_run, FirstFrom, run_of, with_run};
 ghost use Rattle.overlap_core.specs.Rows.{raised};
 ghost use Rattle.overlap_core.specs.Runs.{AppendsBytes, AppendsRuns, AreBytes, AreRuns};
 
 use crate::row::raise;
 use crate::{Piece, Run};
 use edge_io::{NoMemory, Text};
-use piece_list::PieceList;
+use piece_list::{Iter, PieceList};
 use std::alloc::Global;
 
 /// The byte that a piece has at the place, if one does.
@@ -95,8 +95,8 @@ fn append(out: &mut Vec<u8>, bytes: &[u8])
 }
 
 /// Appends the maximal runs of places that the pieces have below a place, in order, and gives up what
-/// they have there. The bytes of a single piece are moved, others are copied. Without memory the pieces
-/// and `out` stay.
+/// they have there. Where that is one whole piece its bytes are moved, otherwise they are copied. Without
+/// memory the pieces and `out` stay.
 pub fn take_below(
     alloc: Global,
     pieces: &mut PieceList<Piece>,
@@ -109,8 +109,8 @@ pub fn take_below(
     ensures err { OnErr result (pieces.new ≡ pieces.old) }
     ensures unchanged { OnErr result (out.new.items ≡ out.old.items) }
 {
-    if is_single(pieces, below) {
-        take_single(pieces, out)?;
+    if is_one_piece(pieces, below) {
+        take_first(pieces, below, out)?;
         return Ok(());
     }
     append_runs(alloc, pieces, below, out)?;
@@ -118,37 +118,43 @@ pub fn take_below(
     Ok(())
 }
 
-/// Whether there is a single piece, which ends at a place or before it.
-fn is_single(pieces: &PieceList<Piece>, below: u64) -> bool
-    ensures { IsTrue result → (piece : Kept) × (pieces.now.list ≡ piece ∷ []) × (piece_end piece ≤ below) }
+/// Whether the first piece, whole, is all that the pieces have below a place.
+fn is_one_piece(pieces: &PieceList<Piece>, below: u64) -> bool
+    ensures { IsTrue result → (first : Kept) × (rest : List Kept) × (pieces.now.list ≡ first ∷ rest)
+        × (piece_end first ≤ below) × FirstFrom below rest }
 {
     let mut rest = pieces.iter();
-    let Some(piece) = rest.next() else {
+    let Some(first) = rest.next() else {
         return false;
     };
+    if below < first.end() {
+        return false;
+    }
     match rest.next() {
-        None if piece.end() <= below => true,
-        _ => false,
+        Some(piece) => below <= piece.start(),
+        None => true,
     }
 }
 
-/// Moves the single piece out, as a run. Without memory the pieces and `out` stay.
-fn take_single(pieces: &mut PieceList<Piece>, out: &mut Vec<Run>) -> Result<(), NoMemory>
-    ensures ok { OnOk result ((piece : Kept) → pieces.old.list ≡ piece ∷ []
-        → (pieces.new.list ≡ []) × (out.new.items ≡ out.old.items ++ run_of piece ∷ [])) }
+/// Moves the first piece out, as a run, and gives up what the others have below a place. Without memory
+/// the pieces and `out` stay.
+fn take_first(pieces: &mut PieceList<Piece>, below: u64, out: &mut Vec<Run>) -> Result<(), NoMemory>
+    ensures ok { OnOk result ((first : Kept) (rest : List Kept) → pieces.old.list ≡ first ∷ rest
+        → (pieces.new.list ≡ raised below rest) × (out.new.items ≡ out.old.items ++ run_of first ∷ [])) }
     ensures err { OnErr result (pieces.new ≡ pieces.old) }
     ensures unchanged { OnErr result (out.new.items ≡ out.old.items) }
 {
     out.reserve(1)?;
-    move_single(pieces, out);
+    move_first(pieces, out);
+    raise(pieces, below);
     Ok(())
 }
 
-/// Moves the single piece out, as a run, for which there is room.
-fn move_single(pieces: &mut PieceList<Piece>, out: &mut Vec<Run>)
+/// Moves the first piece out, as a run, for which there is room.
+fn move_first(pieces: &mut PieceList<Piece>, out: &mut Vec<Run>)
     requires { vec_len out.old < vec_capacity out.old }
-    ensures { (piece : Kept) → pieces.old.list ≡ piece ∷ []
-        → (pieces.new.list ≡ []) × (out.new.items ≡ out.old.items ++ run_of piece ∷ []) }
+    ensures { (first : Kept) (rest : List Kept) → pieces.old.list ≡ first ∷ rest
+        → (pieces.new.list ≡ rest) × (out.new.items ≡ out.old.items ++ run_of first ∷ []) }
 {
     pieces.front();
     if let Some(piece) = pieces.remove_here() {
@@ -172,24 +178,57 @@ fn append_runs(
     ensures err { OnErr result (out.new.items ≡ out.old.items) }
 {
     let mut runs = joined(alloc, pieces, below)?;
+    if out.is_empty() {
+        *out = runs;
+        return Ok(());
+    }
     out.append(&mut runs)?;
     Ok(())
 }
 
-/// The maximal runs of places that the pieces have below a place, in order.
+/// The maximal runs of places that the pieces have below a place, in order. The first, mostly the only
+/// one, has a buffer of its length.
 fn joined(alloc: Global, pieces: &PieceList<Piece>, below: u64) -> Result<Vec<Run>, NoMemory>
     ensures { IfOk result (λ runs. (floor top : ℕ) → IsRow floor pieces.now.list top → floor ≤ below
         → AreRuns (byte_in pieces.now.list) floor below runs.items) }
 {
+    let room = first_run_len(pieces, below);
     let mut runs = Vec::new(alloc);
     let mut rest = pieces.iter();
     while let Some(piece) = rest.next() {
         if below <= piece.start() {
             return Ok(runs);
         }
-        add_run(alloc, &mut runs, piece.start(), bytes_below(piece, below))?;
+        let bytes = bytes_below(piece, below);
+        add_run(alloc, &mut runs, room, piece.start(), bytes)?;
     }
     Ok(runs)
+}
+
+/// How long the buffer of the first run below a place is to be: never longer than what the pieces have.
+fn first_run_len(pieces: &PieceList<Piece>, below: u64) -> usize
+    ensures { result ≤ bytes_held pieces.now.list }
+{
+    let mut rest = pieces.iter();
+    let Some(first) = rest.next() else {
+        return 0;
+    };
+    let end = run_end(first.end(), rest, below).min(below);
+    end.saturating_sub(first.start()) as usize
+}
+
+/// Where a run ends that has come to `end`, with these pieces behind it; only so far as `below` asks.
+fn run_end(end: u64, rest: Iter<'_, Piece>, below: u64) -> u64
+    ensures { result ≤ end + bytes_held rest.entry }
+{
+    let (mut end, mut rest) = (end, rest);
+    while let Some(piece) = rest.next() {
+        if below <= end || piece.start() != end {
+            return end;
+        }
+        end = piece.end();
+    }
+    end
 }
 
 /// The piece's bytes below a place behind its start.
@@ -202,12 +241,19 @@ fn bytes_below(piece: &Piece, below: u64) -> &[u8]
     &bytes[..count.min(bytes.len())]
 }
 
-/// Adds bytes behind runs: to the last, where that ends at their start, or as a run of their own.
-fn add_run(alloc: Global, runs: &mut Vec<Run>, start: u64, bytes: &[u8]) -> Result<(), NoMemory>
+/// Adds bytes behind runs: to the last, where that ends at their start, or as a run of their own. The
+/// first run gets a buffer with room for so many.
+fn add_run(
+    alloc: Global,
+    runs: &mut Vec<Run>,
+    room: usize,
+    start: u64,
+    bytes: &[u8],
+) -> Result<(), NoMemory>
     ensures { OnOk result (runs.new.items ≡ with_run runs.old.items start bytes.now) }
 {
     let Some(last) = runs.pop() else {
-        return push_run(alloc, runs, start, bytes);
+        return push_run(alloc, runs, room, start, bytes);
     };
     if ends_at(&last, start) {
         let Run {
@@ -223,16 +269,24 @@ fn add_run(alloc: Global, runs: &mut Vec<Run>, start: u64, bytes: &[u8]) -> Resu
         return Ok(());
     }
     runs.push(last)?;
-    push_run(alloc, runs, start, bytes)
+    push_run(alloc, runs, bytes.len(), start, bytes)
 }
 
-/// Adds bytes behind runs as a run of their own.
-fn push_run(alloc: Global, runs: &mut Vec<Run>, start: u64, bytes: &[u8]) -> Result<(), NoMemory>
+/// Adds bytes behind runs as a run of their own, in a buffer with room for so many.
+fn push_run(
+    alloc: Global,
+    runs: &mut Vec<Run>,
+    room: usize,
+    start: u64,
+    bytes: &[u8],
+) -> Result<(), NoMemory>
     ensures { OnOk result (runs.new.items ≡ runs.old.items ++ record { start = start; bytes = bytes.now } ∷ []) }
 {
+    let mut buffer = Vec::with_capacity(alloc, room)?;
+    buffer.extend_from_slice(bytes)?;
     runs.push(Run {
         start,
-        bytes: Text::copy(alloc, bytes)?,
+        bytes: Text::from_vec(buffer),
     })?;
     Ok(())
 }

@@ -14,7 +14,7 @@ loop-piece-preserved c = record {
   runs = λ floor top row order.
       let now = subst (λ ps. IsJoining c.args.pieces.now.list ps c.loop-piece.runs.items floor c.args.below top) c.in-Some.ensures.steps (c.loop-piece.invariant.runs floor top row order) in
       joining_more c.args.pieces.now.list c.next.new.self c.in-Some.piece.now c.loop-piece.runs.items c.add_run.new.runs.items floor c.args.below top now (subst (λ n. n < c.args.below) c.start.ensures c.if-below-start.false)
-      (c.in_ok-add_run.ensures ∙ ap (λ n. with_run c.loop-piece.runs.items n c.bytes_below.result.now) c.start-in-Some.ensures ∙ ap (with_run c.loop-piece.runs.items c.in-Some.piece.now.start) c.bytes_below.ensures);
+      (c.in_ok-add_run.ensures ∙ ap (λ n. with_run c.loop-piece.runs.items n c.bytes_below-bytes.result.now) c.start-in-Some.ensures ∙ ap (with_run c.loop-piece.runs.items c.in-Some.piece.now.start) c.bytes_below-bytes.ensures);
 }
 
 pub returns : goal.returns
