@@ -133,6 +133,9 @@ impl Direction {
         ensures passed { passed self.new ≤ passed self.old + 2 ^ 30 }
     {
         let top = self.queue.covered_end();
+        if top == self.queue.floor() {
+            return Ok(());
+        }
         self.flush_to(alloc, top, out)
     }
 
