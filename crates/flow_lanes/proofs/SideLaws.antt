@@ -1,12 +1,11 @@
 -- Steps of one side of a session.
-use Rattle.std.proofs.Common.{◌≡◌, ℕ, ◌<◌, Bool, true, false, ◌&&◌, cond, List, [], ◌∷◌, length, map, refl, sym, ap, subst, ◌∙◌, arith}
-use Rattle.std.specs.List.{flat_map}
+use Rattle.std.proofs.Common.{◌≡◌, ℕ, ◌<◌, Bool, true, false, ◌&&◌, cond, List, [], ◌∷◌, length, refl, sym, ap, subst, ◌∙◌, arith}
 use Rattle.overlap_core.specs.declared.segment.Run.{Run}
 use Rattle.overlap_core.specs.Overlap.{covered_end}
 use Rattle.stream5_reassembly.specs.Extents.{extent_after}
 use Rattle.stream5_reassembly.specs.Segments.{AppendsFlushed, DirectionState, Flushes, Stays, ack_flushes, ack_place, flushed_to, idle, segment_fate, top}
 use Rattle.flow_lanes.specs.Sides.{Side, acked_payloads, direction_after_data, held_payloads, is_held, queues, side_after_data, started_by}
-use Rattle.flow_lanes.specs.Streams.{flushed_payloads, item_size, parts_of, runs_of}
+use Rattle.flow_lanes.specs.Streams.{flushed_payloads, payloads_of, runs_of}
 use Rattle.flow_lanes.specs.Working.{HasNoneLeft}
 use Rattle.flow_lanes.proofs.Runs.{flushed_payloads-runs}
 
@@ -32,26 +31,22 @@ unfolding side_after_data
 side_after_data-some side seq [] some = absurd (omega arith)
 side_after_data-some side seq (byte ∷ bytes) some = refl
 
--- the payloads of runs
-abbrev pub cut_of : List Run → List (List ℕ)
-cut_of runs = flat_map (parts_of item_size) (map (λ (run : Run). run.bytes) runs)
-
 -- what is appended to nothing, cut, are the payloads of the flush
-pub cut-flushed : (direction : DirectionState) (to : ℕ) (runs : List Run) → AppendsFlushed direction to [] runs → cut_of runs ≡ flushed_payloads direction to
+pub cut-flushed : (direction : DirectionState) (to : ℕ) (runs : List Run) → AppendsFlushed direction to [] runs → payloads_of runs ≡ flushed_payloads direction to
 cut-flushed direction to runs appends =
-    ap cut_of appends.1 ∙ sym (flushed_payloads-runs direction to appends.0 appends.2)
+    ap payloads_of appends.1 ∙ sym (flushed_payloads-runs direction to appends.0 appends.2)
 
 -- an acknowledgement: what it flushes, and the direction behind it
 pub acked-cut : (old new : DirectionState) (ack : ℕ) (runs : List Run) (flushed : Bool) → flushed ≡ ack_flushes old ack
     → (flushed ≡ true → Flushes old new (ack_place old ack) [] runs) → (flushed ≡ false → Stays old new [] runs)
-    → (cut_of runs ≡ cond (ack_flushes old ack) (flushed_payloads old (ack_place old ack)) [])
+    → (payloads_of runs ≡ cond (ack_flushes old ack) (flushed_payloads old (ack_place old ack)) [])
     × (new ≡ cond (ack_flushes old ack) (flushed_to old (ack_place old ack)) old)
-acked-cut old new ack runs flushed is flushes stays = subst (λ (b : Bool). (cut_of runs ≡ cond b (flushed_payloads old (ack_place old ack)) []) × (new ≡ cond b (flushed_to old (ack_place old ack)) old)) is (by_case flushed flushes stays)
+acked-cut old new ack runs flushed is flushes stays = subst (λ (b : Bool). (payloads_of runs ≡ cond b (flushed_payloads old (ack_place old ack)) []) × (new ≡ cond b (flushed_to old (ack_place old ack)) old)) is (by_case flushed flushes stays)
   where
     by_case : (b : Bool) → (b ≡ true → Flushes old new (ack_place old ack) [] runs) → (b ≡ false → Stays old new [] runs)
-        → (cut_of runs ≡ cond b (flushed_payloads old (ack_place old ack)) []) × (new ≡ cond b (flushed_to old (ack_place old ack)) old)
+        → (payloads_of runs ≡ cond b (flushed_payloads old (ack_place old ack)) []) × (new ≡ cond b (flushed_to old (ack_place old ack)) old)
     by_case true flushes stays = (cut-flushed old (ack_place old ack) runs (flushes refl).runs, (flushes refl).state)
-    by_case false flushes stays = (ap cut_of (stays refl).runs, (stays refl).state)
+    by_case false flushes stays = (ap payloads_of (stays refl).runs, (stays refl).state)
 
 -- where an acknowledgement doesn't flush there is nothing to cut
 pub acked-none : (side : Side) (ack : ℕ) (flushed : Bool) → flushed ≡ ack_flushes side.direction ack → flushed ≡ false → acked_payloads side ack ≡ []

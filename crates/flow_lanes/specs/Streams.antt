@@ -8,6 +8,7 @@
 -- and "c"; a run of 16385 bytes gives two payloads, the second of one byte.
 use Rattle.std.specs.Prelude.{ℕ, ◌+◌, ◌-◌, ◌*◌, ◌/◌, Bool, true, false, List, [], ◌∷◌, Option, Some, None, length, map, take, drop}
 use Rattle.std.specs.List.{range_with_len, flat_map}
+use Rattle.overlap_core.specs.declared.segment.Run.{Run}
 use Rattle.stream5_reassembly.specs.Segments.{DirectionState, flushed_bytes}
 
 -- the most bytes of a stream item
@@ -39,6 +40,10 @@ runs_of (place ∷ places) = in_front place (begins_run places) (runs_of places)
 -- bytes, cut from their start into so many at most
 unfoldable pub parts_of : ℕ → List ℕ → List (List ℕ)
 parts_of most bytes = map (λ part. take most (drop (part * most) bytes)) (range_with_len 0 ((length bytes + (most - 1)) / most))
+
+-- the payloads of runs, each cut from its start
+abbrev pub payloads_of : List Run → List (List ℕ)
+payloads_of runs = flat_map (parts_of item_size) (map (λ (run : Run). run.bytes) runs)
 
 -- what the places of a direction from its base on and below another have
 abbrev pub places_below : DirectionState → ℕ → List (Option ℕ)

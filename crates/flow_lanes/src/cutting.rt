@@ -1,8 +1,8 @@
 //! Runs of bytes, cut into the payloads of stream items.
 
-ghost use Rattle.std.specs.Prelude.{◌≡◌, ◌+◌, ◌-◌, ◌*◌, ◌/◌, ◌++◌, ◌<◌, length, drop, take, map, IfOk, OnOk};
-ghost use Rattle.std.specs.List.{flat_map, range_with_len};
-ghost use Rattle.flow_lanes.specs.Streams.{item_size, parts_of};
+ghost use Rattle.std.specs.Prelude.{◌≡◌, ◌+◌, ◌-◌, ◌*◌, ◌/◌, ◌++◌, ◌∷◌, [], ◌<◌, length, drop, take, map, IfOk, IsTrue, OnOk};
+ghost use Rattle.std.specs.List.{range_with_len};
+ghost use Rattle.flow_lanes.specs.Streams.{item_size, parts_of, payloads_of};
 
 use edge_io::{Items, NoMemory, Text};
 use overlap_core::Run;
@@ -44,9 +44,16 @@ fn cut_parts(alloc: Global, bytes: &[u8], count: usize, out: &mut Vec<Text>) -> 
     Ok(())
 }
 
+/// Whether bytes are one part by themselves: there are some, and not too many.
+pub(crate) fn is_one_part(bytes: &[u8]) -> bool
+    ensures { IsTrue result → parts_of item_size bytes.now ≡ bytes.now ∷ [] }
+{
+    !bytes.is_empty() && bytes.len() <= ITEM_SIZE
+}
+
 /// Cuts bytes from their start into so many at most, and appends the parts.
 #[tactic(auto, unfolding(crate::specs::Streams::parts_of))]
-fn cut(alloc: Global, bytes: &[u8], out: &mut Vec<Text>) -> Result<(), NoMemory>
+pub(crate) fn cut(alloc: Global, bytes: &[u8], out: &mut Vec<Text>) -> Result<(), NoMemory>
     ensures { OnOk result (out.new.items ≡ out.old.items ++ parts_of item_size bytes.now) }
 {
     let count = (bytes.len() + (ITEM_SIZE - 1)) / ITEM_SIZE;
@@ -55,12 +62,23 @@ fn cut(alloc: Global, bytes: &[u8], out: &mut Vec<Text>) -> Result<(), NoMemory>
 }
 
 /// The runs, each cut.
-pub(crate) fn cut_runs(alloc: Global, runs: &[Run]) -> Result<Items<Text>, NoMemory>
-    ensures { IfOk result (λ payloads. payloads ≡ flat_map (parts_of item_size) (map (λ run. run.bytes) runs.now)) }
+pub(crate) fn cut_runs(alloc: Global, runs: Vec<Run>) -> Result<Items<Text>, NoMemory>
+    ensures { IfOk result (λ payloads. payloads ≡ payloads_of runs.items) }
 {
     let mut out = Vec::new(alloc);
     for run in runs {
-        cut(alloc, run.bytes.bytes(), &mut out)?;
+        cut_run(alloc, run.bytes, &mut out)?;
     }
     Ok(Items::from_vec(out))
+}
+
+/// Appends the parts of a run: the run itself, without a copy, where that is one.
+fn cut_run(alloc: Global, run: Text, out: &mut Vec<Text>) -> Result<(), NoMemory>
+    ensures { OnOk result (out.new.items ≡ out.old.items ++ parts_of item_size run) }
+{
+    if is_one_part(run.bytes()) {
+        out.push(run)?;
+        return Ok(());
+    }
+    cut(alloc, run.bytes(), out)
 }

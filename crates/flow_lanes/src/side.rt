@@ -7,13 +7,15 @@ ghost use Rattle.std.specs.Prelude.{◌≡◌, ℕ, ◌+◌, ◌^◌, ◌<◌, �
 ghost use Rattle.stream5_reassembly.specs.Segments.{AreLimits, idle};
 ghost use Rattle.flow_lanes.specs.Sides.{acked_payloads, direction_after_data, held_payloads, left_payloads, queues, side_after_ack, side_after_data, side_at_begin, started_by, turned, with_base, without_left};
 ghost use Rattle.flow_lanes.specs.Items.{stream_items};
+ghost use Rattle.flow_lanes.specs.Streams.{payloads_of};
 ghost use Rattle.flow_lanes.specs.Reach.{Grows, Keeps, Reaches};
 ghost use Rattle.flow_lanes.specs.Working.{HasNoneLeft, stretch_of};
 
 use crate::cutting::{Stretch, cut_runs};
 use crate::item::Item;
-use crate::streams::{head_between, push_payloads};
+use crate::streams::{head_between, push_runs};
 use edge_io::{Items, Moment, NoMemory, Preference, Text};
+use overlap_core::Run;
 use std::alloc::Global;
 use stream5_reassembly::{Added, Direction, Extent, Limits};
 use stream5_sessions::End;
@@ -151,25 +153,36 @@ impl Side {
             return Ok(());
         }
         let head = head_between(self.from, self.to, of_client, moment, sizes);
-        let payloads = cut_runs(alloc, &runs)?;
-        push_payloads(head, payloads, out)
+        push_runs(alloc, head, runs, out)
     }
 
-    /// Takes all that is held: the direction is then idle.
+    /// Takes all that is held, in runs: the direction is then idle.
     #[tactic(auto, unfolding(crate::specs::Sides::held_payloads))]
-    fn drain(&mut self, alloc: Global) -> Result<Items<Text>, NoMemory>
+    fn drain(&mut self, alloc: Global) -> Result<Vec<Run>, NoMemory>
+        requires reaches { Reaches self.old (2 ^ 63) }
+        ensures payloads { IfOk result (λ runs. payloads_of runs.items ≡ held_payloads self.old) }
+        ensures state { OnOk result (self.new
+            ≡ record self.old { direction = idle self.old.direction.limits self.old.direction.preference }) }
+        ensures keeps { Keeps self.old self.new }
+    {
+        let mut runs = Vec::new(alloc);
+        if !self.direction.started() {
+            return Ok(runs);
+        }
+        self.direction.stop(alloc, &mut runs)?;
+        Ok(runs)
+    }
+
+    /// Takes the payloads of all that is held: the direction is then idle.
+    fn drain_payloads(&mut self, alloc: Global) -> Result<Items<Text>, NoMemory>
         requires reaches { Reaches self.old (2 ^ 63) }
         ensures payloads { IfOk result (λ payloads. payloads ≡ held_payloads self.old) }
         ensures state { OnOk result (self.new
             ≡ record self.old { direction = idle self.old.direction.limits self.old.direction.preference }) }
         ensures keeps { Keeps self.old self.new }
     {
-        if !self.direction.started() {
-            return Ok(Items::new(alloc));
-        }
-        let mut runs = Vec::new(alloc);
-        self.direction.stop(alloc, &mut runs)?;
-        let payloads = cut_runs(alloc, &runs)?;
+        let runs = self.drain(alloc)?;
+        let payloads = cut_runs(alloc, runs)?;
         Ok(payloads)
     }
 
@@ -190,8 +203,8 @@ impl Side {
         ensures keeps { Keeps self.old self.new }
     {
         let head = head_between(self.from, self.to, of_client, moment, sizes);
-        let payloads = self.drain(alloc)?;
-        push_payloads(head, payloads, out)
+        let runs = self.drain(alloc)?;
+        push_runs(alloc, head, runs, out)
     }
 
     /// Whether something may be left of a stretch that was ended by turning the side off. Takes no memory.
@@ -211,7 +224,7 @@ impl Side {
         let payloads = if self.on {
             Items::new(alloc)
         } else {
-            self.drain(alloc)?
+            self.drain_payloads(alloc)?
         };
         Ok(Stretch {
             from: self.from,

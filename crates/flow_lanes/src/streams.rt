@@ -2,13 +2,16 @@
 
 ghost use Rattle.std.specs.Prelude.{◌≡◌, ◌++◌, map, OnOk};
 ghost use Rattle.flow_lanes.specs.Items.{head_between};
+ghost use Rattle.flow_lanes.specs.Streams.{item_size, parts_of, payloads_of};
 ghost use Rattle.flow_lanes.specs.Working.{maybe_items, stretch_items, stretches_items};
 
-use crate::cutting::Stretch;
+use crate::cutting::{Stretch, cut, is_one_part};
 use crate::item::Item;
 use crate::session::{Left, Stretches};
 use edge_io::{Items, Moment, NoMemory, Text};
+use overlap_core::Run;
 use packet_decode::{Body, IpHead, ItemHead, ItemKind, SessionFacts};
+use std::alloc::Global;
 use stream5_sessions::End;
 
 /// What rules see of a stretch of the data that one end sends to another.
@@ -64,12 +67,41 @@ fn push_stretch(
     push_payloads(head, payloads, out)
 }
 
-/// Appends items of one head.
-pub(crate) fn push_payloads(
+/// Appends the items of runs, which have one head.
+pub(crate) fn push_runs(
+    alloc: Global,
     head: ItemHead,
-    payloads: Items<Text>,
+    runs: Vec<Run>,
     out: &mut Vec<Item>,
 ) -> Result<(), NoMemory>
+    ensures { OnOk result (out.new.items
+        ≡ out.old.items ++ map (λ payload. record { head = head; payload = payload }) (payloads_of runs.items)) }
+{
+    for run in runs {
+        push_run(alloc, &head, run.bytes, out)?;
+    }
+    Ok(())
+}
+
+/// Appends the items of a run: one with the run's own bytes, where they are one part.
+fn push_run(alloc: Global, head: &ItemHead, run: Text, out: &mut Vec<Item>) -> Result<(), NoMemory>
+    ensures { OnOk result (out.new.items
+        ≡ out.old.items ++ map (λ payload. record { head = head.now; payload = payload }) (parts_of item_size run)) }
+{
+    if is_one_part(run.bytes()) {
+        out.push(Item {
+            head: *head,
+            payload: run,
+        })?;
+        return Ok(());
+    }
+    let mut parts = Vec::new(alloc);
+    cut(alloc, run.bytes(), &mut parts)?;
+    push_payloads(*head, Items::from_vec(parts), out)
+}
+
+/// Appends items of one head.
+fn push_payloads(head: ItemHead, payloads: Items<Text>, out: &mut Vec<Item>) -> Result<(), NoMemory>
     ensures { OnOk result (out.new.items
         ≡ out.old.items ++ map (λ payload. record { head = head; payload = payload }) payloads) }
 {

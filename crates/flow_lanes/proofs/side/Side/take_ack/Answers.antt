@@ -4,7 +4,8 @@ use Rattle.overlap_core.specs.declared.segment.Run.{Run}
 use Rattle.stream5_reassembly.specs.Segments.{Flushes, Stays, ack_place}
 use Rattle.flow_lanes.specs.Items.{stream_head, stream_items}
 use Rattle.flow_lanes.specs.Sides.{acked_payloads}
-use Rattle.flow_lanes.proofs.SideLaws.{acked-cut, acked-none, cut_of}
+use Rattle.flow_lanes.specs.Streams.{payloads_of}
+use Rattle.flow_lanes.proofs.SideLaws.{acked-cut, acked-none}
 use Rattle.flow_lanes.proofs.PushLaws.{pushed-are}
 use Rattle.flow_lanes.proofs.side.Side.take_ack.Goals as goal
 
@@ -26,5 +27,5 @@ returns-clause-items c =
     acked-cut old new c.args.ack runs c.in_ok-flushed.flushed c.in_ok-flushed.ensures.flushes
     (λ is. subst (λ (before : List Run). Flushes old new (ack_place old c.args.ack) before runs) c.new-runs.ensures.items (c.in_ok-flushed.ensures.yes (ap Ok is)))
     (λ is. subst (λ (before : List Run). Stays old new before runs) c.new-runs.ensures.items (c.in_ok-flushed.ensures.no (ap Ok is))) in
-    pushed-are c.push_payloads.result c.args.out.now.items c.push_payloads.new.out.items c.head_between-head.result (stream_head side c.args.of_client c.args.moment c.args.sizes) c.in_ok-payloads.payloads
-    (acked_payloads side c.args.ack) c.head_between-head.ensures (c.in_ok-payloads.ensures ∙ ap cut_of c.deref.ensures.value ∙ cut.0) c.push_payloads.ensures
+    pushed-are c.push_runs.result c.args.out.now.items c.push_runs.new.out.items c.head_between-head.result (stream_head side c.args.of_client c.args.moment c.args.sizes) (payloads_of runs)
+    (acked_payloads side c.args.ack) c.head_between-head.ensures cut.0 c.push_runs.ensures
