@@ -1,6 +1,9 @@
 -- A sound rule changes no bits but those that a session has.
-use Rattle.std.proofs.Common.{ℕ, List, [], ◌∷◌}
+use Rattle.std.proofs.Common.{ℕ, List, [], ◌∷◌, get_or}
 use Rattle.std.specs.Prelude.{All}
+use Rattle.std.proofs.Math.Logic.{∥∥₁_elim}
+use mathlib.Core.HLevel.{Unit-prop, Π_prop}
+use native.Mathlib.Bridge.{le_prop}
 use Rattle.std.proofs.lemmas.List.Elements.{All-cons, All-nil, All-weaker}
 use Rattle.rule_types.specs.declared.option.Opt.{Opt}
 use Rattle.rule_types.specs.declared.option.Opt.TheVariants as opt
@@ -18,3 +21,15 @@ known_changes names (option ∷ options) h = All-cons IsKnownChange option optio
 
 pub all_known : (rules : List Rule) → All IsTriable rules → All ChangesKnownBits rules
 all_known rules h = All-weaker IsTriable ChangesKnownBits (λ rule triable. known_changes [] rule.opts triable.options) rules h
+
+known_change-prop : (option : Opt) → IsProp (IsKnownChange option)
+known_change-prop (opt.BitDo change bit) = le_prop
+known_change-prop _ = Unit-prop
+
+all_known-prop : (rules : List Rule) → IsProp (All ChangesKnownBits rules)
+all_known-prop rules =
+    Π_prop λ place. Π_prop λ rule. Π_prop λ _. Π_prop λ at. Π_prop λ option. Π_prop λ _. known_change-prop (get_or (get_or rules place rule).opts at option)
+
+-- nor does one of which no more is told than that it is sound
+pub known_where_triable : (rules : List Rule) → ∥ All IsTriable rules ∥₁ → All ChangesKnownBits rules
+known_where_triable rules triable = ∥∥₁_elim triable (all_known-prop rules) (all_known rules)

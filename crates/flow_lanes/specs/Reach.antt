@@ -4,9 +4,7 @@
 -- 2^63.
 -- To try it on: behind the first packet of a flow, no side's size is above 2147483648.
 use Rattle.std.specs.Prelude.{ℕ, ◌+◌, ◌^◌, ◌≤◌, Bool, Option, IfSome, if◌then◌else◌}
-use Rattle.conf_types.specs.Sound.{IsStreamConfig}
 use Rattle.stream5_reassembly.specs.Segments.{passed}
-use Rattle.flow_lanes.specs.Engines.{Making}
 use Rattle.flow_lanes.specs.Sessions.{Session}
 use Rattle.flow_lanes.specs.Sides.{Side}
 
@@ -40,8 +38,3 @@ KeepsWithin old new = (client server : ℕ) → AreWithin old client server → 
 abbrev pub GrowsOne : Bool → Session → Session → Type 0
 GrowsOne of_client old new = (client server : ℕ) → AreWithin old client server
     → AreWithin new (if of_client then client + 2 ^ 31 else client) (if of_client then server else server + 2 ^ 31)
-
--- the settings give sides limits in their ranges
-pub record HasLimits (making : Making) : Type 0 where
-  pub flush : 1 ≤ making.flush
-  pub stream : IsStreamConfig making.stream

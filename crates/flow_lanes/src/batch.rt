@@ -11,10 +11,11 @@ ghost use Rattle.flow_lanes.specs.Batching.{AllGoOn, AreSoundAmong, AreSoundIn, 
 
 use crate::answer::{BatchFault, BatchOut, JobFound, Matches};
 use crate::in_turn::search_in_turn;
+use crate::inspector::Inspector;
 use crate::job::Job;
 use crate::runner::{Runner, busy_lanes};
 use crate::spread::for_each_spread;
-use crate::worker::{Detector, Share, Worker};
+use crate::worker::{Share, Worker};
 use conf_types::StreamConfig;
 use edge_io::{Gate, Items, NoMemory, Pattern};
 use fast_pattern::Groups;
@@ -57,18 +58,14 @@ fn new_workers(
 fn run_all<P: Pattern, G: Gate, R: Threads + Sync>(
     runner: &Runner<'_, G, R>,
     threads: usize,
-    alloc: Global,
     workers: &mut [Worker],
     jobs: &[Job],
-    detector: &Detector<'_, P>,
+    inspector: &Inspector<'_, P>,
 )
     requires some { 0 < length workers.old }
     requires few { length workers.old ≤ 64 }
-    requires sound { AreSoundAmong (length detector.now.stream.now.engines) workers.old jobs.now }
-    requires config { IsStreamConfig detector.now.stream.now }
-    requires groups { StandFor detector.now.groups.now detector.now.set.now.rules }
-    requires triable { All IsTriable detector.now.set.now.rules }
-    ensures { AllGoOn P.finds detector.now.stream.now detector.now.set.now detector.now.all workers.old jobs.now workers.new }
+    requires sound { AreSoundAmong (length inspector.now.stream.now.engines) workers.old jobs.now }
+    ensures { AllGoOn P.finds inspector.now.stream.now inspector.now.set.now inspector.now.all workers.old jobs.now workers.new }
 {
     let count = workers.len();
     let busy = busy_lanes(count, jobs);
@@ -80,12 +77,10 @@ fn run_all<P: Pattern, G: Gate, R: Threads + Sync>(
         &busy[..count],
         &|place: usize, worker: &mut Worker|
             requires { (0 < count) × (place < 2 ^ 32)
-                × AreSoundIn (length detector.now.stream.now.engines) count place worker.old.lane jobs.now
-                × IsStreamConfig detector.now.stream.now × StandFor detector.now.groups.now detector.now.set.now.rules
-                × All IsTriable detector.now.set.now.rules }
-            ensures { IfOk worker.new.outs (λ outs. GoesOn P.finds detector.entry.now.stream.now detector.entry.now.set.now
-                detector.entry.now.all worker.old.lane (own_jobs count place jobs.entry.now) outs.items worker.new.lane) }
-        { worker.run(alloc, Share { count, place }, jobs, detector, gate) },
+                × AreSoundIn (length inspector.now.stream.now.engines) count place worker.old.lane jobs.now }
+            ensures { IfOk worker.new.outs (λ outs. GoesOn P.finds inspector.entry.now.stream.now inspector.entry.now.set.now
+                inspector.entry.now.all worker.old.lane (own_jobs count place jobs.entry.now) outs.items worker.new.lane) }
+        { worker.run(Share { count, place }, jobs, inspector, gate) },
     );
 }
 
@@ -125,102 +120,86 @@ fn batch_out(alloc: Global, merged: Vec<Numbered<JobFound>>) -> Result<BatchOut,
 fn search_beside<P: Pattern, G: Gate, R: Threads + Sync>(
     runner: &Runner<'_, G, R>,
     threads: usize,
-    alloc: Global,
     workers: &mut [Worker],
     jobs: &[Job],
-    detector: &Detector<'_, P>,
+    inspector: &Inspector<'_, P>,
 ) -> Result<Vec<Numbered<JobFound>>, NoMemory>
     requires some { 0 < length workers.old }
     requires few { length workers.old ≤ 64 }
     requires ascend { AscendsBy (λ (job : Job). job.number) jobs.now }
-    requires sound { AreSoundAmong (length detector.now.stream.now.engines) workers.old jobs.now }
-    requires config { IsStreamConfig detector.now.stream.now }
-    requires groups { StandFor detector.now.groups.now detector.now.set.now.rules }
-    requires triable { All IsTriable detector.now.set.now.rules }
-    ensures finds { IfOk result (λ found. HaveSearched P.finds detector.now.stream.now detector.now.set.now
-        detector.now.all (lanes_of workers.old) jobs.now found.items (lanes_of workers.new)) }
+    requires sound { AreSoundAmong (length inspector.now.stream.now.engines) workers.old jobs.now }
+    ensures finds { IfOk result (λ found. HaveSearched P.finds inspector.now.stream.now inspector.now.set.now
+        inspector.now.all (lanes_of workers.old) jobs.now found.items (lanes_of workers.new)) }
     ensures learns { OnOk result (HaveLearnt (lanes_of workers.old) jobs.now (lanes_of workers.new)) }
 {
-    run_all(runner, threads, alloc, workers, jobs, detector);
-    let parts = take_parts(alloc, workers)?;
-    let found = merge(alloc, parts)?;
+    run_all(runner, threads, workers, jobs, inspector);
+    let parts = take_parts(inspector.alloc, workers)?;
+    let found = merge(inspector.alloc, parts)?;
     Ok(found)
 }
 
 /// What the lanes find of a batch, in the order of its jobs: in turn where one thread is enough.
 fn search_batch<P: Pattern, G: Gate, R: Threads + Sync>(
     runner: &Runner<'_, G, R>,
-    alloc: Global,
     workers: &mut [Worker],
     jobs: &[Job],
-    detector: &Detector<'_, P>,
+    inspector: &Inspector<'_, P>,
 ) -> Result<Vec<Numbered<JobFound>>, NoMemory>
     requires some { 0 < length workers.old }
     requires few { length workers.old ≤ 64 }
     requires ascend { AscendsBy (λ (job : Job). job.number) jobs.now }
-    requires sound { AreSoundAmong (length detector.now.stream.now.engines) workers.old jobs.now }
-    requires config { IsStreamConfig detector.now.stream.now }
-    requires groups { StandFor detector.now.groups.now detector.now.set.now.rules }
-    requires triable { All IsTriable detector.now.set.now.rules }
-    ensures finds { IfOk result (λ found. HaveSearched P.finds detector.now.stream.now detector.now.set.now
-        detector.now.all (lanes_of workers.old) jobs.now found.items (lanes_of workers.new)) }
+    requires sound { AreSoundAmong (length inspector.now.stream.now.engines) workers.old jobs.now }
+    ensures finds { IfOk result (λ found. HaveSearched P.finds inspector.now.stream.now inspector.now.set.now
+        inspector.now.all (lanes_of workers.old) jobs.now found.items (lanes_of workers.new)) }
     ensures learns { OnOk result (HaveLearnt (lanes_of workers.old) jobs.now (lanes_of workers.new)) }
 {
     let threads = runner.threads(workers.len(), jobs);
     if threads < 2 {
-        search_in_turn(alloc, workers, jobs, detector, runner.gate)
+        search_in_turn(workers, jobs, inspector, runner.gate)
     } else {
-        search_beside(runner, threads, alloc, workers, jobs, detector)
+        search_beside(runner, threads, workers, jobs, inspector)
     }
 }
 
 /// The answers of all lanes to a batch: all items are told.
 fn answer_batch<P: Pattern, G: Gate, R: Threads + Sync>(
     runner: &Runner<'_, G, R>,
-    alloc: Global,
     workers: &mut [Worker],
     jobs: &[Job],
-    detector: &Detector<'_, P>,
+    inspector: &Inspector<'_, P>,
 ) -> Result<BatchOut, NoMemory>
-    requires all { detector.now.all ≡ true }
+    requires all { inspector.now.all ≡ true }
     requires some { 0 < length workers.old }
     requires few { length workers.old ≤ 64 }
     requires ascend { AscendsBy (λ (job : Job). job.number) jobs.now }
-    requires sound { AreSoundAmong (length detector.now.stream.now.engines) workers.old jobs.now }
-    requires config { IsStreamConfig detector.now.stream.now }
-    requires groups { StandFor detector.now.groups.now detector.now.set.now.rules }
-    requires triable { All IsTriable detector.now.set.now.rules }
-    ensures answers { IfOk result (λ out. HaveAnswered P.finds detector.now.stream.now detector.now.set.now
+    requires sound { AreSoundAmong (length inspector.now.stream.now.engines) workers.old jobs.now }
+    ensures answers { IfOk result (λ out. HaveAnswered P.finds inspector.now.stream.now inspector.now.set.now
         (lanes_of workers.old) jobs.now out (lanes_of workers.new)) }
     ensures learns { OnOk result (HaveLearnt (lanes_of workers.old) jobs.now (lanes_of workers.new)) }
 {
-    let found = search_batch(runner, alloc, workers, jobs, detector)?;
-    let out = batch_out(alloc, found)?;
+    let found = search_batch(runner, workers, jobs, inspector)?;
+    let out = batch_out(inspector.alloc, found)?;
     Ok(out)
 }
 
 /// The matches of all lanes in a batch: the items are told that a rule matches.
 fn match_batch<P: Pattern, G: Gate, R: Threads + Sync>(
     runner: &Runner<'_, G, R>,
-    alloc: Global,
     workers: &mut [Worker],
     jobs: &[Job],
-    detector: &Detector<'_, P>,
+    inspector: &Inspector<'_, P>,
     out: &mut Matches,
 ) -> Result<(), NoMemory>
-    requires matched { detector.now.all ≡ false }
+    requires matched { inspector.now.all ≡ false }
     requires some { 0 < length workers.old }
     requires few { length workers.old ≤ 64 }
     requires ascend { AscendsBy (λ (job : Job). job.number) jobs.now }
-    requires sound { AreSoundAmong (length detector.now.stream.now.engines) workers.old jobs.now }
-    requires config { IsStreamConfig detector.now.stream.now }
-    requires groups { StandFor detector.now.groups.now detector.now.set.now.rules }
-    requires triable { All IsTriable detector.now.set.now.rules }
-    ensures finds { OnOk result (HaveMatched P.finds detector.now.stream.now detector.now.set.now
+    requires sound { AreSoundAmong (length inspector.now.stream.now.engines) workers.old jobs.now }
+    ensures finds { OnOk result (HaveMatched P.finds inspector.now.stream.now inspector.now.set.now
         (lanes_of workers.old) jobs.now out.new (lanes_of workers.new)) }
     ensures learns { OnOk result (HaveLearnt (lanes_of workers.old) jobs.now (lanes_of workers.new)) }
 {
-    let found = search_batch(runner, alloc, workers, jobs, detector)?;
+    let found = search_batch(runner, workers, jobs, inspector)?;
     out.fill(found)?;
     Ok(())
 }
@@ -327,7 +306,8 @@ impl Lanes {
         if self.failed {
             return Err(BatchFault::Failed);
         }
-        let detector = Detector {
+        let inspector = Inspector {
+            alloc,
             stream,
             set,
             groups,
@@ -339,7 +319,7 @@ impl Lanes {
             cost: self.cost,
         };
         let before = cost_of(&self.workers);
-        match answer_batch(&runner, alloc, &mut self.workers, jobs, &detector) {
+        match answer_batch(&runner, &mut self.workers, jobs, &inspector) {
             Ok(out) => {
                 self.greatest = greatest_number(self.greatest, jobs);
                 self.cost = cost_of(&self.workers).saturating_sub(before);
@@ -390,7 +370,8 @@ impl Lanes {
         if self.failed {
             return Err(BatchFault::Failed);
         }
-        let detector = Detector {
+        let inspector = Inspector {
+            alloc,
             stream,
             set,
             groups,
@@ -402,7 +383,7 @@ impl Lanes {
             cost: self.cost,
         };
         let before = cost_of(&self.workers);
-        match match_batch(&runner, alloc, &mut self.workers, jobs, &detector, out) {
+        match match_batch(&runner, &mut self.workers, jobs, &inspector, out) {
             Ok(()) => {
                 self.greatest = greatest_number(self.greatest, jobs);
                 self.cost = cost_of(&self.workers).saturating_sub(before);

@@ -1,9 +1,7 @@
 //! All rules that match the items of a job, and what the flow's next job finds, in its place.
 
-ghost use Rattle.std.specs.Prelude.{◌≡◌, ◌+◌, ◌≤◌, ◌++◌, All, drop, length, None, OnOk, option_map, Some, unwrap_or, if◌then◌else◌};
+ghost use Rattle.std.specs.Prelude.{◌≡◌, ◌+◌, ◌≤◌, ◌++◌, drop, length, None, OnOk, option_map, Some, unwrap_or, if◌then◌else◌};
 ghost use Rattle.std.specs.FinSet.{empty};
-ghost use Rattle.rule_types.specs.Sound.{IsTriable};
-ghost use Rattle.fast_pattern.specs.Grouping.{StandFor};
 ghost use Rattle.option_eval.specs.Places.{Means};
 ghost use Rattle.flow_lanes.specs.Detecting.{SettlesBy};
 ghost use Rattle.flow_lanes.specs.Flows.{bits_at_hand, session_at_hand, steered};
@@ -15,9 +13,9 @@ ghost use Rattle.flow_lanes.specs.Working.{own_item};
 
 use crate::answer::Hits;
 use crate::arrival::Arrival;
+use crate::inspector::Inspector;
 use crate::item::Item;
 use crate::keeping::FlowState;
-use crate::matcher::Matcher;
 use crate::steering::steer;
 use crate::tally::{Tally, try_items, try_own};
 use edge_io::{NoMemory, Pattern};
@@ -58,26 +56,24 @@ fn bits_found(tracked: bool, found: &mut Option<FlowState>) -> Option<Bits>
 
 /// Tries the rules on the streams of the packet's session and then on the packet.
 fn try_current<P: Pattern>(
-    matcher: &Matcher<'_, P>,
+    inspector: &Inspector<'_, P>,
     streams: &[Item],
     own: &Option<SessionFacts>,
     p: &Arrival,
     bits: &mut Option<Bits>,
     tally: &mut Tally,
 ) -> Result<(), NoMemory>
-    requires groups { StandFor matcher.now.groups.now matcher.now.set.now.rules }
-    requires triable { All IsTriable matcher.now.set.now.rules }
-    ensures hits { (means : Means) (trying : Trying) → TriesBy P.finds means matcher.now.set.now trying
-        → OnOk result (TriesAll matcher.now.all trying (streams.now ++ own_item (packet_of p.now) own.now)
+    ensures hits { (means : Means) (trying : Trying) → TriesBy P.finds means inspector.now.set.now trying
+        → OnOk result (TriesAll inspector.now.all trying (streams.now ++ own_item (packet_of p.now) own.now)
         bits.old bits.new tally.old.hits.items tally.new.hits.items) }
     ensures items { OnOk result (tally.new.items
         ≡ tally.old.items + length (streams.now ++ own_item (packet_of p.now) own.now)) }
     ensures tries { OnOk result (tally.new.tries
-        ≡ tally.old.tries + candidates_of matcher.now.set.now.rules (streams.now ++ own_item (packet_of p.now) own.now)) }
+        ≡ tally.old.tries + candidates_of inspector.now.set.now.rules (streams.now ++ own_item (packet_of p.now) own.now)) }
     ensures more { OnOk result (length tally.old.hits.items ≤ length tally.new.hits.items) }
 {
-    try_items(matcher, streams, bits, tally)?;
-    try_own(matcher, own, p, bits, tally)?;
+    try_items(inspector, streams, bits, tally)?;
+    try_own(inspector, own, p, bits, tally)?;
     Ok(())
 }
 
@@ -125,31 +121,29 @@ fn end_if(ends: bool, found: &mut Option<FlowState>)
 
 /// Tries the rules on the items of a session that has ended, with its bits: no session stands then.
 pub(crate) fn try_at_end<P: Pattern>(
-    matcher: &Matcher<'_, P>,
+    inspector: &Inspector<'_, P>,
     items: &[Item],
     found: &mut Option<FlowState>,
     tally: &mut Tally,
 ) -> Result<(), NoMemory>
-    requires groups { StandFor matcher.now.groups.now matcher.now.set.now.rules }
-    requires triable { All IsTriable matcher.now.set.now.rules }
-    ensures hits { (means : Means) (trying : Trying) → TriesBy P.finds means matcher.now.set.now trying
+    ensures hits { (means : Means) (trying : Trying) → TriesBy P.finds means inspector.now.set.now trying
         → OnOk result (tally.new.hits.items
-        ≡ tally.old.hits.items ++ told matcher.now.all (hits_of trying (bits_at_hand found.old) items.now)) }
+        ≡ tally.old.hits.items ++ told inspector.now.all (hits_of trying (bits_at_hand found.old) items.now)) }
     ensures items { OnOk result (tally.new.items ≡ tally.old.items + length items.now) }
     ensures tries { OnOk result (tally.new.tries
-        ≡ tally.old.tries + candidates_of matcher.now.set.now.rules items.now) }
+        ≡ tally.old.tries + candidates_of inspector.now.set.now.rules items.now) }
     ensures found { found.new ≡ None }
 {
     let mut bits = take_bits_at_hand(found);
     *found = None;
-    try_items(matcher, items, &mut bits, tally)?;
+    try_items(inspector, items, &mut bits, tally)?;
     Ok(())
 }
 
 /// Tries the rules on the items of the packet's session, streams and then the packet: the session is then
 /// as its rules ask, unless it ends.
 pub(crate) fn try_and_settle<P: Pattern>(
-    matcher: &Matcher<'_, P>,
+    inspector: &Inspector<'_, P>,
     streams: &[Item],
     own: &Option<SessionFacts>,
     p: &Arrival,
@@ -157,21 +151,19 @@ pub(crate) fn try_and_settle<P: Pattern>(
     found: &mut Option<FlowState>,
     tally: &mut Tally,
 ) -> Result<(), NoMemory>
-    requires groups { StandFor matcher.now.groups.now matcher.now.set.now.rules }
-    requires triable { All IsTriable matcher.now.set.now.rules }
-    ensures hits { (means : Means) (trying : Trying) → TriesBy P.finds means matcher.now.set.now trying
-        → OnOk result (SettlesBy matcher.now.all trying (streams.now ++ own_item (packet_of p.now) own.now)
+    ensures hits { (means : Means) (trying : Trying) → TriesBy P.finds means inspector.now.set.now trying
+        → OnOk result (SettlesBy inspector.now.all trying (streams.now ++ own_item (packet_of p.now) own.now)
         step.now.tracked step.now.ends found.old found.new tally.old.hits.items tally.new.hits.items) }
     ensures items { OnOk result (tally.new.items
         ≡ tally.old.items + length (streams.now ++ own_item (packet_of p.now) own.now)) }
     ensures tries { OnOk result (tally.new.tries
-        ≡ tally.old.tries + candidates_of matcher.now.set.now.rules (streams.now ++ own_item (packet_of p.now) own.now)) }
+        ≡ tally.old.tries + candidates_of inspector.now.set.now.rules (streams.now ++ own_item (packet_of p.now) own.now)) }
     ensures keeps { KeepsFound found.old found.new }
 {
     let first = tally.hits.len();
     let mut bits = bits_found(step.tracked, found);
-    try_current(matcher, streams, own, p, &mut bits, tally)?;
+    try_current(inspector, streams, own, p, &mut bits, tally)?;
     end_if(step.ends, found);
-    settle(matcher.set.rules(), &tally.hits, first, bits, found);
+    settle(inspector.set.rules(), &tally.hits, first, bits, found);
     Ok(())
 }

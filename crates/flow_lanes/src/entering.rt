@@ -8,7 +8,7 @@ ghost use Rattle.flow_lanes.specs.Flows.{bits_at_hand, session_at_hand};
 ghost use Rattle.flow_lanes.specs.Given.{making_of, packet_of};
 ghost use Rattle.flow_lanes.specs.Items.{facts_of, is_queued, session_behind};
 ghost use Rattle.flow_lanes.specs.Kept.{GrowsFound, IsFound, IsOf, KeepsFound};
-ghost use Rattle.flow_lanes.specs.Reach.{AreWithin, HasLimits, IsWithin};
+ghost use Rattle.flow_lanes.specs.Reach.{AreWithin, IsWithin};
 ghost use Rattle.flow_lanes.specs.Sessions.{Session as Standing, begun_session, session_of, settled, sizes_of, with_bases};
 ghost use Rattle.flow_lanes.specs.Staying.{StaysAt};
 ghost use Rattle.flow_lanes.specs.Working.{TellsLeftAt, items_on, own_facts, own_item, sizes_behind, streams_of};
@@ -66,7 +66,6 @@ fn state_at_begin(
     step: &Step,
     state: Phases,
 ) -> FlowState
-    requires { HasLimits (making_of settings.now) }
     ensures state { result ≡ record {
       session = with_bases step.now (begun_session (making_of settings.now) (packet_of p.now) step.now state);
       bits = empty;
@@ -92,7 +91,6 @@ fn begin(
     state: Phases,
     found: &mut Option<FlowState>,
 )
-    requires { HasLimits (making_of settings.now) }
     ensures state { found.new ≡ Some (record {
       session = with_bases step.now (begun_session (making_of settings.now) (packet_of p.now) step.now state);
       bits = empty;
@@ -112,7 +110,6 @@ fn enter(
     state: Phases,
     found: &mut Option<FlowState>,
 )
-    requires { HasLimits (making_of settings.now) }
     ensures session { (before : Option Standing) → session_at_hand found.old ≡ option_map settled before
         → session_at_hand found.new ≡ session_of (making_of settings.now) (packet_of p.now) before step.now state }
     ensures bits { bits_at_hand found.new
@@ -205,7 +202,6 @@ pub(crate) fn push_current(
     found: &mut Option<FlowState>,
     out: &mut Vec<Item>,
 ) -> Result<Option<SessionFacts>, NoMemory>
-    requires limits { HasLimits (making_of settings.now) }
     requires within { IsWithin (session_at_hand found.old) (2 ^ 63 - 2 ^ 31) }
     requires size { length p.now.payload.now ≤ 65535 }
     ensures items { IfOk result (λ own. out.new.items ++ own_item (packet_of p.now) own ≡ out.old.items

@@ -130,7 +130,7 @@ pub(crate) fn matching_among<P: Pattern>(
     bits: &mut Option<Bits>,
 ) -> Result<Items<u32>, NoMemory>
     requires candidates { places.now ≡ candidates set.now.rules head.now.body payload.now }
-    requires triable { All IsTriable set.now.rules }
+    requires known { All ChangesKnownBits set.now.rules }
     ensures hits { (means : Means) → FindWhatIsMeant P.finds means set.now
         → IfOk result (λ rules. AreHits means set.now.rules (record { head = head.now; payload = payload.now })
         bits.old rules) }

@@ -3,20 +3,17 @@
 //! What is found of a job is put behind what was found of the jobs before it, so that it is in their order at once: no
 //! lane goes through the jobs of others, and nothing is merged.
 
-ghost use Rattle.std.specs.Prelude.{◌≡◌, ◌<◌, ◌≤◌, All, IfOk, OnOk, length};
-ghost use Rattle.conf_types.specs.Sound.{IsStreamConfig};
-ghost use Rattle.fast_pattern.specs.Grouping.{StandFor};
-ghost use Rattle.rule_types.specs.Sound.{IsTriable};
+ghost use Rattle.std.specs.Prelude.{◌≡◌, ◌<◌, ◌≤◌, IfOk, OnOk, length};
 ghost use Rattle.flow_lanes.specs.Flows.{flow_of};
 ghost use Rattle.flow_lanes.specs.Standing.{lane_of};
 ghost use Rattle.flow_lanes.specs.Batching.{AreSoundAmong, HaveLearnt, HaveSearched, lanes_of};
 
 use crate::answer::JobFound;
+use crate::inspector::Inspector;
 use crate::job::Job;
-use crate::worker::{Detector, Worker, flow_of, lane_of};
+use crate::worker::{Worker, flow_of, lane_of};
 use edge_io::{Gate, NoMemory, Pattern};
 use ordered_merge::Numbered;
-use std::alloc::Global;
 
 /// The place of a job's lane among so many. One lane has all jobs, and then the job is not looked at.
 #[inline]
@@ -45,29 +42,25 @@ fn pass_once<G: Gate>(gate: &G, passed: u64, place: usize) -> u64
 
 /// What the lanes find of a batch, in the order of its jobs: of each job its own lane.
 pub(crate) fn search_in_turn<P: Pattern, G: Gate>(
-    alloc: Global,
     workers: &mut [Worker],
     jobs: &[Job],
-    detector: &Detector<'_, P>,
+    inspector: &Inspector<'_, P>,
     gate: &G,
 ) -> Result<Vec<Numbered<JobFound>>, NoMemory>
     requires some { 0 < length workers.old }
     requires few { length workers.old ≤ 64 }
-    requires sound { AreSoundAmong (length detector.now.stream.now.engines) workers.old jobs.now }
-    requires config { IsStreamConfig detector.now.stream.now }
-    requires groups { StandFor detector.now.groups.now detector.now.set.now.rules }
-    requires triable { All IsTriable detector.now.set.now.rules }
-    ensures finds { IfOk result (λ found. HaveSearched P.finds detector.now.stream.now detector.now.set.now
-        detector.now.all (lanes_of workers.old) jobs.now found.items (lanes_of workers.new)) }
+    requires sound { AreSoundAmong (length inspector.now.stream.now.engines) workers.old jobs.now }
+    ensures finds { IfOk result (λ found. HaveSearched P.finds inspector.now.stream.now inspector.now.set.now
+        inspector.now.all (lanes_of workers.old) jobs.now found.items (lanes_of workers.new)) }
     ensures learns { OnOk result (HaveLearnt (lanes_of workers.old) jobs.now (lanes_of workers.new)) }
 {
     let count = workers.len();
     let mut passed = 0;
-    let mut found = Vec::with_capacity(alloc, jobs.len())?;
+    let mut found = Vec::with_capacity(inspector.alloc, jobs.len())?;
     for job in jobs {
         let place = place_of(count, job);
         passed = pass_once(gate, passed, place);
-        workers[place].answer_next(alloc, job, detector, &mut found)?;
+        workers[place].answer_next(job, inspector, &mut found)?;
     }
     Ok(found)
 }

@@ -9,12 +9,11 @@ ghost use Rattle.flow_lanes.specs.Standing.{AnswersJob, CountsTries, LearnsJob, 
 ghost use Rattle.flow_lanes.specs.Batching.{SearchesJob};
 
 use crate::answer::{JobFound, JobHits, JobOut};
+use crate::inspector::Inspector;
 use crate::job::Job;
 use crate::keeping::Flows;
-use crate::matcher::Matcher;
 use crate::settings::Settings;
 use crate::tally::Tally;
-use crate::worker::Detector;
 use crate::working::do_work;
 use conf_types::StreamConfig;
 use edge_io::{Items, NoMemory, Pattern};
@@ -112,13 +111,14 @@ impl Lane {
         ensures learns { OnOk result (LearnsJob self.old job.now self.new) }
         ensures tries { IfOk result (λ out. CountsTries P.finds stream.now set.now self.old job.now out.tries) }
     {
-        let detector = Detector {
+        let inspector = Inspector {
+            alloc,
             stream,
             set,
             groups,
             all: true,
         };
-        let found = self.search(alloc, job, &detector)?;
+        let found = self.search(job, &inspector)?;
         Ok(JobOut {
             hits: found.hits,
             tries: found.tries,
@@ -130,34 +130,24 @@ impl Lane {
         self.cost
     }
 
-    /// What is found of one job, of whose items those are told that the detector asks for (`job`).
+    /// What is found of one job, of whose items those are told that the inspector asks for (`job`).
     pub(crate) fn search<P: Pattern>(
         &mut self,
-        alloc: Global,
         job: &Job,
-        detector: &Detector<'_, P>,
+        inspector: &Inspector<'_, P>,
     ) -> Result<JobFound, NoMemory>
-        requires sound { IsSoundFor (length detector.now.stream.now.engines) (known_of self.old job.now) job.now }
-        requires config { IsStreamConfig detector.now.stream.now }
-        requires groups { StandFor detector.now.groups.now detector.now.set.now.rules }
-        requires triable { All IsTriable detector.now.set.now.rules }
-        ensures finds { IfOk result (λ found. SearchesJob P.finds detector.now.stream.now detector.now.set.now
-            detector.now.all self.old job.now found self.new) }
+        requires { IsSoundFor (length inspector.now.stream.now.engines) (known_of self.old job.now) job.now }
+        ensures finds { IfOk result (λ found. SearchesJob P.finds inspector.now.stream.now inspector.now.set.now
+            inspector.now.all self.old job.now found self.new) }
         ensures learns { OnOk result (LearnsJob self.old job.now self.new) }
     {
         let settings = Settings {
             flush: self.flush,
             inserts: self.inserts,
-            stream: detector.stream,
-        };
-        let matcher = Matcher {
-            alloc,
-            set: detector.set,
-            groups: detector.groups,
-            all: detector.all,
+            stream: inspector.stream,
         };
         let flows = &mut self.flows;
-        let tally = do_work(&matcher, &settings, job.moment, &job.work, flows)?;
+        let tally = do_work(inspector, &settings, job.moment, &job.work, flows)?;
         self.cost = self.cost.saturating_add(tally.cost);
         Ok(job_found(job, tally))
     }

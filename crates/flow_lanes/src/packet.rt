@@ -1,9 +1,7 @@
 //! One job of a flow, in the flow's place: its items, the rules that match them, and what is then kept.
 
-ghost use Rattle.std.specs.Prelude.{◌≡◌, ◌+◌, ◌-◌, ◌^◌, ◌≤◌, ◌++◌, [], ℕ, Bool, true, All, Option};
+ghost use Rattle.std.specs.Prelude.{◌≡◌, ◌+◌, ◌-◌, ◌^◌, ◌≤◌, ◌++◌, [], ℕ, Bool, true, Option};
 ghost use Rattle.std.specs.Prelude.{IfOk, OnOk, None, Some, length};
-ghost use Rattle.rule_types.specs.Sound.{IsTriable};
-ghost use Rattle.fast_pattern.specs.Grouping.{StandFor};
 ghost use Rattle.option_eval.specs.Places.{Means};
 ghost use Rattle.flow_lanes.specs.Detecting.{DetectsOn, GoesOn};
 ghost use Rattle.flow_lanes.specs.Flows.{FlowState as Found, all_items, bits_at_hand, hits_in, session_at_hand};
@@ -11,7 +9,7 @@ ghost use Rattle.flow_lanes.specs.Given.{making_of, packet_of};
 ghost use Rattle.flow_lanes.specs.ItemHits.{Trying, hits_of, told};
 ghost use Rattle.flow_lanes.specs.Items.{finish_items, packet_items};
 ghost use Rattle.flow_lanes.specs.Kept.{GrowsFound, IsFound, KeepsFound};
-ghost use Rattle.flow_lanes.specs.Reach.{HasLimits, IsWithin};
+ghost use Rattle.flow_lanes.specs.Reach.{IsWithin};
 ghost use Rattle.flow_lanes.specs.Sessions.{is_tcp, state_of};
 ghost use Rattle.flow_lanes.specs.Sound.{HasSessions, IsSoundPacket};
 ghost use Rattle.flow_lanes.specs.Staying.{StaysAt};
@@ -21,9 +19,9 @@ ghost use Rattle.flow_lanes.specs.Working.{ended_items, items_on, unless_ended};
 use crate::arrival::Arrival;
 use crate::detecting::{try_and_settle, try_at_end};
 use crate::entering::{own_facts, push_current, stay, take_packet};
+use crate::inspector::Inspector;
 use crate::item::Item;
 use crate::keeping::{Flow, FlowState};
-use crate::matcher::Matcher;
 use crate::session::Left;
 use crate::settings::Settings;
 use crate::steps::step_and_state;
@@ -52,62 +50,58 @@ fn push_closing_items(
 
 /// Ends the session at hand: the rules are tried on its items, and none stands then.
 pub(crate) fn end_session<P: Pattern>(
-    matcher: &Matcher<'_, P>,
+    inspector: &Inspector<'_, P>,
     moment: Moment,
     found: &mut Option<FlowState>,
     tally: &mut Tally,
 ) -> Result<(), NoMemory>
-    requires within { IsWithin (session_at_hand found.old) (2 ^ 63) }
-    requires groups { StandFor matcher.now.groups.now matcher.now.set.now.rules }
-    requires triable { All IsTriable matcher.now.set.now.rules }
-    ensures hits { (means : Means) (trying : Trying) → TriesBy P.finds means matcher.now.set.now trying
+    requires { IsWithin (session_at_hand found.old) (2 ^ 63) }
+    ensures hits { (means : Means) (trying : Trying) → TriesBy P.finds means inspector.now.set.now trying
         → OnOk result (tally.new.hits.items ≡ tally.old.hits.items
-        ++ told matcher.now.all (hits_of trying (bits_at_hand found.old)
+        ++ told inspector.now.all (hits_of trying (bits_at_hand found.old)
         (ended_items moment true (session_at_hand found.old)))) }
     ensures items { OnOk result (tally.new.items ≡ tally.old.items
         + length (ended_items moment true (session_at_hand found.old))) }
     ensures tries { OnOk result (tally.new.tries ≡ tally.old.tries
-        + candidates_of matcher.now.set.now.rules (ended_items moment true (session_at_hand found.old))) }
+        + candidates_of inspector.now.set.now.rules (ended_items moment true (session_at_hand found.old))) }
     ensures found { OnOk result (found.new ≡ None) }
     ensures keeps { KeepsFound found.old found.new }
 {
-    let mut items = Vec::new(matcher.alloc);
-    push_closing_items(matcher.alloc, moment, found, &mut items)?;
-    try_at_end(matcher, &items, found, tally)?;
+    let mut items = Vec::new(inspector.alloc);
+    push_closing_items(inspector.alloc, moment, found, &mut items)?;
+    try_at_end(inspector, &items, found, tally)?;
     Ok(())
 }
 
 /// Ends it, where it ended before the packet.
 fn end_before<P: Pattern>(
-    matcher: &Matcher<'_, P>,
+    inspector: &Inspector<'_, P>,
     moment: Moment,
     ended: bool,
     found: &mut Option<FlowState>,
     tally: &mut Tally,
 ) -> Result<(), NoMemory>
-    requires within { IsWithin (session_at_hand found.old) (2 ^ 63) }
-    requires groups { StandFor matcher.now.groups.now matcher.now.set.now.rules }
-    requires triable { All IsTriable matcher.now.set.now.rules }
-    ensures hits { (means : Means) (trying : Trying) → TriesBy P.finds means matcher.now.set.now trying
+    requires { IsWithin (session_at_hand found.old) (2 ^ 63) }
+    ensures hits { (means : Means) (trying : Trying) → TriesBy P.finds means inspector.now.set.now trying
         → OnOk result (tally.new.hits.items ≡ tally.old.hits.items
-        ++ told matcher.now.all (hits_of trying (bits_at_hand found.old)
+        ++ told inspector.now.all (hits_of trying (bits_at_hand found.old)
         (ended_items moment ended (session_at_hand found.old)))) }
     ensures items { OnOk result (tally.new.items ≡ tally.old.items
         + length (ended_items moment ended (session_at_hand found.old))) }
     ensures tries { OnOk result (tally.new.tries ≡ tally.old.tries
-        + candidates_of matcher.now.set.now.rules (ended_items moment ended (session_at_hand found.old))) }
+        + candidates_of inspector.now.set.now.rules (ended_items moment ended (session_at_hand found.old))) }
     ensures found { OnOk result (found.new ≡ unless_ended ended found.old) }
     ensures keeps { KeepsFound found.old found.new }
 {
     if !ended {
         return Ok(());
     }
-    end_session(matcher, moment, found, tally)
+    end_session(inspector, moment, found, tally)
 }
 
 /// The packet's session begins or goes on: the rules are tried on its items.
 fn go_on<P: Pattern>(
-    matcher: &Matcher<'_, P>,
+    inspector: &Inspector<'_, P>,
     settings: &Settings,
     p: &Arrival,
     step: &Step,
@@ -115,31 +109,28 @@ fn go_on<P: Pattern>(
     found: &mut Option<FlowState>,
     tally: &mut Tally,
 ) -> Result<(), NoMemory>
-    requires limits { HasLimits (making_of settings.now) }
     requires within { IsWithin (session_at_hand found.old) (2 ^ 63 - 2 ^ 31) }
     requires size { length p.now.payload.now ≤ 65535 }
-    requires groups { StandFor matcher.now.groups.now matcher.now.set.now.rules }
-    requires triable { All IsTriable matcher.now.set.now.rules }
-    ensures hits { (means : Means) (trying : Trying) → TriesBy P.finds means matcher.now.set.now trying
-        → OnOk result (GoesOn matcher.now.all trying (making_of settings.now) (packet_of p.now) step.now state
+    ensures hits { (means : Means) (trying : Trying) → TriesBy P.finds means inspector.now.set.now trying
+        → OnOk result (GoesOn inspector.now.all trying (making_of settings.now) (packet_of p.now) step.now state
         found.old found.new tally.old.hits.items tally.new.hits.items) }
     ensures items { OnOk result (tally.new.items ≡ tally.old.items + length
         (items_on (making_of settings.now) (packet_of p.now) step.now state (session_at_hand found.old))) }
-    ensures tries { OnOk result (tally.new.tries ≡ tally.old.tries + candidates_of matcher.now.set.now.rules
+    ensures tries { OnOk result (tally.new.tries ≡ tally.old.tries + candidates_of inspector.now.set.now.rules
         (items_on (making_of settings.now) (packet_of p.now) step.now state (session_at_hand found.old))) }
     ensures grows { (tcp : Bool) (places : ℕ) → state.tcp ≡ tcp → IsFound tcp places (session_at_hand found.old)
         → IsFound tcp (places + 2 ^ 31) (session_at_hand found.new) }
 {
-    let alloc = matcher.alloc;
+    let alloc = inspector.alloc;
     let mut items = Vec::new(alloc);
     let own = push_current(alloc, settings, p, step, state, found, &mut items)?;
-    try_and_settle(matcher, &items, &own, p, step, found, tally)?;
+    try_and_settle(inspector, &items, &own, p, step, found, tally)?;
     Ok(())
 }
 
 /// A packet that left its session as it is: the rules are tried on its items.
 fn packet_stays<P: Pattern>(
-    matcher: &Matcher<'_, P>,
+    inspector: &Inspector<'_, P>,
     settings: &Settings,
     p: &Arrival,
     step: &Step,
@@ -148,11 +139,9 @@ fn packet_stays<P: Pattern>(
 ) -> Result<(), NoMemory>
     requires within { IsWithin (session_at_hand found.old) (2 ^ 63 - 2 ^ 31) }
     requires size { length p.now.payload.now ≤ 65535 }
-    requires groups { StandFor matcher.now.groups.now matcher.now.set.now.rules }
-    requires triable { All IsTriable matcher.now.set.now.rules }
-    ensures hits { (means : Means) (trying : Trying) → TriesBy P.finds means matcher.now.set.now trying
+    ensures hits { (means : Means) (trying : Trying) → TriesBy P.finds means inspector.now.set.now trying
         → (before : Option Found) → StaysAt (making_of settings.now) (packet_of p.now) before step.now found.old
-        → OnOk result (GoesOn matcher.now.all trying (making_of settings.now) (packet_of p.now) step.now
+        → OnOk result (GoesOn inspector.now.all trying (making_of settings.now) (packet_of p.now) step.now
         (state_of (making_of settings.now) (packet_of p.now) (session_at_hand before))
         before found.new tally.old.hits.items tally.new.hits.items) }
     ensures items { (before : Option Found) → StaysAt (making_of settings.now) (packet_of p.now) before step.now found.old
@@ -160,15 +149,15 @@ fn packet_stays<P: Pattern>(
         (items_on (making_of settings.now) (packet_of p.now) step.now
         (state_of (making_of settings.now) (packet_of p.now) (session_at_hand before)) (session_at_hand before))) }
     ensures tries { (before : Option Found) → StaysAt (making_of settings.now) (packet_of p.now) before step.now found.old
-        → OnOk result (tally.new.tries ≡ tally.old.tries + candidates_of matcher.now.set.now.rules
+        → OnOk result (tally.new.tries ≡ tally.old.tries + candidates_of inspector.now.set.now.rules
         (items_on (making_of settings.now) (packet_of p.now) step.now
         (state_of (making_of settings.now) (packet_of p.now) (session_at_hand before)) (session_at_hand before))) }
     ensures grows { GrowsFound found.old found.new }
 {
-    let mut items = Vec::new(matcher.alloc);
-    let queued = take_packet(matcher.alloc, p, step, Left::none(), found, &mut items)?;
+    let mut items = Vec::new(inspector.alloc);
+    let queued = take_packet(inspector.alloc, p, step, Left::none(), found, &mut items)?;
     let own = own_facts(settings.inserts, p, step, queued, found);
-    try_and_settle(matcher, &items, &own, p, step, found, tally)?;
+    try_and_settle(inspector, &items, &own, p, step, found, tally)?;
     Ok(())
 }
 
@@ -176,66 +165,60 @@ fn packet_stays<P: Pattern>(
 // Kept out of the line of the packets that leave their session as it is, which are most.
 #[inline(never)]
 fn packet_on<P: Pattern>(
-    matcher: &Matcher<'_, P>,
+    inspector: &Inspector<'_, P>,
     settings: &Settings,
     p: &Arrival,
     found: &mut Option<FlowState>,
     tally: &mut Tally,
 ) -> Result<(), NoMemory>
-    requires limits { HasLimits (making_of settings.now) }
     requires protocol { HasSessions p.now.head.now.body }
     requires found { IsFound (is_tcp p.now.head.now.body) (2 ^ 63 - 2 ^ 31) (session_at_hand found.old) }
     requires size { length p.now.payload.now ≤ 65535 }
-    requires groups { StandFor matcher.now.groups.now matcher.now.set.now.rules }
-    requires triable { All IsTriable matcher.now.set.now.rules }
-    ensures detects { (means : Means) (trying : Trying) → TriesBy P.finds means matcher.now.set.now trying
+    ensures detects { (means : Means) (trying : Trying) → TriesBy P.finds means inspector.now.set.now trying
         → tally.old.hits.items ≡ []
-        → OnOk result (DetectsOn matcher.now.all trying (packet_items (making_of settings.now) (packet_of p.now)
+        → OnOk result (DetectsOn inspector.now.all trying (packet_items (making_of settings.now) (packet_of p.now)
         (session_at_hand found.old)) found.old tally.new.hits.items found.new) }
     ensures items { OnOk result (tally.new.items ≡ tally.old.items + length
         (all_items (packet_items (making_of settings.now) (packet_of p.now) (session_at_hand found.old)))) }
-    ensures tries { OnOk result (tally.new.tries ≡ tally.old.tries + candidates_of matcher.now.set.now.rules
+    ensures tries { OnOk result (tally.new.tries ≡ tally.old.tries + candidates_of inspector.now.set.now.rules
         (all_items (packet_items (making_of settings.now) (packet_of p.now) (session_at_hand found.old)))) }
     ensures grows { (places : ℕ) → IsFound (is_tcp p.now.head.now.body) places (session_at_hand found.old)
         → IsFound (is_tcp p.now.head.now.body) (places + 2 ^ 31) (session_at_hand found.new) }
 {
     let (step, state) = step_and_state(settings, p, found);
-    end_before(matcher, p.moment, step.ended_before, found, tally)?;
-    go_on(matcher, settings, p, &step, state, found, tally)?;
+    end_before(inspector, p.moment, step.ended_before, found, tally)?;
+    go_on(inspector, settings, p, &step, state, found, tally)?;
     Ok(())
 }
 
 /// A packet of the flow of which this is found, with the rules that match its items: in place, where it leaves its
 /// session as it is.
 fn packet_found<P: Pattern>(
-    matcher: &Matcher<'_, P>,
+    inspector: &Inspector<'_, P>,
     settings: &Settings,
     p: &Arrival,
     found: &mut Option<FlowState>,
     tally: &mut Tally,
 ) -> Result<(), NoMemory>
-    requires limits { HasLimits (making_of settings.now) }
     requires protocol { HasSessions p.now.head.now.body }
     requires found { IsFound (is_tcp p.now.head.now.body) (2 ^ 63 - 2 ^ 31) (session_at_hand found.old) }
     requires size { length p.now.payload.now ≤ 65535 }
-    requires groups { StandFor matcher.now.groups.now matcher.now.set.now.rules }
-    requires triable { All IsTriable matcher.now.set.now.rules }
-    ensures detects { (means : Means) (trying : Trying) → TriesBy P.finds means matcher.now.set.now trying
+    ensures detects { (means : Means) (trying : Trying) → TriesBy P.finds means inspector.now.set.now trying
         → tally.old.hits.items ≡ []
-        → OnOk result (DetectsOn matcher.now.all trying (packet_items (making_of settings.now) (packet_of p.now)
+        → OnOk result (DetectsOn inspector.now.all trying (packet_items (making_of settings.now) (packet_of p.now)
         (session_at_hand found.old)) found.old tally.new.hits.items found.new) }
     ensures items { OnOk result (tally.new.items ≡ tally.old.items + length
         (all_items (packet_items (making_of settings.now) (packet_of p.now) (session_at_hand found.old)))) }
-    ensures tries { OnOk result (tally.new.tries ≡ tally.old.tries + candidates_of matcher.now.set.now.rules
+    ensures tries { OnOk result (tally.new.tries ≡ tally.old.tries + candidates_of inspector.now.set.now.rules
         (all_items (packet_items (making_of settings.now) (packet_of p.now) (session_at_hand found.old)))) }
     ensures grows { (places : ℕ) → IsFound (is_tcp p.now.head.now.body) places (session_at_hand found.old)
         → IsFound (is_tcp p.now.head.now.body) (places + 2 ^ 31) (session_at_hand found.new) }
 {
     let mut step = Step::default();
     if stay(settings, p, found, &mut step) {
-        packet_stays(matcher, settings, p, &step, found, tally)
+        packet_stays(inspector, settings, p, &step, found, tally)
     } else {
-        packet_on(matcher, settings, p, found, tally)
+        packet_on(inspector, settings, p, found, tally)
     }
 }
 
@@ -244,49 +227,44 @@ impl Flow {
     /// leaves it. Where memory is lacking it is as far as the packet came.
     pub fn packet<P: Pattern>(
         &mut self,
-        matcher: &Matcher<'_, P>,
+        inspector: &Inspector<'_, P>,
         settings: &Settings,
         p: &Arrival,
     ) -> Result<Tally, NoMemory>
-        requires limits { HasLimits (making_of settings.now) }
-        requires groups { StandFor matcher.now.groups.now matcher.now.set.now.rules }
-        requires triable { All IsTriable matcher.now.set.now.rules }
-        requires sound { IsSoundPacket (length settings.now.stream.now.engines) (Some self.old.facts)
+        requires { IsSoundPacket (length settings.now.stream.now.engines) (Some self.old.facts)
             (packet_of p.now) }
-        ensures detects { (means : Means) (trying : Trying) → TriesBy P.finds means matcher.now.set.now trying
-            → IfOk result (λ tally. DetectsOn matcher.now.all trying
+        ensures detects { (means : Means) (trying : Trying) → TriesBy P.finds means inspector.now.set.now trying
+            → IfOk result (λ tally. DetectsOn inspector.now.all trying
             (packet_items (making_of settings.now) (packet_of p.now) (session_at_hand self.old.found))
             self.old.found tally.hits.items self.new.found) }
         ensures items { IfOk result (λ tally. tally.items ≡ length
             (all_items (packet_items (making_of settings.now) (packet_of p.now) (session_at_hand self.old.found)))) }
-        ensures tries { IfOk result (λ tally. tally.tries ≡ candidates_of matcher.now.set.now.rules
+        ensures tries { IfOk result (λ tally. tally.tries ≡ candidates_of inspector.now.set.now.rules
             (all_items (packet_items (making_of settings.now) (packet_of p.now) (session_at_hand self.old.found)))) }
         ensures facts { self.new.facts ≡ record { ends = self.old.facts.ends; packets = self.old.facts.packets + 1 } }
     {
         self.facts.packets += 1;
-        let mut tally = Tally::new(matcher.alloc);
-        packet_found(matcher, settings, p, &mut self.found, &mut tally)?;
+        let mut tally = Tally::new(inspector.alloc);
+        packet_found(inspector, settings, p, &mut self.found, &mut tally)?;
         Ok(tally)
     }
 
     /// The end of the flow: the items of the session at hand with all rules that match them.
     pub fn finish<P: Pattern>(
         mut self,
-        matcher: &Matcher<'_, P>,
+        inspector: &Inspector<'_, P>,
         moment: Moment,
     ) -> Result<Tally, NoMemory>
-        requires groups { StandFor matcher.now.groups.now matcher.now.set.now.rules }
-        requires triable { All IsTriable matcher.now.set.now.rules }
-        ensures hits { (means : Means) (trying : Trying) → TriesBy P.finds means matcher.now.set.now trying
+        ensures hits { (means : Means) (trying : Trying) → TriesBy P.finds means inspector.now.set.now trying
             → IfOk result (λ tally. tally.hits.items
-            ≡ told matcher.now.all (hits_in trying (finish_items moment (session_at_hand self.found)) self.found)) }
+            ≡ told inspector.now.all (hits_in trying (finish_items moment (session_at_hand self.found)) self.found)) }
         ensures items { IfOk result (λ tally. tally.items ≡ length
             (all_items (finish_items moment (session_at_hand self.found)))) }
-        ensures tries { IfOk result (λ tally. tally.tries ≡ candidates_of matcher.now.set.now.rules
+        ensures tries { IfOk result (λ tally. tally.tries ≡ candidates_of inspector.now.set.now.rules
             (all_items (finish_items moment (session_at_hand self.found)))) }
     {
-        let mut tally = Tally::new(matcher.alloc);
-        end_session(matcher, moment, &mut self.found, &mut tally)?;
+        let mut tally = Tally::new(inspector.alloc);
+        end_session(inspector, moment, &mut self.found, &mut tally)?;
         Ok(tally)
     }
 }

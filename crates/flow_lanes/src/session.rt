@@ -4,7 +4,7 @@ ghost use Rattle.std.specs.Prelude.{◌≡◌, ℕ, ◌+◌, ◌-◌, ◌^◌, �
 ghost use Rattle.std.specs.Prelude.{None, Some, IfOk, OnOk, if◌then◌else◌};
 ghost use Rattle.flow_lanes.specs.Given.{making_of, packet_of};
 ghost use Rattle.flow_lanes.specs.Items.{acked_items, closing_items, held_items, is_queued, stream_items};
-ghost use Rattle.flow_lanes.specs.Reach.{AreWithin, GrowsOne, HasLimits, KeepsWithin};
+ghost use Rattle.flow_lanes.specs.Reach.{AreWithin, GrowsOne, KeepsWithin};
 ghost use Rattle.flow_lanes.specs.Sessions.{after_ack, after_data, begun_session, client_at_begin, client_end, is_from_client};
 ghost use Rattle.flow_lanes.specs.Sessions.{server_at_begin, server_end, settled, sizes_of, with_bases};
 ghost use Rattle.flow_lanes.specs.Staying.{StaysIn};
@@ -104,7 +104,6 @@ fn server_end(p: &Arrival, step: &Step) -> End
 
 /// The client's side at the begin.
 fn client_side(alloc: Global, settings: &Settings, p: &Arrival, client: End, server: End) -> Side
-    requires { HasLimits (making_of settings.now) }
     ensures { result ≡ client_at_begin (making_of settings.now) (packet_of p.now) client server }
 {
     let to = p.toward(server);
@@ -115,7 +114,6 @@ fn client_side(alloc: Global, settings: &Settings, p: &Arrival, client: End, ser
 
 /// The server's side at the begin.
 fn server_side(alloc: Global, settings: &Settings, p: &Arrival, client: End, server: End) -> Side
-    requires { HasLimits (making_of settings.now) }
     ensures { result ≡ server_at_begin (making_of settings.now) (packet_of p.now) client server }
 {
     let to = p.toward(client);
@@ -134,7 +132,6 @@ impl Session {
         step: &Step,
         state: Phases,
     ) -> Session
-        requires { HasLimits (making_of settings.now) }
         ensures state { result ≡ begun_session (making_of settings.now) (packet_of p.now) step.now state }
         ensures within { AreWithin result 0 0 }
     {

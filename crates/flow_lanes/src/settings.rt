@@ -1,23 +1,26 @@
 //! Which engine, which limits and which ports a side of a session goes by.
 
-ghost use Rattle.std.specs.Prelude.{◌≡◌, map};
+ghost use Rattle.std.specs.Prelude.{◌≡◌, ◌≤◌, map};
+ghost use Rattle.conf_types.specs.Sound.{IsStreamConfig};
 ghost use Rattle.flow_lanes.specs.Engines.{engine_for, is_listed, limits_to, timeout_to};
 ghost use Rattle.conf_types.specs.Defaults.{default_ports};
 ghost use Rattle.net_lists.specs.Membership.{has_port};
 ghost use Rattle.net_lists.specs.Parts.{one_port};
-ghost use Rattle.flow_lanes.specs.Given.{making_of};
+ghost use Rattle.stream5_reassembly.specs.Segments.{AreLimits};
 
 use conf_types::{DEFAULT_PORTS, StreamConfig};
 use net_lists::PortList;
 use stream5_reassembly::Limits;
 
 /// What items are made by: the flush point, whether a packet whose data were queued is an item itself, and
-/// the configuration of streams.
+/// the configuration of streams, which is sound. The first two are the lane's own.
 #[derive(Drop)]
 pub(crate) struct Settings<'a> {
     pub flush: u32,
     pub inserts: bool,
     pub stream: &'a StreamConfig,
+    ghost least: { 1 ≤ flush },
+    ghost config: { ∥ IsStreamConfig stream.now ∥₁ },
 }
 
 /// The port is listed; no list has no port.
@@ -38,9 +41,12 @@ fn is_default_port(port: u16) -> bool
 }
 
 impl Settings<'_> {
+    ghost use Rattle.flow_lanes.specs.Given.{making_of};
+
     /// The limits of data sent to an end of this engine.
     pub fn limits_to(&self, place: u32) -> Limits
-        ensures { result ≡ limits_to (making_of self.now) place }
+        ensures limits { result ≡ limits_to (making_of self.now) place }
+        ensures sound { AreLimits result }
     {
         let engine = self.stream.settings_at(place as usize);
         Limits {

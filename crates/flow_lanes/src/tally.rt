@@ -1,9 +1,7 @@
 //! The items of a job with all rules that match them (specs/ItemHits, specs/Flows).
 
-ghost use Rattle.std.specs.Prelude.{◌≡◌, ◌+◌, ◌≤◌, ◌++◌, [], ◌∷◌, length, All, IfOk, OnOk};
-ghost use Rattle.rule_types.specs.Sound.{IsTriable};
+ghost use Rattle.std.specs.Prelude.{◌≡◌, ◌+◌, ◌≤◌, ◌++◌, [], ◌∷◌, length, IfOk, OnOk};
 ghost use Rattle.fast_pattern.specs.Candidates.{candidates};
-ghost use Rattle.fast_pattern.specs.Grouping.{StandFor};
 ghost use Rattle.option_eval.specs.Places.{Means};
 ghost use Rattle.option_eval.specs.RuleSet.{FindWhatIsMeant};
 ghost use Rattle.flow_lanes.specs.Given.{packet_of};
@@ -14,8 +12,8 @@ ghost use Rattle.flow_lanes.specs.Tried.{TriesAll, TriesBy, TriesOne, candidates
 use crate::answer::Hits;
 use crate::arrival::Arrival;
 use crate::hits::matching_among;
+use crate::inspector::Inspector;
 use crate::item::Item;
-use crate::matcher::Matcher;
 use crate::worth::item_cost;
 use edge_io::{Items, NoMemory, Pattern};
 use flowbit_state::Bits;
@@ -80,143 +78,133 @@ impl Tally {
 
 /// The places of the rules that are worth being tried on an item.
 fn item_candidates<P: Pattern>(
-    matcher: &Matcher<'_, P>,
+    inspector: &Inspector<'_, P>,
     head: &ItemHead,
     payload: &[u8],
 ) -> Result<Vec<u32>, NoMemory>
-    requires groups { StandFor matcher.now.groups.now matcher.now.set.now.rules }
     ensures { IfOk result (λ places. places.items
-        ≡ candidates matcher.now.set.now.rules head.now.body payload.now) }
+        ≡ candidates inspector.now.set.now.rules head.now.body payload.now) }
 {
-    let mut places = Vec::new(matcher.alloc);
-    matcher
+    let mut places = Vec::new(inspector.alloc);
+    inspector
         .groups
-        .candidates(matcher.alloc, head, payload, &mut places)?;
+        .candidates(inspector.alloc, head, payload, &mut places)?;
     Ok(places)
 }
 
 /// Tries the candidates of an item.
 fn try_candidates<P: Pattern>(
-    matcher: &Matcher<'_, P>,
+    inspector: &Inspector<'_, P>,
     places: &[u32],
     head: &ItemHead,
     payload: &[u8],
     bits: &mut Option<Bits>,
     tally: &mut Tally,
 ) -> Result<(), NoMemory>
-    requires candidates { places.now ≡ candidates matcher.now.set.now.rules head.now.body payload.now }
-    requires triable { All IsTriable matcher.now.set.now.rules }
-    ensures hits { (means : Means) (trying : Trying) → TriesBy P.finds means matcher.now.set.now trying
-        → OnOk result (TriesOne matcher.now.all trying (record { head = head.now; payload = payload.now })
+    requires { places.now ≡ candidates inspector.now.set.now.rules head.now.body payload.now }
+    ensures hits { (means : Means) (trying : Trying) → TriesBy P.finds means inspector.now.set.now trying
+        → OnOk result (TriesOne inspector.now.all trying (record { head = head.now; payload = payload.now })
         bits.old bits.new tally.old.hits.items tally.new.hits.items) }
     ensures items { OnOk result (tally.new.items ≡ tally.old.items + 1) }
     ensures tries { OnOk result (tally.new.tries
-        ≡ tally.old.tries + length (candidates matcher.now.set.now.rules head.now.body payload.now)) }
+        ≡ tally.old.tries + length (candidates inspector.now.set.now.rules head.now.body payload.now)) }
     ensures more { OnOk result (length tally.old.hits.items ≤ length tally.new.hits.items) }
 {
-    let rules = matching_among(matcher.alloc, matcher.set, places, head, payload, bits)?;
+    let rules = matching_among(inspector.alloc, inspector.set, places, head, payload, bits)?;
     tally.count(payload.len(), places.len())?;
-    tally.tell(matcher.all, head, rules)?;
+    tally.tell(inspector.all, head, rules)?;
     Ok(())
 }
 
 /// Tries the rules on an item.
 pub(crate) fn try_item<P: Pattern>(
-    matcher: &Matcher<'_, P>,
+    inspector: &Inspector<'_, P>,
     head: &ItemHead,
     payload: &[u8],
     bits: &mut Option<Bits>,
     tally: &mut Tally,
 ) -> Result<(), NoMemory>
-    requires groups { StandFor matcher.now.groups.now matcher.now.set.now.rules }
-    requires triable { All IsTriable matcher.now.set.now.rules }
-    ensures hits { (means : Means) (trying : Trying) → TriesBy P.finds means matcher.now.set.now trying
-        → OnOk result (TriesOne matcher.now.all trying (record { head = head.now; payload = payload.now })
+    ensures hits { (means : Means) (trying : Trying) → TriesBy P.finds means inspector.now.set.now trying
+        → OnOk result (TriesOne inspector.now.all trying (record { head = head.now; payload = payload.now })
         bits.old bits.new tally.old.hits.items tally.new.hits.items) }
     ensures items { OnOk result (tally.new.items ≡ tally.old.items + 1) }
     ensures tries { OnOk result (tally.new.tries
-        ≡ tally.old.tries + length (candidates matcher.now.set.now.rules head.now.body payload.now)) }
+        ≡ tally.old.tries + length (candidates inspector.now.set.now.rules head.now.body payload.now)) }
     ensures more { OnOk result (length tally.old.hits.items ≤ length tally.new.hits.items) }
 {
-    let places = item_candidates(matcher, head, payload)?;
-    try_candidates(matcher, &places, head, payload, bits, tally)
+    let places = item_candidates(inspector, head, payload)?;
+    try_candidates(inspector, &places, head, payload, bits, tally)
 }
 
 /// Tries the rules on a packet with these facts of its session. Its candidates go by its payload and by what its
 /// head says of the packet alone: where there is none and such an item is not told, no head is made with the
 /// facts.
 fn try_packet<P: Pattern>(
-    matcher: &Matcher<'_, P>,
+    inspector: &Inspector<'_, P>,
     facts: SessionFacts,
     p: &Arrival,
     bits: &mut Option<Bits>,
     tally: &mut Tally,
 ) -> Result<(), NoMemory>
-    requires groups { StandFor matcher.now.groups.now matcher.now.set.now.rules }
-    requires triable { All IsTriable matcher.now.set.now.rules }
-    ensures hits { (means : Means) (trying : Trying) → TriesBy P.finds means matcher.now.set.now trying
-        → OnOk result (TriesOne matcher.now.all trying (item_with (packet_of p.now) facts) bits.old bits.new
+    ensures hits { (means : Means) (trying : Trying) → TriesBy P.finds means inspector.now.set.now trying
+        → OnOk result (TriesOne inspector.now.all trying (item_with (packet_of p.now) facts) bits.old bits.new
         tally.old.hits.items tally.new.hits.items) }
     ensures items { OnOk result (tally.new.items ≡ tally.old.items + 1) }
     ensures tries { OnOk result (tally.new.tries
-        ≡ tally.old.tries + length (candidates matcher.now.set.now.rules p.now.head.now.body p.now.payload.now)) }
+        ≡ tally.old.tries + length (candidates inspector.now.set.now.rules p.now.head.now.body p.now.payload.now)) }
     ensures more { OnOk result (length tally.old.hits.items ≤ length tally.new.hits.items) }
 {
-    let places = item_candidates(matcher, p.head, p.payload)?;
-    if places.is_empty() && !matcher.all {
+    let places = item_candidates(inspector, p.head, p.payload)?;
+    if places.is_empty() && !inspector.all {
         return tally.count(p.payload.len(), 0);
     }
     let head = ItemHead {
         session: facts,
         ..*p.head
     };
-    try_candidates(matcher, &places, &head, p.payload, bits, tally)
+    try_candidates(inspector, &places, &head, p.payload, bits, tally)
 }
 
 /// Tries the rules on the packet's own item, if it is one.
 pub(crate) fn try_own<P: Pattern>(
-    matcher: &Matcher<'_, P>,
+    inspector: &Inspector<'_, P>,
     own: &Option<SessionFacts>,
     p: &Arrival,
     bits: &mut Option<Bits>,
     tally: &mut Tally,
 ) -> Result<(), NoMemory>
-    requires groups { StandFor matcher.now.groups.now matcher.now.set.now.rules }
-    requires triable { All IsTriable matcher.now.set.now.rules }
-    ensures hits { (means : Means) (trying : Trying) → TriesBy P.finds means matcher.now.set.now trying
-        → OnOk result (TriesAll matcher.now.all trying (own_item (packet_of p.now) own.now) bits.old bits.new
+    ensures hits { (means : Means) (trying : Trying) → TriesBy P.finds means inspector.now.set.now trying
+        → OnOk result (TriesAll inspector.now.all trying (own_item (packet_of p.now) own.now) bits.old bits.new
         tally.old.hits.items tally.new.hits.items) }
     ensures items { OnOk result (tally.new.items
         ≡ tally.old.items + length (own_item (packet_of p.now) own.now)) }
     ensures tries { OnOk result (tally.new.tries
-        ≡ tally.old.tries + candidates_of matcher.now.set.now.rules (own_item (packet_of p.now) own.now)) }
+        ≡ tally.old.tries + candidates_of inspector.now.set.now.rules (own_item (packet_of p.now) own.now)) }
     ensures more { OnOk result (length tally.old.hits.items ≤ length tally.new.hits.items) }
 {
     match own {
         None => Ok(()),
-        Some(facts) => try_packet(matcher, *facts, p, bits, tally),
+        Some(facts) => try_packet(inspector, *facts, p, bits, tally),
     }
 }
 
 /// Tries the rules on items of one session, in order.
 pub(crate) fn try_items<P: Pattern>(
-    matcher: &Matcher<'_, P>,
+    inspector: &Inspector<'_, P>,
     items: &[Item],
     bits: &mut Option<Bits>,
     tally: &mut Tally,
 ) -> Result<(), NoMemory>
-    requires groups { StandFor matcher.now.groups.now matcher.now.set.now.rules }
-    requires triable { All IsTriable matcher.now.set.now.rules }
-    ensures hits { (means : Means) (trying : Trying) → TriesBy P.finds means matcher.now.set.now trying
-        → OnOk result (TriesAll matcher.now.all trying items.now bits.old bits.new
+    ensures hits { (means : Means) (trying : Trying) → TriesBy P.finds means inspector.now.set.now trying
+        → OnOk result (TriesAll inspector.now.all trying items.now bits.old bits.new
         tally.old.hits.items tally.new.hits.items) }
     ensures items { OnOk result (tally.new.items ≡ tally.old.items + length items.now) }
     ensures tries { OnOk result (tally.new.tries
-        ≡ tally.old.tries + candidates_of matcher.now.set.now.rules items.now) }
+        ≡ tally.old.tries + candidates_of inspector.now.set.now.rules items.now) }
     ensures more { OnOk result (length tally.old.hits.items ≤ length tally.new.hits.items) }
 {
     for item in items {
-        try_item(matcher, &item.head, item.payload.bytes(), bits, tally)?;
+        try_item(inspector, &item.head, item.payload.bytes(), bits, tally)?;
     }
     Ok(())
 }

@@ -1,9 +1,6 @@
 //! A lane at work on a batch: the jobs of its own flows, in their order.
 
-ghost use Rattle.std.specs.Prelude.{◌≡◌, ℕ, ◌<◌, ◌≤◌, ◌^◌, ◌++◌, List, true, All, IfOk, OnOk, Ok, length};
-ghost use Rattle.conf_types.specs.Sound.{IsStreamConfig};
-ghost use Rattle.fast_pattern.specs.Grouping.{StandFor};
-ghost use Rattle.rule_types.specs.Sound.{IsTriable};
+ghost use Rattle.std.specs.Prelude.{◌≡◌, ℕ, ◌<◌, ◌≤◌, ◌^◌, ◌++◌, List, true, IfOk, OnOk, Ok, length};
 ghost use Rattle.flow_lanes.specs.declared.job.Job.{Job};
 ghost use Rattle.flow_lanes.specs.Flows.{flow_of};
 ghost use Rattle.flow_lanes.specs.Sound.{IsSoundFor};
@@ -11,25 +8,13 @@ ghost use Rattle.flow_lanes.specs.Standing.{LaneState, is_in_lane, known_of, lan
 ghost use Rattle.flow_lanes.specs.Batching.{AddsFound, AddsOwn, AreSoundIn, GoesOn, own_jobs};
 
 use crate::answer::JobFound;
+use crate::inspector::Inspector;
 use crate::job::{Job, Work};
 use crate::lane::Lane;
-use conf_types::StreamConfig;
 use edge_io::{Gate, NoMemory, Pattern};
-use fast_pattern::Groups;
-use option_eval::RuleSet;
 use ordered_merge::Numbered;
 use std::alloc::Global;
 use std::mem;
-
-/// By what the jobs of a batch are answered, the same for all lanes. With `all`, each item is told; without,
-/// those alone that a rule matches.
-#[derive(Drop)]
-pub(crate) struct Detector<'a, P> {
-    pub stream: &'a StreamConfig,
-    pub set: &'a RuleSet<P>,
-    pub groups: &'a Groups,
-    pub all: bool,
-}
 
 /// A lane among so many, by its place.
 #[derive(Clone, Copy)]
@@ -62,20 +47,16 @@ pub(crate) fn lane_of(count: usize, flow: Option<u64>) -> usize
 
 /// Answers a job of the lane: what is found of it stands behind what was found before.
 fn answer<P: Pattern>(
-    alloc: Global,
     lane: &mut Lane,
     job: &Job,
-    detector: &Detector<'_, P>,
+    inspector: &Inspector<'_, P>,
     outs: &mut Vec<Numbered<JobFound>>,
 ) -> Result<(), NoMemory>
-    requires sound { IsSoundFor (length detector.now.stream.now.engines) (known_of lane.old job.now) job.now }
-    requires config { IsStreamConfig detector.now.stream.now }
-    requires groups { StandFor detector.now.groups.now detector.now.set.now.rules }
-    requires triable { All IsTriable detector.now.set.now.rules }
-    ensures { OnOk result (AddsFound P.finds detector.now.stream.now detector.now.set.now detector.now.all job.now
+    requires { IsSoundFor (length inspector.now.stream.now.engines) (known_of lane.old job.now) job.now }
+    ensures { OnOk result (AddsFound P.finds inspector.now.stream.now inspector.now.set.now inspector.now.all job.now
         lane.old outs.old.items lane.new outs.new.items) }
 {
-    let value = lane.search(alloc, job, detector)?;
+    let value = lane.search(job, inspector)?;
     outs.push(Numbered {
         number: job.number,
         value,
@@ -85,48 +66,39 @@ fn answer<P: Pattern>(
 
 /// Answers a job where it is of the lane.
 fn answer_own<P: Pattern>(
-    alloc: Global,
     lane: &mut Lane,
     share: Share,
     job: &Job,
-    detector: &Detector<'_, P>,
+    inspector: &Inspector<'_, P>,
     outs: &mut Vec<Numbered<JobFound>>,
 ) -> Result<(), NoMemory>
     requires some { 0 < share.count }
     requires sound { is_in_lane share.count share.place job.now ≡ true
-        → IsSoundFor (length detector.now.stream.now.engines) (known_of lane.old job.now) job.now }
-    requires config { IsStreamConfig detector.now.stream.now }
-    requires groups { StandFor detector.now.groups.now detector.now.set.now.rules }
-    requires triable { All IsTriable detector.now.set.now.rules }
-    ensures { OnOk result (AddsOwn P.finds detector.now.stream.now detector.now.set.now detector.now.all share.count share.place
-        job.now
-        lane.old outs.old.items lane.new outs.new.items) }
+        → IsSoundFor (length inspector.now.stream.now.engines) (known_of lane.old job.now) job.now }
+    ensures { OnOk result (AddsOwn P.finds inspector.now.stream.now inspector.now.set.now inspector.now.all
+        share.count share.place job.now lane.old outs.old.items lane.new outs.new.items) }
 {
     if lane_of(share.count, flow_of(job)) == share.place {
-        answer(alloc, lane, job, detector, outs)?;
+        answer(lane, job, inspector, outs)?;
     }
     Ok(())
 }
 
 /// The answers to the lane's own jobs of a batch.
 fn own_outs<P: Pattern>(
-    alloc: Global,
     lane: &mut Lane,
     share: Share,
     jobs: &[Job],
-    detector: &Detector<'_, P>,
+    inspector: &Inspector<'_, P>,
 ) -> Result<Vec<Numbered<JobFound>>, NoMemory>
     requires some { 0 < share.count }
-    requires sound { AreSoundIn (length detector.now.stream.now.engines) share.count share.place lane.old jobs.now }
-    requires config { IsStreamConfig detector.now.stream.now }
-    requires groups { StandFor detector.now.groups.now detector.now.set.now.rules }
-    requires triable { All IsTriable detector.now.set.now.rules }
-    ensures { IfOk result (λ outs. GoesOn P.finds detector.now.stream.now detector.now.set.now detector.now.all
+    requires sound { AreSoundIn (length inspector.now.stream.now.engines) share.count share.place lane.old jobs.now }
+    ensures { IfOk result (λ outs. GoesOn P.finds inspector.now.stream.now inspector.now.set.now inspector.now.all
         lane.old (own_jobs share.count share.place jobs.now) outs.items lane.new) }
 {
-    let mut outs = Vec::new(alloc);
+    let mut outs = Vec::new(inspector.alloc);
     for job in jobs {
-        answer_own(alloc, lane, share, job, detector, &mut outs)?;
+        answer_own(lane, share, job, inspector, &mut outs)?;
     }
     Ok(outs)
 }
@@ -166,44 +138,36 @@ impl Worker {
     /// Answers a job of the lane, behind what other lanes have found of the batch.
     pub fn answer_next<P: Pattern>(
         &mut self,
-        alloc: Global,
         job: &Job,
-        detector: &Detector<'_, P>,
+        inspector: &Inspector<'_, P>,
         found: &mut Vec<Numbered<JobFound>>,
     ) -> Result<(), NoMemory>
-        requires sound { IsSoundFor (length detector.now.stream.now.engines) (known_of self.old.lane job.now) job.now }
-        requires config { IsStreamConfig detector.now.stream.now }
-        requires groups { StandFor detector.now.groups.now detector.now.set.now.rules }
-        requires triable { All IsTriable detector.now.set.now.rules }
-        ensures { OnOk result (AddsFound P.finds detector.now.stream.now detector.now.set.now detector.now.all job.now
+        requires { IsSoundFor (length inspector.now.stream.now.engines) (known_of self.old.lane job.now) job.now }
+        ensures { OnOk result (AddsFound P.finds inspector.now.stream.now inspector.now.set.now inspector.now.all job.now
             self.old.lane found.old.items self.new.lane found.new.items) }
     {
-        answer(alloc, &mut self.lane, job, detector, found)
+        answer(&mut self.lane, job, inspector, found)
     }
 
     /// Does the lane's own jobs of a batch, beside the other lanes.
     pub fn run<P: Pattern, G: Gate>(
         &mut self,
-        alloc: Global,
         share: Share,
         jobs: &[Job],
-        detector: &Detector<'_, P>,
+        inspector: &Inspector<'_, P>,
         gate: &G,
     )
         requires some { 0 < share.count }
         requires place { share.place < 2 ^ 32 }
-        requires sound { AreSoundIn (length detector.now.stream.now.engines) share.count share.place
+        requires sound { AreSoundIn (length inspector.now.stream.now.engines) share.count share.place
             self.old.lane jobs.now }
-        requires config { IsStreamConfig detector.now.stream.now }
-        requires groups { StandFor detector.now.groups.now detector.now.set.now.rules }
-        requires triable { All IsTriable detector.now.set.now.rules }
-        ensures { IfOk self.new.outs (λ outs. GoesOn P.finds detector.now.stream.now detector.now.set.now detector.now.all
+        ensures { IfOk self.new.outs (λ outs. GoesOn P.finds inspector.now.stream.now inspector.now.set.now inspector.now.all
             self.old.lane (own_jobs share.count share.place jobs.now) outs.items self.new.lane) }
     {
         if has_work(share, jobs) {
             gate.pass(share.place as u32);
         }
-        self.outs = own_outs(alloc, &mut self.lane, share, jobs, detector);
+        self.outs = own_outs(&mut self.lane, share, jobs, inspector);
     }
 
     /// Gives the answers away.

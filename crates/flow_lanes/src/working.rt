@@ -1,21 +1,18 @@
 //! One job, over the flows that a lane keeps.
 
-ghost use Rattle.std.specs.Prelude.{◌≡◌, All, IfOk, None, length};
-ghost use Rattle.rule_types.specs.Sound.{IsTriable};
-ghost use Rattle.fast_pattern.specs.Grouping.{StandFor};
+ghost use Rattle.std.specs.Prelude.{◌≡◌, IfOk, None, length};
 ghost use Rattle.flow_lanes.specs.declared.job.Work.TheVariants as works;
 ghost use Rattle.flow_lanes.specs.Engines.{Making};
 ghost use Rattle.flow_lanes.specs.Given.{making_of, packet_of};
 ghost use Rattle.flow_lanes.specs.Kept.{kept_in};
-ghost use Rattle.flow_lanes.specs.Reach.{HasLimits};
 ghost use Rattle.flow_lanes.specs.Sound.{IsSoundPacket, IsSoundWork};
 ghost use Rattle.flow_lanes.specs.Standing.{facts_kept};
 ghost use Rattle.flow_lanes.specs.Whole.{IsDone, known_for};
 
 use crate::arrival::Arrival;
+use crate::inspector::Inspector;
 use crate::job::Work;
 use crate::keeping::{Flow, Flows};
-use crate::matcher::Matcher;
 use crate::settings::Settings;
 use crate::tally::{Tally, try_item};
 use edge_io::{Moment, NoMemory, Pattern};
@@ -23,110 +20,99 @@ use packet_decode::ItemHead;
 
 /// A packet of a flow.
 fn do_packet<P: Pattern>(
-    matcher: &Matcher<'_, P>,
+    inspector: &Inspector<'_, P>,
     settings: &Settings,
     flow: u64,
     p: &Arrival,
     flows: &mut Flows,
 ) -> Result<Tally, NoMemory>
-    requires limits { HasLimits (making_of settings.now) }
-    requires groups { StandFor matcher.now.groups.now matcher.now.set.now.rules }
-    requires triable { All IsTriable matcher.now.set.now.rules }
-    requires sound { IsSoundPacket (length settings.now.stream.now.engines)
+    requires { IsSoundPacket (length settings.now.stream.now.engines)
         (facts_kept (kept_in flows.old.entries flow)) (packet_of p.now) }
-    ensures { IfOk result (IsDone P.finds matcher.now.set.now matcher.now.all (making_of settings.now) p.now.moment
+    ensures { IfOk result (IsDone P.finds inspector.now.set.now inspector.now.all (making_of settings.now) p.now.moment
         (works.Packet flow p.now.head.now p.now.payload.now p.now.to_dst p.now.to_src)
         flows.old.entries flows.new.entries) }
 {
     match flows.get_mut(&flow) {
         Some(kept) => {
-            let tally = kept.packet(matcher, settings, p)?;
+            let tally = kept.packet(inspector, settings, p)?;
             Ok(tally)
         }
-        None => first_packet(matcher, settings, flow, p, flows),
+        None => first_packet(inspector, settings, flow, p, flows),
     }
 }
 
 /// The first packet of a flow.
 fn first_packet<P: Pattern>(
-    matcher: &Matcher<'_, P>,
+    inspector: &Inspector<'_, P>,
     settings: &Settings,
     flow: u64,
     p: &Arrival,
     flows: &mut Flows,
 ) -> Result<Tally, NoMemory>
-    requires limits { HasLimits (making_of settings.now) }
-    requires groups { StandFor matcher.now.groups.now matcher.now.set.now.rules }
-    requires triable { All IsTriable matcher.now.set.now.rules }
     requires first { kept_in flows.old.entries flow ≡ None }
     requires sound { IsSoundPacket (length settings.now.stream.now.engines) None (packet_of p.now) }
-    ensures { IfOk result (IsDone P.finds matcher.now.set.now matcher.now.all (making_of settings.now) p.now.moment
+    ensures { IfOk result (IsDone P.finds inspector.now.set.now inspector.now.all (making_of settings.now) p.now.moment
         (works.Packet flow p.now.head.now p.now.payload.now p.now.to_dst p.now.to_src)
         flows.old.entries flows.new.entries) }
 {
     let mut kept = Flow::new(p);
-    let tally = kept.packet(matcher, settings, p)?;
+    let tally = kept.packet(inspector, settings, p)?;
     flows.insert(flow, kept)?;
     Ok(tally)
 }
 
 /// The end of a flow.
 fn do_finish<P: Pattern>(
-    matcher: &Matcher<'_, P>,
+    inspector: &Inspector<'_, P>,
     moment: Moment,
     flow: u64,
     flows: &mut Flows,
 ) -> Result<Tally, NoMemory>
-    requires groups { StandFor matcher.now.groups.now matcher.now.set.now.rules }
-    requires triable { All IsTriable matcher.now.set.now.rules }
-    ensures { (making : Making) → IfOk result (IsDone P.finds matcher.now.set.now matcher.now.all making moment
+    ensures { (making : Making) → IfOk result (IsDone P.finds inspector.now.set.now inspector.now.all making moment
         (works.Finish flow) flows.old.entries flows.new.entries) }
 {
     match flows.remove(&flow) {
         Some(kept) => {
-            let tally = kept.finish(matcher, moment)?;
+            let tally = kept.finish(inspector, moment)?;
             Ok(tally)
         }
-        None => Ok(Tally::new(matcher.alloc)),
+        None => Ok(Tally::new(inspector.alloc)),
     }
 }
 
 /// An item by itself.
 fn do_alone<P: Pattern>(
-    matcher: &Matcher<'_, P>,
+    inspector: &Inspector<'_, P>,
     moment: Moment,
     head: &ItemHead,
     payload: &[u8],
     flows: &Flows,
 ) -> Result<Tally, NoMemory>
-    requires groups { StandFor matcher.now.groups.now matcher.now.set.now.rules }
-    requires triable { All IsTriable matcher.now.set.now.rules }
-    ensures { (making : Making) → IfOk result (IsDone P.finds matcher.now.set.now matcher.now.all making moment
+    ensures { (making : Making) → IfOk result (IsDone P.finds inspector.now.set.now inspector.now.all making moment
         (works.Alone head.now payload.now) flows.now.entries flows.now.entries) }
 {
-    let mut tally = Tally::new(matcher.alloc);
-    try_item(matcher, head, payload, &mut None, &mut tally)?;
+    let mut tally = Tally::new(inspector.alloc);
+    try_item(inspector, head, payload, &mut None, &mut tally)?;
     Ok(tally)
 }
 
 /// A job, over the flows that have not ended.
 pub(crate) fn do_work<P: Pattern>(
-    matcher: &Matcher<'_, P>,
+    inspector: &Inspector<'_, P>,
     settings: &Settings,
     moment: Moment,
     work: &Work,
     flows: &mut Flows,
 ) -> Result<Tally, NoMemory>
-    requires limits { HasLimits (making_of settings.now) }
-    requires groups { StandFor matcher.now.groups.now matcher.now.set.now.rules }
-    requires triable { All IsTriable matcher.now.set.now.rules }
-    requires sound { IsSoundWork (length settings.now.stream.now.engines) (known_for flows.old.entries work.now)
+    requires { IsSoundWork (length settings.now.stream.now.engines) (known_for flows.old.entries work.now)
         moment work.now }
-    ensures { IfOk result (IsDone P.finds matcher.now.set.now matcher.now.all (making_of settings.now) moment work.now
+    ensures { IfOk result (IsDone P.finds inspector.now.set.now inspector.now.all (making_of settings.now) moment work.now
         flows.old.entries flows.new.entries) }
 {
     match work {
-        Work::Alone { head, payload } => { do_alone(matcher, moment, head, payload.bytes(), flows) }
+        Work::Alone { head, payload } => {
+            do_alone(inspector, moment, head, payload.bytes(), flows)
+        }
         Work::Packet {
             flow,
             head,
@@ -141,8 +127,8 @@ pub(crate) fn do_work<P: Pattern>(
                 to_dst: *to_dst,
                 to_src: *to_src,
             };
-            do_packet(matcher, settings, *flow, &p, flows)
+            do_packet(inspector, settings, *flow, &p, flows)
         }
-        Work::Finish { flow } => do_finish(matcher, moment, *flow, flows),
+        Work::Finish { flow } => do_finish(inspector, moment, *flow, flows),
     }
 }

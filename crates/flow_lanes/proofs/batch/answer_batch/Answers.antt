@@ -4,5 +4,5 @@ use Rattle.flow_lanes.proofs.batch.answer_batch.Goals as goal
 
 pub returns-clause-answers : goal.returns-clause-answers
 returns-clause-answers g c =
-    answered g.P.Pattern.finds c.args.detector.now.stream.now c.args.detector.now.set.now (lanes_of c.args.workers.now) (lanes_of c.search_batch.new.workers) c.args.jobs.now c.in_ok-found.found.items
-    c.args.detector.now.all c.requires.all c.in_ok-found.ensures.finds c.in_ok-out.out c.in_ok-out.ensures.hits c.in_ok-out.ensures.tries
+    answered g.P.Pattern.finds c.args.inspector.now.stream.now c.args.inspector.now.set.now (lanes_of c.args.workers.now) (lanes_of c.search_batch.new.workers) c.args.jobs.now c.in_ok-found.found.items
+    c.args.inspector.now.all c.requires.all c.in_ok-found.ensures.finds c.in_ok-out.out c.in_ok-out.ensures.hits c.in_ok-out.ensures.tries

@@ -8,10 +8,7 @@ for_each_spread-requires-clause-accepts g c κs within = λ place worker below i
   (
     omega arith,
     omega arith,
-    subst (λ (w : Worker). AreSoundIn (length c.args.detector.now.stream.now.engines) (length c.args.workers.now) place w.lane c.args.jobs.now) (sym is) (c.requires.sound place worker.now below),
-    c.requires.config,
-    c.requires.groups,
-    c.requires.triable,
+    subst (λ (w : Worker). AreSoundIn (length c.args.inspector.now.stream.now.engines) (length c.args.workers.now) place w.lane c.args.jobs.now) (sym is) (c.requires.sound place worker.now below),
   ),
   (search rules, search rules, search rules),
 )

@@ -15,7 +15,7 @@ returns-clause-keeps g c = λ tcp places h.
 
 pub returns-clause-hits : goal.returns-clause-hits
 returns-clause-hits g c = λ means trying by.
-    settles-by c.args.matcher.now.all trying c.args.matcher.now.set.now.rules (c.args.streams.now ++ own_item (packet_of c.args.p.now) c.args.own.now) c.args.step.now.tracked c.args.step.now.ends c.args.found.now c.bits_found-bits.new.found c.end_if.new.found c.settle.new.found
+    settles-by c.args.inspector.now.all trying c.args.inspector.now.set.now.rules (c.args.streams.now ++ own_item (packet_of c.args.p.now) c.args.own.now) c.args.step.now.tracked c.args.step.now.ends c.args.found.now c.bits_found-bits.new.found c.end_if.new.found c.settle.new.found
     c.bits_found-bits.result c.try_current.new.bits c.args.tally.now.hits.items c.try_current.new.tally.hits.items c.len-first.result
     by.rules c.bits_found-bits.ensures.bits c.bits_found-bits.ensures.session c.end_if.ensures.session (omega (arith, c.len-first.ensures, c.args.tally.now.hits.ok.0)) (c.in_ok-try_current.ensures.hits means trying by)
     (c.settle.ensures.state ∙ (λ i. option_map (λ (session : Session). record { session = steered (c.rules.ensures i) (drop c.len-first.result (c.deref.ensures.value i)) session; bits = unwrap_or c.try_current.new.bits empty }) (session_at_hand c.end_if.new.found)))

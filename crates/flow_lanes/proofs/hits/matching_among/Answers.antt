@@ -2,7 +2,6 @@ use Rattle.std.proofs.Common.{ℕ, ◌<◌, List, length, sym, ap, subst, ◌∙
 use Rattle.std.specs.Prelude.{All}
 use Rattle.flow_lanes.specs.Hits.{AreHits}
 use Rattle.flow_lanes.specs.Picking.{bits_after_all, picked}
-use Rattle.flow_lanes.proofs.Changing.{all_known}
 use Rattle.flow_lanes.proofs.Picking.{candidates-below, picked-hits}
 use Rattle.flow_lanes.proofs.Telling.{test_of, test_of-tells}
 use Rattle.flow_lanes.proofs.hits.matching_among.Goals as goal
@@ -10,9 +9,6 @@ use Rattle.flow_lanes.proofs.hits.matching_among.Goals as goal
 pub pick_all-requires-clause-within : goal.pick_all-requires-clause-within
 pick_all-requires-clause-within g c κs within =
     subst (λ (xs : List ℕ). All (λ place. place < length c.args.set.now.rules) xs) (sym c.requires.candidates) (candidates-below c.args.set.now.rules c.args.head.now.body c.args.payload.now)
-
-pub pick_all-requires-clause-known : goal.pick_all-requires-clause-known
-pick_all-requires-clause-known g c κs known = all_known c.args.set.now.rules c.requires.triable
 
 pub returns-clause-hits : goal.returns-clause-hits
 returns-clause-hits g c = λ means find.

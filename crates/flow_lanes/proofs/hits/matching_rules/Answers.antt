@@ -1,6 +1,10 @@
 use Rattle.std.proofs.Common.{ℕ, List, ◌++◌, ap, ◌∙◌}
 use Rattle.fast_pattern.specs.Candidates.{candidates}
+use Rattle.flow_lanes.proofs.Changing.{all_known}
 use Rattle.flow_lanes.proofs.hits.matching_rules.Goals as goal
+
+pub matching_among-requires-clause-known : goal.matching_among-requires-clause-known
+matching_among-requires-clause-known g c κs known = all_known c.args.set.now.rules c.requires.triable
 
 pub matching_among-requires-clause-candidates : goal.matching_among-requires-clause-candidates
 matching_among-requires-clause-candidates g c κs within =

@@ -5,6 +5,6 @@ use Rattle.flow_lanes.proofs.in_turn.search_in_turn.Given as goal
 -- the jobs so far were searched
 abbrev pub invariant-loop-job : goal.invariant-loop-job
 invariant-loop-job g l = record {
-  searched : HaveSearched g.P.Pattern.finds l.detector.stream.now l.detector.set.now l.detector.all (lanes_of l.initial.workers) (take l.job-index l.jobs) l.found.items (lanes_of l.workers);
+  searched : HaveSearched g.P.Pattern.finds l.inspector.stream.now l.inspector.set.now l.inspector.all (lanes_of l.initial.workers) (take l.job-index l.jobs) l.found.items (lanes_of l.workers);
   learnt : HaveLearnt (lanes_of l.initial.workers) (take l.job-index l.jobs) (lanes_of l.workers);
 }

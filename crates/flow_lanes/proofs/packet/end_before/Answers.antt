@@ -7,5 +7,5 @@ use Rattle.flow_lanes.proofs.packet.end_before.Goals as goal
 
 pub returns-then-not-ended-clause-hits : goal.returns-then-not-ended-clause-hits
 returns-then-not-ended-clause-hits g c = λ means trying by.
-    subst (λ (b : Bool). c.args.tally.now.hits.items ≡ c.args.tally.now.hits.items ++ told c.args.matcher.now.all (hits_of trying (bits_at_hand c.args.found.now) (ended_items c.args.moment b (session_at_hand c.args.found.now)))) (sym c.if-not-ended.true)
-    (tries-none c.args.matcher.now.all trying (bits_at_hand c.args.found.now) c.args.tally.now.hits.items).hits
+    subst (λ (b : Bool). c.args.tally.now.hits.items ≡ c.args.tally.now.hits.items ++ told c.args.inspector.now.all (hits_of trying (bits_at_hand c.args.found.now) (ended_items c.args.moment b (session_at_hand c.args.found.now)))) (sym c.if-not-ended.true)
+    (tries-none c.args.inspector.now.all trying (bits_at_hand c.args.found.now) c.args.tally.now.hits.items).hits

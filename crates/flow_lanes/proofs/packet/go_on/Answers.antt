@@ -20,8 +20,8 @@ returns-clause-hits g c = λ means trying by.
     let step = c.args.step.now in
     let old = c.args.found.now in
     let items = c.push_current.new.out.items ++ own_item p c.in_ok-own.own in
-    goes-on c.args.matcher.now.all trying making p step c.args.state items old c.push_current.new.found c.try_and_settle.new.found c.args.tally.now.hits.items c.try_and_settle.new.tally.hits.items
+    goes-on c.args.inspector.now.all trying making p step c.args.state items old c.push_current.new.found c.try_and_settle.new.found c.args.tally.now.hits.items c.try_and_settle.new.tally.hits.items
     (c.in_ok-own.ensures.items ∙ ap (λ (xs : List Item). xs ++ items_on making p step c.args.state (session_at_hand old)) c.new-items.ensures.items)
     c.in_ok-own.ensures.bits c.in_ok-own.ensures.state
-    (subst (λ (xs : List Item). SettlesBy c.args.matcher.now.all trying (xs ++ own_item p c.in_ok-own.own) step.tracked step.ends c.push_current.new.found c.try_and_settle.new.found c.args.tally.now.hits.items c.try_and_settle.new.tally.hits.items)
+    (subst (λ (xs : List Item). SettlesBy c.args.inspector.now.all trying (xs ++ own_item p c.in_ok-own.own) step.tracked step.ends c.push_current.new.found c.try_and_settle.new.found c.args.tally.now.hits.items c.try_and_settle.new.tally.hits.items)
     c.deref.ensures.value (c.in_ok-try_and_settle.ensures.hits means trying by))

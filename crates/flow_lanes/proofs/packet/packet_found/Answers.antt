@@ -27,7 +27,7 @@ returns-then-stay-clause-detects g c = λ means trying by none.
     let before = c.args.found.now in
     let stays = c.stay.ensures.stays c.if-stay.true in
     on_ok_weaker c.packet_stays.result
-    (stayed-on making p before c.stay.new.found c.stay.new.step stays c.args.matcher.now.all trying c.packet_stays.new.found c.args.tally.now.hits.items c.packet_stays.new.tally.hits.items none)
+    (stayed-on making p before c.stay.new.found c.stay.new.step stays c.args.inspector.now.all trying c.packet_stays.new.found c.args.tally.now.hits.items c.packet_stays.new.tally.hits.items none)
     (c.packet_stays.ensures.hits means trying by before stays)
 
 pub returns-then-stay-clause-items : goal.returns-then-stay-clause-items
@@ -47,7 +47,7 @@ returns-then-stay-clause-tries g c =
     let before = c.args.found.now in
     let stays = c.stay.ensures.stays c.if-stay.true in
     on_ok_weaker c.packet_stays.result
-    (stayed-tries making p before c.stay.new.found c.stay.new.step stays c.args.matcher.now.set.now.rules c.args.tally.now.tries c.packet_stays.new.tally.tries)
+    (stayed-tries making p before c.stay.new.found c.stay.new.step stays c.args.inspector.now.set.now.rules c.args.tally.now.tries c.packet_stays.new.tally.tries)
     (c.packet_stays.ensures.tries before stays)
 
 pub returns-else-stay-clause-grows : goal.returns-else-stay-clause-grows
@@ -57,7 +57,7 @@ pub returns-else-stay-clause-detects : goal.returns-else-stay-clause-detects
 returns-else-stay-clause-detects g c = λ means trying by none.
     let p = packet_of c.args.p.now in
     let making = making_of c.args.settings.now in
-    subst (λ (f : Option FlowState). OnOk c.packet_on.result (DetectsOn c.args.matcher.now.all trying (packet_items making p (session_at_hand f)) f c.packet_on.new.tally.hits.items c.packet_on.new.found))
+    subst (λ (f : Option FlowState). OnOk c.packet_on.result (DetectsOn c.args.inspector.now.all trying (packet_items making p (session_at_hand f)) f c.packet_on.new.tally.hits.items c.packet_on.new.found))
     (c.stay.ensures.still c.if-stay.false) (c.packet_on.ensures.detects means trying by none)
 
 pub returns-else-stay-clause-items : goal.returns-else-stay-clause-items
@@ -71,5 +71,5 @@ pub returns-else-stay-clause-tries : goal.returns-else-stay-clause-tries
 returns-else-stay-clause-tries g c =
     let p = packet_of c.args.p.now in
     let making = making_of c.args.settings.now in
-    subst (λ (f : Option FlowState). OnOk c.packet_on.result (c.packet_on.new.tally.tries ≡ c.args.tally.now.tries + candidates_of c.args.matcher.now.set.now.rules (all_items (packet_items making p (session_at_hand f)))))
+    subst (λ (f : Option FlowState). OnOk c.packet_on.result (c.packet_on.new.tally.tries ≡ c.args.tally.now.tries + candidates_of c.args.inspector.now.set.now.rules (all_items (packet_items making p (session_at_hand f)))))
     (c.stay.ensures.still c.if-stay.false) c.packet_on.ensures.tries

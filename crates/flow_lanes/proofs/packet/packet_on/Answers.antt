@@ -43,7 +43,7 @@ returns-clause-tries g c =
     let step = c.step_and_state-state.result.0 in
     let anew : step.ended_before ≡ true → step.begun ≡ step.tracked = subst (λ (s : Step). s.ended_before ≡ true → s.begun ≡ s.tracked) (sym c.step_and_state-state.ensures.step) (fresh making p (session_at_hand c.args.found.now)) in
     told-tries making p c.args.found.now c.end_before.new.found step c.step_and_state-state.result.1 c.step_and_state-state.ensures.step c.step_and_state-state.ensures.state anew c.in_ok-end_before.ensures.found
-    c.args.matcher.now.set.now.rules c.args.tally.now.tries c.end_before.new.tally.tries c.go_on.new.tally.tries c.in_ok-end_before.ensures.tries c.in_ok-go_on.ensures.tries
+    c.args.inspector.now.set.now.rules c.args.tally.now.tries c.end_before.new.tally.tries c.go_on.new.tally.tries c.in_ok-end_before.ensures.tries c.in_ok-go_on.ensures.tries
 
 pub returns-clause-detects : goal.returns-clause-detects
 returns-clause-detects g c = λ means trying by none.
@@ -52,4 +52,4 @@ returns-clause-detects g c = λ means trying by none.
     let step = c.step_and_state-state.result.0 in
     let anew : step.ended_before ≡ true → step.begun ≡ step.tracked = subst (λ (s : Step). s.ended_before ≡ true → s.begun ≡ s.tracked) (sym c.step_and_state-state.ensures.step) (fresh making p (session_at_hand c.args.found.now)) in
     told-on making p c.args.found.now c.end_before.new.found step c.step_and_state-state.result.1 c.step_and_state-state.ensures.step c.step_and_state-state.ensures.state anew c.in_ok-end_before.ensures.found
-    c.args.matcher.now.all trying c.go_on.new.found c.args.tally.now.hits.items c.end_before.new.tally.hits.items c.go_on.new.tally.hits.items none (c.in_ok-end_before.ensures.hits means trying by) (c.in_ok-go_on.ensures.hits means trying by)
+    c.args.inspector.now.all trying c.go_on.new.found c.args.tally.now.hits.items c.end_before.new.tally.hits.items c.go_on.new.tally.hits.items none (c.in_ok-end_before.ensures.hits means trying by) (c.in_ok-go_on.ensures.hits means trying by)

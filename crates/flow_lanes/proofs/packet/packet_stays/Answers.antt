@@ -25,10 +25,10 @@ returns-clause-hits g c = λ means trying by before stays.
     let are = staying-items making p before found step stays c.none.result c.in_ok-queued.queued own c.new-items.result.items c.take_packet.new.out.items
     c.none.ensures c.new-items.ensures.items c.in_ok-queued.ensures.items c.in_ok-queued.ensures.queued
     (c.own_facts-own.ensures (session_behind p step (session_at_hand found)) c.in_ok-queued.ensures.sizes) in
-    staying-on making p before found step stays c.args.matcher.now.all trying (c.take_packet.new.out.items ++ own_item p own)
+    staying-on making p before found step stays c.args.inspector.now.all trying (c.take_packet.new.out.items ++ own_item p own)
     c.take_packet.new.found c.try_and_settle.new.found c.args.tally.now.hits.items c.try_and_settle.new.tally.hits.items are
     c.take_packet.ensures.bits c.in_ok-queued.ensures.state
-    (subst (λ (xs : List Item). SettlesBy c.args.matcher.now.all trying (xs ++ own_item p own) step.tracked step.ends c.take_packet.new.found c.try_and_settle.new.found c.args.tally.now.hits.items c.try_and_settle.new.tally.hits.items)
+    (subst (λ (xs : List Item). SettlesBy c.args.inspector.now.all trying (xs ++ own_item p own) step.tracked step.ends c.take_packet.new.found c.try_and_settle.new.found c.args.tally.now.hits.items c.try_and_settle.new.tally.hits.items)
     c.deref.ensures.value (c.in_ok-try_and_settle.ensures.hits means trying by))
 
 pub returns-clause-items : goal.returns-clause-items
@@ -55,7 +55,7 @@ returns-clause-tries g c = λ before stays.
     let are = staying-items making p before found step stays c.none.result c.in_ok-queued.queued own c.new-items.result.items c.take_packet.new.out.items
     c.none.ensures c.new-items.ensures.items c.in_ok-queued.ensures.items c.in_ok-queued.ensures.queued
     (c.own_facts-own.ensures (session_behind p step (session_at_hand found)) c.in_ok-queued.ensures.sizes) in
-    let rules = c.args.matcher.now.set.now.rules in
+    let rules = c.args.inspector.now.set.now.rules in
     c.in_ok-try_and_settle.ensures.tries
     ∙ ap (λ (xs : List Item). c.args.tally.now.tries + candidates_of rules (xs ++ own_item p own)) c.deref.ensures.value
     ∙ ap (λ (xs : List Item). c.args.tally.now.tries + candidates_of rules xs) are

@@ -7,8 +7,8 @@ use Rattle.flow_lanes.proofs.tally.try_items.Given as goal
 -- the items so far were tried
 abbrev pub invariant-loop-item : goal.invariant-loop-item
 invariant-loop-item g l = record {
-  hits : (means : Means) (trying : Trying) → TriesBy g.P.Pattern.finds means l.matcher.set.now trying → TriesAll l.matcher.all trying (take l.item-index l.items) l.fn.bits l.bits l.fn.tally.hits.items l.tally.hits.items;
+  hits : (means : Means) (trying : Trying) → TriesBy g.P.Pattern.finds means l.inspector.set.now trying → TriesAll l.inspector.all trying (take l.item-index l.items) l.fn.bits l.bits l.fn.tally.hits.items l.tally.hits.items;
   more : length l.fn.tally.hits.items ≤ length l.tally.hits.items;
   items : l.tally.items ≡ l.fn.tally.items + length (take l.item-index l.items);
-  tries : l.tally.tries ≡ l.fn.tally.tries + candidates_of l.matcher.set.now.rules (take l.item-index l.items);
+  tries : l.tally.tries ≡ l.fn.tally.tries + candidates_of l.inspector.set.now.rules (take l.item-index l.items);
 }

@@ -5,11 +5,11 @@ use Rattle.flow_lanes.proofs.TryingLaws.{tries-none, tries-single}
 use Rattle.flow_lanes.proofs.tally.try_own.Goals as goal
 
 pub returns-in-None-clause-hits : goal.returns-in-None-clause-hits
-returns-in-None-clause-hits g c = λ means trying by. rw c.in-None.is (tries-none c.args.matcher.now.all trying c.args.bits.now c.args.tally.now.hits.items)
+returns-in-None-clause-hits g c = λ means trying by. rw c.in-None.is (tries-none c.args.inspector.now.all trying c.args.bits.now c.args.tally.now.hits.items)
 
 pub returns-in-Some-clause-hits : goal.returns-in-Some-clause-hits
 returns-in-Some-clause-hits g c = λ means trying by.
     rw c.in-Some.is
     (on_ok_weaker c.try_packet.result
-    (tries-single c.args.matcher.now.all trying (item_with (packet_of c.args.p.now) c.in-Some.facts) c.args.bits.now c.try_packet.new.bits c.args.tally.now.hits.items c.try_packet.new.tally.hits.items)
+    (tries-single c.args.inspector.now.all trying (item_with (packet_of c.args.p.now) c.in-Some.facts) c.args.bits.now c.try_packet.new.bits c.args.tally.now.hits.items c.try_packet.new.tally.hits.items)
     (c.try_packet.ensures.hits means trying by))

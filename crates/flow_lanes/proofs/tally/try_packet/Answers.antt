@@ -6,13 +6,13 @@ use Rattle.flow_lanes.specs.Working.{item_with}
 use Rattle.flow_lanes.proofs.TryingLaws.{no_element, tries-nothing}
 use Rattle.flow_lanes.proofs.tally.try_packet.Goals as goal
 
-pub returns-then-not-matcher-clause-hits : goal.returns-then-not-matcher-clause-hits
-returns-then-not-matcher-clause-hits g c = λ means trying by.
+pub returns-then-not-inspector-clause-hits : goal.returns-then-not-inspector-clause-hits
+returns-then-not-inspector-clause-hits g c = λ means trying by.
     let p = packet_of c.args.p.now in
     let size = eqb-true _ _ (sym c.is_empty.ensures ∙ c.if-is_empty.true) in
-    let none : candidates c.args.matcher.now.set.now.rules p.head.body p.payload ≡ [] =
+    let none : candidates c.args.inspector.now.set.now.rules p.head.body p.payload ≡ [] =
     sym c.in_ok-places.ensures ∙ no_element c.in_ok-places.places.items (omega (arith, size, c.in_ok-places.places.ok.0)) in
     on_ok_weaker c.count.result
-    (λ counted. tries-nothing c.args.matcher.now.all means trying c.args.matcher.now.set.now.rules (item_with p c.args.facts) c.args.bits.now c.args.tally.now.hits.items c.count.new.self.hits.items
-    c.if-not-matcher.true by.rules by.told none c.count.ensures.hits)
+    (λ counted. tries-nothing c.args.inspector.now.all means trying c.args.inspector.now.set.now.rules (item_with p c.args.facts) c.args.bits.now c.args.tally.now.hits.items c.count.new.self.hits.items
+    c.if-not-inspector.true by.rules by.told none c.count.ensures.hits)
     c.count.ensures.items

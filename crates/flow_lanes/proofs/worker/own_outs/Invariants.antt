@@ -3,4 +3,4 @@ use Rattle.flow_lanes.specs.Batching.{GoesOn, own_jobs}
 use Rattle.flow_lanes.proofs.worker.own_outs.Given as goal
 
 abbrev pub invariant-loop-job : goal.invariant-loop-job
-invariant-loop-job g l = GoesOn g.P.Pattern.finds l.detector.stream.now l.detector.set.now l.detector.all l.initial.lane (own_jobs l.share.count l.share.place (take l.job-index l.jobs)) l.outs.items l.lane
+invariant-loop-job g l = GoesOn g.P.Pattern.finds l.inspector.stream.now l.inspector.set.now l.inspector.all l.initial.lane (own_jobs l.share.count l.share.place (take l.job-index l.jobs)) l.outs.items l.lane

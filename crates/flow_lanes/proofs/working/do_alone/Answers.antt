@@ -5,7 +5,7 @@ use Rattle.flow_lanes.proofs.working.do_alone.Goals as goal
 
 pub returns : goal.returns
 returns g c = λ making.
-    do-alone g.P.Pattern.finds c.args.matcher.now.set.now c.args.matcher.now.all making c.args.moment c.args.head.now c.args.payload.now c.args.flows.now.entries c.try_item.new.tally
-    (λ means trying by. alone-hits c.args.matcher.now.all trying c.args.head.now c.args.payload.now None c.try_item.new.bits c.new-tally.result.hits.items c.try_item.new.tally.hits.items refl c.new-tally.ensures.hits (c.in_ok-try_item.ensures.hits means trying by))
+    do-alone g.P.Pattern.finds c.args.inspector.now.set.now c.args.inspector.now.all making c.args.moment c.args.head.now c.args.payload.now c.args.flows.now.entries c.try_item.new.tally
+    (λ means trying by. alone-hits c.args.inspector.now.all trying c.args.head.now c.args.payload.now None c.try_item.new.bits c.new-tally.result.hits.items c.try_item.new.tally.hits.items refl c.new-tally.ensures.hits (c.in_ok-try_item.ensures.hits means trying by))
     (alone-items c.args.head.now c.args.payload.now c.new-tally.result.items c.try_item.new.tally.items c.new-tally.ensures.items c.in_ok-try_item.ensures.items)
-    (alone-tries c.args.matcher.now.set.now.rules c.args.head.now c.args.payload.now c.new-tally.result.tries c.try_item.new.tally.tries c.new-tally.ensures.tries c.in_ok-try_item.ensures.tries)
+    (alone-tries c.args.inspector.now.set.now.rules c.args.head.now c.args.payload.now c.new-tally.result.tries c.try_item.new.tally.tries c.new-tally.ensures.tries c.in_ok-try_item.ensures.tries)

@@ -7,10 +7,15 @@ use Rattle.flow_lanes.proofs.Doing.{do-packet}
 use Rattle.flow_lanes.proofs.KeepLaws.{looked_up, sets-from}
 use Rattle.flow_lanes.proofs.working.do_packet.Goals as goal
 
-pub packet-requires-clause-sound : goal.packet-requires-clause-sound
-packet-requires-clause-sound g c κs sound =
+pub packet-requires : goal.packet-requires
+packet-requires g c = (
+  search rules,
+  (
+    search rules,
     subst (λ (f : Option KeptFlow). IsSoundPacket (length c.args.settings.now.stream.now.engines) (facts_kept f) (packet_of c.args.p.now))
-    (sym (looked_up c.args.flow c.args.flows.now.entries) ∙ sym c.in-Some.ensures.value) c.requires.sound
+        (sym (looked_up c.args.flow c.args.flows.now.entries) ∙ sym c.in-Some.ensures.value) c.requires,
+  ),
+)
 
 pub first_packet-requires-clause-first : goal.first_packet-requires-clause-first
 first_packet-requires-clause-first g c κs first =
@@ -24,8 +29,8 @@ returns-in_ok-tally-in-Some g c =
     let kept = c.in-Some.kept.now in
     let updates = (c.get_mut.follows.holds c.packet.new.self).3 (search rules) in
     let is = c.in-Some.ensures.value ∙ looked_up c.args.flow old in
-    let sound = subst (λ (f : Option KeptFlow). IsSoundPacket (length c.args.settings.now.stream.now.engines) (facts_kept f) (packet_of p)) (sym is) c.requires.sound in
-    do-packet g.P.Pattern.finds c.args.matcher.now.set.now c.args.matcher.now.all (making_of c.args.settings.now) p.moment c.args.flow p.head.now p.payload.now p.to_dst p.to_src old new (Some kept) c.packet.new.self c.in_ok-tally-in-Some.tally
+    let sound = subst (λ (f : Option KeptFlow). IsSoundPacket (length c.args.settings.now.stream.now.engines) (facts_kept f) (packet_of p)) (sym is) c.requires in
+    do-packet g.P.Pattern.finds c.args.inspector.now.set.now c.args.inspector.now.all (making_of c.args.settings.now) p.moment c.args.flow p.head.now p.payload.now p.to_dst p.to_src old new (Some kept) c.packet.new.self c.in_ok-tally-in-Some.tally
     is (sets-from c.args.flow (Some c.packet.new.self) old new (λ other. updates.0 other))
     c.in_ok-tally-in-Some.ensures.detects c.in_ok-tally-in-Some.ensures.items c.in_ok-tally-in-Some.ensures.tries
     (c.packet.ensures.facts ∙ ap (λ (e : FlowEnds). record { ends = e; packets = kept.facts.packets + 1 }) sound.same_ends)

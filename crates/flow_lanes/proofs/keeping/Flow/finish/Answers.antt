@@ -9,8 +9,8 @@ use Rattle.flow_lanes.proofs.keeping.Flow.finish.Goals as goal
 
 pub returns-clause-hits : goal.returns-clause-hits
 returns-clause-hits g c = λ means trying by.
-    subst (λ (k : KeptFlow). c.end_session.new.tally.hits.items ≡ told c.args.matcher.now.all (hits_in trying (finish_items c.args.moment (session_at_hand k.found)) k.found)) c.self.view_is
-    (finished-hits c.args.matcher.now.all trying c.args.moment c.self.inside.found c.new-tally.result.hits.items c.end_session.new.tally.hits.items c.new-tally.ensures.hits (c.in_ok-end_session.ensures.hits means trying by))
+    subst (λ (k : KeptFlow). c.end_session.new.tally.hits.items ≡ told c.args.inspector.now.all (hits_in trying (finish_items c.args.moment (session_at_hand k.found)) k.found)) c.self.view_is
+    (finished-hits c.args.inspector.now.all trying c.args.moment c.self.inside.found c.new-tally.result.hits.items c.end_session.new.tally.hits.items c.new-tally.ensures.hits (c.in_ok-end_session.ensures.hits means trying by))
 
 pub returns-clause-items : goal.returns-clause-items
 returns-clause-items g c =
@@ -19,5 +19,5 @@ returns-clause-items g c =
 
 pub returns-clause-tries : goal.returns-clause-tries
 returns-clause-tries g c =
-    subst (λ (k : KeptFlow). c.end_session.new.tally.tries ≡ candidates_of c.args.matcher.now.set.now.rules (all_items (finish_items c.args.moment (session_at_hand k.found)))) c.self.view_is
-    (finished-tries c.args.matcher.now.set.now.rules c.args.moment c.self.inside.found c.new-tally.result.tries c.end_session.new.tally.tries c.new-tally.ensures.tries c.in_ok-end_session.ensures.tries)
+    subst (λ (k : KeptFlow). c.end_session.new.tally.tries ≡ candidates_of c.args.inspector.now.set.now.rules (all_items (finish_items c.args.moment (session_at_hand k.found)))) c.self.view_is
+    (finished-tries c.args.inspector.now.set.now.rules c.args.moment c.self.inside.found c.new-tally.result.tries c.end_session.new.tally.tries c.new-tally.ensures.tries c.in_ok-end_session.ensures.tries)

@@ -11,23 +11,23 @@ use Rattle.flow_lanes.proofs.keeping.Flow.packet.Goals as goal
 pub packet_found-requires-clause-found : goal.packet_found-requires-clause-found
 packet_found-requires-clause-found g c κs found =
     let p = packet_of c.args.p.now in
-    let sound = subst (λ (k : KeptFlow). IsSoundPacket (length c.args.settings.now.stream.now.engines) (Some k.facts) p) (sym c.self.view_is) c.requires.sound in
+    let sound = subst (λ (k : KeptFlow). IsSoundPacket (length c.args.settings.now.stream.now.engines) (Some k.facts) p) (sym c.self.view_is) c.requires in
     found-sound p c.self.inside.facts (session_at_hand c.self.inside.found) c.self.invariant sound.same_ends sound.few
 
 pub invariant_of-self : goal.invariant_of-self
 invariant_of-self g c =
     let p = packet_of c.args.p.now in
-    let sound = subst (λ (k : KeptFlow). IsSoundPacket (length c.args.settings.now.stream.now.engines) (Some k.facts) p) (sym c.self.view_is) c.requires.sound in
+    let sound = subst (λ (k : KeptFlow). IsSoundPacket (length c.args.settings.now.stream.now.engines) (Some k.facts) p) (sym c.self.view_is) c.requires in
     kept-more p c.self.inside.facts (session_at_hand c.self.inside.found) (session_at_hand c.packet_found.new.found) c.self.invariant sound.same_ends sound.few c.packet_found.ensures.grows
 
 pub invariant_of-self-2 : goal.invariant_of-self-2
 invariant_of-self-2 g c =
     let p = packet_of c.args.p.now in
-    let sound = subst (λ (k : KeptFlow). IsSoundPacket (length c.args.settings.now.stream.now.engines) (Some k.facts) p) (sym c.self.view_is) c.requires.sound in
+    let sound = subst (λ (k : KeptFlow). IsSoundPacket (length c.args.settings.now.stream.now.engines) (Some k.facts) p) (sym c.self.view_is) c.requires in
     kept-more p c.self.inside.facts (session_at_hand c.self.inside.found) (session_at_hand c.packet_found.new.found) c.self.invariant sound.same_ends sound.few c.packet_found.ensures.grows
 
 pub returns-clause-detects : goal.returns-clause-detects
 returns-clause-detects g c = λ means trying by.
     subst
-    (λ (k : KeptFlow). DetectsOn c.args.matcher.now.all trying (packet_items (making_of c.args.settings.now) (packet_of c.args.p.now) (session_at_hand k.found)) k.found c.packet_found.new.tally.hits.items c.packet_found.new.found)
+    (λ (k : KeptFlow). DetectsOn c.args.inspector.now.all trying (packet_items (making_of c.args.settings.now) (packet_of c.args.p.now) (session_at_hand k.found)) k.found c.packet_found.new.tally.hits.items c.packet_found.new.found)
     c.self.view_is (c.in_ok-packet_found.ensures.detects means trying by c.new-tally.ensures.hits)

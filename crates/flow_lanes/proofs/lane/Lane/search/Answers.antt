@@ -7,14 +7,14 @@ use Rattle.flow_lanes.proofs.lane.Lane.search.Goals as goal
 
 pub returns-clause-finds : goal.returns-clause-finds
 returns-clause-finds g c =
-    let stream = c.args.detector.now.stream.now in
-    let set = c.args.detector.now.set.now in
+    let stream = c.args.inspector.now.stream.now in
+    let set = c.args.inspector.now.set.now in
     let job = c.args.job.now in
     let old : LaneState = record { flush = c.self.inside.flush; inserts = c.self.inside.inserts; flows = c.self.inside.flows.entries } in
     let new : LaneState = record { flush = c.self.inside.flush; inserts = c.self.inside.inserts; flows = c.do_work.new.flows.entries } in
-    let sound = subst (λ (lane : LaneState). IsSoundFor (length stream.engines) (known_of lane job) job) (sym c.self.view_is) c.requires.sound in
-    subst (λ (lane : LaneState). SearchesJob g.P.Pattern.finds stream set c.args.detector.now.all lane job c.job_found.result new) c.self.view_is
-    (searches-job g.P.Pattern.finds stream set c.args.detector.now.all old new job c.in_ok-tally.tally c.in_ok-tally.ensures (length stream.engines) (known_of old job) c.job_found.result sound refl refl
+    let sound = subst (λ (lane : LaneState). IsSoundFor (length stream.engines) (known_of lane job) job) (sym c.self.view_is) c.requires in
+    subst (λ (lane : LaneState). SearchesJob g.P.Pattern.finds stream set c.args.inspector.now.all lane job c.job_found.result new) c.self.view_is
+    (searches-job g.P.Pattern.finds stream set c.args.inspector.now.all old new job c.in_ok-tally.tally c.in_ok-tally.ensures (length stream.engines) (known_of old job) c.job_found.result sound refl refl
     c.job_found.ensures.number c.job_found.ensures.told c.job_found.ensures.items c.job_found.ensures.tries)
 
 pub returns-clause-learns : goal.returns-clause-learns
@@ -22,4 +22,4 @@ returns-clause-learns g c =
     let old : LaneState = record { flush = c.self.inside.flush; inserts = c.self.inside.inserts; flows = c.self.inside.flows.entries } in
     let new : LaneState = record { flush = c.self.inside.flush; inserts = c.self.inside.inserts; flows = c.do_work.new.flows.entries } in
     subst (λ (lane : LaneState). LearnsJob lane c.args.job.now new) c.self.view_is
-    (learns-job g.P.Pattern.finds c.args.detector.now.stream.now c.args.detector.now.set.now c.args.detector.now.all old new c.args.job.now c.in_ok-tally.tally c.in_ok-tally.ensures)
+    (learns-job g.P.Pattern.finds c.args.inspector.now.stream.now c.args.inspector.now.set.now c.args.inspector.now.all old new c.args.job.now c.in_ok-tally.tally c.in_ok-tally.ensures)
