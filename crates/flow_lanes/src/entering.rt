@@ -39,7 +39,7 @@ fn take_left_stretches(alloc: Global, found: &mut Option<FlowState>) -> Result<L
     }
 }
 
-/// The session at hand takes a packet that leaves it as it is, where nothing is left before it: `step` is then
+/// The session at hand accepts a packet that leaves it as it is, where nothing is left before it: `step` is then
 /// what it tells. Of any other packet the answer is false, and nothing changes. Takes no memory.
 pub(crate) fn stay(
     settings: &Settings,
@@ -127,8 +127,8 @@ fn enter(
     }
 }
 
-/// The packet's session, if it has one, takes what the packet brings. True exactly where its data are held.
-pub(crate) fn take_packet(
+/// The packet's session, if it has one, accepts what the packet brings. True exactly where its data are held.
+pub(crate) fn accept_packet(
     alloc: Global,
     p: &Arrival,
     step: &Step,
@@ -153,7 +153,7 @@ pub(crate) fn take_packet(
             push_maybe(out, p.moment, (0, 0), left)?;
             Ok(false)
         }
-        Some(kept) => kept.session.take_packet(alloc, p, step, left, out),
+        Some(kept) => kept.session.accept_packet(alloc, p, step, left, out),
     }
 }
 
@@ -216,6 +216,6 @@ pub(crate) fn push_current(
 {
     let left = take_left_stretches(alloc, found)?;
     enter(alloc, settings, p, step, state, found);
-    let queued = take_packet(alloc, p, step, left, found, out)?;
+    let queued = accept_packet(alloc, p, step, left, found, out)?;
     Ok(own_facts(settings.inserts, p, step, queued, found))
 }

@@ -18,7 +18,7 @@ ghost use Rattle.flow_lanes.specs.Working.{ended_items, items_on, unless_ended};
 
 use crate::arrival::Arrival;
 use crate::detecting::{try_and_settle, try_at_end};
-use crate::entering::{own_facts, push_current, stay, take_packet};
+use crate::entering::{accept_packet, own_facts, push_current, stay};
 use crate::inspector::Inspector;
 use crate::item::Item;
 use crate::keeping::{Flow, FlowState};
@@ -155,7 +155,7 @@ fn packet_stays<P: Pattern>(
     ensures grows { GrowsFound found.old found.new }
 {
     let mut items = Vec::new(inspector.alloc);
-    let queued = take_packet(inspector.alloc, p, step, Left::none(), found, &mut items)?;
+    let queued = accept_packet(inspector.alloc, p, step, Left::none(), found, &mut items)?;
     let own = own_facts(settings.inserts, p, step, queued, found);
     try_and_settle(inspector, &items, &own, p, step, found, tally)?;
     Ok(())

@@ -163,7 +163,7 @@ impl Session {
         self.set_bases(step);
     }
 
-    /// Takes a packet that leaves the session as it is, where nothing is left of stretches that have ended: `step`
+    /// Accepts a packet that leaves the session as it is, where nothing is left of stretches that have ended: `step`
     /// is then what it tells. Of any other packet the answer is false, and nothing changes. Takes no memory.
     pub fn stay(&mut self, settings: &Settings, p: &Arrival, step: &mut Step) -> bool
         ensures stays { result ≡ true
@@ -267,7 +267,7 @@ impl Session {
         self.push_held_items(alloc, moment, sizes, out)
     }
 
-    /// One side takes an acknowledgement of its data: the client's, or the server's.
+    /// One side accepts an acknowledgement of its data: the client's, or the server's.
     fn ack_side(
         &mut self,
         alloc: Global,
@@ -286,16 +286,17 @@ impl Session {
         ensures same { self.new.state ≡ self.old.state }
     {
         if of_client {
-            self.client.take_ack(alloc, ack, true, moment, sizes, out)
+            self.client.accept_ack(alloc, ack, true, moment, sizes, out)
         } else {
-            self.server.take_ack(alloc, ack, false, moment, sizes, out)
+            self.server
+                .accept_ack(alloc, ack, false, moment, sizes, out)
         }
     }
 
-    /// Takes the packet's acknowledgement, where that counts, and appends the items of the other side that
+    /// Accepts the packet's acknowledgement, where that counts, and appends the items of the other side that
     /// this flushes.
     #[tactic(auto, unfolding(crate::specs::Sessions::after_ack))]
-    pub fn take_ack(
+    pub fn accept_ack(
         &mut self,
         alloc: Global,
         p: &Arrival,
@@ -317,7 +318,7 @@ impl Session {
         self.ack_side(alloc, of_client, p.ack(), p.moment, sizes, out)
     }
 
-    /// One side takes data: the client's, or the server's. True exactly where they are held.
+    /// One side accepts data: the client's, or the server's. True exactly where they are held.
     fn data_side(&mut self, of_client: bool, seq: u32, bytes: &[u8]) -> Result<bool, NoMemory>
         requires within { AreWithin self.old (2 ^ 63) (2 ^ 63) }
         requires size { length bytes.now ≤ 65535 }
@@ -328,15 +329,15 @@ impl Session {
         ensures same { self.new.state ≡ self.old.state }
     {
         if of_client {
-            self.client.take_data(seq, bytes)
+            self.client.accept_data(seq, bytes)
         } else {
-            self.server.take_data(seq, bytes)
+            self.server.accept_data(seq, bytes)
         }
     }
 
-    /// Takes the packet's data, where those count. True exactly where they are held.
+    /// Accepts the packet's data, where those count. True exactly where they are held.
     #[tactic(auto, unfolding(crate::specs::Sessions::after_data))]
-    pub fn take_data(&mut self, p: &Arrival, step: &Step) -> Result<bool, NoMemory>
+    pub fn accept_data(&mut self, p: &Arrival, step: &Step) -> Result<bool, NoMemory>
         requires within { AreWithin self.old (2 ^ 63) (2 ^ 63) }
         requires size { length p.now.payload.now ≤ 65535 }
         ensures held { IfOk result (λ queued. queued ≡ is_queued (packet_of p.now) step.now (Some self.old)) }
@@ -351,9 +352,9 @@ impl Session {
         Ok(queued)
     }
 
-    /// Takes what the packet brings: appends what was left before it, what its acknowledgement flushes and,
+    /// Accepts what the packet brings: appends what was left before it, what its acknowledgement flushes and,
     /// where it ends the session, all that is held. True exactly where its data are held.
-    pub fn take_packet(
+    pub fn accept_packet(
         &mut self,
         alloc: Global,
         p: &Arrival,
@@ -373,10 +374,10 @@ impl Session {
             → AreWithin self.new (places + 2 ^ 31) (places + 2 ^ 31) }
         ensures same { self.new.state ≡ self.old.state }
     {
-        let queued = self.take_data(p, step)?;
+        let queued = self.accept_data(p, step)?;
         let sizes = self.sizes();
         push_maybe(out, p.moment, sizes, left)?;
-        self.take_ack(alloc, p, step, sizes, out)?;
+        self.accept_ack(alloc, p, step, sizes, out)?;
         self.end_if(alloc, step.ends, p.moment, sizes, out)?;
         Ok(queued)
     }

@@ -94,9 +94,9 @@ impl Side {
         self.since_begin = self.since_begin && on;
     }
 
-    /// Takes data that count. True exactly where they are held.
+    /// Accepts data that count. True exactly where they are held.
     #[tactic(auto, unfolding(crate::specs::Sides::side_after_data, crate::specs::Sides::queues))]
-    pub fn take_data(&mut self, seq: u32, bytes: &[u8]) -> Result<bool, NoMemory>
+    pub fn accept_data(&mut self, seq: u32, bytes: &[u8]) -> Result<bool, NoMemory>
         requires reaches { Reaches self.old (2 ^ 63) }
         requires size { length bytes.now ≤ 65535 }
         ensures held { IfOk result (λ queued. queued ≡ queues self.old seq bytes.now) }
@@ -130,9 +130,9 @@ impl Side {
         Ok(added == Added::Queued)
     }
 
-    /// Takes an acknowledgement of its data, and appends the items that this flushes.
+    /// Accepts an acknowledgement of its data, and appends the items that this flushes.
     #[tactic(auto, unfolding(crate::specs::Sides::side_after_ack, crate::specs::Sides::acked_payloads))]
-    pub fn take_ack(
+    pub fn accept_ack(
         &mut self,
         alloc: Global,
         ack: u32,

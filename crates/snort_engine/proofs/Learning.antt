@@ -3,7 +3,7 @@ use Rattle.std.proofs.Common.{◌≡◌, ℕ, zero, suc, ◌≤◌, [], Some, re
 use Rattle.std.proofs.lemmas.List.{length-replicate}
 use Rattle.flow_lanes.specs.Flows.{Detection}
 use Rattle.flow_lanes.specs.Standing.{AreNew, LaneState, LanesStand, LanesState, Stands, new_lane}
-use Rattle.flow_lanes.proofs.LaneJobs.{new_lane-stands}
+use Rattle.flow_lanes.proofs.Jobs.Stands.{new_lane-stands}
 
 -- what stands at a place of a list of one thing
 replicate_there : {X : Type 0} (count place : ℕ) (x y : X) → slice_get (replicate count x) place ≡ Some y → y ≡ x

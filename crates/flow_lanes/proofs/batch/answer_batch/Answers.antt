@@ -1,4 +1,4 @@
-use Rattle.flow_lanes.proofs.Together.{answered}
+use Rattle.flow_lanes.proofs.Jobs.HaveSearched.{answered}
 use Rattle.flow_lanes.specs.Batching.{lanes_of}
 use Rattle.flow_lanes.proofs.batch.answer_batch.Goals as goal
 

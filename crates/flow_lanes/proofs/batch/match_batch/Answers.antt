@@ -1,4 +1,4 @@
-use Rattle.flow_lanes.proofs.Together.{told_matches}
+use Rattle.flow_lanes.proofs.Jobs.HaveSearched.{told_matches}
 use Rattle.flow_lanes.specs.Batching.{lanes_of}
 use Rattle.flow_lanes.proofs.batch.match_batch.Goals as goal
 

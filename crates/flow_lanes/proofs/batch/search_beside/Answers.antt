@@ -1,4 +1,4 @@
-use Rattle.flow_lanes.proofs.Gathered.{gathered_learns, gathered_search, parts_apart, parts_ascend}
+use Rattle.flow_lanes.proofs.Jobs.AreParts.{gathered_learns, gathered_search, parts_apart, parts_ascend}
 use Rattle.flow_lanes.proofs.batch.search_beside.Goals as goal
 
 pub merge-requires-clause-ascending : goal.merge-requires-clause-ascending

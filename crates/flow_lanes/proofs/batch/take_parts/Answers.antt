@@ -1,5 +1,5 @@
 use Rattle.std.proofs.Common.{arith, Ok}
-use Rattle.flow_lanes.proofs.GivenAway.{kept_more, rest_more, taken_more}
+use Rattle.flow_lanes.proofs.Jobs.TakenParts.{kept_more, rest_more, taken_more}
 use Rattle.flow_lanes.proofs.batch.take_parts.Goals as goal
 
 pub returns-in_err-take_outs-clause-lanes : goal.returns-in_err-take_outs-clause-lanes

@@ -1,4 +1,4 @@
-use Rattle.flow_lanes.proofs.CutLaws.{parts-more}
+use Rattle.flow_lanes.proofs.Sessions.PartsOf.{parts-more}
 use Rattle.flow_lanes.proofs.cutting.cut_parts.Goals as goal
 
 pub loop-part-preserved : goal.loop-part-preserved

@@ -1,6 +1,6 @@
 use Rattle.std.proofs.Common.{ℕ, List, ◌++◌, ap, sym, ◌∙◌}
 use Rattle.flow_lanes.specs.Streams.{item_size, parts_of}
-use Rattle.flow_lanes.proofs.CutLaws.{payloads-more}
+use Rattle.flow_lanes.proofs.Sessions.PartsOf.{payloads-more}
 use Rattle.flow_lanes.proofs.cutting.cut_runs.Goals as goal
 
 pub loop-run-preserved : goal.loop-run-preserved

@@ -1,7 +1,7 @@
 use Rattle.std.proofs.Common.{◌<◌, ◌≤◌, length, arith}
 use Rattle.std.proofs.lemmas.Bool.Decides.{nat_tests}
 use Rattle.flow_lanes.specs.Streams.{item_size}
-use Rattle.flow_lanes.proofs.CutLaws.{one-part}
+use Rattle.flow_lanes.proofs.Sessions.PartsOf.{one-part}
 use Rattle.flow_lanes.proofs.cutting.is_one_part.Goals as goal
 
 pub returns-then-not-is_empty : goal.returns-then-not-is_empty

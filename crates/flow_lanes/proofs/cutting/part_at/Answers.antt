@@ -1,6 +1,6 @@
 use Rattle.std.proofs.Common.{ℕ, take, ap, ◌∙◌}
 use Rattle.flow_lanes.specs.Streams.{item_size}
-use Rattle.flow_lanes.proofs.CutLaws.{take-shorter}
+use Rattle.flow_lanes.proofs.Sessions.PartsOf.{take-shorter}
 use Rattle.flow_lanes.proofs.cutting.part_at.Goals as goal
 
 pub returns : goal.returns

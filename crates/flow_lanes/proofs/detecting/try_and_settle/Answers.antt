@@ -6,7 +6,7 @@ use Rattle.flow_lanes.specs.Given.{packet_of}
 use Rattle.flow_lanes.specs.Kept.{IsFound}
 use Rattle.flow_lanes.specs.Sessions.{Session}
 use Rattle.flow_lanes.specs.Working.{own_item}
-use Rattle.flow_lanes.proofs.DetectLaws.{settles-by}
+use Rattle.flow_lanes.proofs.Sessions.DetectsOn.{settles-by}
 use Rattle.flow_lanes.proofs.detecting.try_and_settle.Goals as goal
 
 pub returns-clause-keeps : goal.returns-clause-keeps

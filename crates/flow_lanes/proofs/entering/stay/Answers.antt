@@ -2,7 +2,7 @@ use Rattle.std.proofs.Common.{Option, Some, refl, subst, sym}
 use Rattle.flow_lanes.specs.Flows.{FlowState}
 use Rattle.flow_lanes.specs.Given.{making_of, packet_of}
 use Rattle.flow_lanes.specs.Staying.{StaysAt}
-use Rattle.flow_lanes.proofs.StayingLaws.{stays-at}
+use Rattle.flow_lanes.proofs.Sessions.StaysAt.{stays-at}
 use Rattle.flow_lanes.proofs.entering.stay.Goals as goal
 
 pub returns-in-Some-clause-stays : goal.returns-in-Some-clause-stays

@@ -2,8 +2,8 @@ use Rattle.std.proofs.Common.{ℕ, ◌<◌, List, length, sym, ap, subst, ◌∙
 use Rattle.std.specs.Prelude.{All}
 use Rattle.flow_lanes.specs.Hits.{AreHits}
 use Rattle.flow_lanes.specs.Picking.{bits_after_all, picked}
-use Rattle.flow_lanes.proofs.Picking.{candidates-below, picked-hits}
-use Rattle.flow_lanes.proofs.Telling.{test_of, test_of-tells}
+use Rattle.flow_lanes.proofs.Rules.Picked.{candidates-below, picked-hits}
+use Rattle.flow_lanes.proofs.Rules.Tells.{test_of, test_of-tells}
 use Rattle.flow_lanes.proofs.hits.matching_among.Goals as goal
 
 pub pick_all-requires-clause-within : goal.pick_all-requires-clause-within

@@ -1,6 +1,6 @@
 use Rattle.std.proofs.Common.{ℕ, List, ◌++◌, ap, ◌∙◌}
 use Rattle.fast_pattern.specs.Candidates.{candidates}
-use Rattle.flow_lanes.proofs.Changing.{all_known}
+use Rattle.flow_lanes.proofs.Rules.ChangesKnownBits.{all_known}
 use Rattle.flow_lanes.proofs.hits.matching_rules.Goals as goal
 
 pub matching_among-requires-clause-known : goal.matching_among-requires-clause-known

@@ -1,7 +1,7 @@
 use Rattle.std.proofs.Common.{◌≡◌, ℕ, ◌<◌, List, length, get_or, take, subst, arith}
 use Rattle.std.proofs.lemmas.List.{take_all, take_more}
 use Rattle.flow_lanes.specs.Picking.{PicksAll}
-use Rattle.flow_lanes.proofs.Picking.{picks_all-more, picks_all-none}
+use Rattle.flow_lanes.proofs.Rules.Picked.{picks_all-more, picks_all-none}
 use Rattle.flow_lanes.proofs.hits.pick_all.Goals as goal
 
 pub loop-place-init : goal.loop-place-init

@@ -1,8 +1,8 @@
 use Rattle.std.proofs.Common.{ap, ◌∙◌, arith}
 use Rattle.flow_lanes.specs.Flows.{flow_of}
 use Rattle.flow_lanes.specs.Standing.{lane_of}
-use Rattle.flow_lanes.proofs.Together.{below_count}
-use Rattle.flow_lanes.proofs.Turns.{one_lane}
+use Rattle.flow_lanes.proofs.Jobs.HaveSearched.{below_count}
+use Rattle.flow_lanes.proofs.Jobs.AddsFound.{one_lane}
 use Rattle.flow_lanes.proofs.in_turn.place_of.Goals as goal
 
 pub returns-then-count-eq1-clause-value : goal.returns-then-count-eq1-clause-value

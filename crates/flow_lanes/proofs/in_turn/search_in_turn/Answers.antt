@@ -6,8 +6,8 @@ use Rattle.flow_lanes.specs.declared.job.Job.{Job}
 use Rattle.flow_lanes.specs.Flows.{flow_of}
 use Rattle.flow_lanes.specs.Standing.{lane_of}
 use Rattle.flow_lanes.specs.Batching.{HaveLearnt, HaveSearched, lanes_of}
-use Rattle.flow_lanes.proofs.OwnJobs.{split_at_read, take_read}
-use Rattle.flow_lanes.proofs.Turns.{learnt-none, searched-none, turn_learnt, turn_searched, turn_sound}
+use Rattle.flow_lanes.proofs.Jobs.OwnJobs.{split_at_read, take_read}
+use Rattle.flow_lanes.proofs.Jobs.AddsFound.{learnt-none, searched-none, turn_learnt, turn_searched, turn_sound}
 use Rattle.flow_lanes.proofs.in_turn.search_in_turn.Goals as goal
 
 pub loop-job-init : goal.loop-job-init

@@ -1,4 +1,4 @@
-use Rattle.flow_lanes.proofs.Joined.{lanes-joined}
+use Rattle.flow_lanes.proofs.Jobs.AreLaneAnswers.{lanes-joined}
 use Rattle.flow_lanes.proofs.laws.lanes_change_nothing.Goals as goal
 
 pub returns : goal.returns

@@ -1,4 +1,4 @@
-use Rattle.flow_lanes.proofs.Orders.{answers_of_flow-any_order}
+use Rattle.flow_lanes.proofs.Jobs.AnswersOfFlow.{answers_of_flow-any_order}
 use Rattle.flow_lanes.proofs.laws.other_flows_change_nothing.Goals as goal
 
 pub returns : goal.returns

@@ -1,4 +1,4 @@
-use Rattle.flow_lanes.proofs.Short.{job_short}
+use Rattle.flow_lanes.proofs.Sessions.AreShort.{job_short}
 use Rattle.flow_lanes.proofs.laws.stream_items_are_short.Goals as goal
 
 pub returns : goal.returns

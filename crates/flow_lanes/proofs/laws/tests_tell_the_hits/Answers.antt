@@ -1,4 +1,4 @@
-use Rattle.flow_lanes.proofs.Agreeing.{matching-hits}
+use Rattle.flow_lanes.proofs.Rules.AreHits.{matching-hits}
 use Rattle.flow_lanes.proofs.laws.tests_tell_the_hits.Goals as goal
 
 pub returns : goal.returns

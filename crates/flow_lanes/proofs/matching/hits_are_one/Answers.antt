@@ -1,6 +1,6 @@
 use Rattle.flow_lanes.specs.Hits.{places_from}
-use Rattle.flow_lanes.proofs.Agreeing.{AreMatches-unique, places_from-are}
-use Rattle.flow_lanes.proofs.Telling.{test_of, test_of-tells}
+use Rattle.flow_lanes.proofs.Rules.AreHits.{AreMatches-unique, places_from-are}
+use Rattle.flow_lanes.proofs.Rules.Tells.{test_of, test_of-tells}
 use Rattle.flow_lanes.proofs.matching.hits_are_one.Goals as goal
 
 pub returns-clause-some : goal.returns-clause-some

@@ -1,4 +1,4 @@
-use Rattle.flow_lanes.proofs.Telling.{test_of, test_of-tells}
+use Rattle.flow_lanes.proofs.Rules.Tells.{test_of, test_of-tells}
 use Rattle.flow_lanes.proofs.matching.matching_is_decided.Goals as goal
 
 pub returns : goal.returns

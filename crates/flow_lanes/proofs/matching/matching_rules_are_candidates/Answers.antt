@@ -1,4 +1,4 @@
-use Rattle.flow_lanes.proofs.Candidates.{matching-candidate}
+use Rattle.flow_lanes.proofs.Rules.Candidates.{matching-candidate}
 use Rattle.flow_lanes.proofs.matching.matching_rules_are_candidates.Goals as goal
 
 pub returns : goal.returns

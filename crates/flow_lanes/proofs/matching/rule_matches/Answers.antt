@@ -2,7 +2,7 @@ use Rattle.std.proofs.Common.{◌≡◌, List, get_or, sym, ap, subst, ◌∙◌
 use Rattle.std.proofs.lemmas.List.{get_or_default}
 use Rattle.rule_types.specs.declared.rule.Rule.{Rule}
 use Rattle.flow_lanes.specs.Hits.{RuleMatches}
-use Rattle.flow_lanes.proofs.Trying.{matches-then}
+use Rattle.flow_lanes.proofs.Rules.RuleMatches.{matches-then}
 use Rattle.flow_lanes.proofs.matching.rule_matches.Goals as goal
 
 pub returns-then-bits_hold : goal.returns-then-bits_hold

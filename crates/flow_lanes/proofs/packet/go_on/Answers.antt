@@ -4,7 +4,7 @@ use Rattle.flow_lanes.specs.Flows.{session_at_hand}
 use Rattle.flow_lanes.specs.Given.{making_of, packet_of}
 use Rattle.flow_lanes.specs.Hits.{Item}
 use Rattle.flow_lanes.specs.Working.{items_on, own_item}
-use Rattle.flow_lanes.proofs.DetectLaws.{goes-on}
+use Rattle.flow_lanes.proofs.Sessions.DetectsOn.{goes-on}
 use Rattle.flow_lanes.proofs.packet.go_on.Goals as goal
 
 pub returns-in_err-try_and_settle-clause-grows : goal.returns-in_err-try_and_settle-clause-grows

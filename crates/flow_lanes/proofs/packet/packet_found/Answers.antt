@@ -6,7 +6,7 @@ use Rattle.flow_lanes.specs.Given.{making_of, packet_of}
 use Rattle.flow_lanes.specs.Items.{packet_items}
 use Rattle.flow_lanes.specs.Sessions.{is_tcp}
 use Rattle.flow_lanes.specs.Tried.{candidates_of}
-use Rattle.flow_lanes.proofs.StayingLaws.{stayed-items, stayed-on, stayed-tries}
+use Rattle.flow_lanes.proofs.Sessions.StaysAt.{stayed-items, stayed-on, stayed-tries}
 use Rattle.flow_lanes.proofs.packet.packet_found.Goals as goal
 
 pub packet_stays-requires-clause-within : goal.packet_stays-requires-clause-within

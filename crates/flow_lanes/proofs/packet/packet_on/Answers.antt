@@ -4,10 +4,10 @@ use Rattle.stream5_sessions.specs.declared.step.Step.{Step}
 use Rattle.flow_lanes.specs.Flows.{session_at_hand}
 use Rattle.flow_lanes.specs.Given.{making_of, packet_of}
 use Rattle.flow_lanes.specs.Sessions.{is_tcp}
-use Rattle.flow_lanes.proofs.DetectLaws.{told-items, told-on, told-tries}
-use Rattle.flow_lanes.proofs.FlowLaws.{IsFound-more}
-use Rattle.flow_lanes.proofs.Fresh.{fresh}
-use Rattle.flow_lanes.proofs.PartsLaws.{state_found-tcp, state_of-tcp}
+use Rattle.flow_lanes.proofs.Sessions.DetectsOn.{told-items, told-on, told-tries}
+use Rattle.flow_lanes.proofs.Sessions.IsKeptBy.{IsFound-more}
+use Rattle.flow_lanes.proofs.Sessions.StepOf.{fresh}
+use Rattle.flow_lanes.proofs.Sessions.ItemsOn.{state_found-tcp, state_of-tcp}
 use Rattle.flow_lanes.proofs.packet.packet_on.Goals as goal
 
 pub returns-in_err-end_before-clause-grows : goal.returns-in_err-end_before-clause-grows

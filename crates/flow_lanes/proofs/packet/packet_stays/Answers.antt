@@ -6,14 +6,14 @@ use Rattle.flow_lanes.specs.Hits.{Item}
 use Rattle.flow_lanes.specs.Items.{session_behind}
 use Rattle.flow_lanes.specs.Tried.{candidates_of}
 use Rattle.flow_lanes.specs.Working.{own_item}
-use Rattle.flow_lanes.proofs.StayingLaws.{staying-items, staying-on}
+use Rattle.flow_lanes.proofs.Sessions.StaysAt.{staying-items, staying-on}
 use Rattle.flow_lanes.proofs.packet.packet_stays.Goals as goal
 
 pub returns-in_err-try_and_settle-clause-grows : goal.returns-in_err-try_and_settle-clause-grows
-returns-in_err-try_and_settle-clause-grows g c = λ tcp places h. c.try_and_settle.ensures.keeps tcp (places + 2 ^ 31) (c.take_packet.ensures.grows tcp places h)
+returns-in_err-try_and_settle-clause-grows g c = λ tcp places h. c.try_and_settle.ensures.keeps tcp (places + 2 ^ 31) (c.accept_packet.ensures.grows tcp places h)
 
 pub returns-clause-grows : goal.returns-clause-grows
-returns-clause-grows g c = λ tcp places h. c.try_and_settle.ensures.keeps tcp (places + 2 ^ 31) (c.take_packet.ensures.grows tcp places h)
+returns-clause-grows g c = λ tcp places h. c.try_and_settle.ensures.keeps tcp (places + 2 ^ 31) (c.accept_packet.ensures.grows tcp places h)
 
 pub returns-clause-hits : goal.returns-clause-hits
 returns-clause-hits g c = λ means trying by before stays.
@@ -22,13 +22,13 @@ returns-clause-hits g c = λ means trying by before stays.
     let step = c.args.step.now in
     let found = c.args.found.now in
     let own = c.own_facts-own.result in
-    let are = staying-items making p before found step stays c.none.result c.in_ok-queued.queued own c.new-items.result.items c.take_packet.new.out.items
+    let are = staying-items making p before found step stays c.none.result c.in_ok-queued.queued own c.new-items.result.items c.accept_packet.new.out.items
     c.none.ensures c.new-items.ensures.items c.in_ok-queued.ensures.items c.in_ok-queued.ensures.queued
     (c.own_facts-own.ensures (session_behind p step (session_at_hand found)) c.in_ok-queued.ensures.sizes) in
-    staying-on making p before found step stays c.args.inspector.now.all trying (c.take_packet.new.out.items ++ own_item p own)
-    c.take_packet.new.found c.try_and_settle.new.found c.args.tally.now.hits.items c.try_and_settle.new.tally.hits.items are
-    c.take_packet.ensures.bits c.in_ok-queued.ensures.state
-    (subst (λ (xs : List Item). SettlesBy c.args.inspector.now.all trying (xs ++ own_item p own) step.tracked step.ends c.take_packet.new.found c.try_and_settle.new.found c.args.tally.now.hits.items c.try_and_settle.new.tally.hits.items)
+    staying-on making p before found step stays c.args.inspector.now.all trying (c.accept_packet.new.out.items ++ own_item p own)
+    c.accept_packet.new.found c.try_and_settle.new.found c.args.tally.now.hits.items c.try_and_settle.new.tally.hits.items are
+    c.accept_packet.ensures.bits c.in_ok-queued.ensures.state
+    (subst (λ (xs : List Item). SettlesBy c.args.inspector.now.all trying (xs ++ own_item p own) step.tracked step.ends c.accept_packet.new.found c.try_and_settle.new.found c.args.tally.now.hits.items c.try_and_settle.new.tally.hits.items)
     c.deref.ensures.value (c.in_ok-try_and_settle.ensures.hits means trying by))
 
 pub returns-clause-items : goal.returns-clause-items
@@ -38,7 +38,7 @@ returns-clause-items g c = λ before stays.
     let step = c.args.step.now in
     let found = c.args.found.now in
     let own = c.own_facts-own.result in
-    let are = staying-items making p before found step stays c.none.result c.in_ok-queued.queued own c.new-items.result.items c.take_packet.new.out.items
+    let are = staying-items making p before found step stays c.none.result c.in_ok-queued.queued own c.new-items.result.items c.accept_packet.new.out.items
     c.none.ensures c.new-items.ensures.items c.in_ok-queued.ensures.items c.in_ok-queued.ensures.queued
     (c.own_facts-own.ensures (session_behind p step (session_at_hand found)) c.in_ok-queued.ensures.sizes) in
     c.in_ok-try_and_settle.ensures.items
@@ -52,7 +52,7 @@ returns-clause-tries g c = λ before stays.
     let step = c.args.step.now in
     let found = c.args.found.now in
     let own = c.own_facts-own.result in
-    let are = staying-items making p before found step stays c.none.result c.in_ok-queued.queued own c.new-items.result.items c.take_packet.new.out.items
+    let are = staying-items making p before found step stays c.none.result c.in_ok-queued.queued own c.new-items.result.items c.accept_packet.new.out.items
     c.none.ensures c.new-items.ensures.items c.in_ok-queued.ensures.items c.in_ok-queued.ensures.queued
     (c.own_facts-own.ensures (session_behind p step (session_at_hand found)) c.in_ok-queued.ensures.sizes) in
     let rules = c.args.inspector.now.set.now.rules in

@@ -1,5 +1,5 @@
 use Rattle.std.specs.Fork.{AcceptsAt, ChangesAt}
-use Rattle.flow_lanes.proofs.Spreading.{accepts_back, changes_both}
+use Rattle.flow_lanes.proofs.Jobs.ChangesFrom.{accepts_back, changes_both}
 use Rattle.flow_lanes.proofs.spread.+spread.Goals as goal
 
 pub spread-both-requires-clause-back : goal.spread-both-requires-clause-back

@@ -1,6 +1,6 @@
 use Rattle.std.proofs.Common.{List, ℕ, ◌++◌, ap, sym, ◌∙◌}
 use Rattle.flow_lanes.specs.Streams.{item_size, parts_of}
-use Rattle.flow_lanes.proofs.PushLaws.{items_with, pushed-are}
+use Rattle.flow_lanes.proofs.Sessions.ItemsWith.{items_with, pushed-are}
 use Rattle.flow_lanes.proofs.streams.push_run.Goals as goal
 
 pub returns-then-is_one_part : goal.returns-then-is_one_part

@@ -1,4 +1,4 @@
-use Rattle.flow_lanes.proofs.PushLaws.{items-more}
+use Rattle.flow_lanes.proofs.Sessions.ItemsWith.{items-more}
 use Rattle.flow_lanes.proofs.streams.push_runs.Goals as goal
 
 pub loop-run-preserved : goal.loop-run-preserved

@@ -1,6 +1,6 @@
 use Rattle.std.proofs.Common.{◌≡◌, ◌++◌}
 use Rattle.flow_lanes.specs.Streams.{payloads_of}
-use Rattle.flow_lanes.proofs.PushLaws.{items_with}
+use Rattle.flow_lanes.proofs.Sessions.ItemsWith.{items_with}
 use Rattle.flow_lanes.proofs.streams.push_runs.Given as goal
 
 -- the items of the runs so far

@@ -1,4 +1,4 @@
-use Rattle.flow_lanes.proofs.OwnJobs.{AddsOwn-own, in_lane}
+use Rattle.flow_lanes.proofs.Jobs.OwnJobs.{AddsOwn-own, in_lane}
 use Rattle.flow_lanes.proofs.worker.answer_own.Goals as goal
 
 pub returns-in_ok-answer : goal.returns-in_ok-answer

@@ -4,7 +4,7 @@ use Rattle.flow_lanes.specs.declared.job.Job.{Job}
 use Rattle.flow_lanes.specs.declared.answer.JobFound.{JobFound}
 use Rattle.ordered_merge.specs.declared.numbered.Numbered.{Numbered}
 use Rattle.flow_lanes.specs.Batching.{GoesOn, own_jobs}
-use Rattle.flow_lanes.proofs.OwnJobs.{GoesOn-none, GoesOn-sound, split_at_read, take_read}
+use Rattle.flow_lanes.proofs.Jobs.OwnJobs.{GoesOn-none, GoesOn-sound, split_at_read, take_read}
 use Rattle.flow_lanes.proofs.worker.own_outs.Goals as goal
 
 pub loop-job-init : goal.loop-job-init

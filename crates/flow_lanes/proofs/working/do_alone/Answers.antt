@@ -1,6 +1,6 @@
 use Rattle.std.proofs.Common.{None, refl}
-use Rattle.flow_lanes.proofs.DetectLaws.{alone-hits, alone-items, alone-tries}
-use Rattle.flow_lanes.proofs.Doing.{do-alone}
+use Rattle.flow_lanes.proofs.Sessions.DetectsOn.{alone-hits, alone-items, alone-tries}
+use Rattle.flow_lanes.proofs.Jobs.IsDone.{do-alone}
 use Rattle.flow_lanes.proofs.working.do_alone.Goals as goal
 
 pub returns : goal.returns

@@ -1,7 +1,7 @@
 use Rattle.std.proofs.Common.{None, Some, ◌∙◌}
-use Rattle.flow_lanes.proofs.DetectLaws.{nothing-hits, nothing-items, nothing-tries}
-use Rattle.flow_lanes.proofs.Doing.{do-finish}
-use Rattle.flow_lanes.proofs.KeepLaws.{looked_up, sets-from}
+use Rattle.flow_lanes.proofs.Sessions.DetectsOn.{nothing-hits, nothing-items, nothing-tries}
+use Rattle.flow_lanes.proofs.Jobs.IsDone.{do-finish}
+use Rattle.flow_lanes.proofs.Jobs.KeptIn.{looked_up, sets-from}
 use Rattle.flow_lanes.proofs.working.do_finish.Goals as goal
 
 pub returns-in_ok-tally-in-Some : goal.returns-in_ok-tally-in-Some

@@ -3,8 +3,8 @@ use Rattle.flow_lanes.specs.Given.{making_of, packet_of}
 use Rattle.flow_lanes.specs.Kept.{kept_in}
 use Rattle.flow_lanes.specs.Sound.{FlowEnds, IsSoundPacket}
 use Rattle.flow_lanes.specs.Standing.{KeptFlow, facts_kept}
-use Rattle.flow_lanes.proofs.Doing.{do-packet}
-use Rattle.flow_lanes.proofs.KeepLaws.{looked_up, sets-from}
+use Rattle.flow_lanes.proofs.Jobs.IsDone.{do-packet}
+use Rattle.flow_lanes.proofs.Jobs.KeptIn.{looked_up, sets-from}
 use Rattle.flow_lanes.proofs.working.do_packet.Goals as goal
 
 pub packet-requires : goal.packet-requires

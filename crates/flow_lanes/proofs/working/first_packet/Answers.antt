@@ -5,9 +5,9 @@ use Rattle.flow_lanes.specs.Given.{making_of, packet_of}
 use Rattle.flow_lanes.specs.Items.{packet_items}
 use Rattle.flow_lanes.specs.Sound.{FlowFacts}
 use Rattle.flow_lanes.specs.Tried.{candidates_of}
-use Rattle.flow_lanes.proofs.Doing.{do-packet}
-use Rattle.flow_lanes.proofs.FlowLaws.{sound-first}
-use Rattle.flow_lanes.proofs.KeepLaws.{sets-from}
+use Rattle.flow_lanes.proofs.Jobs.IsDone.{do-packet}
+use Rattle.flow_lanes.proofs.Sessions.IsKeptBy.{sound-first}
+use Rattle.flow_lanes.proofs.Jobs.KeptIn.{sets-from}
 use Rattle.flow_lanes.proofs.working.first_packet.Goals as goal
 
 pub packet-requires : goal.packet-requires

@@ -4,7 +4,7 @@ use Rattle.std.proofs.lemmas.List.{with_items_is}
 use Rattle.flow_lanes.specs.declared.job.Job.{Job}
 use Rattle.flow_lanes.specs.Standing.{LanesState}
 use Rattle.flow_lanes.specs.Batching.{lanes_of}
-use Rattle.flow_lanes.proofs.Gathered.{have_learnt, sound_among}
+use Rattle.flow_lanes.proofs.Jobs.AreParts.{have_learnt, sound_among}
 use Rattle.flow_lanes.proofs.batch.Lanes.search.Goals as goal
 
 pub match_batch-requires-clause-ascend : goal.match_batch-requires-clause-ascend

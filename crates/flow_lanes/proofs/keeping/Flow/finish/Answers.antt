@@ -4,7 +4,7 @@ use Rattle.flow_lanes.specs.ItemHits.{told}
 use Rattle.flow_lanes.specs.Items.{finish_items}
 use Rattle.flow_lanes.specs.Standing.{KeptFlow}
 use Rattle.flow_lanes.specs.Tried.{candidates_of}
-use Rattle.flow_lanes.proofs.DetectLaws.{finished-hits, finished-items, finished-tries}
+use Rattle.flow_lanes.proofs.Sessions.DetectsOn.{finished-hits, finished-items, finished-tries}
 use Rattle.flow_lanes.proofs.keeping.Flow.finish.Goals as goal
 
 pub returns-clause-hits : goal.returns-clause-hits

@@ -5,7 +5,7 @@ use Rattle.flow_lanes.specs.Given.{making_of, packet_of}
 use Rattle.flow_lanes.specs.Items.{packet_items}
 use Rattle.flow_lanes.specs.Sound.{IsSoundPacket}
 use Rattle.flow_lanes.specs.Standing.{KeptFlow}
-use Rattle.flow_lanes.proofs.FlowLaws.{found-sound, kept-more}
+use Rattle.flow_lanes.proofs.Sessions.IsKeptBy.{found-sound, kept-more}
 use Rattle.flow_lanes.proofs.keeping.Flow.packet.Goals as goal
 
 pub packet_found-requires-clause-found : goal.packet_found-requires-clause-found

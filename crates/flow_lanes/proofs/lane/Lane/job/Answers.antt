@@ -1,4 +1,4 @@
-use Rattle.flow_lanes.proofs.Doing.{answers-job, counts-tries}
+use Rattle.flow_lanes.proofs.Jobs.IsDone.{answers-job, counts-tries}
 use Rattle.flow_lanes.proofs.lane.Lane.job.Goals as goal
 
 pub returns-clause-answers : goal.returns-clause-answers

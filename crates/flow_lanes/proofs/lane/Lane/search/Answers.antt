@@ -2,7 +2,7 @@ use Rattle.std.proofs.Common.{length, refl, subst, sym}
 use Rattle.flow_lanes.specs.Sound.{IsSoundFor}
 use Rattle.flow_lanes.specs.Standing.{LaneState, LearnsJob, known_of}
 use Rattle.flow_lanes.specs.Batching.{SearchesJob}
-use Rattle.flow_lanes.proofs.Doing.{learns-job, searches-job}
+use Rattle.flow_lanes.proofs.Jobs.IsDone.{learns-job, searches-job}
 use Rattle.flow_lanes.proofs.lane.Lane.search.Goals as goal
 
 pub returns-clause-finds : goal.returns-clause-finds

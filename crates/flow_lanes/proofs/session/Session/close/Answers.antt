@@ -1,5 +1,5 @@
 use Rattle.std.proofs.lemmas.Result.{on_ok_weaker}
-use Rattle.flow_lanes.proofs.PartsLaws.{closing-is}
+use Rattle.flow_lanes.proofs.Sessions.ItemsOn.{closing-is}
 use Rattle.flow_lanes.proofs.session.Session.close.Goals as goal
 
 pub returns-clause-items : goal.returns-clause-items

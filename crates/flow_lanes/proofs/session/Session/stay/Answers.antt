@@ -1,6 +1,6 @@
 use Rattle.std.proofs.Common.{length, Some, refl, sym, ◌∙◌}
 use Rattle.flow_lanes.specs.Given.{making_of, packet_of}
-use Rattle.flow_lanes.proofs.StayingLaws.{stays-in}
+use Rattle.flow_lanes.proofs.Sessions.StaysAt.{stays-in}
 use Rattle.flow_lanes.proofs.session.Session.stay.Goals as goal
 
 pub returns-clause-stays : goal.returns-clause-stays

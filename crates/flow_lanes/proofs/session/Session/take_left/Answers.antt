@@ -1,7 +1,7 @@
 use Rattle.std.proofs.Common.{Option, sym, subst}
 use Rattle.flow_lanes.specs.declared.session.Stretches.{Stretches}
 use Rattle.flow_lanes.specs.Working.{TellsLeft}
-use Rattle.flow_lanes.proofs.PartsLaws.{all-told, none-told}
+use Rattle.flow_lanes.proofs.Sessions.ItemsOn.{all-told, none-told}
 use Rattle.flow_lanes.proofs.session.Session.take_left.Goals as goal
 
 pub returns-then-not-has_left-clause-left : goal.returns-then-not-has_left-clause-left

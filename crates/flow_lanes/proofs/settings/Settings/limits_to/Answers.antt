@@ -1,5 +1,5 @@
 use Rattle.flow_lanes.specs.Given.{making_of}
-use Rattle.flow_lanes.proofs.LimitLaws.{limits-are}
+use Rattle.flow_lanes.proofs.Sessions.LimitsTo.{limits-are}
 use Rattle.flow_lanes.proofs.settings.Settings.limits_to.Goals as goal
 
 pub returns-clause-sound : goal.returns-clause-sound

@@ -3,7 +3,7 @@ use Rattle.overlap_core.specs.declared.segment.Run.{Run}
 use Rattle.stream5_reassembly.specs.Segments.{AppendsFlushed, top}
 use Rattle.flow_lanes.specs.Sides.{held_payloads}
 use Rattle.flow_lanes.specs.Streams.{payloads_of}
-use Rattle.flow_lanes.proofs.SideLaws.{cut-flushed, held-idle}
+use Rattle.flow_lanes.proofs.Sessions.Sides.{cut-flushed, held-idle}
 use Rattle.flow_lanes.proofs.side.Side.drain.Goals as goal
 
 pub returns-clause-payloads : goal.returns-clause-payloads

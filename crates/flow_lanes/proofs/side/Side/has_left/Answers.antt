@@ -1,4 +1,4 @@
-use Rattle.flow_lanes.proofs.SideLaws.{none-left}
+use Rattle.flow_lanes.proofs.Sessions.Sides.{none-left}
 use Rattle.flow_lanes.proofs.side.Side.has_left.Goals as goal
 
 pub returns-then-not-self : goal.returns-then-not-self

@@ -13,8 +13,8 @@ use Rattle.fast_pattern.specs.Candidates.{candidates, is_candidate, places_from 
 use Rattle.flow_lanes.specs.Hits.{AreHits, Bits, Item, RuleMatches, Tells, Test, bits_after, bits_seen, places_from}
 use Rattle.flow_lanes.specs.Picking.{Picks, PicksAll, bits_after_all, bits_behind_at, matches_at, picked}
 use Rattle.fast_pattern.proofs.Words.{same_bools}
-use Rattle.flow_lanes.proofs.Agreeing.{places_from-are}
-use Rattle.flow_lanes.proofs.Candidates.{matching-candidate}
+use Rattle.flow_lanes.proofs.Rules.AreHits.{places_from-are}
+use Rattle.flow_lanes.proofs.Rules.Candidates.{matching-candidate}
 
 -- the places of candidates are places of rules
 candidates_from-below : (test : Rule → Bool) (place : ℕ) (rules : List Rule) → All (λ p. p < place + length rules) (candidates_from place test rules)

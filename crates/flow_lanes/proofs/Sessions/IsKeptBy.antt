@@ -6,7 +6,7 @@ use Rattle.stream5_sessions.specs.Keys.{is_end_before, key_of}
 use Rattle.flow_lanes.specs.Kept.{IsFound, IsKeptBy}
 use Rattle.flow_lanes.specs.Sessions.{Packet, Session, is_tcp, receiver, sender}
 use Rattle.flow_lanes.specs.Sound.{FlowEnds, FlowFacts, IsSoundPacket, ends_of}
-use Rattle.flow_lanes.proofs.Reaching.{IsWithin-weaker}
+use Rattle.flow_lanes.proofs.Sessions.Reaches.{IsWithin-weaker}
 
 key_of-tcp : (tcp : Bool) (a b : End) → (key_of tcp a b).tcp ≡ tcp
 unfolding key_of

@@ -5,9 +5,9 @@ use Rattle.stream5_reassembly.specs.Segments.{Flushes, Stays, ack_place}
 use Rattle.flow_lanes.specs.Items.{stream_head, stream_items}
 use Rattle.flow_lanes.specs.Sides.{acked_payloads}
 use Rattle.flow_lanes.specs.Streams.{payloads_of}
-use Rattle.flow_lanes.proofs.SideLaws.{acked-cut, acked-none}
-use Rattle.flow_lanes.proofs.PushLaws.{pushed-are}
-use Rattle.flow_lanes.proofs.side.Side.take_ack.Goals as goal
+use Rattle.flow_lanes.proofs.Sessions.Sides.{acked-cut, acked-none}
+use Rattle.flow_lanes.proofs.Sessions.ItemsWith.{pushed-are}
+use Rattle.flow_lanes.proofs.side.Side.accept_ack.Goals as goal
 
 pub returns-then-not-flushed-clause-items : goal.returns-then-not-flushed-clause-items
 returns-then-not-flushed-clause-items c =

@@ -20,7 +20,7 @@ use Rattle.flow_lanes.specs.declared.job.Job.{Job}
 use Rattle.flow_lanes.specs.declared.worker.Worker.{Worker}
 use Rattle.flow_lanes.specs.Standing.{AreSoundFor, LaneState, LanesState, LearnsBatch}
 use Rattle.flow_lanes.specs.Batching.{AllGoOn, AreParts, AreSoundAmong, AreSoundIn, GoesOn, HaveLearnt, HaveSearched, lanes_of, own_jobs}
-use Rattle.flow_lanes.proofs.Together.{AreSoundFor-in, numbers_joined, part_ascends, parts_know, parts_searched}
+use Rattle.flow_lanes.proofs.Jobs.HaveSearched.{AreSoundFor-in, numbers_joined, part_ascends, parts_know, parts_searched}
 
 -- two facts of a value that a call gives
 pub both_ok : {T E : Type 0} (r : Result T E) (F G H : T → Type 0) → ((x : T) → F x → G x → H x) → IfOk r F → IfOk r G → IfOk r H

@@ -7,8 +7,8 @@ use Rattle.flow_lanes.specs.declared.answer.JobHits.{JobHits}
 use Rattle.flow_lanes.specs.declared.job.Job.{Job}
 use Rattle.flow_lanes.specs.Flows.{Detection, answer, flow_of, hits, same_flow}
 use Rattle.flow_lanes.specs.Standing.{AreLaneAnswers, lane_of}
-use Rattle.flow_lanes.proofs.Batches.{answers_joined}
-use Rattle.flow_lanes.proofs.Orders.{answer-local, is_in_lane-by_class}
+use Rattle.flow_lanes.proofs.Jobs.AnswersJoined.{answers_joined}
+use Rattle.flow_lanes.proofs.Jobs.AnswersOfFlow.{answer-local, is_in_lane-by_class}
 
 lane_of-below : (count : ℕ) (flow : Option ℕ) → 0 < count → lane_of count flow < count
 lane_of-below count None some = some

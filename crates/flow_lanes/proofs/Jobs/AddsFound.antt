@@ -21,9 +21,9 @@ use Rattle.flow_lanes.specs.Flows.{Detection, flow_of, same_flow}
 use Rattle.flow_lanes.specs.Sound.{FlowFacts, IsSoundFor, facts_after, facts_behind}
 use Rattle.flow_lanes.specs.Standing.{LaneState, LanesStand, LanesState, LearnsJob, Stands, is_in_lane, known_in, known_of, lane_of}
 use Rattle.flow_lanes.specs.Batching.{AddsFound, AreSearched, AreSoundAmong, AreSoundIn, HaveLearnt, HaveSearched, IsSearched, SearchesJob, lanes_of, numbered_out, own_jobs}
-use Rattle.flow_lanes.proofs.Orders.{is_in_lane-by_class}
-use Rattle.flow_lanes.proofs.OwnJobs.{own_jobs-more, own_jobs-of_flow}
-use Rattle.flow_lanes.proofs.Together.{below_count, numbered_out-local}
+use Rattle.flow_lanes.proofs.Jobs.AnswersOfFlow.{is_in_lane-by_class}
+use Rattle.flow_lanes.proofs.Jobs.OwnJobs.{own_jobs-more, own_jobs-of_flow}
+use Rattle.flow_lanes.proofs.Jobs.HaveSearched.{below_count, numbered_out-local}
 
 -- one lane has all jobs
 pub one_lane : (count : ℕ) (flow : Option ℕ) → count ≡ 1 → 0 ≡ lane_of count flow

@@ -10,9 +10,9 @@ use Rattle.flow_lanes.specs.Hits.{AreHits, Bits, Item, Tells, places_from}
 use Rattle.flow_lanes.specs.ItemHits.{Trying, bits_after_item, bits_after_items, hit, hits_of, matching, told}
 use Rattle.flow_lanes.specs.Picking.{bits_after_all, picked}
 use Rattle.flow_lanes.specs.Tried.{TriesAll, TriesOne, candidates_of}
-use Rattle.flow_lanes.proofs.Agreeing.{AreMatches-unique, places_from-are}
-use Rattle.flow_lanes.proofs.Picking.{picked-hits}
-use Rattle.flow_lanes.proofs.ToldLaws.{told-append, told-none}
+use Rattle.flow_lanes.proofs.Rules.AreHits.{AreMatches-unique, places_from-are}
+use Rattle.flow_lanes.proofs.Rules.Picked.{picked-hits}
+use Rattle.flow_lanes.proofs.Rules.Told.{told-append, told-none}
 
 -- the list of all rules that match is the one that the test finds
 matching-is : (means : Means) (trying : Trying) (rules : List Rule) (item : Item) (bits : Option Bits) (places : List ℕ) → trying.rules ≡ rules → Tells means trying.matches → AreHits means rules item bits places

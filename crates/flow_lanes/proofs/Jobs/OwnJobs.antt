@@ -17,7 +17,7 @@ use Rattle.flow_lanes.specs.Flows.{flow_of, same_flow}
 use Rattle.flow_lanes.specs.Sound.{IsSoundFor, facts_after, facts_behind}
 use Rattle.flow_lanes.specs.Standing.{LaneState, LearnsJob, Stands, is_in_lane, known_of, lane_of}
 use Rattle.flow_lanes.specs.Batching.{AddsFound, AddsOwn, AreSoundIn, GoesOn, SearchesJob, numbered_out, own_jobs}
-use Rattle.flow_lanes.proofs.Orders.{is_in_lane-by_class}
+use Rattle.flow_lanes.proofs.Jobs.AnswersOfFlow.{is_in_lane-by_class}
 
 -- the element at a place stands between those before it and those behind it
 pub split_at_read : {X : Type 0} (xs : List X) (i : ℕ) (x : X) → i < length xs → x ≡ get_or xs i x → xs ≡ take i xs ++ x ∷ drop (suc i) xs

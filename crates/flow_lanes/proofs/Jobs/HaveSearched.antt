@@ -28,9 +28,9 @@ use Rattle.flow_lanes.specs.Sound.{FlowFacts, IsSoundFor, facts_after}
 use Rattle.flow_lanes.specs.ItemHits.{matched_entry, told_entry}
 use Rattle.flow_lanes.specs.Standing.{AreSoundFor, DetectsBy, LaneState, LanesState, Stands, is_in_lane, known_in, known_of, lane_of, new_lane}
 use Rattle.flow_lanes.specs.Batching.{AreParts, AreSearched, AreSoundIn, GoesOn, HaveAnswered, HaveMatched, HaveSearched, found_of, numbered_out, own_jobs}
-use Rattle.flow_lanes.proofs.Batches.{answers_joined}
-use Rattle.flow_lanes.proofs.Orders.{answer-local, is_in_lane-by_class, tries-local}
-use Rattle.flow_lanes.proofs.OwnJobs.{GoesOn-known}
+use Rattle.flow_lanes.proofs.Jobs.AnswersJoined.{answers_joined}
+use Rattle.flow_lanes.proofs.Jobs.AnswersOfFlow.{answer-local, is_in_lane-by_class, tries-local}
+use Rattle.flow_lanes.proofs.Jobs.OwnJobs.{GoesOn-known}
 
 -- a lane that keeps nothing, where a place needs one
 idle : LaneState

@@ -29,9 +29,9 @@ use Rattle.flow_lanes.specs.Standing.{AnswersJob, CountsTries, DetectsBy, HasDon
 use Rattle.flow_lanes.specs.Tried.{TriesBy, candidates_of}
 use Rattle.flow_lanes.specs.Batching.{SearchesJob}
 use Rattle.flow_lanes.specs.Whole.{IsDone, IsDoneBy, found_for, items_for, kept_by}
-use Rattle.flow_lanes.proofs.LaneJobs.{HasDone-stands, Stands-finds}
-use Rattle.flow_lanes.proofs.Short.{job_short}
-use Rattle.flow_lanes.proofs.TryingLaws.{length-hits_of}
+use Rattle.flow_lanes.proofs.Jobs.Stands.{HasDone-stands, Stands-finds}
+use Rattle.flow_lanes.proofs.Sessions.AreShort.{job_short}
+use Rattle.flow_lanes.proofs.Rules.Tried.{length-hits_of}
 
 cond_then : {A : Type 0} (b : Bool) (x y z : A) → (b ≡ true → x ≡ y) → cond b x z ≡ cond b y z
 cond_then true x y z same = same refl

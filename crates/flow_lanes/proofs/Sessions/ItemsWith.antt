@@ -8,7 +8,7 @@ use Rattle.overlap_core.specs.declared.segment.Run.{Run}
 use Rattle.packet_decode.specs.declared.item.ItemHead.{ItemHead}
 use Rattle.flow_lanes.specs.Hits.{Item}
 use Rattle.flow_lanes.specs.Streams.{item_size, parts_of, payloads_of}
-use Rattle.flow_lanes.proofs.CutLaws.{payloads-more}
+use Rattle.flow_lanes.proofs.Sessions.PartsOf.{payloads-more}
 
 abbrev pub items_with : ItemHead → List (List ℕ) → List Item
 items_with head payloads = map (λ payload. record { head = head; payload = payload }) payloads

@@ -7,7 +7,7 @@ use Rattle.stream5_reassembly.specs.Segments.{AppendsFlushed, DirectionState, Fl
 use Rattle.flow_lanes.specs.Sides.{Side, acked_payloads, direction_after_data, held_payloads, is_held, queues, side_after_data, started_by}
 use Rattle.flow_lanes.specs.Streams.{flushed_payloads, payloads_of, runs_of}
 use Rattle.flow_lanes.specs.Working.{HasNoneLeft}
-use Rattle.flow_lanes.proofs.Runs.{flushed_payloads-runs}
+use Rattle.flow_lanes.proofs.Sessions.FlushedPayloads.{flushed_payloads-runs}
 
 -- no bytes are no data
 pub queues-none : (side : Side) (seq : ℕ) (bytes : List ℕ) → length bytes ≡ 0 → queues side seq bytes ≡ false

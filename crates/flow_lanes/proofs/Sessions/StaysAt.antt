@@ -23,9 +23,9 @@ use Rattle.flow_lanes.specs.Sides.{with_base}
 use Rattle.flow_lanes.specs.Staying.{StaysAt, StaysIn}
 use Rattle.flow_lanes.specs.Tried.{candidates_of}
 use Rattle.flow_lanes.specs.Working.{HasNoneLeft, ended_items, items_on, own_facts, own_item, streams_of, unless_ended}
-use Rattle.flow_lanes.proofs.DetectLaws.{goes-on, told-items, told-on, told-tries}
-use Rattle.flow_lanes.proofs.PartsLaws.{items-on, none-told}
-use Rattle.flow_lanes.proofs.TryingLaws.{tries-none}
+use Rattle.flow_lanes.proofs.Sessions.DetectsOn.{goes-on, told-items, told-on, told-tries}
+use Rattle.flow_lanes.proofs.Sessions.ItemsOn.{items-on, none-told}
+use Rattle.flow_lanes.proofs.Rules.Tried.{tries-none}
 
 -- what the table of phases tells of the packet
 pub stays-in : (making : Making) (p : Packet) (old : Session) (rules : SessionRules) (step : Step) (state : State)

@@ -15,8 +15,8 @@ use Rattle.rule_types.specs.declared.rule.Rule.{Rule}
 use Rattle.header_eval.specs.Fields.{HasPort, HeaderHolds, IsEnd, IsWay, PortHolds, destination_port, field_holds, is_of, source_port}
 use Rattle.option_eval.specs.Places.{Means}
 use Rattle.flow_lanes.specs.Hits.{Bits, Item, RuleMatches, Tells, Test, flowbit_holds}
-use Rattle.flow_lanes.proofs.Deciding.{Decided, decided_yes, decided_no, decided_like, decided_both, decided_either, decided_not, decided_true, decided_false, decided_le, decided_all, decided_any}
-use Rattle.flow_lanes.proofs.Ways.{decided_payload}
+use Rattle.flow_lanes.proofs.Rules.Decided.{Decided, decided_yes, decided_no, decided_like, decided_both, decided_either, decided_not, decided_true, decided_false, decided_le, decided_all, decided_any}
+use Rattle.flow_lanes.proofs.Rules.PayloadMatches.{decided_payload}
 
 decided_listed : {B : Type 0} (has : B → Type 0) → ((b : B) → Decided (has b)) → (parts : List (Part B)) → Decided (IsListed has parts)
 decided_listed {B = B} has each parts =

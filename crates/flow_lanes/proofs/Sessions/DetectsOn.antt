@@ -21,8 +21,8 @@ use Rattle.flow_lanes.specs.Items.{JobItems, acked_items, alone_items, finish_it
 use Rattle.flow_lanes.specs.Sessions.{Packet, Session, begun_session, session_of, settled, state_of, step_of, with_bases}
 use Rattle.flow_lanes.specs.Tried.{TriesAll, TriesOne, candidates_of}
 use Rattle.flow_lanes.specs.Working.{ended_items, items_on, sizes_behind, unless_ended}
-use Rattle.flow_lanes.proofs.ToldLaws.{steered-told, told-append, told-none}
-use Rattle.flow_lanes.proofs.TryingLaws.{candidates_of-append}
+use Rattle.flow_lanes.proofs.Rules.Told.{steered-told, told-append, told-none}
+use Rattle.flow_lanes.proofs.Rules.Tried.{candidates_of-append}
 
 dropped : {A : Type 0} (xs ys : List A) → drop (length xs) (xs ++ ys) ≡ ys
 dropped [] ys = refl
