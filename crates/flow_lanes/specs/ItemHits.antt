@@ -3,7 +3,7 @@
 -- The rules of an item see the bits that the items before it left (Snort Users Manual 2.9, section 3.6.10).
 -- Of the items all may be told, or those alone that a rule matches.
 -- To try it on: where a rule sets a bit on the first of two items, the second sees it from its first rule on.
-use Rattle.std.specs.Prelude.{ℕ, ◌==◌, Bool, true, false, not, List, [], ◌∷◌, Option, filter, fold, length, if◌then◌else◌}
+use Rattle.std.specs.Prelude.{ℕ, ◌==◌, Bool, not, List, [], ◌∷◌, Option, filter, fold, length, if◌then◌else◌}
 use Rattle.rule_types.specs.declared.rule.Rule.{Rule}
 use Rattle.flow_lanes.specs.declared.answer.Hits.{Hits}
 use Rattle.flow_lanes.specs.declared.answer.JobHits.{JobHits}

@@ -1,6 +1,6 @@
 -- A batch in turn: each job is searched by its own lane, and what is found of it stands behind what was found of the
 -- jobs before it. So it is what is found of the jobs taken one by one, and the lanes stand for these jobs.
-use Rattle.std.proofs.Common.{◌≡◌, ℕ, zero, suc, ◌<◌, ◌≤◌, Bool, true, false, cond, List, [], ◌∷◌, ◌++◌, length, get_or, set, take, drop, map, Option, Some, None, refl, sym, ap, subst, ◌∙◌, ◌⊎◌, inl, inr, append_assoc, eq-eqb, arith}
+use Rattle.std.proofs.Common.{◌≡◌, ℕ, zero, suc, ◌<◌, Bool, true, false, cond, List, [], ◌∷◌, ◌++◌, length, get_or, set, Option, Some, None, refl, sym, ap, subst, ◌∙◌, ◌⊎◌, inl, inr, append_assoc, eq-eqb, arith}
 use Rattle.std.specs.Prelude.{option_and_then, option_map, slice_get}
 use Rattle.std.specs.List.{filter}
 use Rattle.std.proofs.lemmas.Bool.{cases_eq, eqb-true, false_from_ne_true, ne_eqb}
@@ -9,7 +9,6 @@ use Rattle.std.proofs.lemmas.List.Elements.{filter-append}
 use Rattle.std.proofs.lemmas.List.Sums.{fold-append}
 use Rattle.std.proofs.lemmas.Option.{same_Some, slice_get-get_or, slice_get-map, slice_get_within}
 use Rattle.edge_io.specs.declared.pattern.Span.{Span}
-use Rattle.edge_io.specs.Along.{along_from}
 use Rattle.edge_io.proofs.Along.{along_from-append}
 use Rattle.conf_types.specs.declared.config.StreamConfig.{StreamConfig}
 use Rattle.option_eval.specs.RuleSet.{Rules}
@@ -20,10 +19,10 @@ use Rattle.flow_lanes.specs.declared.worker.Worker.{Worker}
 use Rattle.flow_lanes.specs.Flows.{Detection, flow_of, same_flow}
 use Rattle.flow_lanes.specs.Sound.{FlowFacts, IsSoundFor, facts_after, facts_behind}
 use Rattle.flow_lanes.specs.Standing.{LaneState, LanesStand, LanesState, LearnsJob, Stands, is_in_lane, known_in, known_of, lane_of}
-use Rattle.flow_lanes.specs.Batching.{AddsFound, AreSearched, AreSoundAmong, AreSoundIn, HaveLearnt, HaveSearched, IsSearched, SearchesJob, lanes_of, numbered_out, own_jobs}
+use Rattle.flow_lanes.specs.Batching.{AddsFound, AreSearched, AreSoundAmong, HaveLearnt, HaveSearched, IsSearched, SearchesJob, lanes_of, numbered_out, own_jobs}
 use Rattle.flow_lanes.proofs.Jobs.AnswersOfFlow.{is_in_lane-by_class}
 use Rattle.flow_lanes.proofs.Jobs.OwnJobs.{own_jobs-more, own_jobs-of_flow}
-use Rattle.flow_lanes.proofs.Jobs.HaveSearched.{below_count, numbered_out-local}
+use Rattle.flow_lanes.proofs.Jobs.HaveSearched.{numbered_out-local}
 
 -- one lane has all jobs
 pub one_lane : (count : ℕ) (flow : Option ℕ) → count ≡ 1 → 0 ≡ lane_of count flow
