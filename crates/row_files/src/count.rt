@@ -1,0 +1,41 @@
+ghost use Rattle.std.specs.Prelude.{◌≡◌, ◌+◌, ◌-◌, ◌^◌, min};
+
+use std::process::ExitCode;
+
+/// How many calls or runs gave what they must, and how many did not. A count stands still at its end.
+#[derive(Clone, Copy, Debug)]
+pub struct Count {
+    pub passed: u32,
+    pub differed: u32,
+}
+
+impl Count {
+    /// Nothing was tried.
+    pub fn new() -> Count
+        ensures { result ≡ record { passed = 0; differed = 0 } }
+    {
+        Count {
+            passed: 0,
+            differed: 0,
+        }
+    }
+
+    /// Counts one that gave what it must.
+    pub fn pass(&mut self)
+        ensures { self.new ≡ record self.old { passed = min (self.old.passed + 1) (2 ^ 32 - 1) } }
+    {
+        self.passed = self.passed.saturating_add(1);
+    }
+
+    /// Counts one that did not.
+    pub fn differ(&mut self)
+        ensures { self.new ≡ record self.old { differed = min (self.old.differed + 1) (2 ^ 32 - 1) } }
+    {
+        self.differed = self.differed.saturating_add(1);
+    }
+
+    /// The status of the program: 1 where one differed, else 0.
+    pub fn status(&self) -> ExitCode {
+        ExitCode::from(u8::from(self.differed > 0))
+    }
+}

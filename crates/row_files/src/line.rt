@@ -1,0 +1,65 @@
+ghost use Rattle.std.specs.Prelude.{◌≡◌, None, IfOk, string_bytes};
+
+use std::alloc::{AllocError, Global};
+
+/// A line of a file of rows, as often as it stands there.
+#[derive(Clone, Copy, Debug)]
+pub struct RowLine<'a> {
+    /// How often it stands.
+    pub times: u32,
+    /// What stands for `#` at the first time, and is one more at each later one; none where a `#` stays.
+    pub first: Option<u32>,
+    pub text: &'a str,
+}
+
+impl<'a> RowLine<'a> {
+    /// What a line says. `repeat N LINE` and `numbered N FIRST LINE` stand N times, an empty line and one that begins
+    /// with `#` never, and any other once.
+    pub fn read(line: &'a str) -> RowLine<'a> {
+        if line.is_empty() || line.starts_with('#') {
+            return RowLine::plain(0, line);
+        }
+        match repeated(line) {
+            Some(repeated) => repeated,
+            None => numbered(line).unwrap_or(RowLine::plain(1, line)),
+        }
+    }
+
+    fn plain(times: u32, text: &'a str) -> RowLine<'a> {
+        RowLine {
+            times,
+            first: None,
+            text,
+        }
+    }
+
+    /// The line of this turn, counted from 0.
+    pub fn at(&self, alloc: Global, turn: u32) -> Result<String, AllocError>
+        ensures { self.now.first ≡ None → IfOk result (λ line. string_bytes line ≡ self.now.text.now) }
+    {
+        match self.first {
+            None => String::from_str(alloc, self.text),
+            Some(first) => {
+                let number = format!(in alloc; "{}", first.saturating_add(turn))?;
+                self.text.replace(alloc, "#", number.as_str())
+            }
+        }
+    }
+}
+
+/// `repeat N LINE`
+fn repeated(line: &str) -> Option<RowLine<'_>> {
+    let (times, text) = line.strip_prefix("repeat ")?.split_once(' ')?;
+    Some(RowLine::plain(times.parse::<u32>().ok()?, text))
+}
+
+/// `numbered N FIRST LINE`
+fn numbered(line: &str) -> Option<RowLine<'_>> {
+    let (times, rest) = line.strip_prefix("numbered ")?.split_once(' ')?;
+    let (first, text) = rest.split_once(' ')?;
+    Some(RowLine {
+        times: times.parse::<u32>().ok()?,
+        first: Some(first.parse::<u32>().ok()?),
+        text,
+    })
+}
