@@ -22,7 +22,7 @@ fn push_digits(page: &mut Page, bytes: &mut Vec<u8>, digits: &[u8]) {
 
 /// The digits of a word: those of the file of this name, or its own.
 fn digits_of<'a>(row: &'a Row, word: &'a str) -> &'a [u8] {
-    let named = row.file(word);
+    let named = row.files.bytes(word);
     if named.is_empty() {
         word.as_bytes()
     } else {

@@ -8,7 +8,7 @@ use host_table::{HostFault, Hosts, LONGEST_TABLE, read_hosts};
 
 /// The hosts of a row's table, or why it is refused; without a table there are none.
 fn hosts_of(page: &Page, row: &Row) -> Result<Hosts, HostFault> {
-    let table = row.file("h");
+    let table = row.files.bytes("h");
     if table.is_empty() || table.len() > LONGEST_TABLE {
         return Ok(Hosts::empty(page.alloc));
     }

@@ -19,7 +19,6 @@ mod course;
 mod crossing;
 mod dialogues;
 mod events;
-mod file;
 mod flows;
 mod headers;
 mod hosts;
@@ -36,47 +35,15 @@ mod setups;
 mod trial;
 
 use crate::calls::Calls;
-use crate::trial::{Count, try_rows};
+use crate::trial::try_rows;
+use row_files::{Count, words_of};
 use std::process::ExitCode;
-use std::rt::Env;
-use std::{env, fs, io};
-
-/// Which rows are tried.
-#[derive(Drop)]
-struct Words {
-    /// The names of the files of rows.
-    files: Vec<String>,
-    /// What the label or the line of a call must have.
-    only: String,
-}
-
-/// What the program's words say: the names of files, and behind `--only` a text.
-fn words_of(rt: &(impl Env + AllocGlobal)) -> io::Result<Words> {
-    let alloc = rt.alloc();
-    let all: Vec<String> = env::args(rt)?.collect(alloc)?;
-    let mut files = Vec::new(alloc);
-    let mut only = String::new(alloc);
-    let mut is_only = false;
-    for word in all.iter().skip(1) {
-        if is_only {
-            only = word.clone()?;
-            is_only = false;
-        } else if word.as_str() == "--only" {
-            is_only = true;
-        } else {
-            files.push(word.clone()?)?;
-        }
-    }
-    Ok(Words { files, only })
-}
+use std::{fs, io};
 
 fn main(rt: HostRuntime) -> io::Result<ExitCode> {
     crossing::types_cross_threads();
     let words = words_of(&rt)?;
-    let mut count = Count {
-        passed: 0,
-        differed: 0,
-    };
+    let mut count = Count::new();
     for name in &words.files {
         let text = fs::read_to_string(&rt, name.as_str())?;
         try_rows(
@@ -92,5 +59,5 @@ fn main(rt: HostRuntime) -> io::Result<ExitCode> {
         "{} calls passed, {} differed",
         count.passed, count.differed
     )?;
-    Ok(ExitCode::from(u8::from(count.differed > 0)))
+    Ok(count.status())
 }

@@ -1,8 +1,8 @@
 //! A row: what its calls are given.
 
-use crate::file::NamedFile;
 use crate::page::Page;
-use edge_io::{LiteralMaker, MemHost};
+use edge_io::{LiteralMaker, MemHost, NoMemory};
+use row_files::Files;
 use std::alloc::{AllocError, Global};
 
 /// What the calls of a row are given.
@@ -10,7 +10,7 @@ use std::alloc::{AllocError, Global};
 pub(crate) struct Row {
     pub label: String,
     /// The files; the configuration is `r`, the host table `h`.
-    pub files: Vec<NamedFile>,
+    pub files: Files,
     /// The words of the item that headers, alerts and candidates speak of.
     pub item: String,
     /// The calls of the host and of the maker of patterns that fail, counted from 0.
@@ -28,7 +28,7 @@ impl Row {
     pub fn new(alloc: Global) -> Row {
         Row {
             label: String::new(alloc),
-            files: Vec::new(alloc),
+            files: Files::new(alloc),
             item: String::new(alloc),
             host: Vec::new(alloc),
             maker: Vec::new(alloc),
@@ -54,16 +54,13 @@ impl Row {
 
     /// A host that has the row's files, with its failing calls.
     pub fn host(&self, page: &mut Page) -> MemHost {
-        let mut host = MemHost::new(page.alloc);
-        for file in &self.files {
-            if host.put(&file.name, &file.bytes).is_err() {
+        match self.files.host(&self.host) {
+            Ok(host) => host,
+            Err(NoMemory) => {
                 page.lacks_memory = true;
+                MemHost::new(page.alloc)
             }
         }
-        if host.fail_calls(&self.host).is_err() {
-            page.lacks_memory = true;
-        }
-        host
     }
 
     /// A maker of patterns with its failing calls.
@@ -73,15 +70,5 @@ impl Row {
             page.lacks_memory = true;
         }
         maker
-    }
-
-    /// The bytes of a file; none where it isn't there.
-    pub fn file(&self, name: &str) -> &[u8] {
-        for file in &self.files {
-            if file.name.as_str() == name {
-                return &file.bytes;
-            }
-        }
-        &[]
     }
 }

@@ -26,7 +26,7 @@ impl Given {
             vars: Vars::new(page.alloc),
             bits: BitNames::new(page.alloc),
         };
-        if !row.file(CONF).is_empty() {
+        if !row.files.bytes(CONF).is_empty() {
             given.load(page, row);
             given.read_own(page);
         }

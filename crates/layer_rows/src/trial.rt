@@ -1,8 +1,9 @@
 //! Rows, tried one by one.
 
-use crate::notation::{Applied, apply, numbered_line, written};
+use crate::notation::{Applied, apply, written};
 use crate::page::Page;
 use crate::row::Row;
+use row_files::{Count, RowLine};
 use std::alloc::{AllocError, Global};
 use std::io;
 use std::thread::Threads;
@@ -21,13 +22,6 @@ pub(crate) trait Answer {
         given: &str,
     ) -> bool
         requires { IsSync R.row };
-}
-
-/// How many calls gave what they must, and how many did not.
-#[derive(Clone, Copy)]
-pub(crate) struct Count {
-    pub passed: u32,
-    pub differed: u32,
 }
 
 /// What a call is given, and what it must give.
@@ -78,27 +72,24 @@ fn try_call<R: Print + Threads + Sync, A: Answer>(
     let mut page = Page::new(alloc);
     let is_known = calls.answer(rt, &mut page, row, call.name, given.as_str());
     if is_known && !page.lacks_memory && trimmed(page.text.as_str()) == trimmed(call.wanted) {
-        count.passed = count.passed.saturating_add(1);
+        count.pass();
         return Ok(());
     }
-    count.differed = count.differed.saturating_add(1);
+    count.differ();
     println!(rt; "{}: {}: {}", row.label, line, page.text)
 }
 
-/// Makes the call of a line, or those that it numbers.
+/// Makes the calls of a line, one for each time that it stands.
 fn try_calls<R: Print + Threads + Sync, A: Answer>(
     rt: &R,
     calls: &A,
     alloc: Global,
     row: &Row,
-    line: &str,
+    line: RowLine<'_>,
     count: &mut Count,
 ) -> io::Result<()> {
-    let Some(numbered) = numbered_line(line) else {
-        return try_call(rt, calls, alloc, row, line, count);
-    };
-    for turn in 0..numbered.times {
-        let line = numbered.at(alloc, turn)?;
+    for turn in 0..line.times {
+        let line = line.at(alloc, turn)?;
         try_call(rt, calls, alloc, row, line.as_str(), count)?;
     }
     Ok(())
@@ -114,15 +105,16 @@ fn try_line<R: Print + Threads + Sync, A: Answer>(
     only: &str,
     count: &mut Count,
 ) -> io::Result<()> {
-    match apply(alloc, row, line)? {
+    let stands = RowLine::read(line);
+    match apply(alloc, row, stands)? {
         Applied::Taken => Ok(()),
         Applied::Wrong => {
-            count.differed = count.differed.saturating_add(1);
+            count.differ();
             println!(rt; "{}: not understood: {}", row.label, line)
         }
         Applied::Call => {
             if row.label.contains(only) || line.contains(only) {
-                try_calls(rt, calls, alloc, row, line, count)?;
+                try_calls(rt, calls, alloc, row, stands, count)?;
             }
             row.close_call();
             Ok(())

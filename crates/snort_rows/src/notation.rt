@@ -1,9 +1,9 @@
 //! The lines of a row.
 
-use crate::file::{NamedFile, append};
 use crate::frames::{End, HEAD, ends_of, fragment, record_of, tcp, udp};
 use crate::key::{Captured, Given, Key, Left, key_of};
 use crate::row::Row;
+use row_files::{Files, RowLine};
 use std::alloc::{AllocError, Global};
 
 /// The configuration and the capture of a row.
@@ -11,68 +11,11 @@ const CONF: &str = "r";
 
 const CAPTURE: &str = "p";
 
-/// Applies a line to a row; false where it isn't understood. An empty line and one that begins with
-/// `#` change nothing.
+/// Applies a line to a row, as often as it stands; false where it isn't understood.
 pub(crate) fn apply(alloc: Global, row: &mut Row, line: &str) -> Result<bool, AllocError> {
-    if line.is_empty() || line.starts_with('#') {
-        return Ok(true);
-    }
-    if let Some((times, repeated)) = repetition(line) {
-        return apply_repeated(alloc, row, times, repeated);
-    }
-    match numbered_line(line) {
-        Some(numbered) => apply_numbered(alloc, row, numbered),
-        None => apply_once(alloc, row, line),
-    }
-}
-
-/// The number and the line of `repeat N LINE`.
-fn repetition(line: &str) -> Option<(u32, &str)> {
-    let (times, repeated) = line.strip_prefix("repeat ")?.split_once(' ')?;
-    Some((times.parse::<u32>().ok()?, repeated))
-}
-
-fn apply_repeated(
-    alloc: Global,
-    row: &mut Row,
-    times: u32,
-    line: &str,
-) -> Result<bool, AllocError> {
-    for _ in 0..times {
-        if !apply_once(alloc, row, line)? {
-            return Ok(false);
-        }
-    }
-    Ok(true)
-}
-
-/// A line that stands several times, each time with its own number in place of `#`.
-#[derive(Clone, Copy)]
-struct NumberedLine<'a> {
-    times: u32,
-    first: u32,
-    line: &'a str,
-}
-
-/// What `numbered N FIRST LINE` says.
-fn numbered_line(line: &str) -> Option<NumberedLine<'_>> {
-    let (times, rest) = line.strip_prefix("numbered ")?.split_once(' ')?;
-    let (first, line) = rest.split_once(' ')?;
-    Some(NumberedLine {
-        times: times.parse::<u32>().ok()?,
-        first: first.parse::<u32>().ok()?,
-        line,
-    })
-}
-
-fn apply_numbered(
-    alloc: Global,
-    row: &mut Row,
-    numbered: NumberedLine<'_>,
-) -> Result<bool, AllocError> {
-    for turn in 0..numbered.times {
-        let number = format!(in alloc; "{}", numbered.first.saturating_add(turn))?;
-        let line = numbered.line.replace(alloc, "#", number.as_str())?;
+    let stands = RowLine::read(line);
+    for turn in 0..stands.times {
+        let line = stands.at(alloc, turn)?;
         if !apply_once(alloc, row, line.as_str())? {
             return Ok(false);
         }
@@ -100,10 +43,10 @@ fn apply_key(alloc: Global, row: &mut Row, key: Key, rest: &str) -> Result<bool,
 fn apply_given(alloc: Global, row: &mut Row, key: Given, rest: &str) -> Result<bool, AllocError> {
     match key {
         Given::Words => set_words(alloc, row, rest),
-        Given::Conf => append_line(alloc, row, rest),
-        Given::ConfPart => append_part(alloc, row, rest),
+        Given::Conf => append_line(row, CONF, rest),
+        Given::ConfPart => append_part(row, rest),
         Given::ConfHex => append_hex(alloc, &mut row.files, CONF, rest),
-        Given::File => append_file_line(alloc, row, rest),
+        Given::File => append_file_line(row, rest),
         Given::Step => set_step(row, rest),
         Given::Host => push_number(&mut row.host, rest),
         Given::Maker => push_number(&mut row.maker, rest),
@@ -122,31 +65,20 @@ fn set_step(row: &mut Row, text: &str) -> Result<bool, AllocError> {
     Ok(row.step > 0)
 }
 
-/// A line of the configuration.
-fn append_line(alloc: Global, row: &mut Row, line: &str) -> Result<bool, AllocError> {
-    append_line_of(alloc, row, CONF, line)
-}
-
-/// `NAME TEXT`: a line of the file of this name.
-fn append_file_line(alloc: Global, row: &mut Row, rest: &str) -> Result<bool, AllocError> {
-    let (name, line) = rest.split_once(' ').unwrap_or((rest, ""));
-    append_line_of(alloc, row, name, line)
-}
-
-fn append_line_of(
-    alloc: Global,
-    row: &mut Row,
-    name: &str,
-    line: &str,
-) -> Result<bool, AllocError> {
-    append(alloc, &mut row.files, name, line.as_bytes())?;
-    append(alloc, &mut row.files, name, b"\n")?;
+fn append_line(row: &mut Row, name: &str, line: &str) -> Result<bool, AllocError> {
+    row.files.append_line(name, line)?;
     Ok(true)
 }
 
+/// `NAME TEXT`: a line of the file of this name.
+fn append_file_line(row: &mut Row, rest: &str) -> Result<bool, AllocError> {
+    let (name, line) = rest.split_once(' ').unwrap_or((rest, ""));
+    append_line(row, name, line)
+}
+
 /// A line of the configuration without its line feed.
-fn append_part(alloc: Global, row: &mut Row, line: &str) -> Result<bool, AllocError> {
-    append(alloc, &mut row.files, CONF, line.as_bytes())?;
+fn append_part(row: &mut Row, line: &str) -> Result<bool, AllocError> {
+    row.files.append(CONF, line.as_bytes())?;
     Ok(true)
 }
 
@@ -166,7 +98,7 @@ fn apply_captured(
     rest: &str,
 ) -> Result<bool, AllocError> {
     match key {
-        Captured::Head => append_head(alloc, row),
+        Captured::Head => append_head(row),
         Captured::Hex => append_hex(alloc, &mut row.files, CAPTURE, rest),
         Captured::At => set_moment(row, rest),
         Captured::Udp => append_udp(alloc, row, rest),
@@ -176,8 +108,8 @@ fn apply_captured(
     }
 }
 
-fn append_head(alloc: Global, row: &mut Row) -> Result<bool, AllocError> {
-    append(alloc, &mut row.files, CAPTURE, HEAD)?;
+fn append_head(row: &mut Row) -> Result<bool, AllocError> {
+    row.files.append(CAPTURE, HEAD)?;
     Ok(true)
 }
 
@@ -196,7 +128,7 @@ fn moment_of(text: &str) -> Option<(u32, u32)> {
 fn append_record(alloc: Global, row: &mut Row, packet: &[u8]) -> Result<bool, AllocError> {
     let moment = row.moment.unwrap_or((row.records, 0));
     let bytes = record_of(alloc, moment, packet)?;
-    append(alloc, &mut row.files, CAPTURE, &bytes)?;
+    row.files.append(CAPTURE, &bytes)?;
     row.records = row.records.saturating_add(1);
     row.moment = None;
     Ok(true)
@@ -313,7 +245,7 @@ fn hex_byte(high: u8, low: u8) -> Option<u8> {
 /// empty.
 fn append_hex(
     alloc: Global,
-    files: &mut Vec<NamedFile>,
+    files: &mut Files,
     name: &str,
     rest: &str,
 ) -> Result<bool, AllocError> {
@@ -321,7 +253,7 @@ fn append_hex(
     if !push_hex(&mut bytes, rest)? {
         return Ok(false);
     }
-    append(alloc, files, name, &bytes)?;
+    files.append(name, &bytes)?;
     Ok(true)
 }
 

@@ -17,15 +17,6 @@ fn words_of(alloc: Global, command: &str) -> Result<Vec<String>, NoMemory> {
     Ok(words)
 }
 
-fn host_of(alloc: Global, row: &Row) -> Result<MemHost, NoMemory> {
-    let mut host = MemHost::new(alloc);
-    for file in &row.files {
-        host.put(&file.name, &file.bytes)?;
-    }
-    host.fail_calls(&row.host)?;
-    Ok(host)
-}
-
 fn sink_of(alloc: Global, step: u32, failing: &[u32]) -> Result<MemSink, NoMemory> {
     let step = usize::try_from(step.max(1)).unwrap_or(1);
     let mut sink = MemSink::new(alloc, step, ROOM)?;
@@ -117,7 +108,7 @@ pub(crate) fn differences<R: Threads + Sync>(
     row: &Row,
 ) -> Result<String, NoMemory> {
     let words = words_of(alloc, command_of(row))?;
-    let mut host = host_of(alloc, row)?;
+    let mut host = row.files.host(&row.host)?;
     let mut alerts = sink_of(alloc, row.step, &row.alerts)?;
     let mut errors = sink_of(alloc, row.step, &row.errors)?;
     let mut maker = maker_of(alloc, &row.maker)?;

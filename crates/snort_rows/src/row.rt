@@ -1,4 +1,4 @@
-use crate::file::NamedFile;
+use row_files::Files;
 use std::alloc::{AllocError, Global};
 
 /// A run, and what it must leave.
@@ -7,7 +7,7 @@ pub(crate) struct Row {
     pub label: String,
     /// The words of the command, between single blanks; empty for `snort -c r -r p`.
     pub words: String,
-    pub files: Vec<NamedFile>,
+    pub files: Files,
     /// How many records the capture has, and the moment of the next one where it is told.
     pub records: u32,
     pub moment: Option<(u32, u32)>,
@@ -31,7 +31,7 @@ impl Row {
         Row {
             label: String::new(alloc),
             words: String::new(alloc),
-            files: Vec::new(alloc),
+            files: Files::new(alloc),
             records: 0,
             moment: None,
             step: 10,
