@@ -1,8 +1,8 @@
 -- How the watching of a capture follows its answer.
-use Rattle.std.proofs.Common.{◌≡◌, ℕ, ◌≤◌, ◌-◌, List, [], ◌++◌, Option, Some, None, Result, Ok, Err, length, take, drop, refl, sym, ap, subst, append_assoc, ◌∙◌, arith, inl, inr, ◌⊎◌, ⊎_elim}
+use Rattle.std.proofs.Common.{◌≡◌, ℕ, ◌≤◌, List, [], ◌++◌, Option, Some, None, Result, Ok, Err, length, take, drop, refl, sym, ap, subst, append_assoc, ◌∙◌, arith, inl, inr, ◌⊎◌, ⊎_elim}
 use Rattle.std.specs.FinMap.{get}
 use Rattle.std.specs.List.{concat}
-use Rattle.std.proofs.lemmas.List.{append-nil, take-append-drop, take-append-le, length-append}
+use Rattle.std.proofs.lemmas.List.{append-nil, take-append-drop, take-append-le}
 use Rattle.edge_io.specs.Told.{behind, Rose}
 use Rattle.edge_io.specs.Files.{Files}
 use Rattle.edge_io.proofs.Told.{behind-nil}
@@ -25,14 +25,14 @@ use Rattle.snort_engine.specs.Lines.{lines}
 use Rattle.snort_engine.specs.Answer.{Answer, answer_of, way_answer, capture_answer, recording_answer, fault_text, fault_status, ending_text, ending_status}
 use Rattle.snort_engine.specs.Messages.{cannot_read_text}
 use Rattle.snort_engine.specs.Outside.{Work, WritesPart}
-use Rattle.snort_engine.specs.ReadAhead.{batch, all_but, lines_due, AreBatches, IsReadInBatches, IsReadAhead, ReadsAhead}
+use Rattle.snort_engine.specs.ReadAhead.{batch, before_last_batch, earlier_batches, lines_due, AreBatches, IsReadInBatches, IsReadAhead, ReadsAhead}
 use Rattle.snort_engine.specs.Ending.{IsAnswered, IsTakenOf, lines_within, IsCutShort, Ends}
 use Rattle.snort_engine.specs.Steps.Stop.{capture_stop, stop_status, stop_text, outcome_status, outcome_text}
 use Rattle.snort_engine.specs.Steps.Reporting.{counts_due}
 use Rattle.snort_engine.specs.Steps.Watching.{recording_by, lines_of, IsReadOut, HasReadTo, IsReadCutShort, IsCloseBehind, WatchesTo, WritesSome, Watches}
 use Rattle.snort_engine.proofs.Prefixes.{IsPrefix-nil, WritesPart-none}
 use Rattle.snort_engine.proofs.LinesLaws.{lines_join, lines-nil, lines-none, no_counts-are}
-use Rattle.snort_engine.proofs.Limits.{batches_none}
+use Rattle.snort_engine.proofs.Limits.{batches_none, before_last}
 use Rattle.snort_engine.proofs.Opening.{few_hold_none}
 use Rattle.snort_engine.proofs.Recordings.{first_of-none}
 use Rattle.snort_engine.proofs.Finishing.{IsPlain, ends_met, ends_unread, ends_unwritten, ends_lacking, ahead_goes, ahead_cut}
@@ -53,7 +53,7 @@ none_over (Some limit) bytes none = let size : length (records_in None bytes).re
 
 none_due : (plan : Plan) (bytes : List ℕ) → HoldNone bytes → lines_due plan bytes ≡ []
 unfolding lines_due
-none_due plan bytes none = ap (λ (x : List LinkedRecord). lines plan [] (all_but batch x) Open) (none plan.limit) ∙ lines-nil plan []
+none_due plan bytes none = ap (λ (x : List LinkedRecord). lines plan [] (earlier_batches x) Open) (none plan.limit) ∙ lines-nil plan []
 
 -- ---- the answer
 
@@ -225,21 +225,19 @@ open_ends plan files course fault.Failed before after counts goes same counted o
 
 -- ---- a capture that was opened and watched
 
--- all records but the last ones, where at most a batch stands behind the others, are the first of these
-all_but-front : (given last : List LinkedRecord) → length last ≤ batch → all_but batch (given ++ last) ≡ take (length (given ++ last) - batch) given
-all_but-front given last few =
-    let below : length (given ++ last) - batch ≤ length given = omega (arith, length-append given last) in
-    take-append-le (length (given ++ last) - batch) given last below
-
--- their lines come first
-front_first : (plan : Plan) (given last : List LinkedRecord) → length last ≤ batch
-    → lines plan [] given Open
-    ≡ lines plan [] (all_but batch (given ++ last)) Open ++ lines plan (take (length (given ++ last) - batch) given) (drop (length (given ++ last) - batch) given) Open
-front_first plan given last few =
-    let count = length (given ++ last) - batch in
-    ap (λ (x : List LinkedRecord). lines plan [] x Open) (sym (take-append-drop count given))
-    ∙ lines_join plan [] (take count given) (drop count given) Open
-    ∙ ap (λ (x : List LinkedRecord). lines plan [] x Open ++ lines plan (take count given) (drop count given) Open) (sym (all_but-front given last few))
+-- the records before the last one's batch are the first of those given, if these are whole batches and at most one more
+-- stands behind them, or none: so their lines come first
+front_first : (plan : Plan) (given last : List LinkedRecord) → AreBatches given ⊎ (last ≡ []) → length last ≤ batch
+    → (others : List ℕ) × (lines plan [] given Open ≡ lines plan [] (earlier_batches (given ++ last)) Open ++ others)
+front_first plan given last batches few =
+    let count = before_last_batch (length (given ++ last)) in
+    let others = lines plan (take count given) (drop count given) Open in
+    let front : take count (given ++ last) ≡ take count given = take-append-le count given last (before_last given last batches few) in (
+      others,
+      ap (λ (x : List LinkedRecord). lines plan [] x Open) (sym (take-append-drop count given))
+          ∙ lines_join plan [] (take count given) (drop count given) Open
+          ∙ ap (λ (x : List LinkedRecord). lines plan [] x Open ++ others) (sym front),
+    )
 
 -- the records within what was taken by the opening and some more bytes
 records_behind : (plan : Plan) (front taken : List ℕ) (reader : RecordReader) → BeginsBehind front reader → (records_of plan (front ++ taken)).records ≡ (recording_by plan reader taken).records
@@ -291,10 +289,11 @@ ahead_behind plan files course held bytes reader left_first before after failed 
     let split = split_told left_first after.left close.taken o.rest close.took o.told in
     let given = close.given in
     let last = close.last in
-    let others = lines plan (take (length (given ++ last) - batch) given) (drop (length (given ++ last) - batch) given) Open in
+    let front = front_first plan given last close.batches close.few in
+    let others = front.0 in
     let records : (records_of plan (o.front ++ close.taken)).records ≡ given ++ last = records_behind plan o.front close.taken reader o.begins ∙ close.are in
     let shown : lines plan [] given Open ≡ lines_due plan (o.front ++ close.taken) ++ others =
-    front_first plan given last close.few ∙ ap (λ (x : List LinkedRecord). lines plan [] (all_but batch x) Open ++ others) (sym records) in
+    front.1 ∙ ap (λ (x : List LinkedRecord). lines plan [] (earlier_batches x) Open ++ others) (sym records) in
     record {
       taken = o.front ++ close.taken;
       rest = split.rest;

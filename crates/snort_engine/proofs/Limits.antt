@@ -1,11 +1,11 @@
 -- What a limit leaves of a capture's records, behind those that were given.
 use Rattle.std.proofs.Common.{◌≡◌, ℕ, zero, suc, ◌+◌, ◌-◌, ◌<◌, ◌≤◌, List, [], ◌∷◌, ◌++◌, Option, Some, None, length, refl, sym, ap, ◌∙◌, arith, inl, inr, ◌⊎◌, ⊎_elim}
 use Rattle.std.proofs.lemmas.Bool.{cases_lt}
-use Rattle.std.proofs.lemmas.List.{append-nil, length-append}
+use Rattle.std.proofs.lemmas.List.{append-nil, length-append, nil_from_length}
 use Rattle.record_jobs.specs.Way.{LinkedRecord}
 use Rattle.snort_engine.specs.Records.{AreWithin, Recording, Ending, Clean, none_before, first_of}
 use Rattle.snort_engine.specs.Steps.Reader.{with_front}
-use Rattle.snort_engine.specs.ReadAhead.{batch, AreBatches}
+use Rattle.snort_engine.specs.ReadAhead.{batch, AreBatches, before_last_batch}
 use Rattle.snort_engine.specs.Steps.Watching.{IsRoom, most_at, room_behind}
 use Rattle.snort_engine.proofs.Recordings.{with_first, first_of-none, first_of-zero, first_of-none_before, first_of-with_first}
 
@@ -124,3 +124,14 @@ batches_further (Some room) given records (inl (count, is)) full = ⊎_elim
     (λ (long : batch ≤ room). inl (count + 1, omega (arith, is, full, long, length-append given records)))
     (cases_lt room batch)
 batches_further (Some room) given records (inr none) full = inr (omega (arith, none, full))
+
+-- what is read behind whole batches, or, where no more may be read, nothing
+pub batches_last : (room : Option ℕ) (given last : List LinkedRecord) → AreBatches given ⊎ (most_at room ≡ 0) → length last ≤ most_at room → AreBatches given ⊎ (last ≡ [])
+batches_last room given last (inl whole) few = inl whole
+batches_last room given last (inr none) few = inr (nil_from_length last (omega (arith, none, few)))
+
+-- before the last record's batch lie no more than those that were given, if these are whole batches and at most one
+-- more stands behind them, or none
+pub before_last : (given last : List LinkedRecord) → AreBatches given ⊎ (last ≡ []) → length last ≤ batch → before_last_batch (length (given ++ last)) ≤ length given
+before_last given last (inl (count, is)) few = omega (arith, is, few, length-append given last)
+before_last given last (inr none) few = let size : length last ≡ 0 = ap length none in omega (arith, size, length-append given last)

@@ -1,16 +1,19 @@
 -- Runs that the headline refuses: one line short, one record too far ahead, one after a write fault, one behind the
 -- limit, one opening too many.
 --
--- The first and the last ones speak of any capture, the second of one whose first record alerts, and behind
--- which a whole batch was taken. They show that the relations say something of such runs by themselves,
+-- The first and the last ones speak of any capture, the second of one whose first batch has a line, and behind
+-- which a record was taken. They show that the relations say something of such runs by themselves,
 -- whatever a body's proof looks like.
-use Rattle.std.proofs.Common.{◌≡◌, ℕ, ◌+◌, ◌-◌, ◌≤◌, List, [], ◌∷◌, ◌++◌, Option, Some, None, length, take, refl, sym, ap, subst, ◌∙◌, arith, inl, inr, ⊎_elim}
+use Rattle.std.proofs.Common.{◌≡◌, ℕ, ◌+◌, ◌-◌, ◌≤◌, List, [], ◌∷◌, ◌++◌, Option, Some, None, length, take, refl, sym, ap, subst, append_assoc, ◌∙◌, arith, inl, inr, ⊎_elim}
 use Rattle.std.specs.FinMap.{get}
 use Rattle.std.proofs.lemmas.List.{length-append, take_at}
+use Rattle.std.proofs.Math.Seq.{take-append-add}
 use Rattle.edge_io.specs.Told.{behind, Rose}
 use Rattle.edge_io.specs.Files.{Files}
+use Rattle.edge_io.proofs.Told.{behind-nil}
 use Rattle.option_eval.specs.Places.{Means}
 use Rattle.command_words.specs.CommandLine.{command_line}
+use Rattle.snort_engine.specs.declared.status.Status.{Status}
 use Rattle.snort_engine.specs.declared.status.Status.TheVariants as status
 use Rattle.snort_engine.specs.Course.{Plan, Way, Goes, Course, given}
 use Rattle.record_jobs.specs.Way.{LinkedRecord}
@@ -19,9 +22,10 @@ use Rattle.snort_engine.specs.Trace.{Open}
 use Rattle.snort_engine.specs.Lines.{lines}
 use Rattle.snort_engine.specs.Answer.{answer_of}
 use Rattle.snort_engine.specs.Outside.{Outside, Work}
-use Rattle.snort_engine.specs.ReadAhead.{batch, all_but, lines_due, IsReadInBatches, IsReadAhead, ReadsAhead, ReadsAheadOn}
+use Rattle.snort_engine.specs.ReadAhead.{batch, before_last_batch, earlier_batches, lines_due, IsReadInBatches, IsUntouched, IsShut, IsReadAhead, ReadsAhead, ReadsAheadOn}
 use Rattle.snort_engine.specs.Ending.{Ends}
 use Rattle.snort_engine.specs.Headline.{HasOther, Headline}
+use Rattle.snort_engine.proofs.LinesLaws.{lines_join}
 
 -- behind what is told, a text and no text differ
 behind_apart : (old text : List ℕ) (byte : ℕ) (rest : List ℕ) → behind (Some old) text ≡ behind (Some old) (text ++ byte ∷ rest) → ⊥
@@ -39,14 +43,28 @@ one_line_short files course before after message old first byte second told answ
     (sym wrote ∙ ends.wrote ∙ ap (λ (b : Option (List ℕ)). behind b ends.alerts) told
     ∙ ap (behind (Some old)) ((ends.ended_as_stated tt).alerts_are ∙ answers))
 
--- the lines due of a record and a batch are those of the record
-due_of_first : (plan : Plan) (taken : List ℕ) (first : LinkedRecord) (others : List LinkedRecord) → (records_of plan taken).records ≡ first ∷ others → length others ≡ batch → lines_due plan taken ≡ lines plan [] (first ∷ []) Open
+-- the first records of joined lists, where they go past the first list
+front_past : (count : ℕ) (first others : List LinkedRecord) → length first ≤ count → take count (first ++ others) ≡ first ++ take (count - length first) others
+front_past count first others past =
+    let count_is : count ≡ length first + (count - length first) = omega (arith, past) in
+    ap (λ (n : ℕ). take n (first ++ others)) count_is ∙ take-append-add first others (count - length first)
+
+-- a batch lies before the last record's, if some records stand behind it
+past_first : (first others : List LinkedRecord) → length first ≡ batch → 1 ≤ length others → length first ≤ before_last_batch (length (first ++ others))
+past_first first others size some = omega (arith, size, some, length-append first others)
+
+-- where more records than a batch were taken, the lines of the first batch are due, and come first
+due_first : (plan : Plan) (taken : List ℕ) (first others : List LinkedRecord) → (records_of plan taken).records ≡ first ++ others → length first ≡ batch → 1 ≤ length others
+    → (more : List ℕ) × (lines_due plan taken ≡ lines plan [] first Open ++ more)
 unfolding lines_due
-due_of_first plan taken first others are size =
-    let count : length (first ∷ others) - batch ≡ 1 = omega (arith, size) in
-    ap (λ (x : List LinkedRecord). lines plan [] (all_but batch x) Open) are
-    ∙ ap (λ (n : ℕ). lines plan [] (take n (first ∷ others)) Open) count
-    ∙ ap (λ (x : List LinkedRecord). lines plan [] x Open) (take_at (first ∷ []) others 1 refl)
+due_first plan taken first others are size some =
+    let count = before_last_batch (length (first ++ others)) in
+    let further = take (count - length first) others in (
+      lines plan first further Open,
+      ap (λ (x : List LinkedRecord). lines plan [] (earlier_batches x) Open) are
+          ∙ ap (λ (x : List LinkedRecord). lines plan [] x Open) (front_past count first others (past_first first others size some))
+          ∙ lines_join plan [] first further Open,
+    )
 
 -- fronts of one text before one rest are the same
 same_front : (front other rest other_rest : List ℕ) → rest ≡ other_rest → front ++ rest ≡ other ++ other_rest → front ≡ other
@@ -56,27 +74,66 @@ same_front front other rest other_rest rests wholes =
     let size : length front ≡ length other = omega (arith, lengths, length-append front rest, length-append other rest) in
     sym (take_at front rest (length front) refl) ∙ ap (take (length front)) one ∙ take_at other rest (length front) (sym size)
 
--- a record with a line was taken and a batch behind it, and no line was written: no run ends so at a
--- write fault
-pub one_record_too_far : (files : Files) (course : Course) (plan : Plan) (before after : Work) (message old taken rest : List ℕ) (first : LinkedRecord) (others : List LinkedRecord) (byte : ℕ) (line : List ℕ)
-    → course.way ≡ Goes plan → get files plan.source ≡ Some (taken ++ rest) → after.left ≡ Some rest
-    → (records_of plan taken).records ≡ first ∷ others → length others ≡ batch → lines plan [] (first ∷ []) Open ≡ byte ∷ line
+-- of a capture that is open more records than a batch were taken, and the lines of the first batch go further than this
+-- text
+pub record IsTakenBeyond (plan : Plan) (held left : Option (List ℕ)) (text : List ℕ) : Type 0 where
+  pub taken : List ℕ
+  pub rest : List ℕ
+  pub of : held ≡ Some (taken ++ rest)
+  pub still : left ≡ Some rest
+  pub first : List LinkedRecord
+  pub others : List LinkedRecord
+  pub are : (records_of plan taken).records ≡ first ++ others
+  pub size : length first ≡ batch
+  pub some : 1 ≤ length others
+  pub byte : ℕ
+  pub line : List ℕ
+  pub shown : lines plan [] first Open ≡ text ++ byte ∷ line
+
+-- then no more than this text was written: that is too little
+due_unwritten : (plan : Plan) (held : Option (List ℕ)) (before after : Work) (ended : Status) (old text : List ℕ) → IsTakenBeyond plan held after.left text
+    → before.alerts ≡ Some old → after.alerts ≡ behind (Some old) text → IsReadAhead plan held before after ended → ⊥
+due_unwritten plan held before after ended old text beyond told wrote read =
+    let lefts : Some read.rest ≡ Some beyond.rest = sym read.still ∙ beyond.still in
+    let rests : read.rest ≡ beyond.rest = cc in
+    let helds : Some (read.taken ++ read.rest) ≡ Some (beyond.taken ++ beyond.rest) = sym read.of ∙ beyond.of in
+    let wholes : read.taken ++ read.rest ≡ beyond.taken ++ beyond.rest = cc in
+    let takens : read.taken ≡ beyond.taken = same_front read.taken beyond.taken read.rest beyond.rest rests wholes in
+    let due = due_first plan beyond.taken beyond.first beyond.others beyond.are beyond.size beyond.some in
+    let more = due.0 in
+    let all : lines_due plan read.taken ≡ text ++ beyond.byte ∷ (beyond.line ++ more) =
+    ap (lines_due plan) takens ∙ due.1 ∙ ap (λ (x : List ℕ). x ++ more) beyond.shown ∙ append_assoc text (beyond.byte ∷ beyond.line) more in
+    behind_apart old text beyond.byte ((beyond.line ++ more) ++ read.more)
+    (sym wrote ∙ read.wrote ∙ ap (λ (b : Option (List ℕ)). behind b (lines_due plan read.taken ++ read.more)) told
+    ∙ ap (λ (x : List ℕ). behind (Some old) (x ++ read.more)) all
+    ∙ ap (behind (Some old)) (append_assoc text (beyond.byte ∷ (beyond.line ++ more)) read.more))
+
+-- a batch that has a line was taken and a record behind it, and no line was written: no run ends so at a write fault
+pub one_record_too_far : (files : Files) (course : Course) (plan : Plan) (before after : Work) (message old : List ℕ)
+    → course.way ≡ Goes plan → IsTakenBeyond plan (get files plan.source) after.left []
     → before.alerts ≡ Some old → after.alerts ≡ Some old → Ends files course before after status.WriteFault message → ⊥
-unfolding ReadsAhead behind
-one_record_too_far files course plan before after message old taken rest first others byte line goes held left are size alerts told wrote ends =
+unfolding ReadsAhead
+one_record_too_far files course plan before after message old goes beyond told wrote ends =
     ⊎_elim
-    (λ (r : IsReadAhead plan (get files plan.source) before after status.WriteFault).
-    let rests : r.rest ≡ rest = cc in
-    let wholes : r.taken ++ r.rest ≡ taken ++ rest = cc in
-    let takens : r.taken ≡ taken = same_front r.taken taken r.rest rest rests wholes in
-    let due : lines_due plan r.taken ≡ byte ∷ line = ap (lines_due plan) takens ∙ due_of_first plan taken first others are size ∙ alerts in
-    let joined : Some old ≡ Some (old ++ ((byte ∷ line) ++ r.more)) =
-    sym wrote ∙ r.wrote ∙ ap (λ (b : Option (List ℕ)). behind b (lines_due plan r.taken ++ r.more)) told ∙ ap (λ (x : List ℕ). Some (old ++ (x ++ r.more))) due in
-    let same : old ≡ old ++ (byte ∷ (line ++ r.more)) = cc in
-    let lengths : length old ≡ length (old ++ (byte ∷ (line ++ r.more))) = ap length same in
-    absurd (omega (arith, lengths, length-append old (byte ∷ (line ++ r.more)))))
+    (λ (read : IsReadAhead plan (get files plan.source) before after status.WriteFault).
+    due_unwritten plan (get files plan.source) before after status.WriteFault old [] beyond told (wrote ∙ sym (behind-nil (Some old))) read)
     (λ cut. ⊎_elim (λ is. absurd cc) (λ is. absurd cc) cut.0)
     (subst (λ (way : Way). ReadsAheadOn files way before after status.WriteFault) goes ends.read_ahead)
+
+-- a capture was opened, and the rest of it was read where the lines of its first batch were written in part: no run ends
+-- so, whatever its status
+pub rest_read_after_the_fault : (files : Files) (course : Course) (plan : Plan) (before after : Work) (ended : Status) (message old text : List ℕ)
+    → course.way ≡ Goes plan → before.opens + 1 ≤ after.opens → IsTakenBeyond plan (get files plan.source) after.left text
+    → before.alerts ≡ Some old → after.alerts ≡ behind (Some old) text → Ends files course before after ended message → ⊥
+unfolding ReadsAhead
+rest_read_after_the_fault files course plan before after ended message old text goes opened beyond told wrote ends =
+    ⊎_elim
+    (λ (read : IsReadAhead plan (get files plan.source) before after ended). due_unwritten plan (get files plan.source) before after ended old text beyond told wrote read)
+    (λ cut. ⊎_elim
+    (λ (untouched : IsUntouched before after). let same = untouched.opens in absurd (omega (arith, same, opened)))
+    (λ (shut : IsShut before after). let none : Some beyond.rest ≡ None = sym beyond.still ∙ shut.left in absurd cc)
+    cut.1)
+    (subst (λ (way : Way). ReadsAheadOn files way before after ended) goes ends.read_ahead)
 
 -- a batch and a record behind it were taken of a capture that has more, and the host did not fail: no run ends so at a
 -- write fault

@@ -27,7 +27,7 @@ use Rattle.snort_engine.specs.ReadAhead.{batch, AreBatches}
 use Rattle.snort_engine.specs.Steps.Detecting.{Closes, ClosesPart, Detecting, DetectorStands, ShowsRecords, ShowsRecordsPart, closing_lines}
 use Rattle.snort_engine.specs.Steps.Watching.{Streams, Standing, lines_of, lines_left, recording_by, IsRoom, most_at, room_behind, IsReadOut, HasReadTo, IsUnderWay, IsAtEnd, IsReadCutShort, IsCloseBehind, WritesSome, WatchesTo, Watches, Comes, ComesOver, WatchesOn, IsShowStop, IsLeft, IsClosedWhole, IsClosedInPart, ClosesWatched}
 use Rattle.snort_engine.proofs.Prefixes.{WritesPart-all, WritesPart-behind, WritesPart-longer}
-use Rattle.snort_engine.proofs.Limits.{first_of-front, below_limit, at_limit, within_limit, room_first, room_further, room_left, room_within, batches_none, batches_further}
+use Rattle.snort_engine.proofs.Limits.{first_of-front, below_limit, at_limit, within_limit, room_first, room_further, room_left, room_within, batches_none, batches_further, batches_last}
 use Rattle.snort_engine.proofs.Reading.{reading-start, reading-told, reading-whole}
 use Rattle.snort_engine.proofs.LinesLaws.{lines_of-nil, lines_of-closed, lines_of-append}
 
@@ -173,6 +173,7 @@ close_by plan first room given old after failed outcome is wrote whole to = reco
   given = given;
   last = [];
   are = within_limit plan.limit room given (recording_for first whole.taken) is whole.are ∙ sym (append-nil given);
+  batches = inr refl;
   few = omega arith;
   more = [];
   wrote = wrote ∙ ap (behind old.written) (sym (append-nil (lines_of plan given Open)));
@@ -327,6 +328,7 @@ batch_part plan records old new failed reached why few to reads kind shown = λ 
         given = going.given;
         last = records;
         are = within_limit plan.limit (room_behind old.room (length records)) given (recording_for first stopped.whole.taken) room_is stopped.whole.are;
+        batches = batches_last old.room going.given records going.batches few;
         few = batch_few old.room (length records) few;
         more = part;
         wrote = own.2 ∙ ap (λ (x : Option (List ℕ)). behind x part) going.wrote ∙ behind-behind start.written (lines_of plan going.given Open) part;
@@ -392,6 +394,7 @@ comes_since plan first start now later since detector outcome rises (came, close
     given = close.given;
     last = close.last;
     are = close.are;
+    batches = close.batches;
     few = close.few;
     more = close.more;
     wrote = close.wrote;
@@ -520,6 +523,7 @@ module _ (plan : Plan) (first : RecordReader) (start now : Streams) (detector : 
     given = close.given;
     last = close.last;
     are = close.are;
+    batches = close.batches;
     few = close.few;
     more = close.more ++ more;
     wrote = wrote ∙ ap (λ (x : Option (List ℕ)). behind x more) close.wrote

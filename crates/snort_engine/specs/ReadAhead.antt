@@ -2,16 +2,18 @@
 --
 -- It goes by the course. Where the course stops, nothing is opened and no line is written. Where it
 -- goes on with a plan for a file, that capture is open at the end and has lost some bytes: of the records
--- that are whole within these the lines of all but the last batch were written, and maybe more. A run
--- that is cut off before has opened nothing, or has nothing open, and has written no line. Where the
--- capture is made, nothing is opened or read, and so no fault of reading ends the run; so it is where the
+-- that are whole within these the lines of all batches before the one that the last of them is in were written, and
+-- maybe more. A run that is cut off before has opened nothing, or has nothing open, and has written no line. Where
+-- the capture is made, nothing is opened or read, and so no fault of reading ends the run; so it is where the
 -- lines of a Unified2 file are written, which was read before.
--- Under a limit no more records than it lets are whole within the bytes that were taken. After a write fault nothing
--- more is read: what was taken then are whole batches, unless the capture was read to its end or the host failed.
--- To try it on: where 600 records with a line each were taken, at least the lines of the first 344
+-- Under a limit no more records than it lets are whole within the bytes that were taken. After a write fault in the
+-- lines of a batch no record is read behind it, since its lines would be due then; and it was read whole, unless the
+-- capture was read to its end or the host failed.
+-- To try it on: where 600 records with a line each were taken, at least the lines of the first 512
 -- stand in the alerts; under `-n 5` at most five of them were taken. Of 1000 records with a line each, where the
 -- write of the 300th fails, 512 were taken: the batch whose lines were written, and the one whose lines were offered.
-use Rattle.std.specs.Prelude.{◌≡◌, ℕ, ◌-◌, ◌*◌, List, [], ◌++◌, length, take, Option, Some, None, ◌⊎◌}
+-- Of 300, where the write of the 200th fails, 256 were taken, and not the 44 that were left.
+use Rattle.std.specs.Prelude.{◌≡◌, ℕ, ◌-◌, ◌*◌, ◌/◌, List, [], ◌++◌, length, take, Option, Some, None, ◌⊎◌}
 use Rattle.std.specs.FinMap.{get}
 use Rattle.edge_io.specs.Told.{behind, Rose}
 use Rattle.edge_io.specs.Files.{Files}
@@ -38,13 +40,17 @@ IsReadInBatches plan taken rest failed =
     AreBatches (records_of plan taken).records
     ⊎ (((records_of plan (taken ++ rest)).records ≡ (records_of plan taken).records) ⊎ failed)
 
--- all records but the last ones
-abbrev pub all_but : ℕ → List LinkedRecord → List LinkedRecord
-all_but count records = take (length records - count) records
+-- how many records lie before the batch that the last one of so many is in
+abbrev pub before_last_batch : ℕ → ℕ
+before_last_batch count = (count - 1) / batch * batch
 
--- the lines of the records that are whole within these first bytes of the capture, but the last batch
+-- the records of all batches before the one that the last record is in
+abbrev pub earlier_batches : List LinkedRecord → List LinkedRecord
+earlier_batches records = take (before_last_batch (length records)) records
+
+-- of the records that are whole within these first bytes of the capture, the lines of all batches before the last one's
 unfoldable pub lines_due : Plan → List ℕ → List ℕ
-lines_due plan taken = lines plan [] (all_but batch (records_of plan taken).records) Open
+lines_due plan taken = lines plan [] (earlier_batches (records_of plan taken).records) Open
 
 -- no capture was opened, and no line was written
 pub record IsUntouched (before after : Work) : Type 0 where

@@ -119,9 +119,9 @@ HasReadTo plan reader taken left failed (Err stop.CannotWrite) =
     AreBatches (recording_by plan reader taken).records ⊎ (IsReadOut plan reader taken left ⊎ failed)
 HasReadTo plan reader taken left failed (Err why) = IsReadOut plan reader taken left
 
--- of the records that are whole within the bytes taken, the lines of all but the last batch were
--- written, and maybe more; without the limit there are no more of them than it lets; where the watching ends so,
--- and the host failed or did not, no more was read than may be
+-- of the records that are whole within the bytes taken, the lines of those given were written, and maybe more: of whole
+-- batches, behind which at most one more was read, or of all; without the limit there are no more of them than it lets;
+-- where the watching ends so, and the host failed or did not, no more was read than may be
 pub record IsCloseBehind (plan : Plan) (reader : RecordReader) (old new : Streams) (failed : Type 0)
     (outcome : Result (Unit {0}) Stop) : Type 0 where
   pub taken : List ℕ
@@ -129,6 +129,7 @@ pub record IsCloseBehind (plan : Plan) (reader : RecordReader) (old new : Stream
   pub given : List LinkedRecord
   pub last : List LinkedRecord
   pub are : (recording_by plan reader taken).records ≡ given ++ last
+  pub batches : AreBatches given ⊎ (last ≡ [])
   pub few : length last ≤ batch
   pub more : List ℕ
   pub wrote : new.written ≡ behind old.written (lines_of plan given Open ++ more)
