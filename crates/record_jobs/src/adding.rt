@@ -69,9 +69,9 @@ fn evicted(touch: Option<Touch>) -> Option<u64>
     touch?.evicted
 }
 
-/// How many jobs there is room for at least, once there is room for any: growing from one on would move the jobs of a
-/// batch again and again.
-const FIRST_ROOM: usize = 256;
+/// How many jobs there is room for at least, once there is room for any: mostly a record has two, the end of a flow and
+/// its packet. Growing from one on would move the jobs of a batch of 256 records again and again.
+const FIRST_ROOM: usize = 512;
 
 /// Makes room for one more job.
 #[inline(always)]
