@@ -5,6 +5,7 @@ ghost use Rattle.fast_pattern.specs.Finding.{Follows};
 ghost use Rattle.fast_pattern.specs.Marking.{is_marked};
 ghost use Rattle.fast_pattern.specs.Rows.{state_of};
 
+use crate::effort::Effort;
 use crate::ends::Grown;
 use crate::letters::letters_of;
 use crate::links::{Links, Owned, nexts};
@@ -235,14 +236,22 @@ impl Automaton {
         Ok(())
     }
 
-    /// Marks and lists the patterns that occur in the bytes.
-    fn mark_all(&self, bytes: &[u8], seen: &mut Seen, hits: &mut Vec<u32>) -> Result<(), NoMemory>
+    /// Marks and lists the patterns that occur in the bytes, and counts what that took.
+    fn mark_all(
+        &self,
+        bytes: &[u8],
+        seen: &mut Seen,
+        hits: &mut Vec<u32>,
+        effort: &mut Effort,
+    ) -> Result<(), NoMemory>
         ensures { OnOk result (CoversOn self.now bytes.now 0 seen.old hits.old.items (length bytes.now) seen.new hits.new.items) }
     {
         let Some(sieve) = &self.sieve else {
+            effort.add_walk(0, bytes.len());
             self.mark_in_one_walk(bytes, seen, hits)?;
             return Ok(());
         };
+        effort.add_sieved(bytes.len());
         let mut done = 0;
         let mut reach = SHORT_REACH;
         while done < bytes.len() {
@@ -252,17 +261,24 @@ impl Automaton {
             }
             reach = next_reach(reach, from - done);
             done = self.walk(bytes, from, from.saturating_add(reach), seen, hits)?;
+            effort.add_walk(from, done);
         }
         Ok(())
     }
 
-    /// The patterns that occur in the bytes, each once, in no order. Empty ones aren't told.
-    pub fn hits(&self, alloc: Global, bytes: &[u8]) -> Result<Vec<u32>, NoMemory>
+    /// The patterns that occur in the bytes, each once, in no order. Empty ones aren't told. What finding them took is
+    /// counted.
+    pub fn hits(
+        &self,
+        alloc: Global,
+        bytes: &[u8],
+        effort: &mut Effort,
+    ) -> Result<Vec<u32>, NoMemory>
         ensures { IfOk result (λ hits. AreHits self.now bytes.now hits.items) }
     {
         let mut seen = Seen::new(alloc);
         let mut hits = Vec::new(alloc);
-        self.mark_all(bytes, &mut seen, &mut hits)?;
+        self.mark_all(bytes, &mut seen, &mut hits, effort)?;
         Ok(hits)
     }
 }

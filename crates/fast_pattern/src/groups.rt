@@ -8,6 +8,7 @@ ghost use Rattle.fast_pattern.specs.Candidates.{occurs_if_any, ContentsOccur};
 use crate::automaton::Automaton;
 use crate::choice::chosen;
 use crate::doors::{door_table, lets_in};
+use crate::effort::Effort;
 use crate::header::{Asked, Kind};
 use crate::sides::{Sides, is_plain};
 use crate::windows::TABLE_WORDS;
@@ -174,29 +175,30 @@ impl Groups {
         Ok(fitting)
     }
 
-    /// Appends the rules that are worth being tried on the item, by their places, in ascending order. Where
-    /// memory is lacking `out` stays.
+    /// Appends the rules that are worth being tried on the item, by their places, in ascending order, and tells what
+    /// finding them took. Where memory is lacking `out` stays.
     pub fn candidates(
         &self,
         alloc: Global,
         head: &ItemHead,
         payload: &[u8],
         out: &mut Vec<u32>,
-    ) -> Result<(), NoMemory>
+    ) -> Result<Effort, NoMemory>
         ensures appended { OnOk result (AppendCandidates self.now head.now payload.now out.old.items out.new.items) }
         ensures unchanged { OnErr result (out.new.items ≡ out.old.items) }
     {
         // Where no header fits there is no candidate, and the payload isn't looked at.
         if self.doors.len() == TABLE_WORDS && !lets_in(&self.doors, &head.body) {
-            return Ok(());
+            return Ok(Effort::NONE);
         }
-        let mut places = self.automaton.hits(alloc, payload)?;
+        let mut effort = Effort::NONE;
+        let mut places = self.automaton.hits(alloc, payload, &mut effort)?;
         self.push_due(&head.body, &mut places)?;
         places.sort_unstable();
         places.dedup();
         let found = Groups::fitting(alloc, &self.rules, &places, &head.body)?;
         out.extend_from_slice(&found)?;
-        Ok(())
+        Ok(effort)
     }
 }
 

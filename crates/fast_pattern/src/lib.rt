@@ -18,6 +18,7 @@ mod automaton;
 mod blocks;
 mod choice;
 mod doors;
+mod effort;
 mod ends;
 mod groups;
 mod header;
@@ -33,4 +34,5 @@ mod trie;
 mod windows;
 
 pub use choice::{Fast, choose};
+pub use effort::Effort;
 pub use groups::{Groups, matching_needs_the_fast_pattern};

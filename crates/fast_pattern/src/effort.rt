@@ -1,0 +1,33 @@
+//! What looking for the candidates of an item takes.
+
+/// How much of a payload was looked at, and by what: from it a caller can tell about how long the look took, which
+/// depends on the payload as much as on the rules. No contract speaks of it.
+#[derive(Clone, Copy, Debug)]
+pub struct Effort {
+    /// Over how many bytes the sieve went: none where there is no sieve, or where no header fits.
+    pub sieved: u64,
+    /// How many walks of the automaton began.
+    pub walks: u64,
+    /// How many bytes they left behind.
+    pub walked: u64,
+}
+
+impl Effort {
+    /// The payload wasn't looked at.
+    pub const NONE: Effort = Effort {
+        sieved: 0,
+        walks: 0,
+        walked: 0,
+    };
+
+    /// The sieve went over so many bytes.
+    pub(crate) fn add_sieved(&mut self, bytes: usize) {
+        self.sieved = self.sieved.saturating_add(bytes as u64);
+    }
+
+    /// A walk went from one place to another.
+    pub(crate) fn add_walk(&mut self, from: usize, to: usize) {
+        self.walks = self.walks.saturating_add(1);
+        self.walked = self.walked.saturating_add(to.saturating_sub(from) as u64);
+    }
+}
