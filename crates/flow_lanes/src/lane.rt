@@ -30,7 +30,7 @@ pub struct Lane {
     flush: u32,
     inserts: bool,
     flows: Flows,
-    /// About what all its jobs cost. No contract speaks of it.
+    /// About what all its jobs cost, in nanoseconds. No contract speaks of it.
     cost: u64,
 }
 

@@ -14,7 +14,7 @@ use crate::arrival::Arrival;
 use crate::hits::matching_among;
 use crate::inspector::Inspector;
 use crate::item::Item;
-use crate::worth::item_cost;
+use crate::worth::{effort_cost, item_cost};
 use edge_io::{Items, NoMemory, Pattern};
 use flowbit_state::Bits;
 use packet_decode::{ItemHead, SessionFacts};
@@ -29,7 +29,7 @@ pub(crate) struct Tally {
     pub items: u64,
     /// How many candidates they had.
     pub tries: u64,
-    /// About what they cost.
+    /// About what they cost, in nanoseconds.
     pub cost: u64,
 }
 
@@ -76,19 +76,21 @@ impl Tally {
     }
 }
 
-/// The places of the rules that are worth being tried on an item.
+/// The places of the rules that are worth being tried on an item. About what finding them cost is counted.
 fn item_candidates<P: Pattern>(
     inspector: &Inspector<'_, P>,
     head: &ItemHead,
     payload: &[u8],
+    cost: &mut u64,
 ) -> Result<Vec<u32>, NoMemory>
     ensures { IfOk result (λ places. places.items
         ≡ candidates inspector.now.set.now.rules head.now.body payload.now) }
 {
     let mut places = Vec::new(inspector.alloc);
-    inspector
+    let effort = inspector
         .groups
         .candidates(inspector.alloc, head, payload, &mut places)?;
+    *cost = cost.saturating_add(effort_cost(&effort));
     Ok(places)
 }
 
@@ -132,7 +134,7 @@ pub(crate) fn try_item<P: Pattern>(
         ≡ tally.old.tries + length (candidates inspector.now.set.now.rules head.now.body payload.now)) }
     ensures more { OnOk result (length tally.old.hits.items ≤ length tally.new.hits.items) }
 {
-    let places = item_candidates(inspector, head, payload)?;
+    let places = item_candidates(inspector, head, payload, &mut tally.cost)?;
     try_candidates(inspector, &places, head, payload, bits, tally)
 }
 
@@ -154,7 +156,7 @@ fn try_packet<P: Pattern>(
         ≡ tally.old.tries + length (candidates inspector.now.set.now.rules p.now.head.now.body p.now.payload.now)) }
     ensures more { OnOk result (length tally.old.hits.items ≤ length tally.new.hits.items) }
 {
-    let places = item_candidates(inspector, p.head, p.payload)?;
+    let places = item_candidates(inspector, p.head, p.payload, &mut tally.cost)?;
     if places.is_empty() && !inspector.all {
         return tally.count(p.payload.len(), 0);
     }
