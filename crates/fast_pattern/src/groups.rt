@@ -175,9 +175,24 @@ impl Groups {
         Ok(fitting)
     }
 
-    /// Appends the rules that are worth being tried on the item, by their places, in ascending order, and tells what
-    /// finding them took. Where memory is lacking `out` stays.
+    /// Appends the rules that are worth being tried on the item, by their places, in ascending order. Where
+    /// memory is lacking `out` stays.
     pub fn candidates(
+        &self,
+        alloc: Global,
+        head: &ItemHead,
+        payload: &[u8],
+        out: &mut Vec<u32>,
+    ) -> Result<(), NoMemory>
+        ensures appended { OnOk result (AppendCandidates self.now head.now payload.now out.old.items out.new.items) }
+        ensures unchanged { OnErr result (out.new.items ≡ out.old.items) }
+    {
+        self.find_candidates(alloc, head, payload, out)?;
+        Ok(())
+    }
+
+    /// The same, and tells what finding them took.
+    pub fn find_candidates(
         &self,
         alloc: Global,
         head: &ItemHead,

@@ -89,7 +89,7 @@ fn item_candidates<P: Pattern>(
     let mut places = Vec::new(inspector.alloc);
     let effort = inspector
         .groups
-        .candidates(inspector.alloc, head, payload, &mut places)?;
+        .find_candidates(inspector.alloc, head, payload, &mut places)?;
     *cost = cost.saturating_add(effort_cost(&effort));
     Ok(places)
 }

@@ -7,7 +7,7 @@ use Rattle.std.proofs.lemmas.List.{get_or_default}
 use Rattle.std.proofs.lemmas.List.Filters.{dedup_is}
 use Rattle.fast_pattern.specs.Grouping.{fits_at}
 use Rattle.fast_pattern.proofs.Selecting.{candidates-are}
-use Rattle.fast_pattern.proofs.groups.Groups.candidates.Goals as goal
+use Rattle.fast_pattern.proofs.groups.Groups.find_candidates.Goals as goal
 
 pub returns-clause-appended : goal.returns-clause-appended
 returns-clause-appended c = record {
