@@ -249,19 +249,20 @@ impl Flow {
         Ok(tally)
     }
 
-    /// The end of the flow: the items of the session at hand with all rules that match them.
+    /// The end of the flow: the items of the session at hand with all rules that match them. No session stands
+    /// then. Where memory is lacking the flow is as far as its end came.
     pub fn finish<P: Pattern>(
-        mut self,
+        &mut self,
         inspector: &Inspector<'_, P>,
         moment: Moment,
     ) -> Result<Tally, NoMemory>
         ensures hits { (means : Means) (trying : Trying) → TriesBy P.finds means inspector.now.set.now trying
             → IfOk result (λ tally. tally.hits.items
-            ≡ told inspector.now.all (hits_in trying (finish_items moment (session_at_hand self.found)) self.found)) }
+            ≡ told inspector.now.all (hits_in trying (finish_items moment (session_at_hand self.old.found)) self.old.found)) }
         ensures items { IfOk result (λ tally. tally.items ≡ length
-            (all_items (finish_items moment (session_at_hand self.found)))) }
+            (all_items (finish_items moment (session_at_hand self.old.found)))) }
         ensures tries { IfOk result (λ tally. tally.tries ≡ candidates_of inspector.now.set.now.rules
-            (all_items (finish_items moment (session_at_hand self.found)))) }
+            (all_items (finish_items moment (session_at_hand self.old.found)))) }
     {
         let mut tally = Tally::new(inspector.alloc);
         end_session(inspector, moment, &mut self.found, &mut tally)?;

@@ -41,7 +41,9 @@ fn do_packet<P: Pattern>(
     }
 }
 
-/// The first packet of a flow.
+/// The first packet of a flow: an empty flow takes its place in the map, and goes on there.
+// Kept out of the line of the later packets.
+#[inline(never)]
 fn first_packet<P: Pattern>(
     inspector: &Inspector<'_, P>,
     settings: &Settings,
@@ -55,13 +57,12 @@ fn first_packet<P: Pattern>(
         (works.Packet flow p.now.head.now p.now.payload.now p.now.to_dst p.now.to_src)
         flows.old.entries flows.new.entries) }
 {
-    let mut kept = Flow::new(p);
+    let kept = flows.entry(flow)?.or_insert(Flow::new(p));
     let tally = kept.packet(inspector, settings, p)?;
-    flows.insert(flow, kept)?;
     Ok(tally)
 }
 
-/// The end of a flow.
+/// The end of a flow: it ends in its place, and then it is removed.
 fn do_finish<P: Pattern>(
     inspector: &Inspector<'_, P>,
     moment: Moment,
@@ -71,9 +72,10 @@ fn do_finish<P: Pattern>(
     ensures { (making : Making) → IfOk result (IsDone P.finds inspector.now.set.now inspector.now.all making moment
         (works.Finish flow) flows.old.entries flows.new.entries) }
 {
-    match flows.remove(&flow) {
+    match flows.get_mut(&flow) {
         Some(kept) => {
             let tally = kept.finish(inspector, moment)?;
+            flows.remove(&flow);
             Ok(tally)
         }
         None => Ok(Tally::new(inspector.alloc)),

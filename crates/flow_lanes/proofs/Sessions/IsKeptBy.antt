@@ -44,6 +44,11 @@ kept-more p facts found after kept same few grows = record {
       (grows (facts.packets * 2 ^ 31) (subst (λ (tcp : Bool). IsFound tcp (facts.packets * 2 ^ 31) found) (ends-tcp p facts.ends same) kept.kept)));
 }
 
+-- a flow whose session comes no further is kept as before
+pub kept-still : (facts : FlowFacts) (found after : Option Session) → IsKeptBy facts found
+    → ((tcp : Bool) (places : ℕ) → IsFound tcp places found → IsFound tcp places after) → IsKeptBy facts after
+kept-still facts found after kept keeps = record { few = kept.few; kept = keeps facts.ends.key.tcp (facts.packets * 2 ^ 31) kept.kept }
+
 -- a flow before its first packet
 pub sound-first : (engines : ℕ) (p : Packet) (facts : FlowFacts) → facts ≡ record { ends = ends_of p; packets = 0 } → IsSoundPacket engines None p → IsSoundPacket engines (Some facts) p
 sound-first engines p facts is sound =

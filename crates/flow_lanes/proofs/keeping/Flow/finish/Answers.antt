@@ -5,7 +5,14 @@ use Rattle.flow_lanes.specs.Items.{finish_items}
 use Rattle.flow_lanes.specs.Standing.{KeptFlow}
 use Rattle.flow_lanes.specs.Tried.{candidates_of}
 use Rattle.flow_lanes.proofs.Sessions.DetectsOn.{finished-hits, finished-items, finished-tries}
+use Rattle.flow_lanes.proofs.Sessions.IsKeptBy.{kept-still}
 use Rattle.flow_lanes.proofs.keeping.Flow.finish.Goals as goal
+
+pub invariant_of-self : goal.invariant_of-self
+invariant_of-self g c = kept-still c.self.inside.facts (session_at_hand c.self.inside.found) (session_at_hand c.end_session.new.found) c.self.invariant c.end_session.ensures.keeps
+
+pub invariant_of-self-2 : goal.invariant_of-self-2
+invariant_of-self-2 g c = kept-still c.self.inside.facts (session_at_hand c.self.inside.found) (session_at_hand c.end_session.new.found) c.self.invariant c.end_session.ensures.keeps
 
 pub returns-clause-hits : goal.returns-clause-hits
 returns-clause-hits g c = λ means trying by.
