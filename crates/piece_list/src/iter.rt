@@ -1,7 +1,6 @@
 //! The elements in order, by the links between their nodes.
-ghost use Rattle.std.specs.Prelude.{◌≡◌, length};
+ghost use Rattle.std.specs.Prelude.{◌≡◌, length, option_copied, option_to_list};
 ghost use Rattle.std.specs.Iterator.{YieldsFirstRef, item_count};
-ghost use Rattle.piece_list.specs.Held.{left_of};
 ghost use Rattle.piece_list.specs.Linked.{values, first_place};
 
 use crate::node::NodePtr;
@@ -67,23 +66,40 @@ impl<'a, T> Iterator for ChainIter<'a, T> {
 /// The elements of a list that are left to give, from the first to the last.
 #[derive(Drop)]
 pub struct Iter<'a, T> {
-    chain: Option<ChainIter<'a, T>>,
+    left: Left<'a, T>,
+}
+
+/// At most one element of a list that keeps it in itself, or those in nodes.
+#[derive(Drop)]
+enum Left<'a, T> {
+    One(Option<&'a T>),
+    Many(ChainIter<'a, T>),
 }
 
 impl<'a, T> Model for Iter<'a, T> {
     ghost use Rattle.std.specs.Prelude.{List};
-    ghost use Rattle.piece_list.specs.Held.{left_of};
+    ghost use Rattle.piece_list.specs.Left.{left_in};
 
     ghost Value = { List T };
 
-    ghost view = { λ i. left_of i.chain };
+    ghost view = { λ i. left_in i.left };
 }
 
 impl<'a, T> Iter<'a, T> {
-    pub(crate) fn over(chain: Option<ChainIter<'a, T>>) -> Iter<'a, T>
-        ensures { result ≡ left_of chain.entry }
+    pub(crate) fn of_one(element: Option<&'a T>) -> Iter<'a, T>
+        ensures { result ≡ option_to_list (option_copied element.entry) }
     {
-        Iter { chain }
+        Iter {
+            left: Left::One(element),
+        }
+    }
+
+    pub(crate) fn of_many(chain: ChainIter<'a, T>) -> Iter<'a, T>
+        ensures { result ≡ chain.entry }
+    {
+        Iter {
+            left: Left::Many(chain),
+        }
     }
 }
 
@@ -95,6 +111,9 @@ impl<'a, T> Iterator for Iter<'a, T> {
     ghost remaining = { item_count (λ left. left) };
 
     fn next(&mut self) -> Option<&'a T> {
-        self.chain.as_mut()?.next()
+        match &mut self.left {
+            Left::One(element) => element.take(),
+            Left::Many(chain) => chain.next(),
+        }
     }
 }

@@ -1,7 +1,8 @@
-//! A list with a place in it, over raw nodes that are linked both ways.
+//! A list with a place in it: one element in the list itself, more over raw nodes linked both ways.
 //!
 //! `PieceList` is seen as its elements, a place from 0 to their number, and the number of spare nodes
-//! (`specs/Pieces.antt`). All but `reserve` take no memory. Underneath, `node` says who owns which
+//! (`specs/Pieces.antt`). All but `reserve` take no memory, nor does that for the first node. `single`
+//! is a list of one element at most, `nodes` one of any number. Underneath, `node` says who owns which
 //! part of a block, `ring` links the nodes between two sentinels, and `chain` puts a place into a
 //! ring. Only `node` and `ring` touch raw pointers, each step proved by hand under one invariant
 //! (`specs/Ownership.antt`); all else sees lists. The queue of segments stands on this crate.
@@ -11,7 +12,9 @@ mod chain;
 mod iter;
 mod list;
 mod node;
+mod nodes;
 mod ring;
+mod single;
 mod spare;
 #[cfg(test)]
 mod tests;

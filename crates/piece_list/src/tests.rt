@@ -18,8 +18,14 @@ macro_rules! assert_holds {
 #[test]
 fn moves_inserts_and_removes(rt: HostRuntime) -> Result<(), Fail> {
     let mut list = PieceList::new(rt.alloc());
-    list.reserve(3)?;
+    list.reserve(1)?;
     list.push_back(1u8);
+    assert!(rt; list.next());
+    assert_eq!(rt; list.peek(), None);
+
+    // With more than one each gets a node, and the place stays behind the first.
+    list.reserve(2)?;
+    assert_eq!(rt; list.peek(), None);
     list.push_back(3);
     list.back();
     assert_eq!(rt; list.peek().copied(), Some(3));
@@ -60,7 +66,6 @@ fn each_element_is_dropped_once(rt: HostRuntime) -> Result<(), Fail> {
     let drops = Cell::new(0);
     {
         let mut list = PieceList::new(rt.alloc());
-        list.reserve(4)?;
         for number in 0..3u8 {
             let bytes = vec![in rt.alloc(); number; 100]?;
             list.reserve(1)?;

@@ -1,5 +1,5 @@
 use Rattle.std.proofs.Common.{◌≡◌, length}
-use Rattle.piece_list.proofs.list.PieceList.drop.Given as goal
+use Rattle.piece_list.proofs.nodes.NodeList.drop.Given as goal
 
 abbrev pub invariant-loop-value : goal.invariant-loop-value
 invariant-loop-value g l = l.self.place ≡ 0
