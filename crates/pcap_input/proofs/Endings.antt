@@ -1,5 +1,5 @@
 -- What a limit leaves of a capture, and what a head makes of it.
-use Rattle.std.proofs.Common.{◌≡◌, ℕ, suc, ◌+◌, Bool, true, false, List, Option, Some, None, Ok, Err, length, drop, refl, arith}
+use Rattle.std.proofs.Common.{◌≡◌, ℕ, suc, ◌+◌, ◌<◌, ◌≤◌, Bool, true, false, List, Option, Some, None, Ok, Err, length, take, drop, refl, arith}
 use Rattle.std.specs.Prelude.{nat_le}
 use Rattle.std.proofs.lemmas.Bool.Decides.{nat_tests}
 use Rattle.pcap_input.specs.declared.capture.CaptureHead.{CaptureHead}
@@ -11,6 +11,20 @@ use Rattle.pcap_input.specs.Savefile.{head_of, Ending, Clean, Cut, no_more, with
 pub first_records-none : (cut : Cut) → first_records None cut ≡ cut
 unfolding first_records
 first_records-none cut = refl
+
+-- where as many records stand as the limit says, those are given, and a clean ending
+pub first_records-enough : (limit : ℕ) (cut : Cut) → limit ≤ length cut.records → first_records (Some limit) cut ≡ record { records = take limit cut.records; ending = Clean }
+unfolding first_records
+first_records-enough limit cut enough =
+    let reached : nat_le limit (length cut.records) ≡ true = grind (arith, nat_tests, enough) in
+    rw reached refl
+
+-- where fewer stand, all are given
+pub first_records-below : (limit : ℕ) (cut : Cut) → length cut.records < limit → first_records (Some limit) cut ≡ cut
+unfolding first_records
+first_records-below limit cut fewer =
+    let below : nat_le limit (length cut.records) ≡ false = grind (arith, nat_tests, fewer) in
+    rw below refl
 
 -- at the limit the ending is clean, whatever is left
 pub first_records-zero : (cut : Cut) → first_records (Some 0) cut ≡ no_more Clean
