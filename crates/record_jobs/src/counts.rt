@@ -29,7 +29,7 @@ pub struct RecordCounts {
 
 impl RecordCounts {
     /// No record yet.
-    pub(crate) const NONE: RecordCounts = RecordCounts {
+    pub const NONE: RecordCounts = RecordCounts {
         records: 0,
         short: 0,
         other: 0,
