@@ -47,16 +47,7 @@ fn push_count(out: &mut Vec<u8>, name: &[u8], count: u128) -> Result<(), NoMemor
 impl Counts {
     /// Nothing was counted.
     pub const NONE: Counts = Counts {
-        seen: RecordCounts {
-            records: 0,
-            short: 0,
-            other: 0,
-            checksum: 0,
-            malformed: 0,
-            fragments: 0,
-            rebuilt: 0,
-            flows: 0,
-        },
+        seen: RecordCounts::NONE,
         items: 0,
         hits: 0,
         alerts: 0,
