@@ -10,10 +10,9 @@ use Rattle.snort_engine.proofs.Reading.{reading-joined, reading-whole, reading-s
 use Rattle.snort_engine.specs.declared.batch.Reached.{Reached}
 use Rattle.snort_engine.specs.declared.batch.Reached.TheVariants.{More, End, Fault}
 use Rattle.snort_engine.specs.Steps.Batch.{Place, HasStopped, Reaches, ReadsOn, more_of}
-use Rattle.snort_engine.specs.declared.status.Status.TheVariants as status
 use Rattle.snort_engine.specs.declared.stop.Stop.{Stop}
 use Rattle.snort_engine.specs.declared.stop.Stop.TheVariants as stop
-use Rattle.snort_engine.specs.Steps.Stop.{stop_status, outcome_status, is_whole}
+use Rattle.snort_engine.specs.Steps.Stop.{is_whole}
 use Rattle.snort_engine.specs.Steps.Watching.{IsShowStop}
 
 -- reading went no record further than what was read so far
@@ -66,25 +65,6 @@ reads_lacking old new same still = λ first shown left_first read.
     subst Q (sym still) (subst P (sym same) (still_there first (shown ++ old.records) left_first old.reader old.left read, tt))
 
 -- ---- what was reached, as an answer
-
--- a fault of the host is answered only where the host failed
-pub failed_reached : (reached : Reached) → outcome_status (more_of reached) ≡ status.HostFault → reached ≡ Fault fault.Failed
-failed_reached More is = absurd cc
-failed_reached End is = absurd cc
-failed_reached (Fault fault.NotPcap) is = absurd cc
-failed_reached (Fault (fault.LinkType link_type)) is = absurd cc
-failed_reached (Fault (fault.Truncated place)) is = absurd cc
-failed_reached (Fault (fault.BadBlock place)) is = absurd cc
-failed_reached (Fault (fault.TooLong place len)) is = absurd cc
-failed_reached (Fault fault.TooMany) is = absurd cc
-failed_reached (Fault fault.Failed) is = refl
-failed_reached (Fault fault.NoMemory) is = absurd cc
-
--- showing lines is never a fault of the host
-pub showing_reads_nothing : (why : Stop) → IsShowStop why → stop_status why ≡ status.HostFault → ⊥
-showing_reads_nothing stop.CannotWrite kind is = cc
-showing_reads_nothing stop.NoMemory kind is = cc
-showing_reads_nothing why kind is = absurd kind
 
 -- showing lines leaves nothing to close where it stops
 pub showing_cuts : (why : Stop) → IsShowStop why → is_whole {A = Bool} (Err why) ≡ true → ⊥
