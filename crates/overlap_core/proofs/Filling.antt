@@ -17,15 +17,9 @@ pub record IsFilling (whole rest : List Piece) (floor done len : ℕ) (out : Lis
 abbrev byte_of_kept : Option Kept → Option ℕ
 byte_of_kept = option_map (λ (k : Kept). k.byte)
 
-pub filling-begins : (whole : List Piece) (floor len : ℕ) (out : List ℕ) (top : ℕ) → IsRow floor whole top → IsFilling whole whole floor 0 len out top
-filling-begins whole floor len out top row = record { row = subst (λ n. IsRow n whole top) (omega arith) row; same = λ more place from. refl; bytes = λ k below. absurd (omega (arith, below)) }
-
 -- a place without a byte refutes that all have one
 pub some_missing : (whole : List Piece) (floor len k : ℕ) → k < len → byte_in whole (floor + k) ≡ None → IsTrue false ↔ ((k : ℕ) → k < len → IsSome (byte_in whole (floor + k)))
 some_missing whole floor len k below none = (λ is. cc, λ all. subst (λ (o : Option ℕ). IsSome o) none (all k below))
-
-pub none_left : (whole : List Piece) (floor done len : ℕ) (out : List ℕ) (top : ℕ) → IsFilling whole [] floor done len out top → done < len → byte_in whole (floor + done) ≡ None
-none_left whole floor done len out top now more = ap byte_of_kept (sym (now.same more (floor + done) (omega arith)))
 
 pub none_here : (whole rest : List Piece) (piece : Piece) (floor done len : ℕ) (out : List ℕ) (top : ℕ) → IsFilling whole (piece ∷ rest) floor done len out top → done < len → (piece.start ≡ floor + done → ⊥) → byte_in whole (floor + done) ≡ None
 none_here whole rest piece floor done len out top now more apart =
@@ -57,9 +51,6 @@ filling_appended whole rest piece floor done len count bytes top now passed with
     filling_more whole rest piece floor done len count len bytes (bytes ++ more) top now within here counted refl
     (λ k below. get_or_append_left bytes more 0 k (omega (arith, below, passed)))
     (λ k below. ap (λ n. get_or (bytes ++ more) (n + k) 0) passed ∙ get_or-append-add bytes more k 0 ∙ get_or-take count piece.bytes k 0 below)
-
-pub all_filled : (whole rest : List Piece) (floor done len : ℕ) (out : List ℕ) (top : ℕ) → IsFilling whole rest floor done len out top → len ≤ done → IsTrue true ↔ ((k : ℕ) → k < len → IsSome (byte_in whole (floor + k)))
-all_filled whole rest floor done len out top now all = (λ _ k below. subst (λ (o : Option ℕ). IsSome o) (sym (now.bytes k (omega (arith, below, all)))) refl, λ _. refl)
 
 -- a slice with its middle written over
 pub put_old : (done n : ℕ) (out mid : List ℕ) (k : ℕ) → k < done → done ≤ length out → get_or (put_mid done n out mid) k 0 ≡ get_or out k 0
