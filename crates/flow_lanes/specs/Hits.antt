@@ -37,7 +37,7 @@ flowbit_holds bits option = true
 pub record RuleMatches (means : Means) (rule : Rule) (item : Item) (bits : Bits) : Type 0 where
   pub header : HeaderHolds rule item.head
   pub fields : All (λ option. IsTrue (field_holds option item.head (length item.payload))) rule.opts
-  pub bits_hold : All (λ option. IsTrue (flowbit_holds bits option)) rule.opts
+  pub flowbits_hold : All (λ option. IsTrue (flowbit_holds bits option)) rule.opts
   pub payload : PayloadMatches means rule item.payload
 
 -- the bits behind an option of a rule that matches

@@ -43,8 +43,7 @@ pub use hits::{Found, matching_rules};
 pub use job::{Job, Toward, Work};
 pub use lane::Lane;
 pub use laws::{
-    lanes_change_nothing, other_flows_change_nothing, stream_items_are_short, tests_tell_the_hits,
+    hits_are_one, lanes_change_nothing, matching_is_decided, matching_rules_are_candidates,
+    other_flows_change_nothing, stream_items_are_short, tests_tell_the_hits,
 };
-pub use matching::{
-    hits_are_one, matching_is_decided, matching_rules_are_candidates, rule_matches,
-};
+pub use matching::rule_matches;

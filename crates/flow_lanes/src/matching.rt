@@ -1,12 +1,11 @@
 //! One rule on one item.
 
-ghost use Rattle.std.specs.Prelude.{◌≡◌, ℕ, ◌<◌, ◌↔◌, List, Option, true, length, All, IsTrue, IfOk};
+ghost use Rattle.std.specs.Prelude.{◌≡◌, ◌<◌, ◌↔◌, length, All, IsTrue, IfOk};
 ghost use Rattle.rule_types.specs.declared.rule.Rule.{Rule};
-ghost use Rattle.fast_pattern.specs.Candidates.{is_candidate};
 ghost use Rattle.header_eval.specs.Fields.{field_holds};
 ghost use Rattle.option_eval.specs.Places.{Means, PayloadMatches};
 ghost use Rattle.option_eval.specs.RuleSet.{FindWhatIsMeant, IsRuleAt};
-ghost use Rattle.flow_lanes.specs.Hits.{AreHits, Bits as Seen, Item, RuleMatches, Tells, Test, flowbit_holds};
+ghost use Rattle.flow_lanes.specs.Hits.{RuleMatches, flowbit_holds};
 
 use edge_io::{NoMemory, Pattern};
 use flowbit_state::Bits;
@@ -36,7 +35,7 @@ fn flowbit_holds(opt: &Opt, bits: &Bits) -> bool
 }
 
 /// Whether every test of a bit holds.
-fn bits_hold(opts: &[Opt], bits: &Bits) -> bool
+fn flowbits_hold(opts: &[Opt], bits: &Bits) -> bool
     ensures { IsTrue result ↔ All (λ option. IsTrue (flowbit_holds bits.now option)) opts.now }
 {
     opts.iter().all(|opt| flowbit_holds(opt, bits))
@@ -80,30 +79,9 @@ pub fn rule_matches<P: Pattern>(
     let tried = &set.rules()[rule as usize];
     if header_matches(tried, head)
         && fields_hold(tried.opts.as_slice(), head, payload.len())
-        && bits_hold(tried.opts.as_slice(), bits)
+        && flowbits_hold(tried.opts.as_slice(), bits)
     {
         return payload_holds::<P, Brand>(alloc, set, rule, payload, Blank::new(1));
     }
     Ok(false)
 }
-
-/// A law for callers: it is decided whether a rule matches an item. So some test says which rules match,
-/// whatever the texts of patterns mean.
-pub fn matching_is_decided()
-    ensures { (means : Means) → (test : Test) × Tells means test }
-{}
-
-/// A law for callers: an item has one list of all rules that match, whatever its bits are.
-pub fn hits_are_one()
-    ensures some { (means : Means) (rules : List Rule) (item : Item) (bits : Option Seen)
-        → (places : List ℕ) × AreHits means rules item bits places }
-    ensures one { (means : Means) (rules : List Rule) (item : Item) (bits : Option Seen) (xs ys : List ℕ)
-        → AreHits means rules item bits xs → AreHits means rules item bits ys → xs ≡ ys }
-{}
-
-/// A law for callers: a rule that matches an item is a candidate for it (`fast_pattern`). So no rule that
-/// matches is left out where candidates alone are tried.
-pub fn matching_rules_are_candidates()
-    ensures { (means : Means) (rule : Rule) (item : Item) (bits : Seen) → RuleMatches means rule item bits
-        → is_candidate item.head.body item.payload rule ≡ true }
-{}

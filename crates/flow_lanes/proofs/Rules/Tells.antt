@@ -70,8 +70,8 @@ decided_header rule head =
 pub decided_rule : (means : Means) (rule : Rule) (item : Item) (bits : Bits) → Decided (RuleMatches means rule item bits)
 decided_rule means rule item bits =
     decided_like
-    (λ h. record { header = h.0.0; fields = h.0.1; bits_hold = h.1.0; payload = h.1.1 })
-    (λ h. ((h.header, h.fields), (h.bits_hold, h.payload)))
+    (λ h. record { header = h.0.0; fields = h.0.1; flowbits_hold = h.1.0; payload = h.1.1 })
+    (λ h. ((h.header, h.fields), (h.flowbits_hold, h.payload)))
     (decided_both
     (decided_both (decided_header rule item.head) (decided_all (λ option. IsTrue (field_holds option item.head (length item.payload))) (λ option. decided_true (field_holds option item.head (length item.payload))) rule.opts))
     (decided_both (decided_all (λ option. IsTrue (flowbit_holds bits option)) (λ option. decided_true (flowbit_holds bits option)) rule.opts) (decided_payload means rule item.payload)))

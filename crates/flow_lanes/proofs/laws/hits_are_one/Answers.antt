@@ -1,7 +1,7 @@
 use Rattle.flow_lanes.specs.Hits.{places_from}
 use Rattle.flow_lanes.proofs.Rules.AreHits.{AreMatches-unique, places_from-are}
 use Rattle.flow_lanes.proofs.Rules.Tells.{test_of, test_of-tells}
-use Rattle.flow_lanes.proofs.matching.hits_are_one.Goals as goal
+use Rattle.flow_lanes.proofs.laws.hits_are_one.Goals as goal
 
 pub returns-clause-some : goal.returns-clause-some
 returns-clause-some c = λ means rules item bits.
