@@ -11,7 +11,7 @@ ghost use Rattle.flow_lanes.specs.Standing.{HasFailed};
 use conf_types::StreamConfig;
 use edge_io::{Addr, Items, Literal, Moment, OpenGate, Preference, Text};
 use fast_pattern::Groups;
-use flow_lanes::{BatchFault, Job, Lanes, Toward, Work};
+use flow_lanes::{BatchFault, Job, Lanes, Payload, Toward, Work};
 use option_eval::RuleSet;
 use packet_decode::{Body, IpHead, ItemHead, ItemKind, SessionFacts};
 use std::alloc::Global;
@@ -43,7 +43,7 @@ fn stream_of(alloc: Global) -> StreamConfig
 }
 
 /// The end of a flow, which is sound whatever stands before it.
-fn end_of_flow() -> Job
+fn end_of_flow() -> Job<'static>
     ensures plain { IsPlain result }
     ensures number { result.number ≡ 0 }
 {
@@ -55,7 +55,7 @@ fn end_of_flow() -> Job
 }
 
 /// A packet of a flow, of a protocol that has no sessions, which is sound behind nothing. All have one number.
-fn unsound_packet(alloc: Global) -> Job {
+fn unsound_packet(alloc: Global) -> Job<'static> {
     let toward = Toward {
         engine: 9,
         preference: Preference::First,
@@ -84,7 +84,7 @@ fn unsound_packet(alloc: Global) -> Job {
                 body: Body::Other,
                 session: SessionFacts::UNTRACKED,
             },
-            payload: Text::from_vec(Vec::new(alloc)),
+            payload: Payload::own(Text::from_vec(Vec::new(alloc))),
             to_dst: toward,
             to_src: toward,
         },

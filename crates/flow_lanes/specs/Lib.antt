@@ -6,6 +6,7 @@ pub mod Hits
 pub mod Items
 pub mod Given
 pub mod Reach
+pub mod Payloads
 pub mod Working
 pub mod Picking
 pub mod ItemHits

@@ -1,6 +1,7 @@
 //! What the lanes are given: jobs, one by one.
 
-use edge_io::{Moment, Preference, Text};
+use crate::payload::Payload;
+use edge_io::{Moment, Preference};
 use packet_decode::ItemHead;
 
 /// What the data sent to one end of a flow are put together by.
@@ -18,17 +19,17 @@ pub struct Toward {
 /// What is done in a job. What the head of a packet of a flow says of a session is not asked: the item
 /// gets the facts of its session.
 #[derive(Debug, Drop)]
-pub enum Work {
+pub enum Work<'a> {
     /// An item by itself: a fragment, or a packet of no flow.
     Alone {
         head: ItemHead,
-        payload: Text,
+        payload: Payload<'a>,
     },
     /// A packet of a flow, of TCP or UDP, with at most 65535 bytes of data.
     Packet {
         flow: u64,
         head: ItemHead,
-        payload: Text,
+        payload: Payload<'a>,
         /// Towards the packet's destination.
         to_dst: Toward,
         /// Towards its source.
@@ -42,9 +43,9 @@ pub enum Work {
 
 /// A job, with its number in the one list of all jobs.
 #[derive(Debug, Drop)]
-pub struct Job {
+pub struct Job<'a> {
     pub number: u64,
     /// The moment of the record that the job comes from.
     pub moment: Moment,
-    pub work: Work,
+    pub work: Work<'a>,
 }

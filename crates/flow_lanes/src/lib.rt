@@ -23,6 +23,7 @@ mod lane;
 mod laws;
 mod matching;
 mod packet;
+mod payload;
 mod runner;
 mod session;
 mod settings;
@@ -47,3 +48,4 @@ pub use laws::{
     other_flows_change_nothing, stream_items_are_short, tests_tell_the_hits,
 };
 pub use matching::rule_matches;
+pub use payload::Payload;

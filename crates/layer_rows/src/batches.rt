@@ -14,7 +14,7 @@ use crate::row::Row;
 use crate::setups::ready;
 use edge_io::{Addr, Literal, Moment, NoMemory, OpenGate, Preference, Text};
 use fast_pattern::Groups;
-use flow_lanes::{BatchOut, Job, Lanes, Toward, Work};
+use flow_lanes::{BatchOut, Job, Lanes, Payload, Toward, Work};
 use option_eval::RuleSet;
 use packet_decode::{Body, IpHead, ItemHead, ItemKind, SessionFacts};
 use std::thread::Threads;
@@ -23,7 +23,7 @@ use std::thread::Threads;
 const LEAD: &str = "20000";
 
 /// A packet of a flow from 0.0.0.1 to 0.0.0.2.
-fn packet(number: u64, flow: u64, payload: Text) -> Job
+fn packet(number: u64, flow: u64, payload: Payload<'_>) -> Job<'_>
     requires { length payload ≤ 65535 }
     ensures plain { IsPlain result }
     ensures number { result.number ≡ number }
@@ -76,7 +76,7 @@ fn payload_of(page: &mut Page, letters: &str) -> Text {
 }
 
 /// Adds the job of a word, a flow and its letters, to those that are numbered from here on; false where there is none.
-fn add_job(page: &mut Page, first: u64, word: &str, jobs: &mut Vec<Job>) -> bool
+fn add_job(page: &mut Page, first: u64, word: &str, jobs: &mut Vec<Job<'_>>) -> bool
     requires { first < 2 ^ 20 }
     ensures { AreFrom first jobs.old.items → AreFrom first jobs.new.items }
 {
@@ -89,7 +89,7 @@ fn add_job(page: &mut Page, first: u64, word: &str, jobs: &mut Vec<Job>) -> bool
         return false;
     }
     let number = first + jobs.len() as u64;
-    let job = packet(number, flow, payload);
+    let job = packet(number, flow, Payload::own(payload));
     match jobs.push(job) {
         Ok(()) => true,
         Err(_) => false,
@@ -97,7 +97,7 @@ fn add_job(page: &mut Page, first: u64, word: &str, jobs: &mut Vec<Job>) -> bool
 }
 
 /// The jobs of a batch, numbered from here on.
-fn batch_of(page: &mut Page, first: u64, words: &str) -> Vec<Job>
+fn batch_of<'a>(page: &mut Page, first: u64, words: &str) -> Vec<Job<'a>>
     requires { first < 2 ^ 20 }
     ensures { AreFrom first result.items }
 {

@@ -10,9 +10,9 @@ use crate::course::{Course, show_items, stream_of};
 use crate::page::Page;
 use crate::row::Row;
 use crate::setups::ready;
-use edge_io::{Addr, Literal, Moment, NoMemory, Preference, Text};
+use edge_io::{Addr, Literal, Moment, NoMemory, Preference};
 use fast_pattern::Groups;
-use flow_lanes::{Job, Lane, Toward, Work};
+use flow_lanes::{Job, Lane, Payload, Toward, Work};
 use option_eval::RuleSet;
 use packet_decode::{Body, IpHead, ItemHead, ItemKind, SessionFacts, TcpHead};
 
@@ -96,7 +96,7 @@ fn turn_head(of_client: bool, numbers: Numbers) -> ItemHead
 }
 
 /// A packet of the dialogue.
-fn turn(head: ItemHead, payload: Text, manner: Manner) -> Job
+fn turn(head: ItemHead, payload: Payload<'_>, manner: Manner) -> Job<'_>
     requires head { IsTurnHead head }
     requires size { length payload ≤ 1000 }
     ensures { IsTurnJob manner.preference result }
@@ -142,7 +142,7 @@ fn spoken(step: &str) -> Option<(bool, Numbers, &str)> {
 }
 
 /// The job of a step: a packet, or `end` for the end of the flow.
-fn job_of(page: &mut Page, step: &str, manner: Manner) -> Option<Job>
+fn job_of(step: &str, manner: Manner) -> Option<Job<'_>>
     ensures { IfSome result (IsTurnJob manner.preference) }
 {
     if step == "end" {
@@ -156,10 +156,8 @@ fn job_of(page: &mut Page, step: &str, manner: Manner) -> Option<Job>
     if data.len() > 1000 {
         return None;
     }
-    match Text::copy(page.alloc, data.as_bytes()) {
-        Ok(payload) => Some(turn(turn_head(of_client, numbers), payload, manner)),
-        Err(NoMemory) => None,
-    }
+    let payload = Payload::lent(data.as_bytes());
+    Some(turn(turn_head(of_client, numbers), payload, manner))
 }
 
 /// Runs a job of a dialogue, and shows its items; whether it goes on.
@@ -204,7 +202,7 @@ fn run_step(
     requires triable { All IsTriable course.set.now.rules }
     ensures { IsTrue result → IsDialogue manner.preference lane.new (done + 1) }
 {
-    match job_of(page, step, manner) {
+    match job_of(step, manner) {
         Some(job) => run_job(page, lane, manner, done, &job, course),
         None => false,
     }

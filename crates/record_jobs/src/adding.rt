@@ -11,14 +11,14 @@ use crate::content::RecordContent;
 use crate::engines::towards;
 use crate::item::{Item, head_of};
 use crate::time::Time;
-use edge_io::{Moment, NoMemory, Text};
-use flow_lanes::{Job, Work};
+use edge_io::{Moment, NoMemory};
+use flow_lanes::{Job, Payload, Work};
 use packet_decode::{Body, ItemKind, Placed};
 use stream5_sessions::Touch;
 
 /// An item by itself.
-fn alone(item: Item) -> Work
-    ensures { result ≡ alone item }
+fn alone(item: Item<'_>) -> Work<'_>
+    ensures { result ≡ alone item.entry }
 {
     let Item { head, payload } = item;
     Work::Alone { head, payload }
@@ -26,9 +26,9 @@ fn alone(item: Item) -> Work
 
 /// A packet of a flow.
 #[tactic(auto, unfolding(crate::specs::Jobs::flow_packet))]
-fn flow_packet(by: &FrontConfig<'_>, time: Time, item: Item, flow: u64) -> Work
+fn flow_packet<'a>(by: &FrontConfig<'_>, time: Time, item: Item<'a>, flow: u64) -> Work<'a>
     requires { length by.now.config.now.stream.engines ≤ 1024 }
-    ensures { result ≡ flow_packet (way_of by.now) time item flow }
+    ensures { result ≡ flow_packet (way_of by.now) time item.entry flow }
 {
     let Item { head, payload } = item;
     let (to_dst, to_src) = towards(by, is_tcp(head.body), time, &head.ip);
@@ -52,9 +52,14 @@ fn is_tcp(body: Body) -> bool
 }
 
 /// What is done for a packet that found this of its flow, if it has one.
-fn packet_work(by: &FrontConfig<'_>, time: Time, touch: Option<Touch>, item: Item) -> Work
+fn packet_work<'a>(
+    by: &FrontConfig<'_>,
+    time: Time,
+    touch: Option<Touch>,
+    item: Item<'a>,
+) -> Work<'a>
     requires { length by.now.config.now.stream.engines ≤ 1024 }
-    ensures { result ≡ packet_work (way_of by.now) time touch item }
+    ensures { result ≡ packet_work (way_of by.now) time touch item.entry }
 {
     match touch {
         Some(touch) => flow_packet(by, time, item, touch.flow),
@@ -75,7 +80,7 @@ const FIRST_ROOM: usize = 512;
 
 /// Makes room for one more job.
 #[inline(always)]
-fn make_room(out: &mut Vec<Job>) -> Result<(), NoMemory>
+fn make_room(out: &mut Vec<Job<'_>>) -> Result<(), NoMemory>
     ensures { out.new.items ≡ out.old.items }
 {
     if out.len() == out.capacity() {
@@ -87,10 +92,15 @@ fn make_room(out: &mut Vec<Job>) -> Result<(), NoMemory>
 /// Adds a job, and gives the number of the next.
 // Called, it would have its job moved twice more.
 #[inline(always)]
-fn add(out: &mut Vec<Job>, number: u64, moment: Moment, work: Work) -> Result<u64, NoMemory>
+fn add<'a>(
+    out: &mut Vec<Job<'a>>,
+    number: u64,
+    moment: Moment,
+    work: Work<'a>,
+) -> Result<u64, NoMemory>
     requires { number + 1 < 2 ^ 64 }
     ensures next { IfOk result (λ next. next ≡ number + 1) }
-    ensures added { OnOk result (out.new.items ≡ out.old.items ++ numbered number moment (work ∷ [])) }
+    ensures added { OnOk result (out.new.items ≡ out.old.items ++ numbered number moment (work.entry ∷ [])) }
     ensures err { OnErr result (out.new.items ≡ out.old.items) }
 {
     make_room(out)?;
@@ -105,7 +115,12 @@ fn add(out: &mut Vec<Job>, number: u64, moment: Moment, work: Work) -> Result<u6
 /// Adds the end of a flow, and gives the number of the next job.
 // Few records end a flow: kept out of the line of the others, which otherwise pay for its moves.
 #[inline(never)]
-fn add_finish(out: &mut Vec<Job>, number: u64, moment: Moment, flow: u64) -> Result<u64, NoMemory>
+fn add_finish(
+    out: &mut Vec<Job<'_>>,
+    number: u64,
+    moment: Moment,
+    flow: u64,
+) -> Result<u64, NoMemory>
     requires { number + 1 < 2 ^ 64 }
     ensures next { IfOk result (λ next. next ≡ number + 1) }
     ensures added { OnOk result (out.new.items ≡ out.old.items ++ numbered number moment (Work.Finish flow ∷ [])) }
@@ -116,7 +131,7 @@ fn add_finish(out: &mut Vec<Job>, number: u64, moment: Moment, flow: u64) -> Res
 
 /// Adds the end of a flow, if one ends, and gives the number of the next job.
 fn add_evicted(
-    out: &mut Vec<Job>,
+    out: &mut Vec<Job<'_>>,
     number: u64,
     moment: Moment,
     flow: Option<u64>,
@@ -135,16 +150,16 @@ fn add_evicted(
 }
 
 /// Adds a fragment by itself, if there is one, and gives the number of the next job.
-fn add_fragment(
-    out: &mut Vec<Job>,
+fn add_fragment<'a>(
+    out: &mut Vec<Job<'a>>,
     number: u64,
     moment: Moment,
-    fragment: Option<Item>,
+    fragment: Option<Item<'a>>,
 ) -> Result<u64, NoMemory>
     requires { number + 1 < 2 ^ 64 }
-    ensures next { IfOk result (λ next. next ≡ number + length (option_to_list (option_map alone fragment))) }
+    ensures next { IfOk result (λ next. next ≡ number + length (option_to_list (option_map alone fragment.entry))) }
     ensures added { OnOk result (out.new.items
-        ≡ out.old.items ++ numbered number moment (option_to_list (option_map alone fragment))) }
+        ≡ out.old.items ++ numbered number moment (option_to_list (option_map alone fragment.entry))) }
     ensures err { OnErr result (out.new.items ≡ out.old.items) }
 {
     match fragment {
@@ -154,20 +169,20 @@ fn add_fragment(
 }
 
 /// Adds a packet, if there is one, and gives the number of the next job.
-fn add_item(
-    out: &mut Vec<Job>,
+fn add_item<'a>(
+    out: &mut Vec<Job<'a>>,
     by: &FrontConfig<'_>,
     time: Time,
     touch: Option<Touch>,
-    packet: Option<Item>,
+    packet: Option<Item<'a>>,
     number: u64,
 ) -> Result<u64, NoMemory>
     requires engines { length by.now.config.now.stream.engines ≤ 1024 }
     requires room { number + 1 < 2 ^ 64 }
     ensures next { IfOk result
-        (λ next. next ≡ number + length (option_to_list (option_map (packet_work (way_of by.now) time touch) packet))) }
+        (λ next. next ≡ number + length (option_to_list (option_map (packet_work (way_of by.now) time touch) packet.entry))) }
     ensures added { OnOk result (out.new.items ≡ out.old.items
-        ++ numbered number time.now (option_to_list (option_map (packet_work (way_of by.now) time touch) packet))) }
+        ++ numbered number time.now (option_to_list (option_map (packet_work (way_of by.now) time touch) packet.entry))) }
     ensures err { OnErr result (out.new.items ≡ out.old.items) }
 {
     match packet {
@@ -177,18 +192,18 @@ fn add_item(
 }
 
 /// Adds what is done for a record, where its touch found this, and gives the number of the next job.
-pub(crate) fn add_works(
-    out: &mut Vec<Job>,
+pub(crate) fn add_works<'a>(
+    out: &mut Vec<Job<'a>>,
     by: &FrontConfig<'_>,
     time: Time,
     touch: Option<Touch>,
-    content: RecordContent,
+    content: RecordContent<'a>,
     number: u64,
 ) -> Result<u64, NoMemory>
     requires engines { length by.now.config.now.stream.engines ≤ 1024 }
     requires room { number + 3 < 2 ^ 64 }
     ensures added { IfOk result (λ next. Adds number time.now
-        (works_by (way_of by.now) time touch content.fragment content.packet) out.old.items next out.new.items) }
+        (works_by (way_of by.now) time touch content.entry.fragment content.entry.packet) out.old.items next out.new.items) }
     ensures few { IfOk result (λ next. next ≤ number + 3) }
     ensures err { OnErr result (take (length out.old.items) out.new.items ≡ out.old.items) }
 {
@@ -206,17 +221,17 @@ pub(crate) fn add_works(
 /// Adds a packet that has no flow, by itself, and gives the number of the next job.
 // Kept out of the line of packets that have one, which otherwise pay for its moves.
 #[inline(never)]
-fn add_alone(
-    out: &mut Vec<Job>,
+fn add_alone<'a>(
+    out: &mut Vec<Job<'a>>,
     number: u64,
     moment: Moment,
     read: &Placed,
-    payload: Text,
+    payload: Payload<'a>,
 ) -> Result<u64, NoMemory>
     requires { number + 1 < 2 ^ 64 }
     ensures next { IfOk result (λ next. next ≡ number + 1) }
     ensures added { OnOk result
-        (out.new.items ≡ out.old.items ++ numbered number moment (alone (read_item moment read.now payload) ∷ [])) }
+        (out.new.items ≡ out.old.items ++ numbered number moment (alone (read_item moment read.now payload.entry) ∷ [])) }
     ensures err { OnErr result (out.new.items ≡ out.old.items) }
 {
     let head = head_of(ItemKind::Packet, moment, read.ip, read.body);
@@ -227,20 +242,20 @@ fn add_alone(
 // Called, it would have its job moved twice more.
 #[inline(always)]
 #[tactic(auto, unfolding(crate::specs::Jobs::flow_packet))]
-fn add_flow_packet(
-    out: &mut Vec<Job>,
+fn add_flow_packet<'a>(
+    out: &mut Vec<Job<'a>>,
     by: &FrontConfig<'_>,
     time: Time,
     flow: u64,
     read: &Placed,
-    payload: Text,
+    payload: Payload<'a>,
     number: u64,
 ) -> Result<u64, NoMemory>
     requires engines { length by.now.config.now.stream.engines ≤ 1024 }
     requires room { number + 1 < 2 ^ 64 }
     ensures next { IfOk result (λ next. next ≡ number + 1) }
     ensures added { OnOk result (out.new.items ≡ out.old.items
-        ++ numbered number time.now (flow_packet (way_of by.now) time (read_item time.now read.now payload) flow ∷ [])) }
+        ++ numbered number time.now (flow_packet (way_of by.now) time (read_item time.now read.now payload.entry) flow ∷ [])) }
     ensures err { OnErr result (out.new.items ≡ out.old.items) }
 {
     let (to_dst, to_src) = towards(by, is_tcp(read.body), time, &read.ip);
@@ -260,19 +275,19 @@ fn add_flow_packet(
 
 /// Adds what is done for a packet that is no fragment, where its touch found this, and gives the number of the next job.
 /// The job is made of the fields where they were read.
-pub(crate) fn add_packet(
-    out: &mut Vec<Job>,
+pub(crate) fn add_packet<'a>(
+    out: &mut Vec<Job<'a>>,
     by: &FrontConfig<'_>,
     time: Time,
     touch: Option<Touch>,
     read: &Placed,
-    payload: Text,
+    payload: Payload<'a>,
     number: u64,
 ) -> Result<u64, NoMemory>
     requires engines { length by.now.config.now.stream.engines ≤ 1024 }
     requires room { number + 2 < 2 ^ 64 }
     ensures added { IfOk result (λ next. Adds number time.now
-        (works_by (way_of by.now) time touch None (Some (read_item time.now read.now payload)))
+        (works_by (way_of by.now) time touch None (Some (read_item time.now read.now payload.entry)))
         out.old.items next out.new.items) }
     ensures few { IfOk result (λ next. next ≤ number + 2) }
     ensures err { OnErr result (take (length out.old.items) out.new.items ≡ out.old.items) }
@@ -288,7 +303,7 @@ pub(crate) fn add_packet(
 
 /// Adds the ends of these flows.
 pub(crate) fn add_finishes(
-    out: &mut Vec<Job>,
+    out: &mut Vec<Job<'_>>,
     number: u64,
     moment: Moment,
     flows: &[u64],

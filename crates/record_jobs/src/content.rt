@@ -9,8 +9,8 @@ ghost use Rattle.record_jobs.specs.Way.{linked, way_of};
 use crate::config::FrontConfig;
 use crate::engines::frag_rules;
 use crate::item::{Item, head_of};
-use crate::payloads::Payloads;
-use edge_io::{Link, Moment, NoMemory};
+use edge_io::{Link, Moment, NoMemory, Text};
+use flow_lanes::Payload;
 use frag3_core::{Datagram, Frag3, Taken};
 use ipv6_decode::{packet_of_datagram, packet_of_record};
 use packet_decode::{Body, Checks, ItemKind, Packet, Placed, Skip};
@@ -19,11 +19,11 @@ use std::alloc::Global;
 
 /// What a record brings.
 #[derive(Debug, Drop)]
-pub(crate) struct RecordContent {
+pub(crate) struct RecordContent<'a> {
     /// Its fragment, where it is one.
-    pub fragment: Option<Item>,
+    pub fragment: Option<Item<'a>>,
     /// Its packet, or the datagram that its fragment completed.
-    pub packet: Option<Item>,
+    pub packet: Option<Item<'a>>,
     /// Why the record, or that datagram, is skipped.
     pub skip: Option<Skip>,
     /// Its fragment completed a datagram.
@@ -40,48 +40,50 @@ pub(crate) fn is_fragment(body: Body) -> bool
     }
 }
 
-/// What is inspected of a packet; nothing is known of its session.
-fn item_of(
-    alloc: Global,
-    payloads: &mut Payloads,
-    kind: ItemKind,
-    moment: Moment,
-    packet: &Packet<'_>,
-) -> Result<Item, NoMemory>
-    ensures { IfOk result (λ item. item ≡ item_of kind moment (fields_of packet.now)) }
+/// What is inspected of a packet, its payload lent; nothing is known of its session.
+fn item_of<'a>(kind: ItemKind, moment: Moment, packet: &Packet<'a>) -> Item<'a>
+    ensures { result ≡ item_of kind moment (fields_of packet.now) }
 {
-    Ok(Item {
+    Item {
         head: head_of(kind, moment, packet.ip, packet.body),
-        payload: payloads.copy(alloc, packet.payload)?,
-    })
+        payload: Payload::lent(packet.payload),
+    }
 }
 
 /// What a packet brings that is no fragment.
-fn packet_content(
-    alloc: Global,
-    payloads: &mut Payloads,
-    moment: Moment,
-    packet: &Packet<'_>,
-) -> Result<RecordContent, NoMemory>
-    ensures { IfOk result (λ content. content ≡ packet_content moment (fields_of packet.now)) }
+fn packet_content<'a>(moment: Moment, packet: &Packet<'a>) -> RecordContent<'a>
+    ensures { result ≡ packet_content moment (fields_of packet.now) }
 {
-    let item = item_of(alloc, payloads, ItemKind::Packet, moment, packet)?;
-    Ok(RecordContent {
+    RecordContent {
         fragment: None,
-        packet: Some(item),
+        packet: Some(item_of(ItemKind::Packet, moment, packet)),
         skip: None,
         rebuilt: false,
+    }
+}
+
+/// What is inspected of a packet of a datagram, its payload copied: the datagram is done with before its job is.
+fn rebuilt_item<'a>(
+    alloc: Global,
+    moment: Moment,
+    packet: &Packet<'_>,
+) -> Result<Item<'a>, NoMemory>
+    ensures { IfOk result (λ item. item ≡ item_of ItemKind.Rebuilt moment (fields_of packet.now)) }
+{
+    let payload = Text::copy(alloc, packet.payload)?;
+    Ok(Item {
+        head: head_of(ItemKind::Rebuilt, moment, packet.ip, packet.body),
+        payload: Payload::own(payload),
     })
 }
 
 /// What is inspected of a datagram, or why it is skipped; neither, where there is none.
-fn datagram_item(
+fn datagram_item<'a>(
     alloc: Global,
-    payloads: &mut Payloads,
     checks: Checks,
     moment: Moment,
     datagram: &Option<Datagram>,
-) -> Result<(Option<Item>, Option<Skip>), NoMemory>
+) -> Result<(Option<Item<'a>>, Option<Skip>), NoMemory>
     ensures item { IfOk result (λ said. said.0 ≡ datagram_item checks moment datagram.now) }
     ensures skip { IfOk result (λ said. said.1 ≡ datagram_skip checks datagram.now) }
     ensures short { IfSome datagram.now IsShortDatagram → IfOk result (λ said. IfSome said.0 IsShortItem) }
@@ -91,7 +93,7 @@ fn datagram_item(
     };
     match packet_of_datagram(datagram.ip, datagram.bytes.bytes(), checks) {
         Ok(packet) => {
-            let item = item_of(alloc, payloads, ItemKind::Rebuilt, moment, &packet)?;
+            let item = rebuilt_item(alloc, moment, &packet)?;
             Ok((Some(item), None))
         }
         Err(skip) => Ok((None, Some(skip))),
@@ -135,14 +137,13 @@ fn accept_fragment(
 /// What a fragment brings: itself, and the datagram that it completes.
 // Kept out of the line of other packets, which otherwise pay for its moves.
 #[inline(never)]
-fn fragment_content(
+fn fragment_content<'a>(
     alloc: Global,
     by: &FrontConfig<'_>,
     frag3: &mut Option<Frag3>,
-    payloads: &mut Payloads,
     moment: Moment,
-    packet: &Packet<'_>,
-) -> Result<RecordContent, NoMemory>
+    packet: &Packet<'a>,
+) -> Result<RecordContent<'a>, NoMemory>
     ensures content { IfOk result (λ content. content ≡ fragment_content by.now.checks moment (fields_of packet.now)
         (datagram_of_fragment (way_of by.now) frag3.old moment (fields_of packet.now))) }
     ensures after { OnOk result
@@ -150,12 +151,11 @@ fn fragment_content(
     ensures short { IfSome (datagram_of_fragment (way_of by.now) frag3.old moment (fields_of packet.now)) IsShortDatagram
         → IfOk result HasShortPacket }
 {
-    let fragment = item_of(alloc, payloads, ItemKind::Fragment, moment, packet)?;
     let datagram = accept_fragment(alloc, by, frag3, moment, packet)?;
     let rebuilt = datagram.is_some();
-    let (item, skip) = datagram_item(alloc, payloads, by.checks, moment, &datagram)?;
+    let (item, skip) = datagram_item(alloc, by.checks, moment, &datagram)?;
     Ok(RecordContent {
-        fragment: Some(fragment),
+        fragment: Some(item_of(ItemKind::Fragment, moment, packet)),
         packet: item,
         skip,
         rebuilt,
@@ -164,14 +164,13 @@ fn fragment_content(
 
 /// What a packet brings: its fragment, or itself.
 #[tactic(auto, using(crate::proofs::Contents::contents))]
-fn content_of(
+fn content_of<'a>(
     alloc: Global,
     by: &FrontConfig<'_>,
     frag3: &mut Option<Frag3>,
-    payloads: &mut Payloads,
     moment: Moment,
-    packet: &Packet<'_>,
-) -> Result<RecordContent, NoMemory>
+    packet: &Packet<'a>,
+) -> Result<RecordContent<'a>, NoMemory>
     requires { length packet.now.payload.now ≤ 65535 }
     ensures content { IfOk result (λ content.
         content ≡ content_from (way_of by.now) frag3.old moment (Ok (fields_of packet.now))) }
@@ -180,22 +179,21 @@ fn content_of(
         → IfOk result HasShortPacket }
 {
     if is_fragment(packet.body) {
-        return fragment_content(alloc, by, frag3, payloads, moment, packet);
+        return fragment_content(alloc, by, frag3, moment, packet);
     }
-    packet_content(alloc, payloads, moment, packet)
+    Ok(packet_content(moment, packet))
 }
 
 /// What a record brings, whose bytes begin with this link layer; `four` is what was read of it as version 4.
 #[tactic(auto, using(crate::proofs::Contents::contents), unfolding(crate::specs::Steps::record_content, crate::specs::Steps::waiting_after, crate::specs::Packets::said_by))]
-pub(crate) fn read_record(
+pub(crate) fn read_record<'a>(
     alloc: Global,
     by: &FrontConfig<'_>,
     frag3: &mut Option<Frag3>,
-    payloads: &mut Payloads,
     link: Link,
-    captured: &Record,
+    captured: &'a Record,
     four: Result<&Placed, Skip>,
-) -> Result<RecordContent, NoMemory>
+) -> Result<RecordContent<'a>, NoMemory>
     requires { IsReadAsFour link captured.now.bytes by.now.checks four }
     ensures content { IfOk result (λ content. content ≡ record_content (way_of by.now) frag3.old (linked link captured.now)) }
     ensures after { OnOk result (frag3.new ≡ waiting_after (way_of by.now) frag3.old (linked link captured.now)) }
@@ -204,7 +202,7 @@ pub(crate) fn read_record(
         → IfOk result HasShortPacket }
 {
     match packet_of_record(four, link, captured.bytes.bytes(), by.checks) {
-        Ok(packet) => content_of(alloc, by, frag3, payloads, captured.moment, &packet),
+        Ok(packet) => content_of(alloc, by, frag3, captured.moment, &packet),
         Err(skip) => Ok(RecordContent {
             fragment: None,
             packet: None,

@@ -10,12 +10,11 @@ use crate::adding::{add_finishes, add_packet, add_works};
 use crate::config::FrontConfig;
 use crate::content::{is_fragment, read_record};
 use crate::counts::{RecordCounts, is_fresh};
-use crate::payloads::Payloads;
 use crate::time::Time;
 use crate::touches::{content_key, touch_key, tracked_key};
 use conf_types::FragConfig;
 use edge_io::{Link, Moment, NoMemory};
-use flow_lanes::Job;
+use flow_lanes::{Job, Payload};
 use frag3_core::Frag3;
 use packet_decode::{Placed, Skip, decode_at};
 use pcap_input::Record;
@@ -38,8 +37,6 @@ pub struct Front {
     /// The number of the next job.
     next: u64,
     counts: RecordCounts,
-    /// What payloads are copied into.
-    payloads: Payloads,
 }
 
 impl Model for Front {
@@ -70,19 +67,19 @@ impl Front {
             last: Moment { nanos: 0 },
             next: 0,
             counts: RecordCounts::NONE,
-            payloads: Payloads::new(alloc),
         })
     }
 
-    /// Takes the next record, whose bytes begin with this link layer, and adds its jobs to `out`. Without
-    /// memory `out` stays, and nothing is promised of the front any more.
-    pub fn jobs(
+    /// Takes the next record, whose bytes begin with this link layer, and adds its jobs to `out`: they are lent their
+    /// payloads by the record, but for that of a datagram which was put together. Without memory `out` stays, and
+    /// nothing is promised of the front any more.
+    pub fn jobs<'a>(
         &mut self,
         alloc: Global,
         by: &FrontConfig<'_>,
         link: Link,
-        captured: &Record,
-        out: &mut Vec<Job>,
+        captured: &'a Record,
+        out: &mut Vec<Job<'a>>,
     ) -> Result<(), NoMemory>
         requires sound { IsSound by.now.config.now }
         requires room { self.old.counts.records < 2 ^ 32 }
@@ -101,18 +98,8 @@ impl Front {
         }
     }
 
-    /// Takes back the jobs of records that are done with: the payloads of later ones are copied into their memory.
-    /// The front stands for the records that it stood for. At most 256 blocks are kept, and none of more than 2048
-    /// bytes, so that long datagrams hold no memory; the others are freed.
-    pub fn take_back(&mut self, jobs: &mut Vec<Job>)
-        ensures same { self.new ≡ self.old }
-        ensures emptied { jobs.new.items ≡ [] }
-    {
-        self.payloads.take_back(jobs);
-    }
-
     /// Adds the jobs behind all records to `out`: each flow that lives ends. Without memory `out` stays.
-    pub fn finish(self, alloc: Global, out: &mut Vec<Job>) -> Result<(), NoMemory>
+    pub fn finish(self, alloc: Global, out: &mut Vec<Job<'_>>) -> Result<(), NoMemory>
         ensures ok { OnOk result (GivesFinishes self out.old.items out.new.items) }
         ensures err { OnErr result (out.new.items ≡ out.old.items) }
     {
@@ -131,13 +118,13 @@ impl Front {
     /// Takes the next record. Without memory, jobs may stand behind `out`.
     ///
     /// A packet of version 4 that is no fragment is read in place, and goes from there into its job.
-    fn step(
+    fn step<'a>(
         &mut self,
         alloc: Global,
         by: &FrontConfig<'_>,
         link: Link,
-        captured: &Record,
-        out: &mut Vec<Job>,
+        captured: &'a Record,
+        out: &mut Vec<Job<'a>>,
     ) -> Result<(), NoMemory>
         requires engines { length by.now.config.now.stream.engines ≤ 1024 }
         requires room { self.old.counts.records < 2 ^ 32 }
@@ -163,7 +150,7 @@ impl Front {
         let key = tracked_key(&by.config.stream, &read.ip, read.body);
         let touch = touch_key(&mut self.flows, key)?;
         self.counts.flows += u64::from(is_fresh(touch));
-        let payload = self.payloads.copy(alloc, read.payload(bytes))?;
+        let payload = Payload::lent(read.payload(bytes));
         self.next = add_packet(out, by, time, touch, &read, payload, self.next)?;
         Ok(())
     }
@@ -171,14 +158,14 @@ impl Front {
     /// Takes the next record as `step` does, where `four`, which was read of it as version 4, is no packet or a fragment.
     // Kept out of the line of the other records, which otherwise pay for its moves.
     #[inline(never)]
-    fn step_seldom(
+    fn step_seldom<'a>(
         &mut self,
         alloc: Global,
         by: &FrontConfig<'_>,
         link: Link,
-        captured: &Record,
+        captured: &'a Record,
         four: Result<&Placed, Skip>,
-        out: &mut Vec<Job>,
+        out: &mut Vec<Job<'a>>,
     ) -> Result<(), NoMemory>
         requires engines { length by.now.config.now.stream.engines ≤ 1024 }
         requires room { self.old.counts.records < 2 ^ 32 }
@@ -194,15 +181,7 @@ impl Front {
         self.counts.records += 1;
         self.begin = Some(time.first);
         self.last = time.now;
-        let content = read_record(
-            alloc,
-            by,
-            &mut self.frag3,
-            &mut self.payloads,
-            link,
-            captured,
-            four,
-        )?;
+        let content = read_record(alloc, by, &mut self.frag3, link, captured, four)?;
         let key = content_key(by, &content);
         let touch = touch_key(&mut self.flows, key)?;
         self.counts = counts.with_record(&content, touch);

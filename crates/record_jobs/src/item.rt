@@ -1,7 +1,8 @@
 ghost use Rattle.std.specs.Prelude.{◌≡◌};
 ghost use Rattle.record_jobs.specs.Packets.{untracked};
 
-use edge_io::{Moment, Text};
+use edge_io::Moment;
+use flow_lanes::Payload;
 use packet_decode::{Body, IpHead, ItemHead, ItemKind, SessionFacts};
 
 /// What rules see of what was read at this moment; nothing is known of its session.
@@ -21,7 +22,7 @@ pub(crate) fn head_of(kind: ItemKind, moment: Moment, ip: IpHead, body: Body) ->
 
 /// What is inspected: what rules see of it beside its payload, and the payload.
 #[derive(Debug, Drop)]
-pub(crate) struct Item {
+pub(crate) struct Item<'a> {
     pub head: ItemHead,
-    pub payload: Text,
+    pub payload: Payload<'a>,
 }

@@ -15,7 +15,6 @@ mod engines;
 mod front;
 mod item;
 mod laws;
-mod payloads;
 mod time;
 mod touches;
 

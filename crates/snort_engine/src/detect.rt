@@ -94,12 +94,12 @@ impl Detector {
 }
 
 /// The jobs of records, one behind another, and the place of each one's record.
-pub(crate) fn make_jobs(
+pub(crate) fn make_jobs<'a>(
     alloc: Global,
     by: &FrontConfig<'_>,
-    records: &[LinkedRecord],
+    records: &'a [LinkedRecord],
     front: &mut Front,
-) -> Result<Made, NoMemory>
+) -> Result<Made<'a>, NoMemory>
     requires sound { conf.IsSound by.now.config.now }
     requires few { front.old.counts.records + length records.now ≤ 2 ^ 32 }
     ensures makes { IfOk result (λ made. MakesJobs (ways.way_of by.now) records.now
@@ -179,7 +179,7 @@ fn run_jobs<P: Pattern, G: Gate, A: Sink, R: Threads + Sync>(
 }
 
 /// Writes the lines of a batch of records, whole, and keeps its last record: what was kept before stands
-/// in its place then. The memory of the jobs' payloads goes back to the front.
+/// in its place then.
 #[tactic(auto, using(crate::proofs::Prefixes::rising))]
 pub(crate) fn show_records<P: Pattern, G: Gate, A: Sink, R: Threads + Sync>(
     context: &Context<'_, P, G, R>,
@@ -205,7 +205,7 @@ pub(crate) fn show_records<P: Pattern, G: Gate, A: Sink, R: Threads + Sync>(
     ensures later { A.faults alerts.old ≤ A.faults alerts.new }
 {
     let by = front_config(context.plan);
-    let mut made = make_jobs(context.alloc, &by, records, &mut detector.front)?;
+    let made = make_jobs(context.alloc, &by, records, &mut detector.front)?;
     let inspection = &mut detector.inspection;
     run_jobs(
         context,
@@ -216,13 +216,13 @@ pub(crate) fn show_records<P: Pattern, G: Gate, A: Sink, R: Threads + Sync>(
         alerts,
     )?;
     offer(&mut inspection.events.block, alerts)?;
+    drop(made);
     keep_last(records, &mut inspection.last);
-    detector.front.take_back(&mut made.jobs);
     Ok(())
 }
 
 /// The jobs behind all records.
-fn last_jobs(alloc: Global, front: Front) -> Result<Vec<Job>, NoMemory>
+fn last_jobs<'a>(alloc: Global, front: Front) -> Result<Vec<Job<'a>>, NoMemory>
     ensures { IfOk result (λ jobs. GivesFinishes front [] jobs.items) }
 {
     let mut jobs = Vec::new(alloc);

@@ -6,10 +6,10 @@ use crate::reader::LinkedRecord;
 use flow_lanes::Job;
 use std::mem::swap;
 
-/// The jobs of records, and for each the place of its record among these.
+/// The jobs of records, lent by these, and for each the place of its record among these.
 #[derive(Drop)]
-pub(crate) struct Made {
-    pub jobs: Vec<Job>,
+pub(crate) struct Made<'a> {
+    pub jobs: Vec<Job<'a>>,
     pub places: Vec<usize>,
 }
 

@@ -40,14 +40,14 @@ returns-clause-shown g c = λ matches test.
     let makes = rw (c.front_config-by.ensures.way, c.deref.ensures.value) at c.in_ok-made.ensures.makes in
     let placed = rw (c.front_config-by.ensures.way, c.deref.ensures.value) at c.in_ok-made.ensures.places in
     let runs = rw (c.deref-2.ensures.value, c.deref-3.ensures.value, c.deref-4.ensures.value) at (c.in_ok-run_jobs.ensures.shown matches test) in
-    rw c.take_back.ensures.same (records_shown (plan_of matches c.args.context.now.plan.now) c.args.records.now.items _ _ c.in_ok-made.made.jobs.items c.in_ok-made.made.places.items _ makes placed runs c.requires.known.none c.in_ok-offer.ensures.offered
+    (records_shown (plan_of matches c.args.context.now.plan.now) c.args.records.now.items _ _ c.in_ok-made.made.jobs.items c.in_ok-made.made.places.items _ makes placed runs c.requires.known.none c.in_ok-offer.ensures.offered
     (λ before stands. stands_on (plan_of matches c.args.context.now.plan.now) before _ _ refl refl refl refl stands) (rw c.in_ok-run_jobs.ensures.last_stays at c.keep_last.ensures))
 
 pub returns-clause-known : goal.returns-clause-known
 returns-clause-known g c =
     let makes = rw (c.front_config-by.ensures.way, c.deref.ensures.value) at c.in_ok-made.ensures.makes in
     let learns = rw c.deref-2.ensures.value at c.in_ok-run_jobs.ensures.learns in
-    rw c.take_back.ensures.same (known_records (jobs_way_by c.args.context.now.plan.now.checks c.args.context.now.plan.now.setup.hosts c.args.context.now.plan.now.setup.config) c.args.context.now.plan.now.setup.set.rules c.args.detector.now _ c.args.records.now.items c.in_ok-made.made.jobs.items
+    (known_records (jobs_way_by c.args.context.now.plan.now.checks c.args.context.now.plan.now.setup.hosts c.args.context.now.plan.now.setup.config) c.args.context.now.plan.now.setup.set.rules c.args.detector.now _ c.args.records.now.items c.in_ok-made.made.jobs.items
     c.requires.known makes learns c.in_ok-run_jobs.ensures.groups_stay c.in_ok-offer.ensures.emptied)
 
 pub returns-in_err-offer-clause-kind : goal.returns-in_err-offer-clause-kind
