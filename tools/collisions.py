@@ -66,8 +66,10 @@ def fed(address):  # its place among the versions, and its number
 def flow_key(source, target):  # a flow is named by its lower end first, without the version
     return [b"\0", number_of(source), struct.pack("<H", 1000), number_of(target), struct.pack("<H", 2000)]
 
-def fragment_key(source, target):
-    return [*fed(source), *fed(target), struct.pack("<I", 7), bytes([17])]
+def fragment_key(source, target):  # one row of 16 bytes, or the numbers of both ends and a word with the rest
+    if source.version == 4:
+        return [number_of(source) + number_of(target) + struct.pack("<II", 7, 17)]
+    return [number_of(source), number_of(target), struct.pack("<II", 7, 17)]
 
 def filter_key(source, _):
     return [*(struct.pack("<I", it) for it in (0, 1, 1)), *fed(source)]
@@ -99,19 +101,27 @@ def in_order(version, count):
     network = PLAIN if version == 6 else 0x0B000000
     return [ipaddress.ip_address(network + number) for number in range(1, count + 1)]
 
+def around(state, data):
+    """What a write multiplies that begins with an address of IPv4: a number joined with so many times it, and a factor."""
+    if len(data) == 4:
+        return state, 1 << 32 | 1, MULTIPLIER ^ 2 * len(data)
+    low, high = struct.unpack("<QQ", data)
+    return low & ~0xffffffff ^ (state + len(data) & ALL), 1, high ^ MULTIPLIER
+
 def tried(given, count, room):
     """Addresses of IPv4 whose keys begin their search at one place, of a map with 9 keys at each."""
     mark = ipaddress.ip_address("203.0.113.77")
     writes = given.key(mark, TARGETS[4])
-    at = writes.index(number_of(mark))
+    at = next(at for at, data in enumerate(writes) if data.startswith(number_of(mark)))
     state = INITIAL
     for data in writes[:at]:
         state = written(state, data)
+    state, spread, factor = around(state, writes[at])
     low = (-(-min(count, given.most) // 9) - 1).bit_length()
     high = max(0, min(8, 30 - low - count.bit_length()))
     behind = [str(it) for data in writes[at + 1:] for it in (short(data), len(data))]
     subprocess.run(["cc", "-O2", "-o", f"{room}/tries", f"{TOP}/tools/collisions.c"], check=True)
-    words = [f"{room}/tries", *map(str, (state, low, high, count)), *behind]
+    words = [f"{room}/tries", *map(str, (state, spread, factor, low, high, count)), *behind]
     found = subprocess.run(words, stdout=subprocess.PIPE, check=True).stdout
     addresses = [ipaddress.IPv4Address(it) for it, in struct.iter_unpack("<I", found)]
     assert all(hashed(given.key(it, TARGETS[4])) & (1 << low) - 1 == 0 for it in addresses)

@@ -3,3 +3,4 @@ pub mod Sound
 pub mod Parts
 pub mod Inside
 pub mod Outside
+pub mod Hashed

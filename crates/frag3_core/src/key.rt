@@ -5,7 +5,7 @@ use edge_io::Addr;
 use packet_decode::IpHead;
 
 /// Which datagram a fragment belongs to (RFC 791, section 3.2).
-#[derive(Clone, Copy, Debug, PartialEq, Eq, Hash)]
+#[derive(Clone, Copy, Debug, PartialEq, Eq)]
 pub struct DatagramKey {
     pub src: Addr,
     pub dst: Addr,

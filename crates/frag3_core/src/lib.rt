@@ -10,6 +10,7 @@
 
 mod answer;
 mod frag3;
+mod hashed;
 mod key;
 mod seed;
 #[cfg(test)]
