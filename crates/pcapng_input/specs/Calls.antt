@@ -96,9 +96,12 @@ abbrev pub ReadsAll : Type 0
 ReadsAll = (contents : Option Files) (name bytes : List ℕ) (limit : Option ℕ) (outcome : Result Cut NgFault)
     → Tells contents name bytes → Reads contents name limit outcome → ng_records bytes limit ≡ outcome
 
+-- these are the first of the records that the bytes hold
+abbrev pub AreFirst : List NgRecord → List ℕ → Type 0
+AreFirst given bytes = (cut : Cut) × (more : List NgRecord) × (ng_records bytes None ≡ Ok cut) × (cut.records ≡ given ++ more)
+
 -- whatever comes of it, also where the host fails or memory lacks: the records that were given are the first
 -- of those that the bytes hold
 abbrev pub ReadsFirst : Type 0
 ReadsFirst = (contents : Option Files) (name bytes : List ℕ) (given : List NgRecord) (reader : Reading) (left : Option (List ℕ))
-    → Tells contents name bytes → HasRead contents name given reader left
-    → (cut : Cut) × (more : List NgRecord) × (ng_records bytes None ≡ Ok cut) × (cut.records ≡ given ++ more)
+    → Tells contents name bytes → HasRead contents name given reader left → AreFirst given bytes

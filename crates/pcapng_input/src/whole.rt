@@ -4,6 +4,7 @@ ghost use Rattle.std.specs.Prelude.{◌≡◌, ◌≤◌, ◌⊎◌, List, ℕ, 
 ghost use Rattle.edge_io.specs.Told.{one_more, Rose};
 ghost use Rattle.edge_io.specs.Files.{Lacks};
 ghost use Rattle.pcap_input.specs.Reader.{Tells};
+ghost use Rattle.pcapng_input.specs.Calls.{AreFirst};
 ghost use Rattle.pcapng_input.specs.Whole.{IsHeld, HasFailed};
 
 use crate::{NgFault, NgReader, NgRecord};
@@ -27,7 +28,8 @@ impl Found {
     }
 }
 
-/// Opens a file of the host as its capture, and reads at most so many records of it.
+/// Opens a file of the host as its capture, and reads at most so many records of it. Where the host fails or memory
+/// lacks, the records found are the first of the capture.
 pub fn read_up_to<H: Host>(
     alloc: Global,
     host: &mut H,
@@ -35,6 +37,8 @@ pub fn read_up_to<H: Host>(
     limit: usize,
 ) -> Result<Found, NgFault>
     ensures held { (bytes : List ℕ) → Tells (H.contents host.old) name.now bytes → IsHeld result limit bytes }
+    ensures first { (bytes : List ℕ) → Tells (H.contents host.old) name.now bytes
+        → IfOk result (λ found. AreFirst found.records bytes) }
     ensures failed { HasFailed result → Rose (H.faults host.old) (H.faults host.new) ⊎ Lacks (H.contents host.old) name.now }
     ensures within { IfOk result (λ found. length found.records ≤ limit) }
     ensures same_contents { H.contents host.new ≡ H.contents host.old }

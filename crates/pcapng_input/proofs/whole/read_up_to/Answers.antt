@@ -4,6 +4,7 @@ use Rattle.std.proofs.lemmas.Result.{err_from_is_err_and}
 use Rattle.edge_io.specs.Files.{Lacks}
 use Rattle.pcapng_input.specs.Calls.{IsNextCall}
 use Rattle.pcapng_input.specs.Reader.{TakesRecord}
+use Rattle.pcapng_input.proofs.Calls.{reads_first}
 use Rattle.pcapng_input.proofs.Held.{held-begun, held-more, one-longer, held-unopened, held-reached, held-ended, held-refused, failed-last}
 use Rattle.pcapng_input.proofs.whole.read_up_to.Goals as goal
 
@@ -67,6 +68,18 @@ pub returns-clause-held : goal.returns-clause-held
 returns-clause-held g c =
     rw c.new-2.ensures (held-reached _ _ c.args.limit c.each.records c.each.reader _ c.each.invariant.read
     (omega (arith, c.each.invariant.within, ap length c.as_slice.ensures, c.each-test.false)))
+
+pub returns-in-Ok-None-clause-first : goal.returns-in-Ok-None-clause-first
+returns-in-Ok-None-clause-first g c =
+    rw c.new.ensures (λ bytes tells. reads_first _ _ bytes c.each.records c.each.reader _ tells c.each.invariant.read)
+
+pub returns-in-Err-clause-first : goal.returns-in-Err-clause-first
+returns-in-Err-clause-first g c =
+    rw c.new-in-Err.ensures (λ bytes tells. reads_first _ _ bytes c.each.records c.each.reader _ tells c.each.invariant.read)
+
+pub returns-clause-first : goal.returns-clause-first
+returns-clause-first g c =
+    rw c.new-2.ensures (λ bytes tells. reads_first _ _ bytes c.each.records c.each.reader _ tells c.each.invariant.read)
 
 pub returns-in_err-reader-clause-failed : goal.returns-in_err-reader-clause-failed
 returns-in_err-reader-clause-failed g c =
