@@ -1,4 +1,5 @@
-ghost use Rattle.std.specs.Prelude.{◌≡◌, ◌+◌, ◌-◌, ◌^◌, min};
+ghost use Rattle.std.specs.Prelude.{◌≡◌, ◌+◌, ◌-◌, ◌^◌, min, nat_lt, if◌then◌else◌};
+ghost use Rattle.std.specs.Process.{exit_status};
 
 use std::process::ExitCode;
 
@@ -35,7 +36,9 @@ impl Count {
     }
 
     /// The status of the program: 1 where one differed, else 0.
-    pub fn status(&self) -> ExitCode {
+    pub fn status(&self) -> ExitCode
+        ensures { exit_status result ≡ (if nat_lt 0 self.now.differed then 1 else 0) }
+    {
         ExitCode::from(u8::from(self.differed > 0))
     }
 }
