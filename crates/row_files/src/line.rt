@@ -1,4 +1,5 @@
-ghost use Rattle.std.specs.Prelude.{◌≡◌, None, IfOk, string_bytes};
+ghost use Rattle.std.specs.Prelude.{◌≡◌, ◌+◌, ◌-◌, ◌^◌, min, None, IfOk, IfSome, string_bytes};
+ghost use Rattle.row_files.specs.Numbered.{numbered};
 
 use std::alloc::{AllocError, Global};
 
@@ -33,9 +34,11 @@ impl<'a> RowLine<'a> {
         }
     }
 
-    /// The line of this turn, counted from 0.
+    /// The line of this turn, counted from 0. The greatest number is 4294967295.
     pub fn at(&self, alloc: Global, turn: u32) -> Result<String, AllocError>
-        ensures { self.now.first ≡ None → IfOk result (λ line. string_bytes line ≡ self.now.text.now) }
+        ensures plain { self.now.first ≡ None → IfOk result (λ line. string_bytes line ≡ self.now.text.now) }
+        ensures numbered { IfSome self.now.first (λ first. IfOk result
+            (λ line. string_bytes line ≡ numbered (min (first + turn) (2 ^ 32 - 1)) self.now.text.now)) }
     {
         match self.first {
             None => String::from_str(alloc, self.text),
