@@ -17,14 +17,15 @@ use Rattle.rule_types.specs.declared.option.Base.{Base}
 use Rattle.rule_types.specs.declared.option.Base.TheVariants as base
 use Rattle.rule_types.specs.declared.option.Cmp.{Cmp}
 use Rattle.rule_types.specs.declared.option.Num.{Num}
+use Rattle.rule_types.specs.declared.option.Opt.{Opt}
 use Rattle.rule_types.specs.declared.option.Opt.TheVariants as opt
-use Rattle.rule_parser.specs.ByteOptions.{Part, first_part, next_part, no_words, once_only, with_times, with_post, with_multiple, shared_word, jump_word, extract_word, word_of, words_of, lacks_string, fetch_of, jump_of, extract_of, Comparison, comparison_of, operator_of, offset_of, byte_test_option, byte_jump_option, with_name, byte_extract_option, data_words, parts_behind, isdataat_option}
+use Rattle.rule_parser.specs.ByteOptions.{Part, first_part, next_part, no_words, once_only, with_times, with_post, with_multiple, shared_word, jump_word, extract_word, word_of, words_of, lacks_string, fetch_of, jump_of, extract_of, Comparison, comparison_of, operator_of, offset_of, byte_test, byte_test_option, byte_jump, byte_jump_option, Extraction, with_name, byte_extract, with_extraction, byte_extract_option, data_words, parts_behind, isdataat, isdataat_option}
 use Rattle.rule_parser.specs.Contents.{negation}
 use Rattle.rule_parser.specs.Drafts.{kept_count, kept}
 use Rattle.net_lists.specs.Variables.{is_name}
 use Rattle.rule_parser.specs.Names.{place_among, number_or_named}
-use Rattle.rule_types.specs.Sound.{IsFetch, bytes_of_base, is_test}
-use Rattle.rule_parser.proofs.SoundDrafts.{AreNamed, IsSoundDraft, names_after, kept-more, kept-sound}
+use Rattle.rule_types.specs.Sound.{IsFetch, IsOption, bytes_of_base, is_test}
+use Rattle.rule_parser.proofs.SoundDrafts.{AreNamed, IsSoundDraft, IsPlain, names_after, kept-more, kept-sound}
 use Rattle.rule_parser.proofs.SoundSteps.{then_ok, any_ok, kind_ok, if_ok, fold_ok}
 use Rattle.rule_parser.proofs.SoundValues.{IsIn, IsSignedIn, IsNumBelow, number_in-within, signed_in-within, num-named, place_among-below, signed_or_named-below, number_or_named-below}
 
@@ -148,7 +149,7 @@ module _ (classes : ℕ) (draft : Draft) (sound : IsSoundDraft classes draft) wh
   count_ok : (text : List ℕ) → IfOk (or_kind OptionValue (number_in 1 10 text)) (IsIn 1 10)
   count_ok text = kind_ok (IsIn 1 10) OptionValue (number_in 1 10 text) (number_in-within 1 10 text)
 
-  offset_ok : (part : Part) → IfOk (offset_of draft part) (IsNumBelow (length draft.names) (negsuc 65534) (pos 65535))
+  offset_ok : (part : Part) → IfOk (offset_of draft.names part) (IsNumBelow (length draft.names) (negsuc 65534) (pos 65535))
   offset_ok part = signed_or_named-below (negsuc 65534) (pos 65535) draft.names part.left part.text
 
   IsCompared : Comparison → Type 0
@@ -162,31 +163,47 @@ module _ (classes : ℕ) (draft : Draft) (sound : IsSoundDraft classes draft) wh
       then_ok (λ _. Unit {0}) IsCompared (next_part operator) _ (any_ok (next_part operator)) (λ against _.
       then_ok (IsNumBelow (length draft.names) (pos 0) (pos 4294967295)) IsCompared (number_or_named 0 4294967295 draft.names against.left against.text) _ (number_or_named-below 0 4294967295 draft.names against.left against.text) (λ number below. (below, tests)))))
 
-  pub byte_test-sound : (left : ℕ) (value : List ℕ) → IfOk (byte_test_option draft left value) (IsSoundDraft classes)
-  unfolding byte_test_option IsCompared
-  byte_test-sound left value =
+  -- an option that stands behind the names of the draft, and is kept
+  Stands : Opt → Type 0
+  Stands option = IsOption (names_after [] draft.opts) option × IsPlain option
+
+  stands-sound : (option : Opt) → Stands option → IfOk (kept draft option) (IsSoundDraft classes)
+  unfolding Stands
+  stands-sound option h = kept-sound classes draft option sound h.0 h.1
+
+  byte_test-stands : (left : ℕ) (value : List ℕ) → IfOk (byte_test draft.names left value) Stands
+  unfolding byte_test IsCompared Stands
+  byte_test-stands left value =
       let names = names_after [] draft.opts in
       let count = first_part left value in
-      then_ok (IsIn 1 10) (IsSoundDraft classes) (or_kind OptionValue (number_in 1 10 count.text)) _ (count_ok count.text) (λ bytes within.
-      then_ok IsCompared (IsSoundDraft classes) (comparison_of draft.names count) _ (comparison_ok count) (λ comparison compared.
-      then_ok (λ _. Unit {0}) (IsSoundDraft classes) (next_part comparison.part) _ (any_ok (next_part comparison.part)) (λ place _.
-      then_ok (IsNumBelow (length draft.names) (negsuc 65534) (pos 65535)) (IsSoundDraft classes) (offset_of draft place) _ (offset_ok place) (λ offset below.
-      then_ok AreWords (IsSoundDraft classes) (words_of Test place.behind) _ (words_of-words Test place.behind) (λ words h.
-      then_ok (IsFetch names) (IsSoundDraft classes) (fetch_of bytes offset words) _ (fetch-of names (length draft.names) bytes offset words sound.kept.named within below h) (λ fetch is_fetch.
-      kept-sound classes draft (opt.ByteTest fetch comparison.negated comparison.cmp comparison.value) sound (is_fetch, num-named names (length draft.names) (pos 0) (pos 4294967295) comparison.value sound.kept.named compared.0, compared.1) (refl, λ names. refl)))))))
+      then_ok (IsIn 1 10) Stands (or_kind OptionValue (number_in 1 10 count.text)) _ (count_ok count.text) (λ bytes within.
+      then_ok IsCompared Stands (comparison_of draft.names count) _ (comparison_ok count) (λ comparison compared.
+      then_ok (λ _. Unit {0}) Stands (next_part comparison.part) _ (any_ok (next_part comparison.part)) (λ place _.
+      then_ok (IsNumBelow (length draft.names) (negsuc 65534) (pos 65535)) Stands (offset_of draft.names place) _ (offset_ok place) (λ offset below.
+      then_ok AreWords Stands (words_of Test place.behind) _ (words_of-words Test place.behind) (λ words h.
+      then_ok (IsFetch names) Stands (fetch_of bytes offset words) _ (fetch-of names (length draft.names) bytes offset words sound.kept.named within below h) (λ fetch is_fetch.
+      ((is_fetch, num-named names (length draft.names) (pos 0) (pos 4294967295) comparison.value sound.kept.named compared.0, compared.1), (refl, λ names. refl))))))))
+
+  pub byte_test-sound : (left : ℕ) (value : List ℕ) → IfOk (byte_test_option draft left value) (IsSoundDraft classes)
+  unfolding byte_test_option
+  byte_test-sound left value = then_ok Stands (IsSoundDraft classes) (byte_test draft.names left value) (kept draft) (byte_test-stands left value) stands-sound
+
+  byte_jump-stands : (left : ℕ) (value : List ℕ) → IfOk (byte_jump draft.names left value) Stands
+  unfolding byte_jump Stands
+  byte_jump-stands left value =
+      let names = names_after [] draft.opts in
+      let count = first_part left value in
+      then_ok (IsIn 1 10) Stands (or_kind OptionValue (number_in 1 10 count.text)) _ (count_ok count.text) (λ bytes within.
+      then_ok (λ _. Unit {0}) Stands (next_part count) _ (any_ok (next_part count)) (λ place _.
+      then_ok (IsNumBelow (length draft.names) (negsuc 65534) (pos 65535)) Stands (offset_of draft.names place) _ (offset_ok place) (λ offset below.
+      then_ok AreWords Stands (words_of Jump place.behind) _ (words_of-words Jump place.behind) (λ words h.
+      then_ok (IsFetch names) Stands (fetch_of bytes offset words) _ (fetch-of names (length draft.names) bytes offset words sound.kept.named within below h) (λ fetch is_fetch.
+      let post = unwrapped_post words.post h.post in
+      ((is_fetch, unwrapped words.times 1 65535 (omega arith) h.times, post.0, post.1), (refl, λ names. refl)))))))
 
   pub byte_jump-sound : (left : ℕ) (value : List ℕ) → IfOk (byte_jump_option draft left value) (IsSoundDraft classes)
   unfolding byte_jump_option
-  byte_jump-sound left value =
-      let names = names_after [] draft.opts in
-      let count = first_part left value in
-      then_ok (IsIn 1 10) (IsSoundDraft classes) (or_kind OptionValue (number_in 1 10 count.text)) _ (count_ok count.text) (λ bytes within.
-      then_ok (λ _. Unit {0}) (IsSoundDraft classes) (next_part count) _ (any_ok (next_part count)) (λ place _.
-      then_ok (IsNumBelow (length draft.names) (negsuc 65534) (pos 65535)) (IsSoundDraft classes) (offset_of draft place) _ (offset_ok place) (λ offset below.
-      then_ok AreWords (IsSoundDraft classes) (words_of Jump place.behind) _ (words_of-words Jump place.behind) (λ words h.
-      then_ok (IsFetch names) (IsSoundDraft classes) (fetch_of bytes offset words) _ (fetch-of names (length draft.names) bytes offset words sound.kept.named within below h) (λ fetch is_fetch.
-      let post = unwrapped_post words.post h.post in
-      kept-sound classes draft (jump_of fetch words) sound (is_fetch, unwrapped words.times 1 65535 (omega arith) h.times, post.0, post.1) (refl, λ names. refl))))))
+  byte_jump-sound left value = then_ok Stands (IsSoundDraft classes) (byte_jump draft.names left value) (kept draft) (byte_jump-stands left value) stands-sound
 
   -- the names behind one more: each is one of those before, or the new one
   name_ok : (name : List ℕ) → IfOk (with_name draft.names name (place_among name draft.names)) (λ found. (length found.0 ≤ 2) × (found.1 < 2) × ((k : ℕ) → k < length found.0 → (k < length draft.names) ⊎ (found.1 ≡ k)))
@@ -214,33 +231,51 @@ module _ (classes : ℕ) (draft : Draft) (sound : IsSoundDraft classes draft) wh
   named_more names place k (inl h) named = Contains-append_right (place ∷ []) names k (named k h)
   named_more names place k (inr e) named = (0, omega arith, e)
 
-  pub byte_extract-sound : (left : ℕ) (value : List ℕ) → IfOk (byte_extract_option draft left value) (IsSoundDraft classes)
-  unfolding byte_extract_option kept
-  byte_extract-sound left value =
+  -- a byte_extract whose bytes stand behind the names of the draft
+  record IsExtraction (found : Extraction) : Type 0 where
+    fetch : IsFetch (names_after [] draft.opts) found.fetch
+    words : AreWords found.words
+
+  byte_extract-ok : (left : ℕ) (value : List ℕ) → IfOk (byte_extract draft.names left value) IsExtraction
+  unfolding byte_extract
+  byte_extract-ok left value =
       let names = names_after [] draft.opts in
       let count = first_part left value in
-      then_ok (IsIn 1 10) (IsSoundDraft classes) (or_kind OptionValue (number_in 1 10 count.text)) _ (count_ok count.text) (λ bytes within.
-      then_ok (λ _. Unit {0}) (IsSoundDraft classes) (next_part count) _ (any_ok (next_part count)) (λ place _.
-      then_ok (IsNumBelow (length draft.names) (negsuc 65534) (pos 65535)) (IsSoundDraft classes) (offset_of draft place) _ (offset_ok place) (λ offset below.
-      then_ok (λ _. Unit {0}) (IsSoundDraft classes) (next_part place) _ (any_ok (next_part place)) (λ name _.
-      then_ok AreWords (IsSoundDraft classes) (cond (is_name name.text) (words_of Extract name.behind) (Err OptionValue)) _ (if_ok AreWords (is_name name.text) (words_of Extract name.behind) (Err OptionValue) (λ _. words_of-words Extract name.behind) (λ _. tt)) (λ words h.
-      then_ok (IsFetch names) (IsSoundDraft classes) (fetch_of bytes offset words) _ (fetch-of names (length draft.names) bytes offset words sound.kept.named within below h) (λ fetch is_fetch.
-      then_ok (λ found. (length found.0 ≤ 2) × (found.1 < 2) × ((k : ℕ) → k < length found.0 → (k < length draft.names) ⊎ (found.1 ≡ k))) (IsSoundDraft classes) (with_name draft.names name.text (place_among name.text draft.names)) _ (name_ok name.text) (λ found ok.
+      then_ok (IsIn 1 10) IsExtraction (or_kind OptionValue (number_in 1 10 count.text)) _ (count_ok count.text) (λ bytes within.
+      then_ok (λ _. Unit {0}) IsExtraction (next_part count) _ (any_ok (next_part count)) (λ place _.
+      then_ok (IsNumBelow (length draft.names) (negsuc 65534) (pos 65535)) IsExtraction (offset_of draft.names place) _ (offset_ok place) (λ offset below.
+      then_ok (λ _. Unit {0}) IsExtraction (next_part place) _ (any_ok (next_part place)) (λ name _.
+      then_ok AreWords IsExtraction (cond (is_name name.text) (words_of Extract name.behind) (Err OptionValue)) _ (if_ok AreWords (is_name name.text) (words_of Extract name.behind) (Err OptionValue) (λ _. words_of-words Extract name.behind) (λ _. tt)) (λ words h.
+      then_ok (IsFetch names) IsExtraction (fetch_of bytes offset words) _ (fetch-of names (length draft.names) bytes offset words sound.kept.named within below h) (λ fetch is_fetch. record { fetch = is_fetch; words = h }))))))
+
+  with_extraction-sound : (found : Extraction) → IsExtraction found → IfOk (with_extraction draft found) (IsSoundDraft classes)
+  unfolding with_extraction kept
+  with_extraction-sound found h =
+      let names = names_after [] draft.opts in
+      then_ok (λ placed. (length placed.0 ≤ 2) × (placed.1 < 2) × ((k : ℕ) → k < length placed.0 → (k < length draft.names) ⊎ (placed.1 ≡ k))) (IsSoundDraft classes) (with_name draft.names found.name (place_among found.name draft.names)) _ (name_ok found.name) (λ placed ok.
       if_ok (IsSoundDraft classes) (nat_le 64 (kept_count draft)) (Err Limit) _ (λ _. tt) (λ room. record {
-        kept = kept-more draft.opts draft.held draft.names found.0 draft.fast (extract_of fetch found.1 words) sound.kept (is_fetch, ok.1, unwrapped words.times 1 65535 (omega arith) h.times, unwrapped_align words.align h.align) refl (λ k kh. named_more names found.1 k (ok.2 k kh) sound.kept.named) ok.0 room;
+        kept = kept-more draft.opts draft.held draft.names placed.0 draft.fast (extract_of found.fetch placed.1 found.words) sound.kept (h.fetch, ok.1, unwrapped found.words.times 1 65535 (omega arith) h.words.times, unwrapped_align found.words.align h.words.align) refl (λ k kh. named_more names placed.1 k (ok.2 k kh) sound.kept.named) ok.0 room;
         msg = sound.msg;
         gid = sound.gid;
         sid = sound.sid;
         class = sound.class;
         period = sound.period;
-      }))))))))
+      }))
 
-  pub isdataat-sound : (left : ℕ) (value : List ℕ) → IfOk (isdataat_option draft left value) (IsSoundDraft classes)
-  unfolding isdataat_option
-  isdataat-sound left value =
+  pub byte_extract-sound : (left : ℕ) (value : List ℕ) → IfOk (byte_extract_option draft left value) (IsSoundDraft classes)
+  unfolding byte_extract_option
+  byte_extract-sound left value = then_ok IsExtraction (IsSoundDraft classes) (byte_extract draft.names left value) (with_extraction draft) (byte_extract-ok left value) with_extraction-sound
+
+  isdataat-stands : (left : ℕ) (value : List ℕ) → IfOk (isdataat draft.names left value) Stands
+  unfolding isdataat Stands
+  isdataat-stands left value =
       let names = names_after [] draft.opts in
       let place = first_part left value in
       let sign = negation place.text in
-      then_ok (IsNumBelow (length draft.names) (pos 0) (pos 65535)) (IsSoundDraft classes) (number_or_named 0 65535 draft.names (place.left - cond sign.0 1 0) sign.1) _ (number_or_named-below 0 65535 draft.names (place.left - cond sign.0 1 0) sign.1) (λ at below.
-      then_ok (λ _. Unit {0}) (IsSoundDraft classes) (data_words (parts_behind place.behind)) _ (any_ok (data_words (parts_behind place.behind))) (λ relative _.
-      kept-sound classes draft (opt.IsDataAt at relative sign.0) sound (num-named names (length draft.names) (pos 0) (pos 65535) at sound.kept.named below) (refl, λ names. refl)))
+      then_ok (IsNumBelow (length draft.names) (pos 0) (pos 65535)) Stands (number_or_named 0 65535 draft.names (place.left - cond sign.0 1 0) sign.1) _ (number_or_named-below 0 65535 draft.names (place.left - cond sign.0 1 0) sign.1) (λ at below.
+      then_ok (λ _. Unit {0}) Stands (data_words (parts_behind place.behind)) _ (any_ok (data_words (parts_behind place.behind))) (λ relative _.
+      (num-named names (length draft.names) (pos 0) (pos 65535) at sound.kept.named below, (refl, λ names. refl))))
+
+  pub isdataat-sound : (left : ℕ) (value : List ℕ) → IfOk (isdataat_option draft left value) (IsSoundDraft classes)
+  unfolding isdataat_option
+  isdataat-sound left value = then_ok Stands (IsSoundDraft classes) (isdataat draft.names left value) (kept draft) (isdataat-stands left value) stands-sound

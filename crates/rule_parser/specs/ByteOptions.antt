@@ -16,6 +16,7 @@ use Rattle.net_lists.specs.Folds.{draft_behind}
 use Rattle.net_lists.specs.Numbers.{number_in, signed_in}
 use Rattle.net_lists.specs.Stops.{or_kind}
 use Rattle.rule_parser.specs.declared.byte_options.LentComparison.{LentComparison}
+use Rattle.rule_parser.specs.declared.byte_options.LentExtraction.{LentExtraction}
 use Rattle.rule_parser.specs.declared.byte_options.LentPart.{LentPart}
 use Rattle.rule_parser.specs.declared.byte_words.Which.{Which}
 use Rattle.rule_parser.specs.declared.byte_words.Which.TheVariants.{Test, Jump, Extract}
@@ -181,8 +182,8 @@ operator_of negated text =
     else Err OptionValue
 
 -- an offset: -65535 to 65535, or a name
-abbrev pub offset_of : Draft → Part → Result Num Fault
-offset_of draft part = signed_or_named (negsuc 65534) (pos 65535) draft.names part.left part.text
+abbrev pub offset_of : List (List ℕ) → Part → Result Num Fault
+offset_of names part = signed_or_named (negsuc 65534) (pos 65535) names part.left part.text
 
 -- what byte_test compares with, and how: the parts behind the first one, with the last of them
 pub record Comparison : Type 0 where
@@ -209,46 +210,70 @@ comparison_of names count = do
   number ← number_or_named 0 4294967295 names against.left against.text
   Ok (record { negated = (negation operator.text).0; cmp = cmp; value = number; part = against })
 
--- `byte_test:n,[!]op,value,offset[,..]`
-unfoldable pub byte_test_option : Draft → ℕ → List ℕ → Result Draft Fault
-byte_test_option draft left value = do
+-- what the value of `byte_test:n,[!]op,value,offset[,..]` says, behind these names
+unfoldable pub byte_test : List (List ℕ) → ℕ → List ℕ → Result Opt Fault
+byte_test names left value = do
   let count = first_part left value
   bytes ← or_kind OptionValue (number_in 1 10 count.text)
-  comparison ← comparison_of draft.names count
+  comparison ← comparison_of names count
   place ← next_part comparison.part
-  offset ← offset_of draft place
+  offset ← offset_of names place
   words ← words_of Test place.behind
   fetch ← fetch_of bytes offset words
-  kept draft (opt.ByteTest fetch comparison.negated comparison.cmp comparison.value)
+  Ok (opt.ByteTest fetch comparison.negated comparison.cmp comparison.value)
 
--- `byte_jump:n,offset[,..]`
-unfoldable pub byte_jump_option : Draft → ℕ → List ℕ → Result Draft Fault
-byte_jump_option draft left value = do
+unfoldable pub byte_test_option : Draft → ℕ → List ℕ → Result Draft Fault
+byte_test_option draft left value = byte_test draft.names left value >>= kept draft
+
+-- what the value of `byte_jump:n,offset[,..]` says, behind these names
+unfoldable pub byte_jump : List (List ℕ) → ℕ → List ℕ → Result Opt Fault
+byte_jump names left value = do
   let count = first_part left value
   bytes ← or_kind OptionValue (number_in 1 10 count.text)
   place ← next_part count
-  offset ← offset_of draft place
+  offset ← offset_of names place
   words ← words_of Jump place.behind
   fetch ← fetch_of bytes offset words
-  kept draft (jump_of fetch words)
+  Ok (jump_of fetch words)
+
+unfoldable pub byte_jump_option : Draft → ℕ → List ℕ → Result Draft Fault
+byte_jump_option draft left value = byte_jump draft.names left value >>= kept draft
 
 -- the names with this one, and its place: a name that is there keeps its place
 abbrev pub with_name : List (List ℕ) → List ℕ → Option ℕ → Result (List (List ℕ) × ℕ) Fault
 with_name names name (Some place) = Ok (names, place)
 with_name names name None = if nat_le 2 (length names) then Err Limit else Ok (names ++ name ∷ [], length names)
 
--- `byte_extract:n,offset,name[,..]`
-unfoldable pub byte_extract_option : Draft → ℕ → List ℕ → Result Draft Fault
-byte_extract_option draft left value = do
+-- A byte_extract before its name has a place among the others.
+pub record Extraction : Type 0 where
+  pub fetch : Fetch
+  pub words : Words
+  pub name : List ℕ
+
+-- what is seen of one that the code lends
+abbrev pub seen_extraction : LentExtraction → Extraction
+seen_extraction found = record { fetch = found.fetch; words = found.words; name = found.name.now }
+
+-- what the value of `byte_extract:n,offset,name[,..]` says, behind these names
+unfoldable pub byte_extract : List (List ℕ) → ℕ → List ℕ → Result Extraction Fault
+byte_extract names left value = do
   let count = first_part left value
   bytes ← or_kind OptionValue (number_in 1 10 count.text)
   place ← next_part count
-  offset ← offset_of draft place
+  offset ← offset_of names place
   name ← next_part place
   words ← if is_name name.text then words_of Extract name.behind else Err OptionValue
   fetch ← fetch_of bytes offset words
-  names ← with_name draft.names name.text (place_among name.text draft.names)
-  kept (record draft { names = names.0 }) (extract_of fetch names.1 words)
+  Ok (record { fetch = fetch; words = words; name = name.text })
+
+-- with a byte_extract, and its name among the others
+unfoldable pub with_extraction : Draft → Extraction → Result Draft Fault
+with_extraction draft found = do
+  names ← with_name draft.names found.name (place_among found.name draft.names)
+  kept (record draft { names = names.0 }) (extract_of found.fetch names.1 found.words)
+
+unfoldable pub byte_extract_option : Draft → ℕ → List ℕ → Result Draft Fault
+byte_extract_option draft left value = byte_extract draft.names left value >>= with_extraction draft
 
 -- one word behind the number of isdataat: whether it is `relative`
 abbrev pub data_word : List ℕ → Result Bool Fault
@@ -268,11 +293,14 @@ abbrev pub parts_behind : Option (List ℕ) → List (List ℕ)
 parts_behind None = []
 parts_behind (Some text) = comma_parts text
 
--- `isdataat:[!]n[,relative][,rawbytes]`
-unfoldable pub isdataat_option : Draft → ℕ → List ℕ → Result Draft Fault
-isdataat_option draft left value = do
+-- what the value of `isdataat:[!]n[,relative][,rawbytes]` says, behind these names
+unfoldable pub isdataat : List (List ℕ) → ℕ → List ℕ → Result Opt Fault
+isdataat names left value = do
   let place = first_part left value
   let sign = negation place.text
-  at ← number_or_named 0 65535 draft.names (place.left - (if sign.0 then 1 else 0)) sign.1
+  at ← number_or_named 0 65535 names (place.left - (if sign.0 then 1 else 0)) sign.1
   relative ← data_words (parts_behind place.behind)
-  kept draft (opt.IsDataAt at relative sign.0)
+  Ok (opt.IsDataAt at relative sign.0)
+
+unfoldable pub isdataat_option : Draft → ℕ → List ℕ → Result Draft Fault
+isdataat_option draft left value = isdataat draft.names left value >>= kept draft

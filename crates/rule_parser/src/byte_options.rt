@@ -5,7 +5,7 @@ ghost use Rattle.edge_io.specs.Bytes.{is_blank};
 ghost use Rattle.net_lists.specs.Stops.{Gives};
 ghost use Rattle.net_lists.specs.Variables.{is_name};
 ghost use Rattle.rule_parser.specs.Names.{place_among, signed_or_named};
-ghost use Rattle.rule_parser.specs.ByteOptions.{seen, first_part, next_part, words_of, operator_of, seen_comparison, comparison_of, byte_test_option, byte_jump_option, byte_extract_option, with_name, data_word, data_words, parts_behind, isdataat_option};
+ghost use Rattle.rule_parser.specs.ByteOptions.{seen, first_part, next_part, words_of, operator_of, seen_comparison, comparison_of, byte_test, byte_test_option, byte_jump, byte_jump_option, seen_extraction, byte_extract, with_extraction, byte_extract_option, with_name, data_word, data_words, parts_behind, isdataat, isdataat_option};
 
 use crate::byte_words::{Which, Words};
 use crate::contents::negation;
@@ -14,13 +14,13 @@ use crate::extracted::Extracted;
 use crate::fault::Fault;
 use crate::fields::place_of;
 use crate::number::{number_or_named, place_among, signed_or_named};
-use crate::{Cmp, Num, Opt};
+use crate::{Cmp, Fetch, Num, Opt};
 use edge_io::Text;
 use net_lists::{Parts, Stop, is_name, number_in, trimmed};
 use std::alloc::Global;
 
 /// A part of a value between commas, without the blanks around it.
-#[derive(Clone, Copy, Debug, PartialEq, Eq)]
+#[derive(Clone, Copy)]
 pub(crate) struct LentPart<'a> {
     pub text: &'a [u8],
     /// How many bytes of the line are left where it begins.
@@ -138,6 +138,20 @@ fn offset_of(names: &Extracted, part: &LentPart) -> Result<Num, Fault>
     signed_or_named(-65535, 65535, names.as_slice(), part.left, part.text)
 }
 
+/// What the value of a byte_jump says, behind these names.
+#[tactic(auto, unfolding(crate::specs::ByteOptions::byte_jump))]
+fn byte_jump(names: &Extracted, left: usize, value: &[u8]) -> Result<Opt, Fault>
+    ensures { result ≡ byte_jump names.now left value.now }
+{
+    let count = first_part(left, value);
+    let bytes = number_in(1, 10, count.text).ok_or(Fault::OptionValue)? as u8;
+    let place = next_part(&count)?;
+    let offset = offset_of(names, &place)?;
+    let words = jump_words(place.behind)?;
+    let fetch = words.fetch(bytes, offset)?;
+    Ok(words.jump_option(fetch))
+}
+
 #[tactic(auto, unfolding(crate::specs::ByteOptions::byte_jump_option))]
 pub(crate) fn byte_jump_option(
     draft: Draft,
@@ -146,17 +160,12 @@ pub(crate) fn byte_jump_option(
 ) -> Result<Draft, Stop<Fault>>
     ensures { Gives result (byte_jump_option draft left value.now) }
 {
-    let count = first_part(left, value);
-    let bytes = number_in(1, 10, count.text).ok_or(Fault::OptionValue)? as u8;
-    let place = next_part(&count)?;
-    let offset = offset_of(&draft.names, &place)?;
-    let words = jump_words(place.behind)?;
-    let fetch = words.fetch(bytes, offset)?;
-    draft.kept(words.jump_option(fetch))
+    let option = byte_jump(&draft.names, left, value)?;
+    draft.kept(option)
 }
 
 /// What byte_test compares with, and how.
-#[derive(Clone, Copy, Debug, PartialEq, Eq)]
+#[derive(Clone, Copy)]
 pub(crate) struct LentComparison<'a> {
     pub negated: bool,
     pub cmp: Cmp,
@@ -184,6 +193,26 @@ fn comparison_of<'a>(names: &Extracted, count: &LentPart<'a>) -> Result<LentComp
     })
 }
 
+/// What the value of a byte_test says, behind these names.
+#[tactic(auto, unfolding(crate::specs::ByteOptions::byte_test))]
+fn byte_test(names: &Extracted, left: usize, value: &[u8]) -> Result<Opt, Fault>
+    ensures { result ≡ byte_test names.now left value.now }
+{
+    let count = first_part(left, value);
+    let bytes = number_in(1, 10, count.text).ok_or(Fault::OptionValue)? as u8;
+    let against = comparison_of(names, &count)?;
+    let place = next_part(&against.part)?;
+    let offset = offset_of(names, &place)?;
+    let words = test_words(place.behind)?;
+    let fetch = words.fetch(bytes, offset)?;
+    Ok(Opt::ByteTest {
+        fetch,
+        not: against.negated,
+        cmp: against.cmp,
+        value: against.value,
+    })
+}
+
 #[tactic(auto, unfolding(crate::specs::ByteOptions::byte_test_option))]
 pub(crate) fn byte_test_option(
     draft: Draft,
@@ -192,19 +221,8 @@ pub(crate) fn byte_test_option(
 ) -> Result<Draft, Stop<Fault>>
     ensures { Gives result (byte_test_option draft left value.now) }
 {
-    let count = first_part(left, value);
-    let bytes = number_in(1, 10, count.text).ok_or(Fault::OptionValue)? as u8;
-    let against = comparison_of(&draft.names, &count)?;
-    let place = next_part(&against.part)?;
-    let offset = offset_of(&draft.names, &place)?;
-    let words = test_words(place.behind)?;
-    let fetch = words.fetch(bytes, offset)?;
-    draft.kept(Opt::ByteTest {
-        fetch,
-        not: against.negated,
-        cmp: against.cmp,
-        value: against.value,
-    })
+    let option = byte_test(&draft.names, left, value)?;
+    draft.kept(option)
 }
 
 /// Whether the one word that follows is `relative`.
@@ -244,20 +262,29 @@ fn data_words(behind: Option<&[u8]>) -> Result<bool, Fault>
     Err(Fault::OptionValue)
 }
 
-#[tactic(auto, unfolding(crate::specs::ByteOptions::isdataat_option))]
-pub(crate) fn isdataat_option(draft: Draft, left: usize, value: &[u8]) -> Result<Draft, Stop<Fault>>
-    ensures { Gives result (isdataat_option draft left value.now) }
+/// What the value of an isdataat says, behind these names.
+#[tactic(auto, unfolding(crate::specs::ByteOptions::isdataat))]
+fn isdataat(names: &Extracted, left: usize, value: &[u8]) -> Result<Opt, Fault>
+    ensures { result ≡ isdataat names.now left value.now }
 {
     let place = first_part(left, value);
     let (negated, number) = negation(place.text);
     let start = place.left.saturating_sub(usize::from(negated));
-    let at = number_or_named(0, 65535, draft.names.as_slice(), start, number)?;
+    let at = number_or_named(0, 65535, names.as_slice(), start, number)?;
     let relative = data_words(place.behind)?;
-    draft.kept(Opt::IsDataAt {
+    Ok(Opt::IsDataAt {
         at,
         relative,
         negated,
     })
+}
+
+#[tactic(auto, unfolding(crate::specs::ByteOptions::isdataat_option))]
+pub(crate) fn isdataat_option(draft: Draft, left: usize, value: &[u8]) -> Result<Draft, Stop<Fault>>
+    ensures { Gives result (isdataat_option draft left value.now) }
+{
+    let option = isdataat(&draft.names, left, value)?;
+    draft.kept(option)
 }
 
 /// The names with this one, and its place: a name that is there keeps its place.
@@ -286,6 +313,51 @@ fn extract_words(name: &[u8], behind: Option<&[u8]>) -> Result<Words, Fault>
     words_of(Which::Extract, behind)
 }
 
+/// A byte_extract before its name has a place among the others.
+#[derive(Clone, Copy)]
+struct LentExtraction<'a> {
+    fetch: Fetch,
+    words: Words,
+    name: &'a [u8],
+}
+
+/// What the value of a byte_extract says, behind these names.
+#[tactic(auto, unfolding(crate::specs::ByteOptions::byte_extract))]
+fn byte_extract<'a>(
+    names: &Extracted,
+    left: usize,
+    value: &'a [u8],
+) -> Result<LentExtraction<'a>, Fault>
+    ensures { MatchResult result (λ found. byte_extract names.now left value.now ≡ Ok (seen_extraction found))
+        (λ why. byte_extract names.now left value.now ≡ Err why) }
+{
+    let count = first_part(left, value);
+    let bytes = number_in(1, 10, count.text).ok_or(Fault::OptionValue)? as u8;
+    let place = next_part(&count)?;
+    let offset = offset_of(names, &place)?;
+    let name = next_part(&place)?;
+    let words = extract_words(name.text, name.behind)?;
+    let fetch = words.fetch(bytes, offset)?;
+    Ok(LentExtraction {
+        fetch,
+        words,
+        name: name.text,
+    })
+}
+
+/// The rule with a byte_extract, and its name among the others.
+#[tactic(auto, unfolding(crate::specs::ByteOptions::with_extraction))]
+fn with_extraction(
+    alloc: Global,
+    draft: Draft,
+    found: LentExtraction<'_>,
+) -> Result<Draft, Stop<Fault>>
+    ensures { Gives result (with_extraction draft (seen_extraction found.entry)) }
+{
+    let (names, number) = with_name(alloc, draft.names, found.name)?;
+    Draft { names, ..draft }.kept(found.words.extract_option(found.fetch, number))
+}
+
 #[tactic(auto, unfolding(crate::specs::ByteOptions::byte_extract_option))]
 pub(crate) fn byte_extract_option(
     alloc: Global,
@@ -295,13 +367,6 @@ pub(crate) fn byte_extract_option(
 ) -> Result<Draft, Stop<Fault>>
     ensures { Gives result (byte_extract_option draft left value.now) }
 {
-    let count = first_part(left, value);
-    let bytes = number_in(1, 10, count.text).ok_or(Fault::OptionValue)? as u8;
-    let place = next_part(&count)?;
-    let offset = offset_of(&draft.names, &place)?;
-    let name = next_part(&place)?;
-    let words = extract_words(name.text, name.behind)?;
-    let fetch = words.fetch(bytes, offset)?;
-    let (names, number) = with_name(alloc, draft.names, name.text)?;
-    Draft { names, ..draft }.kept(words.extract_option(fetch, number))
+    let found = byte_extract(&draft.names, left, value)?;
+    with_extraction(alloc, draft, found)
 }

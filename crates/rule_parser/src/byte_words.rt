@@ -7,7 +7,7 @@ use crate::{Base, Fetch, Num, Opt};
 use net_lists::{PartStep, first_word, number_in, signed_in};
 
 /// Which option has the words.
-#[derive(Clone, Copy, Debug, PartialEq, Eq)]
+#[derive(Clone, Copy)]
 pub(crate) enum Which {
     Test,
     Jump,
@@ -15,7 +15,7 @@ pub(crate) enum Which {
 }
 
 /// The words that stand.
-#[derive(Clone, Copy, Debug, PartialEq, Eq)]
+#[derive(Clone, Copy)]
 pub(crate) struct Words {
     pub relative: bool,
     pub big: bool,
