@@ -18,14 +18,16 @@ use Rattle.rule_parser.specs.declared.flowbits.BitWord.TheVariants as word
 use Rattle.rule_types.specs.declared.option.Mode.{Mode}
 use Rattle.rule_types.specs.declared.option.Mode.TheVariants as mode
 use Rattle.rule_types.specs.declared.option.Opt.TheVariants as opt
+use Rattle.rule_types.specs.declared.option.Side.{Side}
 use Rattle.rule_parser.specs.ByteOptions.{Part, first_part, next_part}
 use Rattle.rule_parser.specs.Drafts.{kept}
-use Rattle.rule_parser.specs.Flags.{no_flow, flow_word, flow_option, no_letters, mode_of, flag_bit, frag_bit, with_bit, with_mode, if_any, flag_step, frag_step, flag_letters, frag_letters, frag_signed, mask_of, flags_parts, flags_option, fragbits_option}
+use Rattle.rule_parser.specs.Flags.{no_flow, flow_word, flow_option, no_letters, mode_of, flag_bit, frag_bit, with_bit, with_mode, if_any, flag_step, frag_step, flag_letters, frag_letters, frag_signed, mask_of, flags_parts, flags_of, flags_option, fragbits_option}
 use Rattle.rule_parser.specs.Flowbits.{bit_option, bit_word, numbered, with_names, last_name, bit_parts, noalert, flowbits_parts, flowbits_option}
 use Rattle.rule_parser.specs.Names.{place_among}
 use Rattle.rule_types.specs.Sound.{is_order, is_named_side}
 use Rattle.rule_parser.specs.Steering.{side_of, sized_side, size_cmp, size_parts, stream_size_option, switched, quiet, reassemble_parts, stream_reassemble_option}
 use Rattle.rule_parser.proofs.SoundDrafts.{IsSoundDraft, kept-sound}
+use Rattle.rule_parser.proofs.SoundFields.{IsAnywhere, anywhere, anywhere-sound}
 use Rattle.rule_parser.proofs.SoundSteps.{then_ok, any_ok, kind_ok, if_ok}
 use Rattle.rule_parser.proofs.SoundValues.{IsIn, number_in-within, place_among-below}
 
@@ -99,16 +101,17 @@ mask_of-below (mask ∷ []) =
     then_ok (AreBelow 8) (λ mask. mask < 2 ^ 8) (or_kind OptionValue (flag_letters false no_letters mask)) _ (kind_ok (AreBelow 8) OptionValue (flag_letters false no_letters mask) (flag_letters-below false mask no_letters (omega arith))) (λ letters h. h)
 mask_of-below (mask ∷ more ∷ rest) = tt
 
+flags_parts-anywhere : (parts : List (List ℕ)) → IfOk (flags_parts parts) IsAnywhere
+flags_parts-anywhere [] = tt
+flags_parts-anywhere (first ∷ rest) =
+    then_ok (AreBelow 8) IsAnywhere (or_kind OptionValue (flag_letters true no_letters first)) _ (kind_ok (AreBelow 8) OptionValue (flag_letters true no_letters first) (flag_letters-below true first no_letters (omega arith))) (λ letters h.
+    then_ok (λ mask. mask < 2 ^ 8) IsAnywhere (mask_of rest) _ (mask_of-below rest) (λ mask k.
+    anywhere (opt.Flags (unwrap_or letters.mode mode.Exact) letters.bits mask) (λ names. (h, k)) (refl, λ names. refl)))
+
 pub flags-sound : (classes : ℕ) (draft : Draft) → IsSoundDraft classes draft → (value : List ℕ) → IfOk (flags_option draft value) (IsSoundDraft classes)
-unfolding flags_option
-flags-sound classes draft sound value = go (comma_parts value)
-  where
-    go : (parts : List (List ℕ)) → IfOk (flags_parts draft parts) (IsSoundDraft classes)
-    go [] = tt
-    go (first ∷ rest) =
-        then_ok (AreBelow 8) (IsSoundDraft classes) (or_kind OptionValue (flag_letters true no_letters first)) _ (kind_ok (AreBelow 8) OptionValue (flag_letters true no_letters first) (flag_letters-below true first no_letters (omega arith))) (λ letters h.
-        then_ok (λ mask. mask < 2 ^ 8) (IsSoundDraft classes) (mask_of rest) _ (mask_of-below rest) (λ mask k.
-        kept-sound classes draft (opt.Flags (unwrap_or letters.mode mode.Exact) letters.bits mask) sound (h, k) (refl, λ names. refl)))
+unfolding flags_option flags_of
+flags-sound classes draft sound value =
+    then_ok IsAnywhere (IsSoundDraft classes) (flags_of value) (kept draft) (flags_parts-anywhere (comma_parts value)) (λ option h. anywhere-sound classes draft option sound h)
 
 frag_signed-below : (text : List ℕ) → IfSome (frag_signed text) (AreBelow 3)
 frag_signed-below [] = tt
@@ -176,30 +179,38 @@ side_of-named : (text : List ℕ) → IfOk (side_of text) (λ side. IsTrue (is_n
 unfolding side_of
 side_of-named text = grind arith
 
+size_parts-anywhere : (parts : List (List ℕ)) → IfOk (size_parts parts) IsAnywhere
+unfolding size_parts
+size_parts-anywhere [] = tt
+size_parts-anywhere (first ∷ []) = tt
+size_parts-anywhere (first ∷ second ∷ []) = tt
+size_parts-anywhere (first ∷ second ∷ third ∷ []) =
+    then_ok (λ _. Unit {0}) IsAnywhere (sized_side first) _ (any_ok (sized_side first)) (λ side _.
+    then_ok (λ how. IsTrue (is_order how)) IsAnywhere (size_cmp second) _ (size_cmp-order second) (λ how order.
+    then_ok (IsIn 0 4294967295) IsAnywhere (or_kind OptionValue (number_in 0 4294967295 third)) _ (kind_ok (IsIn 0 4294967295) OptionValue (number_in 0 4294967295 third) (number_in-within 0 4294967295 third)) (λ number within.
+    anywhere (opt.StreamSize side how number) (λ names. (order, within.1)) (refl, λ names. refl))))
+size_parts-anywhere (first ∷ second ∷ third ∷ fourth ∷ more) = tt
+
 pub stream_size-sound : (classes : ℕ) (draft : Draft) → IsSoundDraft classes draft → (value : List ℕ) → IfOk (stream_size_option draft value) (IsSoundDraft classes)
-unfolding stream_size_option size_parts
-stream_size-sound classes draft sound value = go (comma_parts value)
-  where
-    go : (parts : List (List ℕ)) → IfOk (size_parts draft parts) (IsSoundDraft classes)
-    go [] = tt
-    go (first ∷ []) = tt
-    go (first ∷ second ∷ []) = tt
-    go (first ∷ second ∷ third ∷ []) =
-        then_ok (λ _. Unit {0}) (IsSoundDraft classes) (sized_side first) _ (any_ok (sized_side first)) (λ side _.
-        then_ok (λ how. IsTrue (is_order how)) (IsSoundDraft classes) (size_cmp second) _ (size_cmp-order second) (λ how order.
-        then_ok (IsIn 0 4294967295) (IsSoundDraft classes) (or_kind OptionValue (number_in 0 4294967295 third)) _ (kind_ok (IsIn 0 4294967295) OptionValue (number_in 0 4294967295 third) (number_in-within 0 4294967295 third)) (λ number within.
-        kept-sound classes draft (opt.StreamSize side how number) sound (order, within.1) (refl, λ names. refl))))
-    go (first ∷ second ∷ third ∷ fourth ∷ more) = tt
+unfolding stream_size_option
+stream_size-sound classes draft sound value =
+    then_ok IsAnywhere (IsSoundDraft classes) (size_parts (comma_parts value)) (kept draft) (size_parts-anywhere (comma_parts value)) (λ option h. anywhere-sound classes draft option sound h)
+
+-- a reassembly of a side that has a name
+abbrev IsNamedSide : Bool × Side × Bool → Type 0
+IsNamedSide said = IsTrue (is_named_side said.1)
+
+reassemble_parts-named : (parts : List (List ℕ)) → IfOk (reassemble_parts parts) IsNamedSide
+unfolding reassemble_parts
+reassemble_parts-named [] = tt
+reassemble_parts-named (first ∷ []) = then_ok (λ _. Unit {0}) IsNamedSide (switched first) _ (any_ok (switched first)) (λ on _. tt)
+reassemble_parts-named (first ∷ second ∷ rest) =
+    then_ok (λ _. Unit {0}) IsNamedSide (switched first) _ (any_ok (switched first)) (λ on _.
+    then_ok (λ side. IsTrue (is_named_side side)) IsNamedSide (side_of second) _ (side_of-named second) (λ side named.
+    then_ok (λ _. Unit {0}) IsNamedSide (quiet rest) _ (any_ok (quiet rest)) (λ noalert _. named)))
 
 pub stream_reassemble-sound : (classes : ℕ) (draft : Draft) → IsSoundDraft classes draft → (value : List ℕ) → IfOk (stream_reassemble_option draft value) (IsSoundDraft classes)
-unfolding stream_reassemble_option reassemble_parts
-stream_reassemble-sound classes draft sound value = go (comma_parts value)
-  where
-    go : (parts : List (List ℕ)) → IfOk (reassemble_parts draft parts) (IsSoundDraft classes)
-    go [] = tt
-    go (first ∷ []) = then_ok (λ _. Unit {0}) (IsSoundDraft classes) (switched first) _ (any_ok (switched first)) (λ on _. tt)
-    go (first ∷ second ∷ rest) =
-        then_ok (λ _. Unit {0}) (IsSoundDraft classes) (switched first) _ (any_ok (switched first)) (λ on _.
-        then_ok (λ side. IsTrue (is_named_side side)) (IsSoundDraft classes) (side_of second) _ (side_of-named second) (λ side named.
-        then_ok (λ _. Unit {0}) (IsSoundDraft classes) (quiet rest) _ (any_ok (quiet rest)) (λ noalert _.
-        kept-sound classes (record draft { noalert = draft.noalert || noalert }) (opt.Reassemble on side) (record { kept = sound.kept; msg = sound.msg; gid = sound.gid; sid = sound.sid; class = sound.class; period = sound.period }) named (refl, λ names. refl))))
+unfolding stream_reassemble_option
+stream_reassemble-sound classes draft sound value =
+    then_ok IsNamedSide (IsSoundDraft classes) (reassemble_parts (comma_parts value)) _ (reassemble_parts-named (comma_parts value)) (λ said named.
+    kept-sound classes (record draft { noalert = draft.noalert || said.2 }) (opt.Reassemble said.0 said.1) (record { kept = sound.kept; msg = sound.msg; gid = sound.gid; sid = sound.sid; class = sound.class; period = sound.period }) named (refl, λ names. refl))

@@ -1,5 +1,5 @@
 -- Options that name a rule keep it sound, and so do detection filters.
-use Rattle.std.proofs.Common.{◌≡◌, ℕ, ◌<◌, ◌≤◌, ◌==◌, ◌||◌, true, Option, Some, None, Ok, Err, List, [], ◌∷◌, length, nat_le, is_some, codes, arith, IfSome, IfOk}
+use Rattle.std.proofs.Common.{◌≡◌, ℕ, ◌<◌, ◌≤◌, ◌==◌, ◌||◌, Bool, true, Option, Some, None, Ok, Err, List, [], ◌∷◌, length, nat_le, is_some, codes, arith, IfSome, IfOk}
 use Rattle.std.proofs.lemmas.Bool.Decides.{nat_tests}
 use Rattle.net_lists.specs.Cutting.{comma_parts}
 use Rattle.net_lists.specs.Numbers.{number_in}
@@ -11,7 +11,7 @@ use Rattle.rule_parser.specs.declared.quoted.Place.TheVariants.{Plain}
 use Rattle.rule_types.specs.declared.rule.Period.{Period}
 use Rattle.rule_parser.specs.Periods.{behind_key, tracked, counted, period_parts, detection_filter_option}
 use Rattle.rule_parser.specs.Quotes.{meaning}
-use Rattle.rule_parser.specs.Texts.{once, gid_option, sid_option, rev_option, priority_option, quoted_whole, msg_option, class_named, classtype_option}
+use Rattle.rule_parser.specs.Texts.{once, gid_option, sid_option, rev_option, priority_option, quoted_whole, message, msg_option, class_named, classtype_option}
 use Rattle.rule_parser.proofs.SoundDrafts.{IsKnown, IsSoundDraft}
 use Rattle.rule_parser.proofs.SoundSteps.{then_ok, any_ok, kind_ok, if_ok, some_weaken}
 use Rattle.rule_parser.proofs.SoundValues.{IsIn, number_in-within}
@@ -44,17 +44,23 @@ module _ (classes : ℕ) (draft : Draft) (sound : IsSoundDraft classes draft) wh
   priority-sound value = then_ok (λ rev. 0 ≤ rev) (IsSoundDraft classes) (once draft.priority 0 value) _ (once-least draft.priority 0 value)
       (λ rev least. record { kept = sound.kept; msg = sound.msg; gid = sound.gid; sid = sound.sid; class = sound.class; period = sound.period })
 
-  pub msg-sound : (value : List ℕ) → IfOk (msg_option draft value) (IsSoundDraft classes)
-  unfolding msg_option
-  msg-sound value =
-      then_ok (λ _. Unit {0}) (IsSoundDraft classes) (quoted_whole value) _ (any_ok (quoted_whole value)) (λ inside _.
-      then_ok (λ _. Unit {0}) (IsSoundDraft classes) (or_kind OptionValue (meaning Message Plain inside)) _ (any_ok (or_kind OptionValue (meaning Message Plain inside))) (λ msg _.
-      if_ok (IsSoundDraft classes) (is_some draft.msg) _ _ (λ _. tt) (λ _.
-      if_ok (IsSoundDraft classes) (nat_le (length msg) 1024) (Ok (record draft { msg = Some msg })) (Err Limit)
-      (λ short. record { kept = sound.kept; msg = fits (length msg) short; gid = sound.gid; sid = sound.sid; class = sound.class; period = sound.period }) (λ _. tt))))
+  message-short : (stands : Bool) (value : List ℕ) → IfOk (message stands value) (λ msg. length msg ≤ 1024)
+  unfolding message
+  message-short stands value =
+      let IsShort : List ℕ → Type 0 = λ msg. length msg ≤ 1024 in
+      then_ok (λ _. Unit {0}) IsShort (quoted_whole value) _ (any_ok (quoted_whole value)) (λ inside _.
+      then_ok (λ _. Unit {0}) IsShort (or_kind OptionValue (meaning Message Plain inside)) _ (any_ok (or_kind OptionValue (meaning Message Plain inside))) (λ msg _.
+      if_ok IsShort stands _ _ (λ _. tt) (λ _.
+      if_ok IsShort (nat_le (length msg) 1024) (Ok msg) (Err Limit) (λ short. fits (length msg) short) (λ _. tt))))
     where
       fits : (len : ℕ) → nat_le len 1024 ≡ true → len ≤ 1024
       fits len short = grind (arith, nat_tests)
+
+  pub msg-sound : (value : List ℕ) → IfOk (msg_option draft value) (IsSoundDraft classes)
+  unfolding msg_option
+  msg-sound value =
+      then_ok (λ msg. length msg ≤ 1024) (IsSoundDraft classes) (message (is_some draft.msg) value) _ (message-short (is_some draft.msg) value)
+      (λ msg short. record { kept = sound.kept; msg = short; gid = sound.gid; sid = sound.sid; class = sound.class; period = sound.period })
 
   pub classtype-sound : (find : List ℕ → Option ℕ) → ((name : List ℕ) → IfSome (find name) (λ place. place < classes)) → (value : List ℕ) → IfOk (classtype_option find draft value) (IsSoundDraft classes)
   unfolding classtype_option

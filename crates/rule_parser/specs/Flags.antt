@@ -19,6 +19,7 @@ use Rattle.rule_parser.specs.declared.flags.Letters.{Letters}
 use Rattle.rule_types.specs.declared.option.FlowOpt.{FlowOpt}
 use Rattle.rule_types.specs.declared.option.Mode.{Mode}
 use Rattle.rule_types.specs.declared.option.Mode.TheVariants as mode
+use Rattle.rule_types.specs.declared.option.Opt.{Opt}
 use Rattle.rule_types.specs.declared.option.Opt.TheVariants as opt
 use Rattle.rule_parser.specs.Drafts.{kept}
 
@@ -119,16 +120,19 @@ mask_of (mask ∷ []) = or_kind OptionValue (flag_letters false no_letters mask)
 mask_of (mask ∷ more ∷ rest) = Err OptionValue
 
 -- what `flags` says, by its parts
-abbrev pub flags_parts : Draft → List (List ℕ) → Result Draft Fault
-flags_parts draft [] = Err OptionValue
-flags_parts draft (first ∷ rest) = do
+abbrev pub flags_parts : List (List ℕ) → Result Opt Fault
+flags_parts [] = Err OptionValue
+flags_parts (first ∷ rest) = do
   letters ← or_kind OptionValue (flag_letters true no_letters first)
   mask ← mask_of rest
-  kept draft (opt.Flags (unwrap_or letters.mode mode.Exact) letters.bits mask)
+  Ok (opt.Flags (unwrap_or letters.mode mode.Exact) letters.bits mask)
 
--- `flags:[!*+]letters[,mask]`
+-- what the value of `flags:[!*+]letters[,mask]` says
+unfoldable pub flags_of : List ℕ → Result Opt Fault
+flags_of value = flags_parts (comma_parts value)
+
 unfoldable pub flags_option : Draft → List ℕ → Result Draft Fault
-flags_option draft value = flags_parts draft (comma_parts value)
+flags_option draft value = flags_of value >>= kept draft
 
 -- with a letter of fragment bits, or with a sign where the byte is the last one
 unfoldable pub frag_step : Bool → Letters → ℕ → Option Letters

@@ -15,6 +15,7 @@ use Rattle.net_lists.specs.Stops.{or_kind}
 use Rattle.rule_parser.specs.declared.draft.Draft.{Draft}
 use Rattle.rule_parser.specs.declared.fault.Fault.{Fault}
 use Rattle.rule_parser.specs.declared.fault.Fault.TheVariants.{OptionValue, OutsideProfile, Limit}
+use Rattle.rule_types.specs.declared.option.Opt.{Opt}
 use Rattle.rule_types.specs.declared.option.Opt.TheVariants as opt
 use Rattle.rule_parser.specs.declared.patterns.Flags.{Flags}
 use Rattle.rule_parser.specs.declared.quoted.Style.TheVariants.{Pattern}
@@ -78,12 +79,15 @@ expression_of inside = do
   text ← or_kind OptionValue (meaning Pattern Plain inside)
   if list_all is_ascii text then Ok text else Err OptionValue
 
--- `pcre:[!]"/re/flags"`
-unfoldable pub pcre_option : Draft → List ℕ → Result Draft Fault
-pcre_option draft value = do
+-- what the value of `pcre:[!]"/re/flags"` says
+unfoldable pub pcre : List ℕ → Result Opt Fault
+pcre value = do
   parts ← or_kind OptionValue (quoted (negation value).1)
   halves ← or_kind OptionValue (slashed parts.0)
   text ← expression_of halves.0
   flags ← flags_of no_flags halves.1
   if not (length parts.1 == 0) then Err OptionValue else if nat_lt 4096 (length text) then Err Limit
-      else kept draft (opt.Pcre text (pattern_flags flags) flags.relative (negation value).0)
+      else Ok (opt.Pcre text (pattern_flags flags) flags.relative (negation value).0)
+
+unfoldable pub pcre_option : Draft → List ℕ → Result Draft Fault
+pcre_option draft value = pcre value >>= kept draft

@@ -15,6 +15,7 @@ use Rattle.rule_parser.specs.declared.fault.Fault.{Fault}
 use Rattle.rule_parser.specs.declared.fault.Fault.TheVariants.{OptionValue, OutsideProfile}
 use Rattle.rule_types.specs.declared.option.Cmp.{Cmp}
 use Rattle.rule_types.specs.declared.option.Cmp.TheVariants as cmp
+use Rattle.rule_types.specs.declared.option.Opt.{Opt}
 use Rattle.rule_types.specs.declared.option.Opt.TheVariants as opt
 use Rattle.rule_types.specs.declared.option.Side.{Side}
 use Rattle.rule_types.specs.declared.option.Side.TheVariants as side
@@ -46,20 +47,20 @@ size_cmp text =
     else Err OptionValue
 
 -- the three parts of a size
-unfoldable pub size_parts : Draft → List (List ℕ) → Result Draft Fault
-size_parts draft (first ∷ second ∷ third ∷ []) = do
+unfoldable pub size_parts : List (List ℕ) → Result Opt Fault
+size_parts (first ∷ second ∷ third ∷ []) = do
   side ← sized_side first
   comparison ← size_cmp second
   number ← or_kind OptionValue (number_in 0 4294967295 third)
-  kept draft (opt.StreamSize side comparison number)
-size_parts draft [] = Err OptionValue
-size_parts draft (first ∷ []) = Err OptionValue
-size_parts draft (first ∷ second ∷ []) = Err OptionValue
-size_parts draft (first ∷ second ∷ third ∷ fourth ∷ more) = Err OptionValue
+  Ok (opt.StreamSize side comparison number)
+size_parts [] = Err OptionValue
+size_parts (first ∷ []) = Err OptionValue
+size_parts (first ∷ second ∷ []) = Err OptionValue
+size_parts (first ∷ second ∷ third ∷ fourth ∷ more) = Err OptionValue
 
 -- `stream_size`
 unfoldable pub stream_size_option : Draft → List ℕ → Result Draft Fault
-stream_size_option draft value = size_parts draft (comma_parts value)
+stream_size_option draft value = size_parts (comma_parts value) >>= kept draft
 
 -- on or off
 unfoldable pub switched : List ℕ → Result Bool Fault
@@ -79,18 +80,20 @@ quiet (first ∷ rest) =
     if bytes_eq first (codes "fastpath") then Err OutsideProfile else if bytes_eq first (codes "noalert") then quiet_end rest
     else Err OptionValue
 
--- the parts of a reassembly
-unfoldable pub reassemble_parts : Draft → List (List ℕ) → Result Draft Fault
-reassemble_parts draft (first ∷ second ∷ rest) = do
+-- the parts of a reassembly: whether it is on, of which side, and without an alert
+unfoldable pub reassemble_parts : List (List ℕ) → Result (Bool × Side × Bool) Fault
+reassemble_parts (first ∷ second ∷ rest) = do
   on ← switched first
   side ← side_of second
   noalert ← quiet rest
-  kept (record draft { noalert = draft.noalert || noalert }) (opt.Reassemble on side)
-reassemble_parts draft [] = Err OptionValue
-reassemble_parts draft (first ∷ []) = do
+  Ok (on, side, noalert)
+reassemble_parts [] = Err OptionValue
+reassemble_parts (first ∷ []) = do
   on ← switched first
   Err OptionValue
 
 -- `stream_reassemble`
 unfoldable pub stream_reassemble_option : Draft → List ℕ → Result Draft Fault
-stream_reassemble_option draft value = reassemble_parts draft (comma_parts value)
+stream_reassemble_option draft value = do
+  said ← reassemble_parts (comma_parts value)
+  kept (record draft { noalert = draft.noalert || said.2 }) (opt.Reassemble said.0 said.1)

@@ -6,7 +6,7 @@
 -- class is looked up at once; that there is none is a fault only behind the last option, an empty name is a
 -- wrong value at once.
 -- To try it on: `sid:0`, a second `sid` and `sid` without a value are wrong values.
-use Rattle.std.specs.Prelude.{ℕ, ◌||◌, ◌==◌, Option, Some, None, Result, Ok, Err, List, length, nat_le, is_some, if◌then◌else◌}
+use Rattle.std.specs.Prelude.{ℕ, ◌||◌, ◌==◌, Bool, Option, Some, None, Result, Ok, Err, List, length, nat_le, is_some, if◌then◌else◌}
 use Rattle.edge_io.specs.OnResult.{◌>>=◌}
 use Rattle.net_lists.specs.Numbers.{number_in}
 use Rattle.net_lists.specs.Stops.{or_kind}
@@ -55,13 +55,15 @@ quoted_whole value = do
   parts ← or_kind OptionValue (quoted value)
   if length parts.1 == 0 then Ok parts.0 else Err OptionValue
 
--- `msg:"text"`
-unfoldable pub msg_option : Draft → List ℕ → Result Draft Fault
-msg_option draft value = do
+-- the message of `msg:"text"`, which stands once
+unfoldable pub message : Bool → List ℕ → Result (List ℕ) Fault
+message stands value = do
   inside ← quoted_whole value
   msg ← or_kind OptionValue (meaning Message Plain inside)
-  if is_some draft.msg then Err OptionValue else if nat_le (length msg) 1024 then Ok (record draft { msg = Some msg })
-      else Err Limit
+  if stands then Err OptionValue else if nat_le (length msg) 1024 then Ok msg else Err Limit
+
+unfoldable pub msg_option : Draft → List ℕ → Result Draft Fault
+msg_option draft value = message (is_some draft.msg) value >>= λ msg. Ok (record draft { msg = Some msg })
 
 -- the class of this name among the configuration's
 abbrev pub class_named : Option ℕ → ClassName

@@ -3,7 +3,7 @@ ghost use Rattle.std.specs.Prelude.{◌≡◌};
 ghost use Rattle.net_lists.specs.Cutting.{comma_parts};
 ghost use Rattle.net_lists.specs.Folds.{draft_behind};
 ghost use Rattle.net_lists.specs.Stops.{Gives};
-ghost use Rattle.rule_parser.specs.Flags.{no_flow, first_of_group, session_word, item_word, flow_word, flow_option, no_letters, mode_of, flag_bit, frag_bit, with_bit, with_mode, if_any, flag_step, frag_step, flag_letters, frag_letters, frag_signed, mask_of, flags_parts, flags_option, fragbits_option};
+ghost use Rattle.rule_parser.specs.Flags.{no_flow, first_of_group, session_word, item_word, flow_word, flow_option, no_letters, mode_of, flag_bit, frag_bit, with_bit, with_mode, if_any, flag_step, frag_step, flag_letters, frag_letters, frag_signed, mask_of, flags_parts, flags_of, flags_option, fragbits_option};
 
 use crate::draft::Draft;
 use crate::fault::Fault;
@@ -171,7 +171,7 @@ pub(crate) fn flow_option(draft: Draft, value: &[u8]) -> Result<Draft, Stop<Faul
 }
 
 /// The letters of `flags` or `fragbits` so far.
-#[derive(Clone, Copy, Debug, PartialEq, Eq)]
+#[derive(Clone, Copy)]
 pub(crate) struct Letters {
     /// The sign that stands.
     pub mode: Option<Mode>,
@@ -342,19 +342,28 @@ fn mask_of(mut rest: Parts) -> Result<u8, Fault>
     Ok(letters.bits)
 }
 
-#[tactic(auto, unfolding(crate::specs::Flags::flags_option))]
-pub(crate) fn flags_option(draft: Draft, value: &[u8]) -> Result<Draft, Stop<Fault>>
-    ensures { Gives result (flags_option draft value.now) }
+/// What a `flags` says.
+#[tactic(auto, unfolding(crate::specs::Flags::flags_of))]
+fn flags_of(value: &[u8]) -> Result<Opt, Fault>
+    ensures { result ≡ flags_of value.now }
 {
     let mut parts = Parts::commas(value);
     let first = parts.next().ok_or(Fault::OptionValue)?;
     let letters = flag_letters(true, first).ok_or(Fault::OptionValue)?;
     let mask = mask_of(parts)?;
-    draft.kept(Opt::Flags {
+    Ok(Opt::Flags {
         mode: letters.mode.unwrap_or(Mode::Exact),
         bits: letters.bits,
         mask,
     })
+}
+
+#[tactic(auto, unfolding(crate::specs::Flags::flags_option))]
+pub(crate) fn flags_option(draft: Draft, value: &[u8]) -> Result<Draft, Stop<Fault>>
+    ensures { Gives result (flags_option draft value.now) }
+{
+    let option = flags_of(value)?;
+    draft.kept(option)
 }
 
 #[tactic(auto, unfolding(crate::specs::Flags::fragbits_option))]

@@ -2,7 +2,7 @@
 ghost use Rattle.std.specs.Prelude.{◌≡◌, ◌≤◌, ◌+◌, length, option_map, Ok, Err, if◌then◌else◌};
 ghost use Rattle.std.specs.List.{list_all, suffix_len};
 ghost use Rattle.net_lists.specs.Stops.{Gives};
-ghost use Rattle.rule_parser.specs.Patterns.{no_flags, no_flag, with_flag, flags_of, pattern_flags, is_no_slash, slashed, is_ascii, expression_of, pcre_option};
+ghost use Rattle.rule_parser.specs.Patterns.{no_flags, no_flag, with_flag, flags_of, pattern_flags, is_no_slash, slashed, is_ascii, expression_of, pcre, pcre_option};
 
 use crate::Opt;
 use crate::contents::negation;
@@ -17,7 +17,7 @@ use std::alloc::Global;
 const MOST_BYTES: usize = 4096;
 
 /// The flags that stand behind an expression.
-#[derive(Clone, Copy, Debug, PartialEq, Eq)]
+#[derive(Clone, Copy)]
 pub(crate) struct Flags {
     pub nocase: bool,
     pub dot_all: bool,
@@ -169,9 +169,10 @@ fn expression(alloc: Global, text: &[u8]) -> Result<Text, Stop<Fault>>
     Ok(text)
 }
 
-#[tactic(auto, unfolding(crate::specs::Patterns::pcre_option))]
-pub(crate) fn pcre_option(alloc: Global, draft: Draft, value: &[u8]) -> Result<Draft, Stop<Fault>>
-    ensures { Gives result (pcre_option draft value.now) }
+/// What the value of a pcre says.
+#[tactic(auto, unfolding(crate::specs::Patterns::pcre))]
+fn pcre(alloc: Global, value: &[u8]) -> Result<Opt, Stop<Fault>>
+    ensures { Gives result (pcre value.now) }
 {
     let (negated, rest) = negation(value);
     let (inside, behind) = quoted(rest).ok_or(Fault::OptionValue)?;
@@ -184,10 +185,18 @@ pub(crate) fn pcre_option(alloc: Global, draft: Draft, value: &[u8]) -> Result<D
     if text.bytes().len() > MOST_BYTES {
         return Err(Stop::Wrong(Fault::Limit));
     }
-    draft.kept(Opt::Pcre {
+    Ok(Opt::Pcre {
         text,
         flags: flags.pattern(),
         relative: flags.relative,
         negated,
     })
+}
+
+#[tactic(auto, unfolding(crate::specs::Patterns::pcre_option))]
+pub(crate) fn pcre_option(alloc: Global, draft: Draft, value: &[u8]) -> Result<Draft, Stop<Fault>>
+    ensures { Gives result (pcre_option draft value.now) }
+{
+    let option = pcre(alloc, value)?;
+    draft.kept(option)
 }

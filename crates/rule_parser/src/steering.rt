@@ -2,7 +2,7 @@
 ghost use Rattle.std.specs.Prelude.{◌≡◌};
 ghost use Rattle.net_lists.specs.Cutting.{comma_parts};
 ghost use Rattle.net_lists.specs.Stops.{Gives};
-ghost use Rattle.rule_parser.specs.Steering.{side_of, sized_side, size_cmp, size_parts, stream_size_option, switched, quiet, quiet_end, stream_reassemble_option};
+ghost use Rattle.rule_parser.specs.Steering.{side_of, sized_side, size_cmp, size_parts, stream_size_option, switched, quiet, quiet_end, reassemble_parts, stream_reassemble_option};
 
 use crate::draft::Draft;
 use crate::fault::Fault;
@@ -63,9 +63,10 @@ fn size_cmp(text: &[u8]) -> Result<Cmp, Fault>
     }
 }
 
-#[tactic(auto, unfolding(crate::specs::Steering::stream_size_option, crate::specs::Steering::size_parts))]
-pub(crate) fn stream_size_option(draft: Draft, value: &[u8]) -> Result<Draft, Stop<Fault>>
-    ensures { Gives result (stream_size_option draft value.now) }
+/// What the value of a stream_size says.
+#[tactic(auto, unfolding(crate::specs::Steering::size_parts))]
+fn stream_size(value: &[u8]) -> Result<Opt, Fault>
+    ensures { result ≡ size_parts (comma_parts value.now) }
 {
     let mut parts = Parts::commas(value);
     let (Some(first), Some(second), Some(third), None) = (
@@ -74,12 +75,20 @@ pub(crate) fn stream_size_option(draft: Draft, value: &[u8]) -> Result<Draft, St
         parts.next(),
         parts.next(),
     ) else {
-        return Err(Stop::Wrong(Fault::OptionValue));
+        return Err(Fault::OptionValue);
     };
     let side = sized_side(first)?;
     let cmp = size_cmp(second)?;
     let value = number_in(0, u32::MAX, third).ok_or(Fault::OptionValue)?;
-    draft.kept(Opt::StreamSize { side, cmp, value })
+    Ok(Opt::StreamSize { side, cmp, value })
+}
+
+#[tactic(auto, unfolding(crate::specs::Steering::stream_size_option))]
+pub(crate) fn stream_size_option(draft: Draft, value: &[u8]) -> Result<Draft, Stop<Fault>>
+    ensures { Gives result (stream_size_option draft value.now) }
+{
+    let option = stream_size(value)?;
+    draft.kept(option)
 }
 
 /// On or off.
@@ -121,9 +130,10 @@ fn quiet(mut rest: Parts) -> Result<bool, Fault>
     Err(Fault::OptionValue)
 }
 
-#[tactic(auto, unfolding(crate::specs::Steering::stream_reassemble_option, crate::specs::Steering::reassemble_parts))]
-pub(crate) fn stream_reassemble_option(draft: Draft, value: &[u8]) -> Result<Draft, Stop<Fault>>
-    ensures { Gives result (stream_reassemble_option draft value.now) }
+/// What the value of a stream_reassemble says: whether it is on, of which side, and without an alert.
+#[tactic(auto, unfolding(crate::specs::Steering::reassemble_parts))]
+fn stream_reassemble(value: &[u8]) -> Result<(bool, Side, bool), Fault>
+    ensures { result ≡ reassemble_parts (comma_parts value.now) }
 {
     let mut parts = Parts::commas(value);
     let first = parts.next().ok_or(Fault::OptionValue)?;
@@ -131,6 +141,14 @@ pub(crate) fn stream_reassemble_option(draft: Draft, value: &[u8]) -> Result<Dra
     let second = parts.next().ok_or(Fault::OptionValue)?;
     let side = side_of(second)?;
     let noalert = quiet(parts)?;
+    Ok((on, side, noalert))
+}
+
+#[tactic(auto, unfolding(crate::specs::Steering::stream_reassemble_option))]
+pub(crate) fn stream_reassemble_option(draft: Draft, value: &[u8]) -> Result<Draft, Stop<Fault>>
+    ensures { Gives result (stream_reassemble_option draft value.now) }
+{
+    let (on, side, noalert) = stream_reassemble(value)?;
     Draft {
         noalert: draft.noalert || noalert,
         ..draft

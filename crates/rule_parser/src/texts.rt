@@ -1,13 +1,14 @@
 //! Options that name a rule: msg, gid, sid, rev, priority and classtype.
 ghost use Rattle.std.specs.Prelude.{◌≡◌, MatchResult, Ok, Err};
 ghost use Rattle.net_lists.specs.Stops.{Gives};
-ghost use Rattle.rule_parser.specs.Texts.{once, gid_option, sid_option, rev_option, priority_option, quoted_whole, msg_option, class_named, classtype_option};
+ghost use Rattle.rule_parser.specs.Texts.{once, gid_option, sid_option, rev_option, priority_option, quoted_whole, message, msg_option, class_named, classtype_option};
 ghost use Rattle.conf_types.specs.Classes.{class_place};
 
 use crate::draft::{ClassName, Draft};
 use crate::fault::Fault;
 use crate::quoted::{Style, meaning, quoted};
 use conf_types::Classes;
+use edge_io::Text;
 use net_lists::{Stop, number_in};
 use std::alloc::Global;
 
@@ -83,18 +84,27 @@ pub(crate) fn quoted_whole(value: &[u8]) -> Result<&[u8], Fault>
     Ok(inside)
 }
 
-#[tactic(auto, unfolding(crate::specs::Texts::msg_option))]
-pub(crate) fn msg_option(alloc: Global, draft: Draft, value: &[u8]) -> Result<Draft, Stop<Fault>>
-    ensures { Gives result (msg_option draft value.now) }
+/// The message of a value, which stands once.
+#[tactic(auto, unfolding(crate::specs::Texts::message))]
+fn message(alloc: Global, stands: bool, value: &[u8]) -> Result<Text, Stop<Fault>>
+    ensures { Gives result (message stands value.now) }
 {
     let inside = quoted_whole(value)?;
     let msg = meaning(alloc, Style::Message, inside)?;
-    if draft.msg.is_some() {
+    if stands {
         return Err(Stop::Wrong(Fault::OptionValue));
     }
     if msg.bytes().len() > MOST_MESSAGE {
         return Err(Stop::Wrong(Fault::Limit));
     }
+    Ok(msg)
+}
+
+#[tactic(auto, unfolding(crate::specs::Texts::msg_option))]
+pub(crate) fn msg_option(alloc: Global, draft: Draft, value: &[u8]) -> Result<Draft, Stop<Fault>>
+    ensures { Gives result (msg_option draft value.now) }
+{
+    let msg = message(alloc, draft.msg.is_some(), value)?;
     Ok(Draft {
         msg: Some(msg),
         ..draft
