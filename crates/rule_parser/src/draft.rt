@@ -11,7 +11,7 @@ use net_lists::Stop;
 use std::alloc::Global;
 
 /// The class that a rule names.
-#[derive(Clone, Copy, Debug, PartialEq, Eq)]
+#[derive(Clone, Copy)]
 pub(crate) enum ClassName {
     /// The place of the class among the configuration's.
     Known(u32),
@@ -19,7 +19,7 @@ pub(crate) enum ClassName {
 }
 
 /// The last content of a rule, which modifiers may still change.
-#[derive(Debug, Drop)]
+#[derive(Drop)]
 pub(crate) struct Held {
     pub content: Content,
     /// Its place among the options that are kept.
@@ -33,7 +33,7 @@ pub(crate) struct Held {
 }
 
 /// A rule as far as its options are read.
-#[derive(Debug, Drop)]
+#[derive(Drop)]
 pub(crate) struct Draft {
     /// The options that are kept, but for the last content.
     pub opts: Items<Opt>,

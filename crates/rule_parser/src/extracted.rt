@@ -6,7 +6,7 @@ use std::alloc::Global;
 use std::marker::Model;
 
 /// At most two names, each once. Contracts see the list of them.
-#[derive(Debug, Drop)]
+#[derive(Drop)]
 pub(crate) struct Extracted {
     names: Vec<Text>,
 }

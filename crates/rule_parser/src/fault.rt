@@ -44,7 +44,7 @@ pub struct RuleFault {
 }
 
 /// The same while a line is read, its places counted from the line's end.
-#[derive(Clone, Copy, Debug, PartialEq, Eq)]
+#[derive(Clone, Copy)]
 pub(crate) enum Fault {
     Action,
     Protocol,

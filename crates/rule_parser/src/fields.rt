@@ -10,7 +10,7 @@ use crate::{Cmp, Field, Opt};
 use net_lists::{Stop, number_in};
 
 /// What stands before a number.
-#[derive(Clone, Copy, Debug, PartialEq, Eq)]
+#[derive(Clone, Copy, PartialEq, Eq)]
 pub(crate) enum Sign {
     Plain,
     Equal,

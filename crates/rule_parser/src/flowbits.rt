@@ -17,7 +17,7 @@ use net_lists::Stop;
 use std::alloc::Global;
 
 /// A word that wants a bit's name.
-#[derive(Clone, Copy, Debug, PartialEq, Eq)]
+#[derive(Clone, Copy)]
 pub(crate) enum BitWord {
     Set,
     Unset,

@@ -14,7 +14,7 @@ use net_lists::{AddrList, ExpandFault, ListFault, PortList, Stop, Vars, first_wo
 use std::alloc::Global;
 
 /// Which packets a rule speaks of.
-#[derive(Debug, Drop)]
+#[derive(Drop)]
 pub(crate) struct Header {
     pub action: Action,
     pub proto: Proto,
@@ -83,7 +83,7 @@ fn direction_of(word: &[u8]) -> Result<bool, Fault>
 }
 
 /// A line from each word of its header on.
-#[derive(Clone, Copy, Debug, PartialEq, Eq)]
+#[derive(Clone, Copy)]
 pub(crate) struct HeaderTexts<'a> {
     pub action: &'a [u8],
     pub proto: &'a [u8],

@@ -6,7 +6,7 @@ ghost use Rattle.rule_parser.specs.RuleOption.{option_name};
 use crate::Field;
 
 /// The name of an option.
-#[derive(Clone, Copy, Debug, PartialEq, Eq)]
+#[derive(Clone, Copy)]
 pub(crate) enum Name {
     Text(TextName),
     Modifier(Modifier),
@@ -17,7 +17,7 @@ pub(crate) enum Name {
 }
 
 /// What a rule says of itself.
-#[derive(Clone, Copy, Debug, PartialEq, Eq)]
+#[derive(Clone, Copy, PartialEq, Eq)]
 pub(crate) enum TextName {
     Msg,
     Gid,
@@ -55,7 +55,7 @@ impl TextName {
 }
 
 /// What modifies the last content.
-#[derive(Clone, Copy, Debug, PartialEq, Eq)]
+#[derive(Clone, Copy)]
 pub(crate) enum Modifier {
     Nocase,
     Rawbytes,
@@ -92,7 +92,7 @@ impl Modifier {
 }
 
 /// What is asked of the payload.
-#[derive(Clone, Copy, Debug, PartialEq, Eq)]
+#[derive(Clone, Copy)]
 pub(crate) enum PayloadName {
     Content,
     Pcre,
@@ -126,7 +126,7 @@ impl PayloadName {
 }
 
 /// What is asked of a session, or of a packet as a whole.
-#[derive(Clone, Copy, Debug, PartialEq, Eq)]
+#[derive(Clone, Copy, PartialEq, Eq)]
 pub(crate) enum SessionName {
     Flow,
     Flags,

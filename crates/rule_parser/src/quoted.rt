@@ -9,7 +9,7 @@ use net_lists::Stop;
 use std::alloc::{AllocError, Global};
 
 /// What a quoted text is.
-#[derive(Clone, Copy, Debug, PartialEq, Eq)]
+#[derive(Clone, Copy)]
 pub(crate) enum Style {
     Message,
     Bytes,
@@ -17,7 +17,7 @@ pub(crate) enum Style {
 }
 
 /// Where the next byte stands.
-#[derive(Clone, Copy, Debug, PartialEq, Eq)]
+#[derive(Clone, Copy)]
 pub(crate) enum Place {
     Plain,
     /// Behind a backslash.
@@ -29,7 +29,7 @@ pub(crate) enum Place {
 }
 
 /// Where the byte behind stands, and what was given.
-#[derive(Clone, Copy, Debug, PartialEq, Eq)]
+#[derive(Clone, Copy)]
 pub(crate) struct Step {
     pub place: Place,
     /// A backslash goes before the byte.

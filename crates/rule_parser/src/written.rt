@@ -9,7 +9,7 @@ use crate::fields::place_of;
 use net_lists::trimmed;
 
 /// How the next byte stands.
-#[derive(Clone, Copy, Debug, PartialEq, Eq)]
+#[derive(Clone, Copy)]
 pub(crate) struct Quoting {
     /// Between double quotes.
     pub quoted: bool,
@@ -97,7 +97,7 @@ pub(crate) fn are_blank(text: &[u8]) -> bool
 }
 
 /// An option as it is written.
-#[derive(Clone, Copy, Debug, PartialEq, Eq)]
+#[derive(Clone, Copy)]
 pub(crate) struct LentOption<'a> {
     pub name: &'a [u8],
     pub value: Option<&'a [u8]>,
