@@ -1,22 +1,25 @@
 -- Contents and their modifiers keep a rule sound.
-use Rattle.std.proofs.Common.{◌≡◌, ℕ, ◌+◌, ◌≤◌, ◌==◌, ◌&&◌, ◌||◌, Bool, true, false, not, cond, ℤ, pos, negsuc, ◌≤ℤ◌, Option, Some, None, Ok, Err, List, [], ◌∷◌, length, take, nat_le, is_some, bytes_eq, codes, refl, sym, ap, subst, ◌∙◌, arith, IfSome, IfOk, count_by, length-take}
+use Rattle.std.proofs.Common.{◌≡◌, ℕ, ◌+◌, ◌≤◌, ◌==◌, ◌&&◌, ◌||◌, Bool, true, false, not, cond, ℤ, pos, negsuc, ◌≤ℤ◌, Option, Some, None, Result, Ok, Err, List, [], ◌∷◌, length, take, nat_le, is_some, bytes_eq, codes, refl, sym, ap, subst, ◌∙◌, arith, IfSome, IfOk, count_by, length-take}
 use Rattle.std.proofs.lemmas.Bool.Decides.{nat_tests}
 use Rattle.std.proofs.lemmas.Int.{ints}
 use Rattle.std.proofs.lemmas.List.{take_all}
+use Rattle.edge_io.specs.OnResult.{◌>>=◌}
 use Rattle.net_lists.specs.Cutting.{comma_parts}
 use Rattle.net_lists.specs.Numbers.{number_in}
 use Rattle.net_lists.specs.Stops.{or_kind}
 use Rattle.rule_parser.specs.declared.draft.Draft.{Draft}
 use Rattle.rule_parser.specs.declared.draft.Held.{Held}
+use Rattle.rule_parser.specs.declared.fault.Fault.{Fault}
 use Rattle.rule_parser.specs.declared.fault.Fault.TheVariants.{OptionValue, Misplaced, Limit}
 use Rattle.rule_types.specs.declared.option.Content.{Content}
 use Rattle.rule_types.specs.declared.option.FastMode.{FastMode}
 use Rattle.rule_types.specs.declared.option.FastMode.TheVariants as fast
 use Rattle.rule_types.specs.declared.option.Num.{Num}
 use Rattle.rule_types.specs.declared.option.Num.TheVariants as num
+use Rattle.rule_types.specs.declared.option.Opt.{Opt}
 use Rattle.rule_parser.specs.declared.quoted.Style.TheVariants.{Bytes}
 use Rattle.rule_parser.specs.declared.quoted.Place.TheVariants.{Plain}
-use Rattle.rule_parser.specs.Contents.{negation, plain_content, with_content, with_bytes, content_option, with_last, nocase_option, rawbytes_option, bars_from, bars_room, place_text, known_before, from_option, room_of, room_option, fast_part, fast_mode, is_only, fast_on, has_room, bars_fast, fast_pattern_option}
+use Rattle.rule_parser.specs.Contents.{negation, plain_content, with_content, with_bytes, content_option, apart, with_last, nocase, nocase_option, rawbytes, rawbytes_option, bars_from, bars_room, place_text, known_before, with_from, from_option, room_of, with_room, room_option, fast_part, fast_mode, is_only, fast_on, has_room, bars_fast, fast_pattern_option}
 use Rattle.rule_parser.specs.Drafts.{kept_count, settled}
 use Rattle.rule_parser.specs.Names.{signed_or_named}
 use Rattle.rule_parser.specs.Quotes.{meaning}
@@ -88,53 +91,71 @@ content-sound classes draft sound value =
     then_ok (λ _. Unit {0}) (IsSoundDraft classes) (or_kind OptionValue (meaning Bytes Plain inside)) _ (any_ok (or_kind OptionValue (meaning Bytes Plain inside))) (λ bytes _.
     with_bytes-sound classes draft sound (negation value).0 bytes))
 
--- the last content of a draft, where there is one
-held_ok : (classes : ℕ) (draft : Draft) → IsSoundDraft classes draft → IfOk (or_kind Misplaced draft.held) (λ held. draft.held ≡ Some held)
-held_ok classes draft sound = go draft.held
+-- the last content, and the draft without it
+abbrev IsApart : Draft → Held × Draft → Type 0
+IsApart draft parts = (draft.held ≡ Some parts.0) × (parts.1 ≡ record draft { held = None })
+
+apart_ok : (draft : Draft) → IfOk (apart draft) (IsApart draft)
+unfolding apart
+apart_ok draft = then_ok (λ held. draft.held ≡ Some held) (IsApart draft) (or_kind Misplaced draft.held) _ (go draft.held) (λ held e. (e, refl))
   where
     go : (o : Option Held) → IfOk (or_kind Misplaced o) (λ held. o ≡ Some held)
     go None = tt
     go (Some held) = refl
 
+-- what a modifier makes of the last content stands where that stands, and is a fast pattern where that is one
+record IsModified (opts : List Opt) (held next : Held) : Type 0 where
+  keeps : IsHeld opts held → IsHeld opts next
+  same : is_chosen next.content.fast ≡ is_chosen held.content.fast
+
 -- a draft with its last content changed
-last-sound : (classes : ℕ) (draft : Draft) (held next : Held) → IsSoundDraft classes draft → draft.held ≡ Some held → (IsHeld draft.opts held → IsHeld draft.opts next) → is_chosen next.content.fast ≡ is_chosen held.content.fast → IsSoundDraft classes (with_last draft next)
-last-sound classes draft held next sound e keeps same =
+last-sound : (classes : ℕ) (draft rest : Draft) (held next : Held) → IsSoundDraft classes draft → draft.held ≡ Some held → rest ≡ record draft { held = None } → IsModified draft.opts held next → IsSoundDraft classes (with_last rest next)
+last-sound classes draft rest held next sound e r modified =
     let Kept : Option Held → Type 0 = λ o. AreKept draft.opts o draft.names draft.fast in
+    let Sound : Draft → Type 0 = λ d. IsSoundDraft classes (with_last d next) in
     let before : AreKept draft.opts (Some held) draft.names draft.fast = subst Kept e sound.kept in
-    record {
+    subst Sound (sym r) (record {
       kept = record {
         options = before.options;
         named = before.named;
         few = before.few;
-        held = keeps before.held;
+        held = modified.keeps before.held;
         count = before.count;
-        chosen = as_many (count_by is_fast draft.opts) (is_chosen next.content.fast) (is_chosen held.content.fast) (cond draft.fast 1 0) same before.chosen;
+        chosen = as_many (count_by is_fast draft.opts) (is_chosen next.content.fast) (is_chosen held.content.fast) (cond draft.fast 1 0) modified.same before.chosen;
       };
       msg = sound.msg;
       gid = sound.gid;
       sid = sound.sid;
       class = sound.class;
       period = sound.period;
-    }
+    })
   where
     as_many : (count : ℕ) (b before : Bool) (most : ℕ) → b ≡ before → count + cond before 1 0 ≤ most → count + cond b 1 0 ≤ most
     as_many count b before most e h = let number : Bool → ℕ = λ b. cond b 1 0 in omega (arith, ap number e)
 
+-- a modifier, by what it makes of the last content among these names
+modified-sound : (classes : ℕ) (draft : Draft) → IsSoundDraft classes draft → (modify : Held → List (List ℕ) → Result Held Fault) → ((held : Held) → IfOk (modify held draft.names) (IsModified draft.opts held))
+    → IfOk (apart draft >>= λ parts. modify parts.0 parts.1.names >>= λ held. Ok (with_last parts.1 held)) (IsSoundDraft classes)
+modified-sound classes draft sound modify h =
+    then_ok (IsApart draft) (IsSoundDraft classes) (apart draft) _ (apart_ok draft) (λ parts e.
+    let names : Draft → List (List ℕ) = λ d. d.names in
+    let Modifies : List (List ℕ) → Type 0 = λ names. IfOk (modify parts.0 names) (IsModified draft.opts parts.0) in
+    then_ok (IsModified draft.opts parts.0) (IsSoundDraft classes) (modify parts.0 parts.1.names) _ (subst Modifies (sym (ap names e.1)) (h parts.0)) (λ next modified.
+    last-sound classes draft parts.1 parts.0 next sound e.0 e.1 modified))
+
 pub nocase-sound : (classes : ℕ) (draft : Draft) → IsSoundDraft classes draft → (value : Option (List ℕ)) → IfOk (nocase_option draft value) (IsSoundDraft classes)
-unfolding nocase_option
-nocase-sound classes draft sound value =
-    then_ok (λ held. draft.held ≡ Some held) (IsSoundDraft classes) (or_kind Misplaced draft.held) _ (held_ok classes draft sound) (λ held e.
-    if_ok (IsSoundDraft classes) held.content.nocase _ _ (λ _. tt) (λ _.
-    if_ok (IsSoundDraft classes) (is_some value) (Err OptionValue) _ (λ _. tt) (λ _.
-    last-sound classes draft held (record held { content = record held.content { nocase = true } }) sound e (λ h. record { place = h.place; known = h.known; content = h.content; placeless = h.placeless }) refl)))
+unfolding nocase_option nocase
+nocase-sound classes draft sound value = modified-sound classes draft sound (λ held names. nocase held value) (λ held.
+    if_ok (IsModified draft.opts held) held.content.nocase _ _ (λ _. tt) (λ _.
+    if_ok (IsModified draft.opts held) (is_some value) (Err OptionValue) _ (λ _. tt) (λ _.
+    record { keeps = λ h. record { place = h.place; known = h.known; content = h.content; placeless = h.placeless }; same = refl })))
 
 pub rawbytes-sound : (classes : ℕ) (draft : Draft) → IsSoundDraft classes draft → (value : Option (List ℕ)) → IfOk (rawbytes_option draft value) (IsSoundDraft classes)
-unfolding rawbytes_option
-rawbytes-sound classes draft sound value =
-    then_ok (λ held. draft.held ≡ Some held) (IsSoundDraft classes) (or_kind Misplaced draft.held) _ (held_ok classes draft sound) (λ held e.
-    if_ok (IsSoundDraft classes) held.raw _ _ (λ _. tt) (λ _.
-    if_ok (IsSoundDraft classes) (is_some value) (Err OptionValue) _ (λ _. tt) (λ _.
-    last-sound classes draft held (record held { raw = true }) sound e (λ h. record { place = h.place; known = h.known; content = h.content; placeless = h.placeless }) refl)))
+unfolding rawbytes_option rawbytes
+rawbytes-sound classes draft sound value = modified-sound classes draft sound (λ held names. rawbytes held value) (λ held.
+    if_ok (IsModified draft.opts held) held.raw _ _ (λ _. tt) (λ _.
+    if_ok (IsModified draft.opts held) (is_some value) (Err OptionValue) _ (λ _. tt) (λ _.
+    record { keeps = λ h. record { place = h.place; known = h.known; content = h.content; placeless = h.placeless }; same = refl })))
 
 -- a place stands with any fast pattern but `only`
 fast-placed : (content : Content) (relative : Bool) (from room : Option Num) (mode : FastMode) → is_only mode ≡ false → IsFast content mode → IsFast (record content { relative = relative; from = from; room = room }) mode
@@ -159,19 +180,20 @@ below-known known count least most (num.Value number) h = h
 below-known known count least most (num.Name place) h = omega (arith, length-take count known)
 
 pub from-sound : (classes : ℕ) (relative : Bool) (draft : Draft) → IsSoundDraft classes draft → (left : ℕ) (value : Option (List ℕ)) → IfOk (from_option relative draft left value) (IsSoundDraft classes)
-unfolding from_option
-from-sound classes relative draft sound left value =
-    then_ok (λ held. draft.held ≡ Some held) (IsSoundDraft classes) (or_kind Misplaced draft.held) _ (held_ok classes draft sound) (λ held e.
-    then_ok (λ _. held.placeless ≡ false) (IsSoundDraft classes) (place_text (bars_from relative held.content) held.placeless value) _ (place_text-ok (bars_from relative held.content) held.placeless value) (λ text placed.
-    then_ok (IsNumBelow (length (known_before draft held)) (negsuc 65534) (pos 65535)) (IsSoundDraft classes) (signed_or_named (negsuc 65534) (pos 65535) (known_before draft held) left text) _ (signed_or_named-below (negsuc 65534) (pos 65535) (known_before draft held) left text) (λ from below.
-    last-sound classes draft held (record held { content = record held.content { relative = relative; from = Some from } }) sound e (λ h.
+unfolding from_option with_from
+from-sound classes relative draft sound left value = modified-sound classes draft sound (λ held names. with_from relative held names left value) (λ held.
+    then_ok (λ _. held.placeless ≡ false) (IsModified draft.opts held) (place_text (bars_from relative held.content) held.placeless value) _ (place_text-ok (bars_from relative held.content) held.placeless value) (λ text placed.
+    then_ok (IsNumBelow (length (known_before draft.names held)) (negsuc 65534) (pos 65535)) (IsModified draft.opts held) (signed_or_named (negsuc 65534) (pos 65535) (known_before draft.names held) left text) _ (signed_or_named-below (negsuc 65534) (pos 65535) (known_before draft.names held) left text) (λ from below.
     let names = names_after [] (take held.place draft.opts) in
     record {
-      place = h.place;
-      known = h.known;
-      content = (h.content.0, num-named names held.known (negsuc 65534) (pos 65535) from h.known (below-known draft.names held.known (negsuc 65534) (pos 65535) from below), h.content.2, fast-placed held.content relative (Some from) held.content.room held.content.fast (h.placeless placed) h.content.3);
-      placeless = h.placeless;
-    }) refl)))
+      keeps = λ h. record {
+        place = h.place;
+        known = h.known;
+        content = (h.content.0, num-named names held.known (negsuc 65534) (pos 65535) from h.known (below-known draft.names held.known (negsuc 65534) (pos 65535) from below), h.content.2, fast-placed held.content relative (Some from) held.content.room held.content.fast (h.placeless placed) h.content.3);
+        placeless = h.placeless;
+      };
+      same = refl;
+    })))
 
 room_of-below : (size : ℕ) (known : List (List ℕ)) (left : ℕ) (text : List ℕ) (o : Option ℕ) → IfSome o (IsIn 0 65535) → IfOk (room_of size known left text o) (IsNumBelow (length known) (pos size) (pos 65535))
 room_of-below size known left text None h = named-below (pos size) (pos 65535) known left text
@@ -181,20 +203,21 @@ room_of-below size known left text (Some number) h = if_ok (IsNumBelow (length k
     least e = let le : size ≤ number = grind (arith, nat_tests) in omega (arith, ints)
 
 pub room-sound : (classes : ℕ) (relative : Bool) (draft : Draft) → IsSoundDraft classes draft → (left : ℕ) (value : Option (List ℕ)) → IfOk (room_option relative draft left value) (IsSoundDraft classes)
-unfolding room_option
-room-sound classes relative draft sound left value =
-    then_ok (λ held. draft.held ≡ Some held) (IsSoundDraft classes) (or_kind Misplaced draft.held) _ (held_ok classes draft sound) (λ held e.
-    then_ok (λ _. held.placeless ≡ false) (IsSoundDraft classes) (place_text (bars_room relative held.content) held.placeless value) _ (place_text-ok (bars_room relative held.content) held.placeless value) (λ text placed.
+unfolding room_option with_room
+room-sound classes relative draft sound left value = modified-sound classes draft sound (λ held names. with_room relative held names left value) (λ held.
+    then_ok (λ _. held.placeless ≡ false) (IsModified draft.opts held) (place_text (bars_room relative held.content) held.placeless value) _ (place_text-ok (bars_room relative held.content) held.placeless value) (λ text placed.
     let size = length held.content.bytes in
-    then_ok (IsNumBelow (length (known_before draft held)) (pos size) (pos 65535)) (IsSoundDraft classes) (room_of size (known_before draft held) left text (number_in 0 65535 text)) _ (room_of-below size (known_before draft held) left text (number_in 0 65535 text) (number_in-within 0 65535 text)) (λ room below.
-    last-sound classes draft held (record held { content = record held.content { relative = relative; room = Some room } }) sound e (λ h.
+    then_ok (IsNumBelow (length (known_before draft.names held)) (pos size) (pos 65535)) (IsModified draft.opts held) (room_of size (known_before draft.names held) left text (number_in 0 65535 text)) _ (room_of-below size (known_before draft.names held) left text (number_in 0 65535 text) (number_in-within 0 65535 text)) (λ room below.
     let names = names_after [] (take held.place draft.opts) in
     record {
-      place = h.place;
-      known = h.known;
-      content = (h.content.0, h.content.1, num-named names held.known (pos size) (pos 65535) room h.known (below-known draft.names held.known (pos size) (pos 65535) room below), fast-placed held.content relative held.content.from (Some room) held.content.fast (h.placeless placed) h.content.3);
-      placeless = h.placeless;
-    }) refl)))
+      keeps = λ h. record {
+        place = h.place;
+        known = h.known;
+        content = (h.content.0, h.content.1, num-named names held.known (pos size) (pos 65535) room h.known (below-known draft.names held.known (pos size) (pos 65535) room below), fast-placed held.content relative held.content.from (Some room) held.content.fast (h.placeless placed) h.content.3);
+        placeless = h.placeless;
+      };
+      same = refl;
+    })))
 
 -- a form of fast pattern for a content of so many bytes: its part lies within them
 abbrev IsMode : ℕ → FastMode → Type 0

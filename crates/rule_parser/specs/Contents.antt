@@ -74,22 +74,35 @@ content_option draft value = do
   bytes ← or_kind OptionValue (meaning Bytes Plain inside)
   with_bytes draft (negation value).0 bytes
 
--- the draft with its last content changed
+-- the last content, where one stands, and the draft without it
+unfoldable pub apart : Draft → Result (Held × Draft) Fault
+apart draft = or_kind Misplaced draft.held >>= λ held. Ok (held, record draft { held = None })
+
+-- the draft with this last content
 abbrev pub with_last : Draft → Held → Draft
 with_last draft held = record draft { held = Some held }
 
--- `nocase`
+-- what `nocase` makes of the last content
+unfoldable pub nocase : Held → Option (List ℕ) → Result Held Fault
+nocase held value = if held.content.nocase then Err Misplaced else if is_some value then Err OptionValue
+    else Ok (record held { content = record held.content { nocase = true } })
+
 unfoldable pub nocase_option : Draft → Option (List ℕ) → Result Draft Fault
 nocase_option draft value = do
-  held ← or_kind Misplaced draft.held
-  if held.content.nocase then Err Misplaced else if is_some value then Err OptionValue
-      else Ok (with_last draft (record held { content = record held.content { nocase = true } }))
+  parts ← apart draft
+  held ← nocase parts.0 value
+  Ok (with_last parts.1 held)
 
 -- `rawbytes`, which changes nothing
+unfoldable pub rawbytes : Held → Option (List ℕ) → Result Held Fault
+rawbytes held value = if held.raw then Err Misplaced else if is_some value then Err OptionValue
+    else Ok (record held { raw = true })
+
 unfoldable pub rawbytes_option : Draft → Option (List ℕ) → Result Draft Fault
 rawbytes_option draft value = do
-  held ← or_kind Misplaced draft.held
-  if held.raw then Err Misplaced else if is_some value then Err OptionValue else Ok (with_last draft (record held { raw = true }))
+  parts ← apart draft
+  held ← rawbytes parts.0 value
+  Ok (with_last parts.1 held)
 
 -- a place is told: `offset` or `depth`
 abbrev pub is_placed : Content → Bool
@@ -108,29 +121,40 @@ abbrev pub place_text : Bool → Bool → Option (List ℕ) → Result (List ℕ
 place_text bars placeless value = if bars then Err Misplaced else if placeless then Err OptionValue else or_kind OptionValue value
 
 -- the names that were extracted before the content
-abbrev pub known_before : Draft → Held → List (List ℕ)
-known_before draft held = take held.known draft.names
+abbrev pub known_before : List (List ℕ) → Held → List (List ℕ)
+known_before names held = take held.known names
 
--- `offset`, or `distance` where `relative` holds; so many bytes of the line are left where the value begins
+-- what `offset` makes of the last content, or `distance` where `relative` holds; so many bytes of the line are
+-- left where the value begins
+unfoldable pub with_from : Bool → Held → List (List ℕ) → ℕ → Option (List ℕ) → Result Held Fault
+with_from relative held names left value = do
+  text ← place_text (bars_from relative held.content) held.placeless value
+  from ← signed_or_named (negsuc 65534) (pos 65535) (known_before names held) left text
+  Ok (record held { content = record held.content { relative = relative; from = Some from } })
+
 unfoldable pub from_option : Bool → Draft → ℕ → Option (List ℕ) → Result Draft Fault
 from_option relative draft left value = do
-  held ← or_kind Misplaced draft.held
-  text ← place_text (bars_from relative held.content) held.placeless value
-  from ← signed_or_named (negsuc 65534) (pos 65535) (known_before draft held) left text
-  Ok (with_last draft (record held { content = record held.content { relative = relative; from = Some from } }))
+  parts ← apart draft
+  held ← with_from relative parts.0 parts.1.names left value
+  Ok (with_last parts.1 held)
 
 -- how far a content of so many bytes may go: as far as it is long at least, or as far as a name says
 abbrev pub room_of : ℕ → List (List ℕ) → ℕ → List ℕ → Option ℕ → Result Num Fault
 room_of size known left text None = named known left text
 room_of size known left text (Some number) = if nat_le size number then Ok (num.Value (pos number)) else Err OptionValue
 
--- `depth`, or `within` where `relative` holds
+-- what `depth` makes of the last content, or `within` where `relative` holds
+unfoldable pub with_room : Bool → Held → List (List ℕ) → ℕ → Option (List ℕ) → Result Held Fault
+with_room relative held names left value = do
+  text ← place_text (bars_room relative held.content) held.placeless value
+  room ← room_of (length held.content.bytes) (known_before names held) left text (number_in 0 65535 text)
+  Ok (record held { content = record held.content { relative = relative; room = Some room } })
+
 unfoldable pub room_option : Bool → Draft → ℕ → Option (List ℕ) → Result Draft Fault
 room_option relative draft left value = do
-  held ← or_kind Misplaced draft.held
-  text ← place_text (bars_room relative held.content) held.placeless value
-  room ← room_of (length held.content.bytes) (known_before draft held) left text (number_in 0 65535 text)
-  Ok (with_last draft (record held { content = record held.content { relative = relative; room = Some room } }))
+  parts ← apart draft
+  held ← with_room relative parts.0 parts.1.names left value
+  Ok (with_last parts.1 held)
 
 -- a part of a content of so many bytes, from a place on
 unfoldable pub fast_part : ℕ → List (List ℕ) → Result FastMode Fault

@@ -3,9 +3,10 @@ ghost use Rattle.std.specs.Prelude.{◌≡◌, ◌<◌, ◌≤◌, length, take,
 ghost use Rattle.net_lists.specs.Cutting.{comma_parts};
 ghost use Rattle.net_lists.specs.Numbers.{number_in};
 ghost use Rattle.net_lists.specs.Stops.{Gives, or_kind};
-ghost use Rattle.rule_parser.specs.Contents.{negation, plain_content, with_content, with_bytes, content_option, nocase_option, rawbytes_option, is_placed, bars_from, bars_room, place_text, from_option, room_of, room_option, fast_part, fast_mode, is_only, fast_on, bars_fast, fast_pattern_option};
+ghost use Rattle.rule_parser.specs.Contents.{negation, plain_content, with_content, with_bytes, content_option, apart, with_last, nocase, nocase_option, rawbytes, rawbytes_option, is_placed, bars_from, bars_room, place_text, with_from, from_option, room_of, with_room, room_option, fast_part, fast_mode, is_only, fast_on, bars_fast, fast_pattern_option};
 
 use crate::draft::{Draft, Held};
+use crate::extracted::Extracted;
 use crate::fault::Fault;
 use crate::number::{named, signed_or_named};
 use crate::quoted::{Style, meaning};
@@ -121,11 +122,36 @@ pub(crate) fn content_option(
     with_bytes(draft, negated, bytes)
 }
 
-#[tactic(auto, unfolding(crate::specs::Contents::nocase_option))]
-pub(crate) fn nocase_option(draft: Draft, value: Option<&[u8]>) -> Result<Draft, Fault>
-    ensures { result ≡ nocase_option draft (option_copied value.entry) }
+/// The last content, where one stands, and the rule without it.
+#[tactic(auto, unfolding(crate::specs::Contents::apart))]
+fn apart(draft: Draft) -> Result<(Held, Draft), Fault>
+    ensures { result ≡ apart draft }
 {
     let held = draft.held.ok_or(Fault::Misplaced)?;
+    Ok((
+        held,
+        Draft {
+            held: None,
+            ..draft
+        },
+    ))
+}
+
+/// The rule with this last content.
+fn with_last(draft: Draft, held: Held) -> Draft
+    ensures { result ≡ with_last draft held }
+{
+    Draft {
+        held: Some(held),
+        ..draft
+    }
+}
+
+/// What `nocase` makes of the last content.
+#[tactic(auto, unfolding(crate::specs::Contents::nocase))]
+fn nocase(held: Held, value: Option<&[u8]>) -> Result<Held, Fault>
+    ensures { result ≡ nocase held (option_copied value.entry) }
+{
     if held.content.nocase {
         return Err(Fault::Misplaced);
     }
@@ -136,27 +162,39 @@ pub(crate) fn nocase_option(draft: Draft, value: Option<&[u8]>) -> Result<Draft,
         nocase: true,
         ..held.content
     };
-    Ok(Draft {
-        held: Some(Held { content, ..held }),
-        ..draft
-    })
+    Ok(Held { content, ..held })
 }
 
-#[tactic(auto, unfolding(crate::specs::Contents::rawbytes_option))]
-pub(crate) fn rawbytes_option(draft: Draft, value: Option<&[u8]>) -> Result<Draft, Fault>
-    ensures { result ≡ rawbytes_option draft (option_copied value.entry) }
+#[tactic(auto, unfolding(crate::specs::Contents::nocase_option))]
+pub(crate) fn nocase_option(draft: Draft, value: Option<&[u8]>) -> Result<Draft, Fault>
+    ensures { result ≡ nocase_option draft (option_copied value.entry) }
 {
-    let held = draft.held.ok_or(Fault::Misplaced)?;
+    let (held, draft) = apart(draft)?;
+    let held = nocase(held, value)?;
+    Ok(with_last(draft, held))
+}
+
+/// What `rawbytes` makes of the last content.
+#[tactic(auto, unfolding(crate::specs::Contents::rawbytes))]
+fn rawbytes(held: Held, value: Option<&[u8]>) -> Result<Held, Fault>
+    ensures { result ≡ rawbytes held (option_copied value.entry) }
+{
     if held.raw {
         return Err(Fault::Misplaced);
     }
     if value.is_some() {
         return Err(Fault::OptionValue);
     }
-    Ok(Draft {
-        held: Some(Held { raw: true, ..held }),
-        ..draft
-    })
+    Ok(Held { raw: true, ..held })
+}
+
+#[tactic(auto, unfolding(crate::specs::Contents::rawbytes_option))]
+pub(crate) fn rawbytes_option(draft: Draft, value: Option<&[u8]>) -> Result<Draft, Fault>
+    ensures { result ≡ rawbytes_option draft (option_copied value.entry) }
+{
+    let (held, draft) = apart(draft)?;
+    let held = rawbytes(held, value)?;
+    Ok(with_last(draft, held))
 }
 
 /// The value of a modifier that tells a place or a room, where it may stand.
@@ -185,6 +223,28 @@ fn first_names(names: &[Text], count: usize) -> &[Text]
     }
 }
 
+/// What `offset` or `distance` makes of the last content.
+#[tactic(auto, unfolding(crate::specs::Contents::with_from))]
+fn with_from(
+    relative: bool,
+    held: Held,
+    names: &Extracted,
+    left: usize,
+    value: Option<&[u8]>,
+) -> Result<Held, Fault>
+    ensures { result ≡ with_from relative held names.now left (option_copied value.entry) }
+{
+    let text = place_text(bars_from(relative, &held.content), held.placeless, value)?;
+    let known = first_names(names.as_slice(), held.known);
+    let from = signed_or_named(-65535, 65535, known, left, text)?;
+    let content = Content {
+        relative,
+        from: Some(from),
+        ..held.content
+    };
+    Ok(Held { content, ..held })
+}
+
 #[tactic(auto, unfolding(crate::specs::Contents::from_option))]
 pub(crate) fn from_option(
     relative: bool,
@@ -194,19 +254,9 @@ pub(crate) fn from_option(
 ) -> Result<Draft, Fault>
     ensures { result ≡ from_option relative draft left (option_copied value.entry) }
 {
-    let held = draft.held.ok_or(Fault::Misplaced)?;
-    let text = place_text(bars_from(relative, &held.content), held.placeless, value)?;
-    let known = first_names(draft.names.as_slice(), held.known);
-    let from = signed_or_named(-65535, 65535, known, left, text)?;
-    let content = Content {
-        relative,
-        from: Some(from),
-        ..held.content
-    };
-    Ok(Draft {
-        held: Some(Held { content, ..held }),
-        ..draft
-    })
+    let (held, draft) = apart(draft)?;
+    let held = with_from(relative, held, &draft.names, left, value)?;
+    Ok(with_last(draft, held))
 }
 
 /// How far a content of so many bytes may go.
@@ -225,6 +275,28 @@ fn room_of(size: usize, known: &[Text], left: usize, text: &[u8]) -> Result<Num,
     }
 }
 
+/// What `depth` or `within` makes of the last content.
+#[tactic(auto, unfolding(crate::specs::Contents::with_room))]
+fn with_room(
+    relative: bool,
+    held: Held,
+    names: &Extracted,
+    left: usize,
+    value: Option<&[u8]>,
+) -> Result<Held, Fault>
+    ensures { result ≡ with_room relative held names.now left (option_copied value.entry) }
+{
+    let text = place_text(bars_room(relative, &held.content), held.placeless, value)?;
+    let known = first_names(names.as_slice(), held.known);
+    let room = room_of(held.content.bytes.bytes().len(), known, left, text)?;
+    let content = Content {
+        relative,
+        room: Some(room),
+        ..held.content
+    };
+    Ok(Held { content, ..held })
+}
+
 #[tactic(auto, unfolding(crate::specs::Contents::room_option))]
 pub(crate) fn room_option(
     relative: bool,
@@ -234,19 +306,9 @@ pub(crate) fn room_option(
 ) -> Result<Draft, Fault>
     ensures { result ≡ room_option relative draft left (option_copied value.entry) }
 {
-    let held = draft.held.ok_or(Fault::Misplaced)?;
-    let text = place_text(bars_room(relative, &held.content), held.placeless, value)?;
-    let known = first_names(draft.names.as_slice(), held.known);
-    let room = room_of(held.content.bytes.bytes().len(), known, left, text)?;
-    let content = Content {
-        relative,
-        room: Some(room),
-        ..held.content
-    };
-    Ok(Draft {
-        held: Some(Held { content, ..held }),
-        ..draft
-    })
+    let (held, draft) = apart(draft)?;
+    let held = with_room(relative, held, &draft.names, left, value)?;
+    Ok(with_last(draft, held))
 }
 
 /// A part of a content of so many bytes.
