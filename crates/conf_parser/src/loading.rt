@@ -3,7 +3,7 @@ ghost use Rattle.std.specs.Prelude.{◌≡◌, ◌<◌, ◌≤◌, true, Some, l
 ghost use Rattle.std.specs.Str.{is_utf8};
 ghost use Rattle.edge_io.specs.Told.{Rose};
 ghost use Rattle.edge_io.specs.Files.{Files};
-ghost use Rattle.conf_parser.specs.Reading.{told, file_count, file_read, lines_read, line_read, most_bytes, read_files, nothing_read};
+ghost use Rattle.conf_parser.specs.Reading.{told, with_file, file_count, file_read, lines_read, line_read, most_bytes, read_files, nothing_read};
 ghost use Rattle.conf_parser.specs.Steps.{MayBeRead, most_files};
 ghost use Rattle.conf_parser.specs.Loaded.{loaded_of};
 ghost use Rattle.conf_parser.specs.Places.{StandInFiles};
@@ -44,6 +44,15 @@ fn file_bytes<H: Host>(alloc: Global, host: &mut H, name: &[u8]) -> Result<Text,
     Ok(Text::from_vec(bytes))
 }
 
+/// What the lines so far hand on, with the name of one more file.
+fn with_file(alloc: Global, output: Output, name: &[u8]) -> Result<Output, NoMemory>
+    ensures { IfOk result (λ next. next ≡ with_file output name.now) }
+{
+    let mut files = output.files;
+    files.push(Text::copy(alloc, name)?)?;
+    Ok(Output { files, ..output })
+}
+
 /// A file with these bytes, before its lines are read.
 fn opened(
     alloc: Global,
@@ -57,16 +66,9 @@ fn opened(
     requires left { left ≤ 16 }
     ensures { IfOk result (λ opened. opened ≡ opened_of left name read bytes.now) }
 {
-    let Read { settings, output } = read;
-    let Output {
-        files,
-        rules,
-        warnings,
-    } = output;
-    let place = files.as_slice().len() as u32;
+    let place = read.output.files.as_slice().len() as u32;
     let lines = content_lines(alloc, bytes)?;
-    let mut files = files;
-    files.push(Text::copy(alloc, name.bytes())?)?;
+    let output = with_file(alloc, read.output, name.bytes())?;
     Ok(Opened {
         source: Source {
             name,
@@ -74,14 +76,7 @@ fn opened(
             depth: MOST_DEPTH - left,
         },
         lines,
-        read: Read {
-            settings,
-            output: Output {
-                files,
-                rules,
-                warnings,
-            },
-        },
+        read: Read { output, ..read },
     })
 }
 

@@ -287,45 +287,21 @@ fn engine_value(
 ) -> Result<StreamEngine, Stop<ConfKind>>
     ensures { Gives result (engine_value vars.now engine name value.now) }
 {
+    let mut engine = engine;
     match name {
-        TcpName::Policy => {
-            let policy = StreamPolicy::read(value).ok_or(ConfKind::BadValue)?;
-            Ok(StreamEngine { policy, ..engine })
-        }
-        TcpName::Timeout => {
-            let timeout = number_in(1, 86400, value).ok_or(ConfKind::BadValue)?;
-            Ok(StreamEngine { timeout, ..engine })
-        }
-        TcpName::BindTo => {
-            let list = expanded_addresses(alloc, vars, value)?;
-            Ok(StreamEngine {
-                bind: Some(list),
-                ..engine
-            })
-        }
+        TcpName::Policy => engine.policy = StreamPolicy::read(value).ok_or(ConfKind::BadValue)?,
+        TcpName::Timeout => engine.timeout = number_in(1, 86400, value).ok_or(ConfKind::BadValue)?,
+        TcpName::BindTo => engine.bind = Some(expanded_addresses(alloc, vars, value)?),
         TcpName::Handshake => {
-            let seconds = handshake_seconds(value).ok_or(ConfKind::BadValue)?;
-            Ok(StreamEngine {
-                handshake: Some(seconds),
-                ..engine
-            })
+            engine.handshake = Some(handshake_seconds(value).ok_or(ConfKind::BadValue)?)
         }
         TcpName::QueuedBytes => {
-            let bytes_limit = queue_limit(1024, value).ok_or(ConfKind::BadValue)?;
-            Ok(StreamEngine {
-                bytes_limit,
-                ..engine
-            })
+            engine.bytes_limit = queue_limit(1024, value).ok_or(ConfKind::BadValue)?
         }
-        TcpName::QueuedSegs => {
-            let segs_limit = queue_limit(2, value).ok_or(ConfKind::BadValue)?;
-            Ok(StreamEngine {
-                segs_limit,
-                ..engine
-            })
-        }
-        TcpName::Ports | TcpName::Unread => Ok(engine),
+        TcpName::QueuedSegs => engine.segs_limit = queue_limit(2, value).ok_or(ConfKind::BadValue)?,
+        TcpName::Ports | TcpName::Unread => {}
     }
+    Ok(engine)
 }
 
 /// The value of a setting.
