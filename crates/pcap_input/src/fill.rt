@@ -12,6 +12,7 @@ pub struct FillStop {
 
 /// Reads from the open capture until `buf` is full or nothing is left, and tells how many bytes of
 /// it were filled. Takes no memory.
+#[inline(always)]
 #[tactic(auto, using(crate::proofs::Filling::filling))]
 pub fn fill<H: Host>(host: &mut H, buf: &mut [u8]) -> Result<usize, FillStop>
     ensures within { IfOk result (λ count. count ≤ length buf.old) }

@@ -24,12 +24,13 @@ impl Spares {
     }
 
     /// Keeps a block. Where memory is lacking for the list of blocks, the block is freed.
+    #[inline(always)]
     pub fn push(&mut self, alloc: Global, block: Vec<u8>) {
-        let mut blocks = self.blocks.take().unwrap_or(Vec::new(alloc));
+        // The list stays in its place: each record has its block kept.
+        let blocks = self.blocks.get_or_insert(Vec::new(alloc));
         match blocks.push(block) {
             Ok(()) | Err(_) => {}
         }
-        self.blocks = Some(blocks);
     }
 }
 
