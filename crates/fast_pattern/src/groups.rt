@@ -175,6 +175,29 @@ impl Groups {
         Ok(fitting)
     }
 
+    /// The candidates of an item that the doors let in, and what finding them took.
+    // Kept out of the line of items that they don't: these cost a glance.
+    #[inline(never)]
+    fn find_let_in(
+        &self,
+        alloc: Global,
+        head: &ItemHead,
+        payload: &[u8],
+        out: &mut Vec<u32>,
+    ) -> Result<Effort, NoMemory>
+        ensures appended { OnOk result (AppendCandidates self.now head.now payload.now out.old.items out.new.items) }
+        ensures unchanged { OnErr result (out.new.items ≡ out.old.items) }
+    {
+        let mut effort = Effort::NONE;
+        let mut places = self.automaton.hits(alloc, payload, &mut effort)?;
+        self.push_due(&head.body, &mut places)?;
+        places.sort_unstable();
+        places.dedup();
+        let found = Groups::fitting(alloc, &self.rules, &places, &head.body)?;
+        out.extend_from_slice(&found)?;
+        Ok(effort)
+    }
+
     /// Appends the rules that are worth being tried on the item, by their places, in ascending order. Where
     /// memory is lacking `out` stays.
     pub fn candidates(
@@ -192,6 +215,7 @@ impl Groups {
     }
 
     /// The same, and tells what finding them took.
+    #[inline(always)]
     pub fn find_candidates(
         &self,
         alloc: Global,
@@ -206,14 +230,7 @@ impl Groups {
         if self.doors.len() == TABLE_WORDS && !lets_in(&self.doors, &head.body) {
             return Ok(Effort::NONE);
         }
-        let mut effort = Effort::NONE;
-        let mut places = self.automaton.hits(alloc, payload, &mut effort)?;
-        self.push_due(&head.body, &mut places)?;
-        places.sort_unstable();
-        places.dedup();
-        let found = Groups::fitting(alloc, &self.rules, &places, &head.body)?;
-        out.extend_from_slice(&found)?;
-        Ok(effort)
+        self.find_let_in(alloc, head, payload, out)
     }
 }
 
