@@ -13,12 +13,11 @@ use Rattle.stream5_sessions.specs.declared.state.Phase.TheVariants.{NoSession, S
 use Rattle.stream5_sessions.specs.declared.state.Reading.{Reading}
 use Rattle.stream5_sessions.specs.declared.state.Reading.TheVariants.{Then}
 use Rattle.stream5_sessions.specs.declared.state.State.{State}
-use Rattle.stream5_sessions.specs.declared.state.Taken.{Taken}
 use Rattle.stream5_sessions.specs.declared.step.SessionRules.{SessionRules}
 use Rattle.stream5_sessions.specs.declared.step.Step.{Step}
 use Rattle.stream5_sessions.specs.Phases.{at_hand, begins, by_row, counts_on, ends, fin_end, in_est, in_udp, is_from}
 use Rattle.stream5_sessions.specs.Phases.{is_from_server, is_open, is_timed_out, no_session, row_of, segment_of, session_step}
-use Rattle.stream5_sessions.specs.Phases.{stays, taken, tcp_row}
+use Rattle.stream5_sessions.specs.Phases.{Taken, stays, taken, tcp_row}
 use Rattle.stream5_sessions.specs.Staying.{has_both_fins, has_no_control, is_est, is_under_way, stays_as_is, stays_in}
 use Rattle.stream5_sessions.specs.Staying.{staying_state, staying_step}
 

@@ -28,7 +28,6 @@ use Rattle.stream5_sessions.specs.declared.state.State.{State}
 use Rattle.stream5_sessions.specs.declared.state.Change.{Change}
 use Rattle.stream5_sessions.specs.declared.state.Reading.{Reading}
 use Rattle.stream5_sessions.specs.declared.state.Reading.TheVariants.{Then, EndsBefore}
-use Rattle.stream5_sessions.specs.declared.state.Taken.{Taken}
 use Rattle.stream5_sessions.specs.declared.step.SessionRules.{SessionRules}
 use Rattle.stream5_sessions.specs.declared.step.Step.{Step}
 use Rattle.stream5_sessions.specs.Keys.{same_end}
@@ -318,7 +317,12 @@ state_after s change p =
       last = p.moment;
     }
 
--- what the packet tells, and the session behind it
+-- what a packet tells, and the session behind it
+pub record Taken : Type 0 where
+  pub step : Step
+  pub state : State
+
+-- of a packet that changes this
 unfoldable pub taken : Bool → State → Change → Segment → Taken
 taken ended_before s change p = record {
   step = step_of ended_before s change p;

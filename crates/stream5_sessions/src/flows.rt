@@ -24,6 +24,8 @@ pub struct Touch {
 }
 
 /// Begins the flow with the number `next` of a key that doesn't live.
+// Kept out of the line of packets whose flows live.
+#[inline(never)]
 fn begun(lives: &mut Lives, key: &Key, next: u64) -> Result<Touch, NoMemory>
     requires { lookup (same_key key.now) lives.old.entries ≡ None }
     ensures value { IfOk result (λ touch. touch ≡ found_by lives.old.entries lives.old.cap next None) }
@@ -39,6 +41,8 @@ fn begun(lives: &mut Lives, key: &Key, next: u64) -> Result<Touch, NoMemory>
 }
 
 /// Touches a key, whose flow has the number `next` if it begins.
+// In the line of each packet, so that neither the key nor the answer is passed through memory.
+#[inline(always)]
 fn touched(lives: &mut Lives, key: &Key, next: u64) -> Result<Touch, NoMemory>
     ensures value { IfOk result (λ touch. touch ≡ found_by lives.old.entries lives.old.cap next
         (lookup (same_key key.now) lives.old.entries)) }

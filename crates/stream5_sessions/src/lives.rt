@@ -80,6 +80,7 @@ impl Lives {
     }
 
     /// The flow of a key that lives, which becomes the latest touched.
+    #[inline(always)]
     pub fn again(&mut self, key: &Key) -> Option<u64>
         ensures value { result ≡ lookup (same_key key.now) self.old.entries }
         ensures after { self.new ≡ lives_with (promoted (same_key key.now) self.old.entries) self.old.cap }
@@ -91,6 +92,7 @@ impl Lives {
     }
 
     /// As `again`, where the flow's number is the guess; else nothing.
+    #[inline(always)]
     fn by_guess(&mut self, key: &Key) -> Option<u64>
         ensures value { IfSome result (λ flow. lookup (same_key key.now) self.old.entries ≡ Some flow) }
         ensures after { MatchOption result (self.new ≡ self.old)

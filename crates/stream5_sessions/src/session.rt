@@ -5,7 +5,7 @@ ghost use Rattle.stream5_sessions.specs.Staying.{stays_as_is};
 
 use crate::rows::{client_fin_after, in_none, is_from, row_of, server_fin_after};
 use crate::segment::{Segment, segment_of};
-use crate::state::{Change, Phase, Reading, State, Taken, is_timed_out};
+use crate::state::{Change, Phase, Reading, State, is_timed_out};
 use crate::staying::{staying_step, stays_as_is};
 use crate::step::{SessionRules, Step};
 use edge_io::Moment;
@@ -55,14 +55,13 @@ impl Session {
         ensures protocol { self.new.tcp ≡ self.old.tcp }
     {
         let segment = segment_of(ip, body, len, moment, self.state.tcp);
-        let Taken { step, state } = session_step(&self.state, &segment, &rules);
-        self.state = state;
-        step
+        session_step(&mut self.state, &segment, &rules)
     }
 
     /// Takes one packet of the flow where it leaves the session as it is, but for the moment of its last packet.
     /// `step` is then what `Session::step` would tell. Of any other packet the answer is false, and nothing
     /// changes. Takes no memory.
+    #[inline(always)]
     pub fn stay(
         &mut self,
         ip: &IpHead,
@@ -102,15 +101,13 @@ fn none(tcp: bool, last: Moment) -> State
     }
 }
 
-/// The session that the packet meets.
+/// The session that the packet meets takes its place: none behind the timeout.
 #[tactic(auto, unfolding(crate::specs::Phases::at_hand))]
-fn at_hand(state: &State, segment: &Segment, rules: &SessionRules) -> State
-    ensures { result ≡ at_hand state.now segment.now rules.now }
+fn meet(state: &mut State, segment: &Segment, rules: &SessionRules)
+    ensures { state.new ≡ at_hand state.old segment.now rules.now }
 {
     if is_timed_out(state, segment.moment, rules) {
-        none(state.tcp, state.last)
-    } else {
-        *state
+        *state = none(state.tcp, state.last);
     }
 }
 
@@ -164,71 +161,64 @@ fn fins_after(state: &State, change: Change, segment: &Segment) -> (Option<u32>,
     }
 }
 
-/// The session behind a packet that doesn't end it.
-fn state_after(state: &State, change: Change, segment: &Segment) -> State
-    ensures { result ≡ state_after state.now change segment.now }
+/// The session goes on behind a packet that doesn't end it.
+fn go_on(state: &mut State, change: Change, segment: &Segment)
+    ensures { state.new ≡ state_after state.old change segment.now }
 {
     let (client_fin, server_fin) = fins_after(state, change, segment);
-    State {
-        tcp: state.tcp,
-        phase: change.phase,
-        client: change.client,
-        client_base: base_after(change.client_base, state.client_base),
-        server_base: base_after(change.server_base, state.server_base),
-        client_fin,
-        server_fin,
-        last: segment.moment,
-    }
+    state.phase = change.phase;
+    state.client = change.client;
+    state.client_base = base_after(change.client_base, state.client_base);
+    state.server_base = base_after(change.server_base, state.server_base);
+    state.client_fin = client_fin;
+    state.server_fin = server_fin;
+    state.last = segment.moment;
 }
 
-/// What the packet tells, and the session behind it.
+/// What the packet tells; the session is then as it stands behind it.
+// It goes on in its place: moved from call to call, it would cost more than the table.
 #[tactic(auto, unfolding(crate::specs::Phases::taken))]
-fn taken(ended_before: bool, state: &State, change: Change, segment: &Segment) -> Taken
-    ensures { result ≡ taken ended_before state.now change segment.now }
+fn taken(ended_before: bool, state: &mut State, change: Change, segment: &Segment) -> Step
+    ensures step { result ≡ (taken ended_before state.old change segment.now).step }
+    ensures state { state.new ≡ (taken ended_before state.old change segment.now).state }
 {
-    let after = if change.ends {
-        none(state.tcp, segment.moment)
+    let step = step_of(ended_before, state, change, segment);
+    if change.ends {
+        *state = none(state.tcp, segment.moment);
     } else {
-        state_after(state, change, segment)
-    };
-    Taken {
-        step: step_of(ended_before, state, change, segment),
-        state: after,
+        go_on(state, change, segment);
     }
+    step
 }
 
 /// By the row that the packet meets.
 fn by_row(
     timed_out: bool,
-    state: &State,
+    state: &mut State,
     reading: Reading,
     segment: &Segment,
     needed_new: bool,
-) -> Taken
-    ensures { result ≡ by_row timed_out state.now reading segment.now needed_new }
+) -> Step
+    ensures step { result ≡ (by_row timed_out state.old reading segment.now needed_new).step }
+    ensures state { state.new ≡ (by_row timed_out state.old reading segment.now needed_new).state }
 {
     match reading {
         Reading::Then(change) => taken(timed_out, state, change, segment),
-        Reading::EndsBefore => taken(
-            true,
-            &none(state.tcp, state.last),
-            in_none(segment, needed_new),
-            segment,
-        ),
+        Reading::EndsBefore => {
+            *state = none(state.tcp, state.last);
+            taken(true, state, in_none(segment, needed_new), segment)
+        }
     }
 }
 
 /// One packet of a session.
 #[tactic(auto, unfolding(crate::specs::Phases::session_step))]
-fn session_step(state: &State, segment: &Segment, rules: &SessionRules) -> Taken
-    ensures { result ≡ session_step state.now segment.now rules.now }
+fn session_step(state: &mut State, segment: &Segment, rules: &SessionRules) -> Step
+    ensures step { result ≡ (session_step state.old segment.now rules.now).step }
+    ensures state { state.new ≡ (session_step state.old segment.now rules.now).state }
 {
-    let now = at_hand(state, segment, rules);
-    by_row(
-        is_timed_out(state, segment.moment, rules),
-        &now,
-        row_of(&now, segment, rules),
-        segment,
-        rules.needed_new,
-    )
+    let timed_out = is_timed_out(state, segment.moment, rules);
+    meet(state, segment, rules);
+    let reading = row_of(state, segment, rules);
+    by_row(timed_out, state, reading, segment, rules.needed_new)
 }

@@ -1,7 +1,7 @@
 ghost use Rattle.std.specs.Prelude.{◌≡◌};
 ghost use Rattle.stream5_sessions.specs.Phases.{is_timed_out};
 
-use crate::{End, SessionRules, Step};
+use crate::{End, SessionRules};
 use edge_io::Moment;
 
 /// Where a session stands. Of UDP, `Syn` is a session in which only the client has sent, and `Est`
@@ -80,13 +80,6 @@ pub(crate) enum Reading {
     Then(Change),
     /// The session ends before the packet, which is then read where no session stands.
     EndsBefore,
-}
-
-/// What a packet tells, and the session behind it.
-#[derive(Clone, Copy, Debug, PartialEq, Eq)]
-pub(crate) struct Taken {
-    pub step: Step,
-    pub state: State,
 }
 
 /// At this moment the last packet lies further back than the timeout.
