@@ -144,6 +144,8 @@ fn toward_by(
 }
 
 /// What a packet's data go by, sent to this address.
+// Kept out of the line of packets whose addresses go by the same.
+#[inline(never)]
 fn toward(by: &FrontConfig<'_>, tcp: bool, time: Time, addr: Addr) -> Toward
     requires { length by.now.config.now.stream.engines ≤ 1024 }
     ensures { result ≡ toward_address (way_of by.now) tcp time addr }
@@ -155,6 +157,7 @@ fn toward(by: &FrontConfig<'_>, tcp: bool, time: Time, addr: Addr) -> Toward
 }
 
 /// What a packet's data go by: sent to its destination, and to its source.
+#[inline(always)]
 pub(crate) fn towards(by: &FrontConfig<'_>, tcp: bool, time: Time, ip: &IpHead) -> (Toward, Toward)
     requires { length by.now.config.now.stream.engines ≤ 1024 }
     ensures dst { result.0 ≡ toward_address (way_of by.now) tcp time ip.now.dst }

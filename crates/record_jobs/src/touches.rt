@@ -49,6 +49,7 @@ pub(crate) fn content_key(by: &FrontConfig<'_>, content: &RecordContent) -> Opti
 }
 
 /// Touches a key, if there is one.
+#[inline(always)]
 pub(crate) fn touch_key(flows: &mut Flows, key: Option<Key>) -> Result<Option<Touch>, NoMemory>
     requires { flows.old.next < 2 ^ 63 }
     ensures found { IfOk result (λ touch. FindsTouch flows.old key touch) }
