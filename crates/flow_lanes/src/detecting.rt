@@ -44,6 +44,7 @@ fn take_bits_at_hand(found: &mut Option<FlowState>) -> Option<Bits>
 }
 
 /// The bits of the session at hand, or none set; None where the items have no session.
+#[inline(always)]
 fn bits_found(tracked: bool, found: &mut Option<FlowState>) -> Option<Bits>
     ensures bits { result ≡ (if tracked then Some (unwrap_or (bits_at_hand found.old) empty) else None) }
     ensures session { session_at_hand found.new ≡ session_at_hand found.old }
@@ -55,6 +56,7 @@ fn bits_found(tracked: bool, found: &mut Option<FlowState>) -> Option<Bits>
 }
 
 /// Tries the rules on the streams of the packet's session and then on the packet.
+#[inline(always)]
 fn try_current<P: Pattern>(
     inspector: &Inspector<'_, P>,
     streams: &[Item],
@@ -89,6 +91,7 @@ fn bits_or_none(bits: Option<Bits>) -> Bits
 
 /// The session behind its items, if it stands: as its rules ask, and with its bits. The hits of its items
 /// begin at a place.
+#[inline(always)]
 fn settle(
     rules: &[Rule],
     hits: &[Hits],
@@ -110,6 +113,7 @@ fn settle(
 }
 
 /// Leaves no session where it ends.
+#[inline(always)]
 fn end_if(ends: bool, found: &mut Option<FlowState>)
     ensures session { session_at_hand found.new ≡ (if ends then None else session_at_hand found.old) }
     ensures keeps { KeepsFound found.old found.new }
@@ -142,6 +146,8 @@ pub(crate) fn try_at_end<P: Pattern>(
 
 /// Tries the rules on the items of the packet's session, streams and then the packet: the session is then
 /// as its rules ask, unless it ends.
+// In the line of each packet, so that nothing is passed through memory.
+#[inline(always)]
 pub(crate) fn try_and_settle<P: Pattern>(
     inspector: &Inspector<'_, P>,
     streams: &[Item],

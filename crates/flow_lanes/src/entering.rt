@@ -41,6 +41,7 @@ fn take_left_stretches(alloc: Global, found: &mut Option<FlowState>) -> Result<L
 
 /// The session at hand accepts a packet that leaves it as it is, where nothing is left before it: `step` is then
 /// what it tells. Of any other packet the answer is false, and nothing changes. Takes no memory.
+#[inline(always)]
 pub(crate) fn stay(
     settings: &Settings,
     p: &Arrival,
@@ -128,6 +129,7 @@ fn enter(
 }
 
 /// The packet's session, if it has one, accepts what the packet brings. True exactly where its data are held.
+#[inline(always)]
 pub(crate) fn accept_packet(
     alloc: Global,
     p: &Arrival,
@@ -158,6 +160,7 @@ pub(crate) fn accept_packet(
 }
 
 /// The session facts of a packet: sizes are told of a TCP session that is established.
+#[inline(always)]
 fn facts_of(p: &Arrival, step: &Step, after: &Option<FlowState>) -> SessionFacts
     ensures { (told : Option Standing) → option_map sizes_of (session_at_hand after.now) ≡ option_map sizes_of told
         → result ≡ facts_of (packet_of p.now) step.now told }
@@ -175,6 +178,7 @@ fn facts_of(p: &Arrival, step: &Step, after: &Option<FlowState>) -> SessionFacts
 }
 
 /// The session facts of the packet's own item, unless its data were queued and such packets are no items.
+#[inline(always)]
 pub(crate) fn own_facts(
     inserts: bool,
     p: &Arrival,

@@ -131,6 +131,7 @@ impl Lane {
     }
 
     /// What is found of one job, of whose items those are told that the inspector asks for (`job`).
+    #[inline(always)]
     pub(crate) fn search<P: Pattern>(
         &mut self,
         job: &Job,

@@ -129,6 +129,7 @@ fn go_on<P: Pattern>(
 }
 
 /// A packet that left its session as it is: the rules are tried on its items.
+#[inline(always)]
 fn packet_stays<P: Pattern>(
     inspector: &Inspector<'_, P>,
     settings: &Settings,
@@ -193,6 +194,7 @@ fn packet_on<P: Pattern>(
 
 /// A packet of the flow of which this is found, with the rules that match its items: in place, where it leaves its
 /// session as it is.
+#[inline(always)]
 fn packet_found<P: Pattern>(
     inspector: &Inspector<'_, P>,
     settings: &Settings,
@@ -225,6 +227,8 @@ fn packet_found<P: Pattern>(
 impl Flow {
     /// One more packet of the flow: its items with all rules that match them. The flow is then as the packet
     /// leaves it. Where memory is lacking it is as far as the packet came.
+    // In the line of each packet, so that its tally isn't passed through memory.
+    #[inline(always)]
     pub fn packet<P: Pattern>(
         &mut self,
         inspector: &Inspector<'_, P>,

@@ -165,6 +165,7 @@ impl Session {
 
     /// Accepts a packet that leaves the session as it is, where nothing is left of stretches that have ended: `step`
     /// is then what it tells. Of any other packet the answer is false, and nothing changes. Takes no memory.
+    #[inline(always)]
     pub fn stay(&mut self, settings: &Settings, p: &Arrival, step: &mut Step) -> bool
         ensures stays { result ≡ true
             → StaysIn (making_of settings.now) (packet_of p.now) self.old step.new self.new }
@@ -196,6 +197,7 @@ impl Session {
     }
 
     /// Takes what is left of stretches that have ended; None where nothing can be.
+    #[inline(always)]
     pub fn take_left(&mut self, alloc: Global) -> Result<Left, NoMemory>
         requires { AreWithin self.old (2 ^ 63) (2 ^ 63) }
         ensures left { IfOk result (TellsLeft self.old) }
@@ -206,14 +208,25 @@ impl Session {
         if !self.has_left() {
             return Ok(Left::none());
         }
+        self.take_some_left(alloc)
+    }
+
+    /// The same, where something may be left.
+    // Kept out of the line of most packets, before which nothing is left.
+    #[inline(never)]
+    fn take_some_left(&mut self, alloc: Global) -> Result<Left, NoMemory>
+        requires { AreWithin self.old (2 ^ 63) (2 ^ 63) }
+        ensures left { IfOk result (TellsLeft self.old) }
+        ensures state { OnOk result (self.new ≡ settled self.old) }
+        ensures within { KeepsWithin self.old self.new }
+        ensures same { self.new.state ≡ self.old.state }
+    {
         let both = self.take_left_stretches(alloc)?;
         let left = Left::some(alloc, both)?;
         Ok(left)
     }
 
     /// Takes what is left of stretches that have ended, of both sides.
-    // Kept out of the line of most packets, before which nothing is left.
-    #[inline(never)]
     fn take_left_stretches(&mut self, alloc: Global) -> Result<Stretches, NoMemory>
         requires { AreWithin self.old (2 ^ 63) (2 ^ 63) }
         ensures stretches { IfOk result (λ both. both ≡ stretches_of left_payloads self.old) }
@@ -228,6 +241,8 @@ impl Session {
 
     /// Appends the items of all that is held; what stands of the session then is not said, but its sizes
     /// stay.
+    // Kept out of the line of most packets, which end no session.
+    #[inline(never)]
     pub fn push_held_items(
         &mut self,
         alloc: Global,
@@ -354,6 +369,7 @@ impl Session {
 
     /// Accepts what the packet brings: appends what was left before it, what its acknowledgement flushes and,
     /// where it ends the session, all that is held. True exactly where its data are held.
+    #[inline(always)]
     pub fn accept_packet(
         &mut self,
         alloc: Global,

@@ -86,6 +86,7 @@ fn sides_after_hits(rules: &[Rule], mut sides: SidesOn, hits: &[Hits]) -> SidesO
 }
 
 /// Turns a session's sides on and off, as the rules ask that match its items.
+#[inline(always)]
 #[tactic(auto, unfolding(crate::specs::Flows::steered))]
 pub(crate) fn steer(rules: &[Rule], hits: &[Hits], session: &mut Session)
     ensures state { session.new ≡ steered rules.now hits.now session.old }

@@ -112,6 +112,8 @@ fn push_payloads(head: ItemHead, payloads: Items<Text>, out: &mut Vec<Item>) -> 
 }
 
 /// Appends those of both sides, the client's first.
+// Kept out of the line of most packets, before which nothing is left.
+#[inline(never)]
 fn push_stretches(
     out: &mut Vec<Item>,
     moment: Moment,
@@ -126,6 +128,7 @@ fn push_stretches(
 }
 
 /// Appends those that there may be.
+#[inline(always)]
 pub(crate) fn push_maybe(
     out: &mut Vec<Item>,
     moment: Moment,

@@ -77,6 +77,7 @@ impl Tally {
 }
 
 /// The places of the rules that are worth being tried on an item. About what finding them cost is counted.
+#[inline(always)]
 fn item_candidates<P: Pattern>(
     inspector: &Inspector<'_, P>,
     head: &ItemHead,
@@ -95,6 +96,7 @@ fn item_candidates<P: Pattern>(
 }
 
 /// Tries the candidates of an item.
+#[inline(never)]
 fn try_candidates<P: Pattern>(
     inspector: &Inspector<'_, P>,
     places: &[u32],
@@ -138,9 +140,37 @@ pub(crate) fn try_item<P: Pattern>(
     try_candidates(inspector, &places, head, payload, bits, tally)
 }
 
+/// Tries the candidates of a packet with these facts of its session.
+// Kept out of the line of packets without a candidate, which otherwise pay for the head.
+#[inline(never)]
+fn try_with_facts<P: Pattern>(
+    inspector: &Inspector<'_, P>,
+    places: &[u32],
+    facts: SessionFacts,
+    p: &Arrival,
+    bits: &mut Option<Bits>,
+    tally: &mut Tally,
+) -> Result<(), NoMemory>
+    requires { places.now ≡ candidates inspector.now.set.now.rules p.now.head.now.body p.now.payload.now }
+    ensures hits { (means : Means) (trying : Trying) → TriesBy P.finds means inspector.now.set.now trying
+        → OnOk result (TriesOne inspector.now.all trying (item_with (packet_of p.now) facts) bits.old bits.new
+        tally.old.hits.items tally.new.hits.items) }
+    ensures items { OnOk result (tally.new.items ≡ tally.old.items + 1) }
+    ensures tries { OnOk result (tally.new.tries
+        ≡ tally.old.tries + length (candidates inspector.now.set.now.rules p.now.head.now.body p.now.payload.now)) }
+    ensures more { OnOk result (length tally.old.hits.items ≤ length tally.new.hits.items) }
+{
+    let head = ItemHead {
+        session: facts,
+        ..*p.head
+    };
+    try_candidates(inspector, places, &head, p.payload, bits, tally)
+}
+
 /// Tries the rules on a packet with these facts of its session. Its candidates go by its payload and by what its
 /// head says of the packet alone: where there is none and such an item is not told, no head is made with the
 /// facts.
+#[inline(always)]
 fn try_packet<P: Pattern>(
     inspector: &Inspector<'_, P>,
     facts: SessionFacts,
@@ -160,14 +190,11 @@ fn try_packet<P: Pattern>(
     if places.is_empty() && !inspector.all {
         return tally.count(p.payload.len(), 0);
     }
-    let head = ItemHead {
-        session: facts,
-        ..*p.head
-    };
-    try_candidates(inspector, &places, &head, p.payload, bits, tally)
+    try_with_facts(inspector, &places, facts, p, bits, tally)
 }
 
 /// Tries the rules on the packet's own item, if it is one.
+#[inline(always)]
 pub(crate) fn try_own<P: Pattern>(
     inspector: &Inspector<'_, P>,
     own: &Option<SessionFacts>,

@@ -19,6 +19,7 @@ use edge_io::{Moment, NoMemory, Pattern};
 use packet_decode::ItemHead;
 
 /// A packet of a flow.
+#[inline(always)]
 fn do_packet<P: Pattern>(
     inspector: &Inspector<'_, P>,
     settings: &Settings,
@@ -99,6 +100,7 @@ fn do_alone<P: Pattern>(
 }
 
 /// A job, over the flows that have not ended.
+#[inline(always)]
 pub(crate) fn do_work<P: Pattern>(
     inspector: &Inspector<'_, P>,
     settings: &Settings,
