@@ -82,6 +82,8 @@ impl Events {
 }
 
 /// Makes the texts of an item, behind those that wait.
+// Kept out of the line of most jobs, which have none that a rule matches.
+#[inline(never)]
 #[tactic(auto, using(crate::proofs::Prefixes::rising))]
 fn show_item<A: Sink>(
     config: &Config,
