@@ -295,9 +295,6 @@ fn with_name(alloc: Global, names: Extracted, name: &[u8]) -> Result<(Extracted,
         return Ok((names, place as u8));
     }
     let count = names.as_slice().len();
-    if count >= 2 {
-        return Err(Stop::Wrong(Fault::Limit));
-    }
     let name = Text::copy(alloc, name)?;
     let names = names.with(name)?;
     Ok((names, count as u8))

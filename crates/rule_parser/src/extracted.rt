@@ -1,24 +1,25 @@
 //! The names that byte_extract gives in a rule.
-ghost use Rattle.std.specs.Prelude.{◌≡◌, ◌≤◌, ◌<◌, [], ◌∷◌, ◌++◌, length, take, IfOk};
+ghost use Rattle.std.specs.Prelude.{◌≡◌, ◌≤◌, ◌<◌, ◌↔◌, [], ◌∷◌, ◌++◌, length, IfOk, IfErr, IsOk};
+ghost use Rattle.rule_parser.specs.declared.fault.Fault.TheVariants.{Limit as limit};
 
-use edge_io::{NoMemory, Text};
+use crate::fault::Fault;
+use arrayvec::ArrayVec;
+use edge_io::Text;
 use std::alloc::Global;
 use std::marker::Model;
 
 /// At most two names, each once. Contracts see the list of them.
 #[derive(Drop)]
 pub(crate) struct Extracted {
-    names: Vec<Text>,
+    names: ArrayVec<Text, 2, Global>,
 }
 
 impl Model for Extracted {
-    ghost use Rattle.std.specs.Prelude.{ℕ, List, length, ◌≤◌};
+    ghost use Rattle.std.specs.Prelude.{ℕ, List};
 
     ghost Value = { List (List ℕ) };
 
     ghost view = { λ extracted. extracted.names.items };
-
-    ghost invariant = { λ extracted. length extracted.names.items ≤ 2 };
 }
 
 impl Extracted {
@@ -26,7 +27,7 @@ impl Extracted {
         ensures { result ≡ [] }
     {
         Extracted {
-            names: Vec::new(alloc),
+            names: ArrayVec::new_in(alloc),
         }
     }
 
@@ -35,16 +36,19 @@ impl Extracted {
         ensures value { result.now ≡ self.now }
         ensures within { length result.now ≤ 2 }
     {
-        &self.names
+        self.names.as_slice()
     }
 
-    /// With one name more.
-    pub(crate) fn with(self, name: Text) -> Result<Extracted, NoMemory>
-        requires { length self < 2 }
-        ensures { IfOk result (λ all. all ≡ self ++ name ∷ []) }
+    /// With one name more, where there is room.
+    pub(crate) fn with(self, name: Text) -> Result<Extracted, Fault>
+        ensures more { IfOk result (λ all. all ≡ self ++ name ∷ []) }
+        ensures room { IsOk result ↔ (length self < 2) }
+        ensures full { IfErr result (λ fault. fault ≡ limit) }
     {
         let Extracted { mut names } = self;
-        names.push(name)?;
-        Ok(Extracted { names })
+        match names.try_push(name) {
+            Ok(()) => Ok(Extracted { names }),
+            Err(_) => Err(Fault::Limit),
+        }
     }
 }
