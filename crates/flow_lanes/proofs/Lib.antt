@@ -1,4 +1,4 @@
 pub mod Course
-pub mod Rules
+pub mod ItemHits
 pub mod Sessions
 pub mod Jobs

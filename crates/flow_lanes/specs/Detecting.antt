@@ -8,11 +8,12 @@ use Rattle.std.specs.Prelude.{◌≡◌, Bool, List, ◌++◌, Option, Some, Non
 use Rattle.std.specs.FinSet.{empty}
 use Rattle.stream5_sessions.specs.declared.state.State.{State}
 use Rattle.stream5_sessions.specs.declared.step.Step.{Step}
+use Rattle.rule_eval.specs.declared.item.Item.{Item}
+use Rattle.rule_eval.specs.Hits.{Bits, Trying}
 use Rattle.flow_lanes.specs.declared.answer.Hits.{Hits}
 use Rattle.flow_lanes.specs.Engines.{Making}
 use Rattle.flow_lanes.specs.Flows.{FlowState, bits_at_hand, hits_in, session_at_hand, state_after, steered}
-use Rattle.flow_lanes.specs.Hits.{Bits, Item}
-use Rattle.flow_lanes.specs.ItemHits.{Trying, bits_after_items, hits_of, told}
+use Rattle.flow_lanes.specs.ItemHits.{bits_after_items, hits_of, told}
 use Rattle.flow_lanes.specs.Items.{JobItems, session_behind}
 use Rattle.flow_lanes.specs.Sessions.{Packet, session_of}
 use Rattle.flow_lanes.specs.Working.{items_on}

@@ -18,6 +18,8 @@ use Rattle.rule_types.specs.declared.option.Side.{Side as Named}
 use Rattle.rule_types.specs.declared.option.Side.TheVariants as named
 use Rattle.rule_types.specs.declared.rule.Rule.{Rule}
 use Rattle.fast_pattern.specs.Candidates.{candidates}
+use Rattle.rule_eval.specs.declared.item.Item.{Item}
+use Rattle.rule_eval.specs.Hits.{Bits, Trying}
 use Rattle.flow_lanes.specs.declared.answer.Hits.{Hits}
 use Rattle.flow_lanes.specs.declared.answer.JobHits.{JobHits}
 use Rattle.flow_lanes.specs.declared.job.Job.{Job}
@@ -26,8 +28,7 @@ use Rattle.flow_lanes.specs.declared.job.Work.TheVariants as work
 pub use Rattle.flow_lanes.specs.declared.keeping.FlowState.{FlowState}
 pub use Rattle.flow_lanes.specs.declared.steering.SidesOn.{SidesOn}
 use Rattle.flow_lanes.specs.Engines.{Making}
-use Rattle.flow_lanes.specs.Hits.{Bits, Item}
-use Rattle.flow_lanes.specs.ItemHits.{Trying, bits_after_items, hits_of}
+use Rattle.flow_lanes.specs.ItemHits.{bits_after_items, hits_of}
 use Rattle.flow_lanes.specs.Items.{JobItems, alone_items, finish_items, packet_items}
 use Rattle.flow_lanes.specs.Sessions.{Session}
 use Rattle.flow_lanes.specs.Sides.{turned}

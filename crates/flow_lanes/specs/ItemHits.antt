@@ -3,21 +3,12 @@
 -- The rules of an item see the bits that the items before it left (Snort Users Manual 2.9, section 3.6.10).
 -- Of the items all may be told, or those alone that a rule matches.
 -- To try it on: where a rule sets a bit on the first of two items, the second sees it from its first rule on.
-use Rattle.std.specs.Prelude.{ℕ, ◌==◌, Bool, not, List, [], ◌∷◌, Option, filter, fold, length, if◌then◌else◌}
-use Rattle.rule_types.specs.declared.rule.Rule.{Rule}
+use Rattle.std.specs.Prelude.{◌==◌, Bool, not, List, [], ◌∷◌, Option, filter, fold, length, if◌then◌else◌}
+use Rattle.rule_eval.specs.declared.item.Item.{Item}
+use Rattle.rule_eval.specs.Hits.{Bits, Trying, matching}
+use Rattle.rule_eval.specs.Picking.{bits_after_all}
 use Rattle.flow_lanes.specs.declared.answer.Hits.{Hits}
 use Rattle.flow_lanes.specs.declared.answer.JobHits.{JobHits}
-use Rattle.flow_lanes.specs.Hits.{Bits, Item, Test, places_from}
-use Rattle.flow_lanes.specs.Picking.{bits_after_all}
-
--- the rules that are tried, and which of them match
-pub record Trying : Type 0 where
-  pub rules : List Rule
-  pub matches : Test
-
--- the places of all rules that match an item
-unfoldable pub matching : Trying → Item → Option Bits → List ℕ
-matching trying item bits = places_from trying.matches item 0 trying.rules bits
 
 -- the bits behind an item
 abbrev pub bits_after_item : Trying → Option Bits → Item → Option Bits

@@ -18,8 +18,8 @@ use Rattle.packet_decode.specs.declared.packet.Body.TheVariants as body
 use Rattle.stream5_sessions.specs.declared.key.End.{End}
 use Rattle.stream5_sessions.specs.declared.state.State.{State}
 use Rattle.stream5_sessions.specs.declared.step.Step.{Step}
+use Rattle.rule_eval.specs.declared.item.Item.{Item}
 use Rattle.flow_lanes.specs.Engines.{Making}
-use Rattle.flow_lanes.specs.Hits.{Item}
 use Rattle.flow_lanes.specs.Sessions.{Packet, Session, ack_of, acked_side, after_ack, after_data, is_tcp, sending_side, seq_of, session_of, settled, sizes_of, state_of, step_of}
 use Rattle.flow_lanes.specs.Sides.{Side, acked_payloads, held_payloads, left_payloads, queues}
 

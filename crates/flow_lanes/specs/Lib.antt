@@ -2,13 +2,11 @@ pub mod Streams
 pub mod Sides
 pub mod Engines
 pub mod Sessions
-pub mod Hits
 pub mod Items
 pub mod Given
 pub mod Reach
 pub mod Payloads
 pub mod Working
-pub mod Picking
 pub mod ItemHits
 pub mod Tried
 pub mod Flows

@@ -14,12 +14,13 @@ use Rattle.packet_decode.specs.declared.packet.Body.TheVariants as body
 use Rattle.conf_types.specs.declared.config.StreamConfig.{StreamConfig}
 use Rattle.option_eval.specs.Places.{Means}
 use Rattle.option_eval.specs.RuleSet.{FindWhatIsMeant, Rules}
+use Rattle.rule_eval.specs.declared.item.Item.{Item}
+use Rattle.rule_eval.specs.Hits.{Tells}
 use Rattle.flow_lanes.specs.declared.answer.BatchOut.{BatchOut}
 use Rattle.flow_lanes.specs.declared.answer.JobHits.{JobHits}
 use Rattle.flow_lanes.specs.declared.answer.Matches.{Matches}
 use Rattle.flow_lanes.specs.declared.job.Job.{Job}
 use Rattle.flow_lanes.specs.Flows.{Detection, FlowState, answer, answer_tries, flow_of, items, same_flow, same_number, state_behind}
-use Rattle.flow_lanes.specs.Hits.{Item, Tells}
 use Rattle.flow_lanes.specs.ItemHits.{matched_entry}
 use Rattle.flow_lanes.specs.Sound.{FlowFacts, IsSoundFor, facts_after, facts_behind}
 use Rattle.flow_lanes.specs.Streams.{item_size}

@@ -8,9 +8,10 @@ use Rattle.rule_types.specs.declared.rule.Rule.{Rule}
 use Rattle.fast_pattern.specs.Candidates.{candidates}
 use Rattle.option_eval.specs.Places.{Means}
 use Rattle.option_eval.specs.RuleSet.{FindWhatIsMeant, Rules}
+use Rattle.rule_eval.specs.declared.item.Item.{Item}
+use Rattle.rule_eval.specs.Hits.{Bits, Tells, Trying}
 use Rattle.flow_lanes.specs.declared.answer.Hits.{Hits}
-use Rattle.flow_lanes.specs.Hits.{Bits, Item, Tells}
-use Rattle.flow_lanes.specs.ItemHits.{Trying, bits_after_item, bits_after_items, hit, hits_of, told}
+use Rattle.flow_lanes.specs.ItemHits.{bits_after_item, bits_after_items, hit, hits_of, told}
 
 -- the rules of the set are tried, and it is told which of them match
 pub record TriesBy {P : Type 0} (finds : P → List ℕ → Option Span) (means : Means) (set : Rules P)

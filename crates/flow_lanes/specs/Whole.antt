@@ -6,13 +6,14 @@ use Rattle.edge_io.specs.declared.moment.Moment.{Moment}
 use Rattle.edge_io.specs.declared.pattern.Span.{Span}
 use Rattle.option_eval.specs.Places.{Means}
 use Rattle.option_eval.specs.RuleSet.{Rules}
+use Rattle.rule_eval.specs.Hits.{Trying}
 use Rattle.flow_lanes.specs.declared.answer.Hits.{Hits}
 use Rattle.flow_lanes.specs.declared.job.Work.{Work}
 use Rattle.flow_lanes.specs.declared.tally.Tally.{Tally}
 use Rattle.flow_lanes.specs.Engines.{Making}
 use Rattle.flow_lanes.specs.Flows.{FlowState, all_items, flow_of_work, hits_in, same_number, session_at_hand, state_after, work_items}
 use Rattle.flow_lanes.specs.Items.{JobItems}
-use Rattle.flow_lanes.specs.ItemHits.{Trying, told}
+use Rattle.flow_lanes.specs.ItemHits.{told}
 use Rattle.flow_lanes.specs.Kept.{kept_in}
 use Rattle.flow_lanes.specs.Sound.{FlowFacts, facts_behind_work}
 use Rattle.flow_lanes.specs.Standing.{KeptFlow, facts_kept, state_kept}

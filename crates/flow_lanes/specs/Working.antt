@@ -7,10 +7,10 @@ use Rattle.edge_io.specs.declared.moment.Moment.{Moment}
 use Rattle.packet_decode.specs.declared.item.SessionFacts.{SessionFacts}
 use Rattle.stream5_sessions.specs.declared.state.State.{State}
 use Rattle.stream5_sessions.specs.declared.step.Step.{Step}
+use Rattle.rule_eval.specs.declared.item.Item.{Item}
 use Rattle.flow_lanes.specs.declared.cutting.Stretch.{Stretch}
 use Rattle.flow_lanes.specs.declared.session.Stretches.{Stretches}
 use Rattle.flow_lanes.specs.Engines.{Making}
-use Rattle.flow_lanes.specs.Hits.{Item}
 use Rattle.flow_lanes.specs.Items.{acked_items, closing_items, facts_of, head_between, held_items, left_items, own_items, session_behind}
 use Rattle.flow_lanes.specs.Sessions.{Packet, Session, after_ack, after_data, session_of, sizes_of}
 use Rattle.flow_lanes.specs.Sides.{Side, left_payloads, without_left}

@@ -3,10 +3,11 @@
 ghost use Rattle.std.specs.Prelude.{◌≡◌, ◌+◌, ◌≤◌, ◌++◌, drop, length, None, OnOk, option_map, Some, unwrap_or, if◌then◌else◌};
 ghost use Rattle.std.specs.FinSet.{empty};
 ghost use Rattle.option_eval.specs.Places.{Means};
+ghost use Rattle.rule_eval.specs.Hits.{Trying};
 ghost use Rattle.flow_lanes.specs.Detecting.{SettlesBy};
 ghost use Rattle.flow_lanes.specs.Flows.{bits_at_hand, session_at_hand, steered};
 ghost use Rattle.flow_lanes.specs.Given.{packet_of};
-ghost use Rattle.flow_lanes.specs.ItemHits.{Trying, hits_of, told};
+ghost use Rattle.flow_lanes.specs.ItemHits.{hits_of, told};
 ghost use Rattle.flow_lanes.specs.Kept.{KeepsFound};
 ghost use Rattle.flow_lanes.specs.Tried.{TriesAll, TriesBy, candidates_of};
 ghost use Rattle.flow_lanes.specs.Working.{own_item};
@@ -14,13 +15,13 @@ ghost use Rattle.flow_lanes.specs.Working.{own_item};
 use crate::answer::Hits;
 use crate::arrival::Arrival;
 use crate::inspector::Inspector;
-use crate::item::Item;
 use crate::keeping::FlowState;
 use crate::steering::steer;
 use crate::tally::{Tally, try_items, try_own};
 use edge_io::{NoMemory, Pattern};
 use flowbit_state::Bits;
 use packet_decode::SessionFacts;
+use rule_eval::Item;
 use rule_types::Rule;
 use stream5_sessions::Step;
 

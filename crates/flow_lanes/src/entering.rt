@@ -14,7 +14,6 @@ ghost use Rattle.flow_lanes.specs.Staying.{StaysAt};
 ghost use Rattle.flow_lanes.specs.Working.{TellsLeftAt, items_on, own_facts, own_item, sizes_behind, streams_of};
 
 use crate::arrival::Arrival;
-use crate::item::Item;
 use crate::keeping::FlowState;
 use crate::session::{Left, Session};
 use crate::settings::Settings;
@@ -22,6 +21,7 @@ use crate::streams::push_maybe;
 use edge_io::NoMemory;
 use flowbit_state::Bits;
 use packet_decode::SessionFacts;
+use rule_eval::Item;
 use std::alloc::Global;
 use stream5_sessions::{Session as Phases, Step};
 

@@ -3,10 +3,11 @@
 ghost use Rattle.std.specs.Prelude.{◌≡◌, ◌+◌, ◌-◌, ◌^◌, ◌≤◌, ◌++◌, [], ℕ, Bool, true, Option};
 ghost use Rattle.std.specs.Prelude.{IfOk, OnOk, None, Some, length};
 ghost use Rattle.option_eval.specs.Places.{Means};
+ghost use Rattle.rule_eval.specs.Hits.{Trying};
 ghost use Rattle.flow_lanes.specs.Detecting.{DetectsOn, GoesOn};
 ghost use Rattle.flow_lanes.specs.Flows.{FlowState as Found, all_items, bits_at_hand, hits_in, session_at_hand};
 ghost use Rattle.flow_lanes.specs.Given.{making_of, packet_of};
-ghost use Rattle.flow_lanes.specs.ItemHits.{Trying, hits_of, told};
+ghost use Rattle.flow_lanes.specs.ItemHits.{hits_of, told};
 ghost use Rattle.flow_lanes.specs.Items.{finish_items, packet_items};
 ghost use Rattle.flow_lanes.specs.Kept.{GrowsFound, IsFound, KeepsFound};
 ghost use Rattle.flow_lanes.specs.Reach.{IsWithin};
@@ -20,13 +21,13 @@ use crate::arrival::Arrival;
 use crate::detecting::{try_and_settle, try_at_end};
 use crate::entering::{accept_packet, own_facts, push_current, stay};
 use crate::inspector::Inspector;
-use crate::item::Item;
 use crate::keeping::{Flow, FlowState};
 use crate::session::Left;
 use crate::settings::Settings;
 use crate::steps::step_and_state;
 use crate::tally::Tally;
 use edge_io::{Moment, NoMemory, Pattern};
+use rule_eval::Item;
 use std::alloc::Global;
 use stream5_sessions::{Session as Phases, Step};
 

@@ -13,12 +13,12 @@ ghost use Rattle.flow_lanes.specs.Working.{HasNoneLeft, TellsLeft, after_packet,
 
 use crate::arrival::Arrival;
 use crate::cutting::Stretch;
-use crate::item::Item;
 use crate::settings::Settings;
 use crate::side::Side;
 use crate::steps::rules_of;
 use crate::streams::push_maybe;
 use edge_io::{Moment, NoMemory};
+use rule_eval::Item;
 use std::alloc::Global;
 use std::marker::Model;
 use stream5_sessions::{End, Session as Phases, Step};

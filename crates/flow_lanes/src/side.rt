@@ -12,10 +12,10 @@ ghost use Rattle.flow_lanes.specs.Reach.{Grows, Keeps, Reaches};
 ghost use Rattle.flow_lanes.specs.Working.{HasNoneLeft, stretch_of};
 
 use crate::cutting::{Stretch, cut_runs};
-use crate::item::Item;
 use crate::streams::{head_between, push_runs};
 use edge_io::{Items, Moment, NoMemory, Preference, Text};
 use overlap_core::Run;
+use rule_eval::Item;
 use std::alloc::Global;
 use stream5_reassembly::{Added, Direction, Extent, Limits};
 use stream5_sessions::End;

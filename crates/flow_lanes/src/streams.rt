@@ -6,11 +6,11 @@ ghost use Rattle.flow_lanes.specs.Streams.{item_size, parts_of, payloads_of};
 ghost use Rattle.flow_lanes.specs.Working.{maybe_items, stretch_items, stretches_items};
 
 use crate::cutting::{Stretch, cut, is_one_part};
-use crate::item::Item;
 use crate::session::{Left, Stretches};
 use edge_io::{Items, Moment, NoMemory, Text};
 use overlap_core::Run;
 use packet_decode::{Body, IpHead, ItemHead, ItemKind, SessionFacts};
+use rule_eval::Item;
 use std::alloc::Global;
 use stream5_sessions::End;
 

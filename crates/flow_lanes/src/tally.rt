@@ -4,20 +4,20 @@ ghost use Rattle.std.specs.Prelude.{◌≡◌, ◌+◌, ◌≤◌, ◌++◌, [],
 ghost use Rattle.fast_pattern.specs.Candidates.{candidates};
 ghost use Rattle.option_eval.specs.Places.{Means};
 ghost use Rattle.option_eval.specs.RuleSet.{FindWhatIsMeant};
+ghost use Rattle.rule_eval.specs.Hits.{Trying};
 ghost use Rattle.flow_lanes.specs.Given.{packet_of};
-ghost use Rattle.flow_lanes.specs.ItemHits.{Trying, told};
+ghost use Rattle.flow_lanes.specs.ItemHits.{told};
 ghost use Rattle.flow_lanes.specs.Working.{item_with, own_item};
 ghost use Rattle.flow_lanes.specs.Tried.{TriesAll, TriesBy, TriesOne, candidates_of};
 
 use crate::answer::Hits;
 use crate::arrival::Arrival;
-use crate::hits::matching_among;
 use crate::inspector::Inspector;
-use crate::item::Item;
 use crate::worth::{effort_cost, item_cost};
 use edge_io::{Items, NoMemory, Pattern};
 use flowbit_state::Bits;
 use packet_decode::{ItemHead, SessionFacts};
+use rule_eval::{Item, matching_among};
 use std::alloc::Global;
 
 /// What was found of the items of a job so far.

@@ -11,12 +11,12 @@ use Rattle.rule_types.specs.declared.rule.Rule.{Rule}
 use Rattle.fast_pattern.specs.Grouping.{StandFor}
 use Rattle.fast_pattern.specs.declared.groups.Groups.{Groups}
 use Rattle.event_filters.specs.Standing.{FiltersState, IsGiven}
+use Rattle.rule_eval.specs.Hits.{Test}
 use Rattle.flow_lanes.specs.declared.answer.Hits.{Hits}
 use Rattle.flow_lanes.specs.declared.answer.JobHits.{JobHits}
 use Rattle.flow_lanes.specs.declared.answer.Matches.{Matches}
 use Rattle.flow_lanes.specs.declared.job.Job.{Job}
 use Rattle.flow_lanes.specs.Flows.{Detection, answer, answer_tries}
-use Rattle.flow_lanes.specs.Hits.{Test}
 use Rattle.flow_lanes.specs.Standing.{DetectsBy, IsBatchSearched, LanesStand, LanesState, LearnsBatch}
 use Rattle.record_jobs.specs.declared.counts.RecordCounts.{RecordCounts}
 use Rattle.record_jobs.specs.Way.{LinkedRecord, Way as JobsWay}

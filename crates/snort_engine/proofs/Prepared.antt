@@ -13,7 +13,7 @@ use Rattle.edge_io.specs.Files.{Files}
 use Rattle.edge_io.specs.declared.pattern.Refusal.{Refusal}
 use Rattle.conf_parser.specs.Reading.{Ended, Whole, Refused as RefusedAt, Asks, told}
 use Rattle.command_words.specs.CommandLine.{Asked, help, version, records_of, run, Run}
-use Rattle.flow_lanes.specs.Hits.{Test}
+use Rattle.rule_eval.specs.Hits.{Test}
 use Rattle.snort_setup.specs.declared.setup.Setup.{Setup}
 use Rattle.snort_setup.specs.declared.stop.SetupStop.{SetupStop}
 use Rattle.snort_setup.specs.declared.stop.SetupStop.TheVariants as halted

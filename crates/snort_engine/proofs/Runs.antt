@@ -13,7 +13,7 @@ use Rattle.snort_engine.specs.Records.{BeginsOtherwise}
 use Rattle.edge_io.proofs.Told.{behind-nil}
 use Rattle.option_eval.specs.Places.{Means}
 use Rattle.command_words.specs.CommandLine.{Asked, command_line}
-use Rattle.flow_lanes.specs.Hits.{Test, Tells}
+use Rattle.rule_eval.specs.Hits.{Test, Tells}
 use Rattle.snort_engine.specs.declared.status.Status.{Status}
 use Rattle.snort_engine.specs.declared.status.Status.TheVariants as status
 use Rattle.snort_engine.specs.declared.stop.Stop.{Stop}

@@ -23,7 +23,7 @@ use Rattle.rule_types.specs.declared.rule.Rule.{Rule}
 use Rattle.command_words.specs.declared.asked.ChecksumMode.{ChecksumMode}
 use Rattle.command_words.specs.declared.asked.ChecksumMode.TheVariants as mode
 use Rattle.command_words.specs.CommandLine.{Asked, help, version, records_of, run, Run, Defined}
-use Rattle.flow_lanes.specs.Hits.{Test}
+use Rattle.rule_eval.specs.Hits.{Test}
 use Rattle.snort_setup.specs.Words.{Words, Definition}
 use Rattle.conf_parser.specs.Reading.{told}
 use Rattle.edge_io.specs.declared.pattern.Refusal.{Refusal}

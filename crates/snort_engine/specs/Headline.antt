@@ -14,7 +14,7 @@ use Rattle.edge_io.specs.Files.{Files}
 use Rattle.edge_io.specs.declared.pattern.Refusal.{Refusal}
 use Rattle.option_eval.specs.Places.{Means}
 use Rattle.command_words.specs.CommandLine.{Asked, command_line}
-use Rattle.flow_lanes.specs.Hits.{Test, Tells}
+use Rattle.rule_eval.specs.Hits.{Test, Tells}
 use Rattle.snort_engine.specs.declared.status.Status.{Status}
 use Rattle.snort_engine.specs.declared.status.Status.TheVariants as status
 use Rattle.snort_engine.specs.Course.{Course, Given, given, IsCourse, IsFileless, IsForMade, HasOneCourse, AreRefused}

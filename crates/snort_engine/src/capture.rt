@@ -3,7 +3,7 @@ ghost use Rattle.std.specs.Prelude.{◌≡◌, ◌≤◌, ◌⊎◌, ◌++◌, S
 ghost use Rattle.std.specs.List.{concat};
 ghost use Rattle.edge_io.specs.Files.{Files};
 ghost use Rattle.edge_io.specs.Told.{Rose};
-ghost use Rattle.flow_lanes.specs.Hits.{Test};
+ghost use Rattle.rule_eval.specs.Hits.{Test};
 ghost use Rattle.snort_engine.specs.Course.{Course, Makes};
 ghost use Rattle.snort_engine.specs.Steps.Preparing.{way_for};
 ghost use Rattle.snort_engine.specs.Steps.Sources.{IsMade, LacksCapture, OpensOn, source_name};

@@ -3,7 +3,7 @@ ghost use Rattle.std.specs.Prelude.{◌≡◌, ◌+◌, ◌≤◌, ◌^◌, ◌<
 ghost use Rattle.edge_io.specs.Told.{Rose};
 ghost use Rattle.conf_types.specs.Sound as conf;
 ghost use Rattle.fast_pattern.specs.Grouping.{StandFor};
-ghost use Rattle.flow_lanes.specs.Hits.{Test};
+ghost use Rattle.rule_eval.specs.Hits.{Test};
 ghost use Rattle.flow_lanes.specs.Standing.{LearnsBatch};
 ghost use Rattle.record_jobs.specs.Way as ways;
 ghost use Rattle.record_jobs.specs.Ready.{AreReady};

@@ -8,7 +8,7 @@ ghost use Rattle.conf_types.specs.Sound as conf;
 ghost use Rattle.rule_types.specs.Sound.{IsSound};
 ghost use Rattle.command_words.specs.CommandLine.{command_line, run};
 ghost use Rattle.command_words.specs.Told.{run_of};
-ghost use Rattle.flow_lanes.specs.Hits.{Test};
+ghost use Rattle.rule_eval.specs.Hits.{Test};
 ghost use Rattle.snort_setup.specs.Words.{words_of, HasName};
 ghost use Rattle.snort_setup.specs.Answers as setup_specs;
 ghost use Rattle.snort_setup.specs.Rules.{most_rules};

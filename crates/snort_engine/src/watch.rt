@@ -2,7 +2,7 @@ ghost use Rattle.std.specs.Prelude.{◌≡◌, ◌+◌, ◌^◌, ◌<◌, ◌≤
 ghost use Rattle.std.specs.List.{concat};
 ghost use Rattle.edge_io.specs.Files.{Files, Lacks};
 ghost use Rattle.edge_io.specs.Told.{Rose};
-ghost use Rattle.flow_lanes.specs.Hits.{Test};
+ghost use Rattle.rule_eval.specs.Hits.{Test};
 ghost use Rattle.snort_engine.specs.Course.{Course, Goes};
 ghost use Rattle.snort_engine.specs.Steps.Reader.{IsReadable, number_of, OpensSo};
 ghost use Rattle.snort_engine.specs.Steps.Sources.{source_name};

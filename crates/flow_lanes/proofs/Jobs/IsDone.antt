@@ -9,6 +9,7 @@ use Rattle.conf_types.specs.declared.config.StreamConfig.{StreamConfig}
 use Rattle.option_eval.specs.Places.{Means}
 use Rattle.option_eval.specs.RuleSet.{Rules}
 use Rattle.packet_decode.specs.declared.item.ItemHead.{ItemHead}
+use Rattle.rule_eval.specs.Hits.{Trying}
 use Rattle.flow_lanes.specs.declared.answer.Hits.{Hits}
 use Rattle.flow_lanes.specs.declared.answer.JobFound.{JobFound}
 use Rattle.flow_lanes.specs.declared.job.Job.{Job}
@@ -20,7 +21,7 @@ use Rattle.flow_lanes.specs.Detecting.{DetectsOn}
 use Rattle.flow_lanes.specs.Engines.{Making}
 use Rattle.flow_lanes.specs.Flows.{Detection, FlowState, all_items, flow_of, flow_state, hits, hits_in, items, same_flow, same_number, session_at_hand, state_behind, tries, work_items, bits_at_hand, bits_found}
 use Rattle.flow_lanes.specs.Items.{JobItems, alone_items, finish_items, packet_items}
-use Rattle.flow_lanes.specs.ItemHits.{Trying, hits_of, told}
+use Rattle.flow_lanes.specs.ItemHits.{hits_of, told}
 use Rattle.flow_lanes.specs.Kept.{Sets, facts_after_packet, kept_in}
 use Rattle.flow_lanes.specs.Sessions.{Packet}
 use Rattle.flow_lanes.specs.Sound.{FlowFacts, IsSoundFor, facts_behind, facts_behind_work}
@@ -30,7 +31,7 @@ use Rattle.flow_lanes.specs.Batching.{SearchesJob}
 use Rattle.flow_lanes.specs.Whole.{IsDone, IsDoneBy, found_for, items_for, kept_by}
 use Rattle.flow_lanes.proofs.Jobs.Stands.{HasDone-stands, Stands-finds}
 use Rattle.flow_lanes.proofs.Sessions.AreShort.{job_short}
-use Rattle.flow_lanes.proofs.Rules.Tried.{length-hits_of}
+use Rattle.flow_lanes.proofs.ItemHits.Tried.{length-hits_of}
 
 cond_then : {A : Type 0} (b : Bool) (x y z : A) → (b ≡ true → x ≡ y) → cond b x z ≡ cond b y z
 cond_then true x y z same = same refl

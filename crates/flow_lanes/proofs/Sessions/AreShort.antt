@@ -13,8 +13,8 @@ use Rattle.packet_decode.specs.declared.packet.Body.TheVariants as body
 use Rattle.stream5_sessions.specs.declared.state.State.{State}
 use Rattle.stream5_sessions.specs.declared.step.Step.{Step}
 use Rattle.stream5_reassembly.specs.Segments.{DirectionState, ack_flushes, ack_place, top}
+use Rattle.rule_eval.specs.declared.item.Item.{Item}
 use Rattle.flow_lanes.specs.Engines.{Making}
-use Rattle.flow_lanes.specs.Hits.{Item}
 use Rattle.flow_lanes.specs.Items.{acked_items, both_sides, closing_items, finish_items, held_items, is_queued, items_told, left_items, own_items, packet_item, packet_items, session_behind, session_items, stream_items}
 use Rattle.flow_lanes.specs.declared.job.Job.{Job}
 use Rattle.flow_lanes.specs.declared.job.Work.{Work}

@@ -11,18 +11,19 @@ use Rattle.stream5_sessions.specs.declared.state.State.{State}
 use Rattle.stream5_sessions.specs.declared.step.Step.{Step}
 use Rattle.rule_types.specs.declared.rule.Rule.{Rule}
 use Rattle.fast_pattern.specs.Candidates.{candidates}
+use Rattle.rule_eval.specs.declared.item.Item.{Item}
+use Rattle.rule_eval.specs.Hits.{Bits, Trying}
 use Rattle.flow_lanes.specs.declared.answer.Hits.{Hits}
 use Rattle.flow_lanes.specs.Detecting.{DetectsOn, GoesOn, SettlesBy, bits_now, bits_on}
 use Rattle.flow_lanes.specs.Engines.{Making}
 use Rattle.flow_lanes.specs.Flows.{FlowState, all_items, bits_at_hand, hits_in, session_at_hand, state_after, steered}
-use Rattle.flow_lanes.specs.Hits.{Bits, Item}
-use Rattle.flow_lanes.specs.ItemHits.{Trying, bits_after_items, hit, hits_of, told}
+use Rattle.flow_lanes.specs.ItemHits.{bits_after_items, hit, hits_of, told}
 use Rattle.flow_lanes.specs.Items.{JobItems, acked_items, alone_items, finish_items, held_items, items_told, left_items, own_items, packet_items, session_behind}
 use Rattle.flow_lanes.specs.Sessions.{Packet, Session, begun_session, session_of, settled, state_of, step_of, with_bases}
 use Rattle.flow_lanes.specs.Tried.{TriesAll, TriesOne, candidates_of}
 use Rattle.flow_lanes.specs.Working.{ended_items, items_on, sizes_behind, unless_ended}
-use Rattle.flow_lanes.proofs.Rules.Told.{steered-told, told-append, told-none}
-use Rattle.flow_lanes.proofs.Rules.Tried.{candidates_of-append}
+use Rattle.flow_lanes.proofs.ItemHits.Told.{steered-told, told-append, told-none}
+use Rattle.flow_lanes.proofs.ItemHits.Tried.{candidates_of-append}
 
 dropped : {A : Type 0} (xs ys : List A) → drop (length xs) (xs ++ ys) ≡ ys
 dropped [] ys = refl

@@ -13,9 +13,9 @@ use Rattle.stream5_reassembly.specs.Segments.{ack_flushes, ack_place, flushed_to
 use Rattle.packet_decode.specs.declared.packet.Body.{Body}
 use Rattle.packet_decode.specs.declared.packet.Body.TheVariants as body
 use Rattle.stream5_sessions.specs.Phases.{IsBodyOf, segment_of}
+use Rattle.rule_eval.specs.declared.item.Item.{Item}
 use Rattle.flow_lanes.specs.declared.session.Stretches.{Stretches}
 use Rattle.flow_lanes.specs.Engines.{Making}
-use Rattle.flow_lanes.specs.Hits.{Item}
 use Rattle.flow_lanes.specs.Items.{acked_items, closing_items, facts_of, held_items, is_queued, left_items, own_items, session_behind, stream_items}
 use Rattle.flow_lanes.specs.Sessions.{Packet, Session, ack_of, is_tcp, after_ack, after_data, is_from_client, seq_of, session_of, session_rules, settled, sizes_of, state_found, state_of}
 use Rattle.flow_lanes.specs.Sound.{HasSessions}

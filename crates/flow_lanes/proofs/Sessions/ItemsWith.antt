@@ -6,7 +6,7 @@ use Rattle.std.proofs.lemmas.Result.{on_ok_weaker}
 use Rattle.edge_io.specs.declared.fault.NoMemory.{NoMemory}
 use Rattle.overlap_core.specs.declared.segment.Run.{Run}
 use Rattle.packet_decode.specs.declared.item.ItemHead.{ItemHead}
-use Rattle.flow_lanes.specs.Hits.{Item}
+use Rattle.rule_eval.specs.declared.item.Item.{Item}
 use Rattle.flow_lanes.specs.Streams.{item_size, parts_of, payloads_of}
 use Rattle.flow_lanes.proofs.Sessions.PartsOf.{payloads-more}
 

@@ -10,13 +10,14 @@ use Rattle.stream5_sessions.specs.declared.step.Step.{Step}
 use Rattle.stream5_sessions.specs.Phases.{segment_of, session_step}
 use Rattle.stream5_sessions.specs.Staying.{staying_step, stays_as_is}
 use Rattle.stream5_sessions.proofs.StayLaws.{stays-tells, told-state, told-step}
+use Rattle.rule_eval.specs.declared.item.Item.{Item}
+use Rattle.rule_eval.specs.Hits.{Bits, Trying}
 use Rattle.flow_lanes.specs.declared.answer.Hits.{Hits}
 use Rattle.flow_lanes.specs.declared.session.Stretches.{Stretches}
 use Rattle.flow_lanes.specs.Detecting.{DetectsOn, GoesOn, SettlesBy}
 use Rattle.flow_lanes.specs.Engines.{Making}
 use Rattle.flow_lanes.specs.Flows.{FlowState, all_items, bits_at_hand, session_at_hand}
-use Rattle.flow_lanes.specs.Hits.{Bits, Item}
-use Rattle.flow_lanes.specs.ItemHits.{Trying, hits_of, told}
+use Rattle.flow_lanes.specs.ItemHits.{hits_of, told}
 use Rattle.flow_lanes.specs.Items.{is_queued, packet_items, session_behind}
 use Rattle.flow_lanes.specs.Sessions.{Packet, Session, session_of, session_rules, settled, state_of, step_of, with_bases, begun_session}
 use Rattle.flow_lanes.specs.Sides.{with_base}
@@ -25,7 +26,7 @@ use Rattle.flow_lanes.specs.Tried.{candidates_of}
 use Rattle.flow_lanes.specs.Working.{HasNoneLeft, ended_items, items_on, own_facts, own_item, streams_of, unless_ended}
 use Rattle.flow_lanes.proofs.Sessions.DetectsOn.{goes-on, told-items, told-on, told-tries}
 use Rattle.flow_lanes.proofs.Sessions.ItemsOn.{items-on, none-told}
-use Rattle.flow_lanes.proofs.Rules.Tried.{tries-none}
+use Rattle.flow_lanes.proofs.ItemHits.Tried.{tries-none}
 
 -- what the table of phases tells of the packet
 pub stays-in : (making : Making) (p : Packet) (old : Session) (rules : SessionRules) (step : Step) (state : State)

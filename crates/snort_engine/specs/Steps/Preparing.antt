@@ -10,7 +10,7 @@ use Rattle.edge_io.specs.declared.host.LoadFault.TheVariants as load
 use Rattle.unified2_out.specs.Reading.{IsBadAt}
 use Rattle.edge_io.specs.declared.pattern.Refusal.{Refusal}
 use Rattle.command_words.specs.CommandLine.{Asked, Run}
-use Rattle.flow_lanes.specs.Hits.{Test}
+use Rattle.rule_eval.specs.Hits.{Test}
 use Rattle.snort_setup.specs.declared.setup.Setup.{Setup}
 use Rattle.snort_setup.specs.declared.stop.SetupStop.{SetupStop}
 use Rattle.snort_setup.specs.declared.stop.SetupStop.TheVariants as halted

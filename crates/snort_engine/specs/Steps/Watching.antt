@@ -11,7 +11,7 @@ use Rattle.edge_io.specs.declared.pattern.Span.{Span}
 use Rattle.edge_io.specs.declared.sink.Sink.{Ghosts as SinkOf}
 use Rattle.option_eval.specs.Places.{Means}
 use Rattle.option_eval.specs.RuleSet.{Rules, FindWhatIsMeant}
-use Rattle.flow_lanes.specs.Hits.{Test, Tells}
+use Rattle.rule_eval.specs.Hits.{Test, Tells}
 use Rattle.record_jobs.specs.Way.{LinkedRecord}
 use Rattle.snort_engine.specs.declared.counts.Counts.{Counts}
 use Rattle.snort_engine.specs.declared.detect.Detector.{Detector}

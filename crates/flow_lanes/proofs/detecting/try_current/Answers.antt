@@ -1,6 +1,6 @@
 use Rattle.flow_lanes.specs.Given.{packet_of}
 use Rattle.flow_lanes.specs.Working.{own_item}
-use Rattle.flow_lanes.proofs.Rules.Tried.{tries-append}
+use Rattle.flow_lanes.proofs.ItemHits.Tried.{tries-append}
 use Rattle.flow_lanes.proofs.detecting.try_current.Goals as goal
 
 pub returns-clause-hits : goal.returns-clause-hits

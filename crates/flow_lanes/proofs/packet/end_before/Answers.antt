@@ -2,7 +2,7 @@ use Rattle.std.proofs.Common.{◌≡◌, ◌++◌, Bool, subst, sym}
 use Rattle.flow_lanes.specs.Flows.{bits_at_hand, session_at_hand}
 use Rattle.flow_lanes.specs.ItemHits.{hits_of, told}
 use Rattle.flow_lanes.specs.Working.{ended_items}
-use Rattle.flow_lanes.proofs.Rules.Tried.{tries-none}
+use Rattle.flow_lanes.proofs.ItemHits.Tried.{tries-none}
 use Rattle.flow_lanes.proofs.packet.end_before.Goals as goal
 
 pub returns-then-not-ended-clause-hits : goal.returns-then-not-ended-clause-hits

@@ -1,8 +1,8 @@
 use Rattle.std.proofs.Common.{List, ◌++◌, ◌+◌, ◌^◌, ap, subst, ◌∙◌}
+use Rattle.rule_eval.specs.declared.item.Item.{Item}
 use Rattle.flow_lanes.specs.Detecting.{SettlesBy}
 use Rattle.flow_lanes.specs.Flows.{session_at_hand}
 use Rattle.flow_lanes.specs.Given.{making_of, packet_of}
-use Rattle.flow_lanes.specs.Hits.{Item}
 use Rattle.flow_lanes.specs.Working.{items_on, own_item}
 use Rattle.flow_lanes.proofs.Sessions.DetectsOn.{goes-on}
 use Rattle.flow_lanes.proofs.packet.go_on.Goals as goal

@@ -1,8 +1,8 @@
 use Rattle.std.proofs.Common.{◌+◌, ◌^◌, ◌++◌, ap, subst, ◌∙◌, length, List}
+use Rattle.rule_eval.specs.declared.item.Item.{Item}
 use Rattle.flow_lanes.specs.Detecting.{SettlesBy}
 use Rattle.flow_lanes.specs.Flows.{session_at_hand}
 use Rattle.flow_lanes.specs.Given.{making_of, packet_of}
-use Rattle.flow_lanes.specs.Hits.{Item}
 use Rattle.flow_lanes.specs.Items.{session_behind}
 use Rattle.flow_lanes.specs.Tried.{candidates_of}
 use Rattle.flow_lanes.specs.Working.{own_item}

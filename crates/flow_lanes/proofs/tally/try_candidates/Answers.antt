@@ -1,8 +1,8 @@
 use Rattle.std.proofs.Common.{◌∷◌, [], ◌++◌, ap, ◌∙◌, List}
+use Rattle.rule_eval.proofs.ChangesKnownBits.{known_where_triable}
 use Rattle.flow_lanes.specs.declared.answer.Hits.{Hits}
 use Rattle.flow_lanes.specs.ItemHits.{told}
-use Rattle.flow_lanes.proofs.Rules.ChangesKnownBits.{known_where_triable}
-use Rattle.flow_lanes.proofs.Rules.Tried.{tries-one}
+use Rattle.flow_lanes.proofs.ItemHits.Tried.{tries-one}
 use Rattle.flow_lanes.proofs.tally.try_candidates.Goals as goal
 
 pub matching_among-requires-clause-known : goal.matching_among-requires-clause-known

@@ -1,8 +1,8 @@
 use Rattle.std.proofs.Common.{◌<◌, length, arith, sym, add-zero, subst, List}
 use Rattle.std.proofs.lemmas.List.{take_all}
-use Rattle.flow_lanes.specs.Hits.{Item}
+use Rattle.rule_eval.specs.declared.item.Item.{Item}
 use Rattle.flow_lanes.specs.Tried.{TriesAll}
-use Rattle.flow_lanes.proofs.Rules.Tried.{candidates-more, counted-more, tries-more, tries-none}
+use Rattle.flow_lanes.proofs.ItemHits.Tried.{candidates-more, counted-more, tries-more, tries-none}
 use Rattle.flow_lanes.proofs.tally.try_items.Goals as goal
 
 pub loop-item-init : goal.loop-item-init

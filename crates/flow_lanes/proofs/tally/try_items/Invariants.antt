@@ -1,6 +1,6 @@
 use Rattle.std.proofs.Common.{◌≡◌, ◌+◌, ◌≤◌, length, take}
 use Rattle.option_eval.specs.Places.{Means}
-use Rattle.flow_lanes.specs.ItemHits.{Trying}
+use Rattle.rule_eval.specs.Hits.{Trying}
 use Rattle.flow_lanes.specs.Tried.{TriesAll, TriesBy, candidates_of}
 use Rattle.flow_lanes.proofs.tally.try_items.Given as goal
 

@@ -1,7 +1,7 @@
 use Rattle.std.proofs.lemmas.Result.{on_ok_weaker}
 use Rattle.flow_lanes.specs.Given.{packet_of}
 use Rattle.flow_lanes.specs.Working.{item_with}
-use Rattle.flow_lanes.proofs.Rules.Tried.{tries-none, tries-single}
+use Rattle.flow_lanes.proofs.ItemHits.Tried.{tries-none, tries-single}
 use Rattle.flow_lanes.proofs.tally.try_own.Goals as goal
 
 pub returns-in-None-clause-hits : goal.returns-in-None-clause-hits

@@ -3,7 +3,7 @@ use Rattle.std.proofs.lemmas.Result.{on_ok_weaker}
 use Rattle.fast_pattern.specs.Candidates.{candidates}
 use Rattle.flow_lanes.specs.Given.{packet_of}
 use Rattle.flow_lanes.specs.Working.{item_with}
-use Rattle.flow_lanes.proofs.Rules.Tried.{no_element, tries-nothing}
+use Rattle.flow_lanes.proofs.ItemHits.Tried.{no_element, tries-nothing}
 use Rattle.flow_lanes.proofs.tally.try_packet.Goals as goal
 
 pub returns-then-not-inspector-clause-hits : goal.returns-then-not-inspector-clause-hits

@@ -1,6 +1,6 @@
 -- The work is under way, a batch may come, no record waits, and no count fell.
 use Rattle.std.proofs.Common.{◌≡◌, ◌≤◌, ◌-◌, []}
-use Rattle.flow_lanes.specs.Hits.{Test}
+use Rattle.rule_eval.specs.Hits.{Test}
 use Rattle.snort_engine.specs.Outside.{OnlyRead}
 use Rattle.snort_engine.specs.Steps.Reader.{number_of}
 use Rattle.snort_engine.specs.Steps.Detecting.{DetectorStands}

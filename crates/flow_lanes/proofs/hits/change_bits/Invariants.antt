@@ -1,6 +1,0 @@
-use Rattle.std.proofs.Common.{◌≡◌, take, fold}
-use Rattle.flow_lanes.specs.Hits.{bits_behind}
-use Rattle.flow_lanes.proofs.hits.change_bits.Given as goal
-
-abbrev pub invariant-loop-opt : goal.invariant-loop-opt
-invariant-loop-opt l = l.bits ≡ fold bits_behind l.fn.bits (take l.opt-index l.opts)

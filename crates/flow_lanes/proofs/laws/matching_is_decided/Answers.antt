@@ -1,5 +1,0 @@
-use Rattle.flow_lanes.proofs.Rules.Tells.{test_of, test_of-tells}
-use Rattle.flow_lanes.proofs.laws.matching_is_decided.Goals as goal
-
-pub returns : goal.returns
-returns c = λ means. (test_of means, test_of-tells means)

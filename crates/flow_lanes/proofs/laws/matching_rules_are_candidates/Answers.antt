@@ -1,5 +1,0 @@
-use Rattle.flow_lanes.proofs.Rules.Candidates.{matching-candidate}
-use Rattle.flow_lanes.proofs.laws.matching_rules_are_candidates.Goals as goal
-
-pub returns : goal.returns
-returns c = λ means rule item bits matches. matching-candidate means rule item bits matches

@@ -1,5 +1,0 @@
-use Rattle.flow_lanes.proofs.Rules.AreHits.{matching-hits}
-use Rattle.flow_lanes.proofs.laws.tests_tell_the_hits.Goals as goal
-
-pub returns : goal.returns
-returns c = λ means trying tells item bits places. matching-hits means trying tells item bits places

@@ -1,0 +1,12 @@
+use Rattle.std.proofs.Common.{take}
+use Rattle.option_eval.specs.Places.{Means}
+use Rattle.option_eval.specs.RuleSet.{FindWhatIsMeant}
+use Rattle.rule_eval.specs.Hits.{Tells, Test}
+use Rattle.rule_eval.specs.Picking.{PicksAll}
+use Rattle.rule_eval.proofs.hits.pick_all.Given as goal
+
+-- the places so far were tried
+abbrev pub invariant-loop-place : goal.invariant-loop-place
+invariant-loop-place g l =
+    (means : Means) (test : Test) → FindWhatIsMeant g.P.Pattern.finds means l.set → Tells means test
+    → PicksAll test l.set.rules (record { head = l.head; payload = l.payload }) (take l.place-index l.places) l.fn.bits l.bits l.found.items

@@ -1,0 +1,5 @@
+use Rattle.rule_eval.proofs.Tells.{test_of, test_of-tells}
+use Rattle.rule_eval.proofs.laws.matching_is_decided.Goals as goal
+
+pub returns : goal.returns
+returns c = λ means. (test_of means, test_of-tells means)

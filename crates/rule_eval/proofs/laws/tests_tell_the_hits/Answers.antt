@@ -1,0 +1,5 @@
+use Rattle.rule_eval.proofs.AreHits.{matching-hits}
+use Rattle.rule_eval.proofs.laws.tests_tell_the_hits.Goals as goal
+
+pub returns : goal.returns
+returns c = λ means trying tells item bits places. matching-hits means trying tells item bits places

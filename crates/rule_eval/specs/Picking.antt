@@ -1,0 +1,51 @@
+-- The rules that match among some that are tried one after another, and the bits that they leave.
+--
+-- To try it on: of the places 0 and 2, where both rules match and the first sets a bit that the second
+-- asks for, both are picked; in a session without that bit the second alone is not.
+use Rattle.std.specs.Prelude.{◌≡◌, ℕ, ◌<◌, ⊤, Bool, false, List, [], ◌∷◌, ◌++◌, Option, All, fold, slice_get, if◌then◌else◌}
+use Rattle.std.specs.Option.{option_map_or}
+use Rattle.rule_types.specs.declared.option.Opt.{Opt}
+use Rattle.rule_types.specs.declared.option.Opt.TheVariants as opt
+use Rattle.rule_types.specs.declared.rule.Rule.{Rule}
+use Rattle.rule_eval.specs.Hits.{Bits, Item, Test, bits_after, bits_seen}
+
+-- the rule at a place matches
+abbrev pub matches_at : Test → List Rule → Item → Option Bits → ℕ → Bool
+matches_at test rules item bits place =
+    option_map_or (λ (rule : Rule). test rule item (bits_seen bits)) (slice_get rules place) false
+
+-- the bits behind the rule at a place, which matches
+abbrev pub bits_behind_at : List Rule → Option Bits → ℕ → Option Bits
+bits_behind_at rules bits place = option_map_or (λ (rule : Rule). bits_after bits rule) (slice_get rules place) bits
+
+-- the bits behind the rules at these places, which match
+abbrev pub bits_after_all : List Rule → Option Bits → List ℕ → Option Bits
+bits_after_all rules bits places = fold (bits_behind_at rules) bits places
+
+-- those of these places at which the rule matches
+unfoldable pub picked : Test → List Rule → Item → Option Bits → List ℕ → List ℕ
+picked test rules item bits [] = []
+picked test rules item bits (place ∷ places) =
+    if matches_at test rules item bits place
+    then place ∷ picked test rules item (bits_behind_at rules bits place) places
+    else picked test rules item bits places
+
+-- the bit that an option changes, if it changes one, is among the 1024 that a session has
+abbrev pub IsKnownChange : Opt → Type 0
+IsKnownChange (opt.BitDo change bit) = bit < 1024
+IsKnownChange option = ⊤
+
+abbrev pub ChangesKnownBits : Rule → Type 0
+ChangesKnownBits rule = All IsKnownChange rule.opts
+
+-- one more place is tried: it is picked and its changes are made where its rule matches
+pub record Picks (test : Test) (rules : List Rule) (item : Item) (place : ℕ) (old new : Option Bits)
+    (found_old found_new : List ℕ) : Type 0 where
+  pub found : found_new ≡ (if matches_at test rules item old place then found_old ++ place ∷ [] else found_old)
+  pub bits : new ≡ (if matches_at test rules item old place then bits_behind_at rules old place else old)
+
+-- places are tried one after another: those of them are picked at which the rule matches
+pub record PicksAll (test : Test) (rules : List Rule) (item : Item) (places : List ℕ) (old new : Option Bits)
+    (kept : List ℕ) : Type 0 where
+  pub found : kept ≡ picked test rules item old places
+  pub bits : new ≡ bits_after_all rules old kept
