@@ -1,22 +1,27 @@
 #!/usr/bin/env python3
 """Writes rules, or a capture, to measure the detector with. The same words give the same bytes.
 
-    tools/traffic.py rules N > many.conf    a configuration with N rules
-    tools/traffic.py mixed N > mixed.pcap   N packets: web sessions, name queries, and large datagrams in fragments
-    tools/traffic.py short N > short.pcap   N packets: TCP sessions of 10 segments, two of them with data
-    tools/traffic.py small N > small.pcap   N packets: datagrams of 32 random bytes, which match no rule
-    tools/traffic.py bulk N > bulk.pcap     N packets: datagrams of 1,400 bytes of text
+    tools/traffic.py rules N > many.conf        a configuration with N rules
+    tools/traffic.py patterns N > many.conf     N rules for any port, each with a content of 8 to 13 letters
+    tools/traffic.py expressions N > many.conf  N rules for what web servers answer, each with a pcre alone, which reads it all
+    tools/traffic.py mixed N > mixed.pcap       N packets: web sessions, name queries, and large datagrams in fragments
+    tools/traffic.py short N > short.pcap       N packets: TCP sessions of 10 segments, two of them with data
+    tools/traffic.py small N > small.pcap       N packets: datagrams of 32 random bytes, which match no rule
+    tools/traffic.py bulk N > bulk.pcap         N packets: datagrams of 1,400 bytes of text
+    tools/traffic.py streams N > streams.pcap   N packets: web sessions in which all data are text
 A packet goes on with one of the 1,000 talks that live at a time. Text is words of two to four syllables; a rule looks
-for one of five to eight, which hardly ever comes by chance, and of the first 1,000 rules such a word is put into one
-payload of a hundred: more rules make no more alerts. Half of the web servers answer with random bytes. Of eight large
-datagrams one lacks its last fragment, of eight pairs of segments one is out of order. The limits are reached early.
+for one of five to eight, for how one begins, or by an expression for how one ends, which hardly ever comes by chance, and
+of the first 1,000 rules such a word is put into one payload of a hundred: more rules make no more alerts, but for
+expressions. Half of the web servers answer with random bytes, but for those of `streams`. Of eight large datagrams one
+lacks its last fragment, of eight pairs of segments one is out of order. The limits are reached early.
 """
 import random, struct, sys
 
 rng = random.Random(2026)
 CLIENTS, SERVERS, RESOLVERS = 0xC6120000, 0xC0000200, 0xC6336400  # 198.18.0.0/15, 192.0.2.0/24, 198.51.100.0/24
 FIN, SYN, ACK = 1, 2, 16  # RFC 9293
-SYLLABLES = [consonant + vowel for consonant in "bdfghjklmnprstvz" for vowel in "aeiou"]
+CONSONANTS = "bdfghjklmnprstvz"
+SYLLABLES = [consonant + vowel for consonant in CONSONANTS for vowel in "aeiou"]
 CONFIGURATION = b"""ipvar HOME_NET 192.0.2.0/24
 config checksum_mode: all
 preprocessor frag3_global: max_frags 1024
@@ -44,9 +49,20 @@ def word(least, most, source=rng):
 def sought(rule):
     return word(5, 8, random.Random(rule))
 
-def rule_line(rule):
-    form = FORMS[rule % 10].format(sought(rule), 1024 + rule // 10)
-    return f'alert {form} msg:"{sought(rule)}"; sid:{1000001 + rule};)\n'.encode()
+def mixed_form(rule):
+    return FORMS[rule % 10].format(sought(rule), 1024 + rule // 10)
+
+def pattern_form(rule):
+    return f'ip any any -> any any (content:"{sought(rule)[:8 + rule % 6]}";'
+
+def expression_form(rule):  # four syllables or more, the first of which begins with one of two letters, then `=`
+    first = CONSONANTS[rule % 16] + CONSONANTS[(rule + 1 + rule // 16) % 16]
+    return f'tcp $HOME_NET 80 -> any any (flow:established; pcre:"/[{first}][aeiou]([^ aeiou][aeiou]){{3,}}[^a-z ]/";'
+
+RULES = {"rules": mixed_form, "patterns": pattern_form, "expressions": expression_form}
+
+def rule_line(kind, rule):
+    return f'alert {RULES[kind](rule)} msg:"{sought(rule)}"; sid:{1000001 + rule};)\n'.encode()
 
 TEXT = " ".join(word(2, 4) for _ in range(200000)).encode()
 RANDOM = rng.getrandbits(8 << 20).to_bytes(1 << 20, "big")
@@ -80,8 +96,8 @@ def datagram(source, target, data):
 def ends(number, port):
     return (CLIENTS + number % 2**17, 32768 + number % 28000), (SERVERS + 1 + below(250), port)
 
-def web(number, rounds=3, segments=8):
-    (client, server), source = ends(number, 80), (TEXT, RANDOM)[below(2)]
+def web(number, rounds=3, segments=8, sources=(TEXT, RANDOM)):
+    (client, server), source = ends(number, 80), sources[below(len(sources))]
     here, there = below(2**32), below(2**32)
     yield tcp(client, server, SYN, here, 0)
     yield tcp(server, client, SYN | ACK, there, here + 1)
@@ -121,7 +137,7 @@ def notes(number, source, size, count, forms=(8,)):
 
 TALKS = {"mixed": [web] * 3 + [query] * 10 + [lambda number: notes(number, TEXT, 2000 + below(3000), 1)] * 3,
          "short": [lambda number: web(number, 1, 1)], "small": [lambda number: notes(number, RANDOM, 32, 64, ())],
-         "bulk": [lambda number: notes(number, TEXT, 1400, 64)]}
+         "bulk": [lambda number: notes(number, TEXT, 1400, 64)], "streams": [lambda number: web(number, sources=(TEXT,))]}
 
 def capture(talks, count):
     yield struct.pack("<IHHIIII", 0xA1B2C3D4, 2, 4, 0, 0, 65535, 1)
@@ -136,8 +152,8 @@ def capture(talks, count):
         yield struct.pack("<IIII", 1700000000 + sent // 10000, 100 * (sent % 10000), len(frame), len(frame)) + frame
         sent += 1
 
-if len(sys.argv) != 3 or sys.argv[1] not in ("rules", *TALKS) or not sys.argv[2].isdecimal():
+if len(sys.argv) != 3 or sys.argv[1] not in (*RULES, *TALKS) or not sys.argv[2].isdecimal():
     sys.exit(__doc__.strip())
 kind, count = sys.argv[1], int(sys.argv[2])
-rules = [CONFIGURATION, *map(rule_line, range(count))] if kind == "rules" else []
+rules = [CONFIGURATION, *(rule_line(kind, rule) for rule in range(count))] if kind in RULES else []
 sys.stdout.buffer.writelines(rules or capture(TALKS[kind], count))
