@@ -17,6 +17,7 @@ use crate::loaded::Loaded;
 use crate::reading::{At, Next, Opened, Output, Read, Source, Stopped};
 use crate::settings::{config_of, first_draft};
 use crate::steps::line_step;
+use crate::variables::MOST_DEPTH;
 use edge_io::{Host, Items, LoadFault, NoMemory, Text};
 use net_lists::{Numbered, Vars};
 use std::alloc::Global;
@@ -24,9 +25,6 @@ use std::mem;
 
 /// The most bytes that a file may have.
 const MOST_BYTES: usize = 16_777_216;
-
-/// How deep includes may nest.
-const MOST_DEPTH: usize = 16;
 
 /// The bytes of the file of this name.
 fn file_bytes<H: Host>(alloc: Global, host: &mut H, name: &[u8]) -> Result<Text, LoadFault>

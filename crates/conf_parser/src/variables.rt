@@ -13,7 +13,7 @@ use net_lists::{Stop, Vars, first_word, is_name};
 use std::alloc::Global;
 
 /// How deep includes may nest.
-const MOST_DEPTH: usize = 16;
+pub const MOST_DEPTH: usize = 16;
 
 /// How many files a configuration may have; a file counts each time it is read.
 const MOST_FILES: usize = 4096;

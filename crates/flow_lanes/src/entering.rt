@@ -11,7 +11,7 @@ ghost use Rattle.flow_lanes.specs.Kept.{GrowsFound, IsFound, IsOf, KeepsFound};
 ghost use Rattle.flow_lanes.specs.Reach.{AreWithin, IsWithin};
 ghost use Rattle.flow_lanes.specs.Sessions.{Session as Standing, begun_session, session_of, settled, sizes_of, with_bases};
 ghost use Rattle.flow_lanes.specs.Staying.{StaysAt};
-ghost use Rattle.flow_lanes.specs.Working.{TellsLeftAt, items_on, own_facts, own_item, sizes_behind, streams_of};
+ghost use Rattle.flow_lanes.specs.Working.{TellsLeftAt, items_on, own_facts, own_item, streams_of};
 
 use crate::arrival::Arrival;
 use crate::keeping::FlowState;

@@ -3,7 +3,7 @@
 //! specs/Sides says what becomes of it; a `Direction` puts its data together, an `Extent` counts how far
 //! they reach.
 
-ghost use Rattle.std.specs.Prelude.{◌≡◌, ℕ, ◌+◌, ◌^◌, ◌<◌, ◌≤◌, ◌++◌, false, length, IfOk, OnOk, Some};
+ghost use Rattle.std.specs.Prelude.{◌≡◌, ◌+◌, ◌^◌, ◌<◌, ◌≤◌, ◌++◌, false, length, IfOk, OnOk, Some};
 ghost use Rattle.stream5_reassembly.specs.Segments.{AreLimits, idle};
 ghost use Rattle.flow_lanes.specs.Sides.{acked_payloads, direction_after_data, held_payloads, left_payloads, queues, side_after_ack, side_after_data, side_at_begin, started_by, turned, with_base, without_left};
 ghost use Rattle.flow_lanes.specs.Items.{stream_items};

@@ -3,7 +3,6 @@
 ghost use Rattle.std.specs.Prelude.{◌≡◌, ◌+◌, ◌≤◌, ◌++◌, [], ◌∷◌, length, IfOk, OnOk};
 ghost use Rattle.fast_pattern.specs.Candidates.{candidates};
 ghost use Rattle.option_eval.specs.Places.{Means};
-ghost use Rattle.option_eval.specs.RuleSet.{FindWhatIsMeant};
 ghost use Rattle.rule_eval.specs.Hits.{Trying};
 ghost use Rattle.flow_lanes.specs.Given.{packet_of};
 ghost use Rattle.flow_lanes.specs.ItemHits.{told};

@@ -82,7 +82,7 @@ pub record TakesRecord (old new : Reading) (given : NgRecord) (left_old left_new
   pub goes : (more : List ℕ) → next_of old.walk (taken ++ more) ≡ Stands given new.walk more
   pub fresh : new.refused ≡ None
 
--- only blocks that are skipped were taken, and nothing is left: whatever follows, the reader goes on with it
+-- only blocks that are skipped were taken: whatever follows them, the reader goes on with it
 pub record TakesBlocks (old new : Reading) (left_old left_new : Option (List ℕ)) : Type 0 where
   pub taken : List ℕ
   pub took : left_old ≡ before taken left_new
