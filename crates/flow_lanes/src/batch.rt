@@ -13,9 +13,10 @@ use crate::answer::{BatchFault, BatchOut, JobFound, Matches};
 use crate::in_turn::search_in_turn;
 use crate::inspector::Inspector;
 use crate::job::Job;
-use crate::runner::{Runner, busy_lanes};
+use crate::runner::{MOST_LANES, Runner, busy_lanes};
 use crate::spread::for_each_spread;
 use crate::worker::{Share, Worker};
+use crate::worth::thought_beside;
 use conf_types::StreamConfig;
 use edge_io::{Gate, Items, NoMemory, Pattern};
 use fast_pattern::Groups;
@@ -204,13 +205,25 @@ fn match_batch<P: Pattern, G: Gate, R: Threads + Sync>(
     Ok(())
 }
 
-/// About what all jobs of these lanes cost.
-fn cost_of(workers: &[Worker]) -> u64 {
-    let mut cost = 0u64;
-    for worker in workers {
-        cost = cost.saturating_add(worker.lane.cost());
+/// About what all jobs of each of these lanes cost.
+fn costs_of(workers: &[Worker]) -> [u64; MOST_LANES] {
+    let mut costs = [0; MOST_LANES];
+    for (cost, worker) in costs.iter_mut().zip(workers) {
+        *cost = worker.lane.cost();
     }
-    cost
+    costs
+}
+
+/// About what the jobs since then cost beside those of the dearest lane.
+fn cost_beside(workers: &[Worker], before: &[u64]) -> u64 {
+    let mut all = 0u64;
+    let mut most = 0u64;
+    for (worker, old) in workers.iter().zip(before) {
+        let cost = worker.lane.cost().saturating_sub(*old);
+        all = all.saturating_add(cost);
+        most = most.max(cost);
+    }
+    all.saturating_sub(most)
 }
 
 /// Lanes, each with flows of its own: flow f is in lane f modulo their number. Contracts see each lane,
@@ -220,8 +233,8 @@ pub struct Lanes {
     workers: Vec<Worker>,
     greatest: Option<u64>,
     failed: bool,
-    /// About what the last batch cost. Only the number of threads goes by it.
-    cost: u64,
+    /// About what the next batch is thought to cost beside its dearest lane. Only the number of threads goes by it.
+    beside: u64,
 }
 
 impl Model for Lanes {
@@ -260,8 +273,8 @@ impl Lanes {
             workers: new_workers(alloc, count, flush, inserts)?,
             greatest: None,
             failed: false,
-            // Nothing is known of the first batch: it is done in all threads that there may be.
-            cost: u64::MAX,
+            // Nothing is known of the first batch.
+            beside: 0,
         })
     }
 
@@ -316,13 +329,13 @@ impl Lanes {
         let runner = Runner {
             rt,
             gate,
-            cost: self.cost,
+            beside: self.beside,
         };
-        let before = cost_of(&self.workers);
+        let before = costs_of(&self.workers);
         match answer_batch(&runner, &mut self.workers, jobs, &inspector) {
             Ok(out) => {
                 self.greatest = greatest_number(self.greatest, jobs);
-                self.cost = cost_of(&self.workers).saturating_sub(before);
+                self.beside = thought_beside(self.beside, cost_beside(&self.workers, &before));
                 Ok(out)
             }
             Err(_) => {
@@ -380,13 +393,13 @@ impl Lanes {
         let runner = Runner {
             rt,
             gate,
-            cost: self.cost,
+            beside: self.beside,
         };
-        let before = cost_of(&self.workers);
+        let before = costs_of(&self.workers);
         match match_batch(&runner, &mut self.workers, jobs, &inspector, out) {
             Ok(()) => {
                 self.greatest = greatest_number(self.greatest, jobs);
-                self.cost = cost_of(&self.workers).saturating_sub(before);
+                self.beside = thought_beside(self.beside, cost_beside(&self.workers, &before));
                 Ok(())
             }
             Err(_) => {

@@ -41,8 +41,8 @@ pub(crate) struct Runner<'a, G, R> {
     pub rt: &'a R,
     /// What each lane that has jobs passes before its first.
     pub gate: &'a G,
-    /// About what the batch is thought to cost.
-    pub cost: u64,
+    /// About what the batch is thought to cost beside its dearest lane.
+    pub beside: u64,
 }
 
 impl<G: Gate, R: Threads> Runner<'_, G, R> {
@@ -52,23 +52,26 @@ impl<G: Gate, R: Threads> Runner<'_, G, R> {
     }
 
     /// Over how many threads so many lanes that have jobs are spread: as many as the work is worth and there are
-    /// processors. These are asked for only where the answer can depend on them, since that costs some 8 µs.
+    /// processors, or fewer where none of them then has a lane more: of four lanes one does two in two threads as in
+    /// three. Processors are asked for only where the answer can depend on them, since that costs some 8 µs.
     fn threads_of(&self, busy: usize) -> usize {
         if busy < 2 {
             return 1;
         }
         let least = self.least_threads();
-        let worth = threads_worth(self.cost).min(busy as u64) as usize;
+        let worth = threads_worth(self.beside).min(busy as u64) as usize;
         if worth <= least {
             return least;
         }
-        worth.min(processor_count(self.rt)).max(least)
+        let most = worth.min(processor_count(self.rt)).max(least);
+        let each = busy.div_ceil(most.max(1));
+        busy.div_ceil(each.max(1)).max(least)
     }
 
     /// Over how many threads these jobs are spread, among so many lanes. In one thread, the caller's, they are done in
     /// turn; and where no more are worth it, it is not asked which lanes have jobs.
     pub fn threads(&self, lanes: usize, jobs: &[Job]) -> usize {
-        let is_enough = self.least_threads() < 2 && threads_worth(self.cost) < 2;
+        let is_enough = self.least_threads() < 2 && threads_worth(self.beside) < 2;
         if lanes < 2 || is_enough {
             return 1;
         }

@@ -12,9 +12,10 @@ ghost use Rattle.flow_lanes.specs.Tried.{TriesAll, TriesBy, TriesOne, candidates
 use crate::answer::Hits;
 use crate::arrival::Arrival;
 use crate::inspector::Inspector;
-use crate::worth::{effort_cost, item_cost};
+use crate::worth::{effort_cost, item_cost, options_cost};
 use edge_io::{Items, NoMemory, Pattern};
 use flowbit_state::Bits;
+use option_eval::RuleSet;
 use packet_decode::{ItemHead, SessionFacts};
 use rule_eval::{Item, matching_among};
 use std::alloc::Global;
@@ -47,14 +48,14 @@ impl Tally {
         }
     }
 
-    /// One item more, of so many bytes and candidates. A job of which the items or the candidates cannot be counted
-    /// has more items than memory holds.
-    fn count(&mut self, bytes: usize, tries: usize) -> Result<(), NoMemory>
+    /// One item more, of so many candidates, whose options cost about so much. A job of which the items or the
+    /// candidates cannot be counted has more items than memory holds.
+    fn count(&mut self, tries: usize, cost: u64) -> Result<(), NoMemory>
         ensures items { OnOk result (self.new.items ≡ self.old.items + 1) }
         ensures tries { OnOk result (self.new.tries ≡ self.old.tries + tries) }
         ensures hits { self.new.hits.items ≡ self.old.hits.items }
     {
-        self.cost = self.cost.saturating_add(item_cost(bytes, tries));
+        self.cost = self.cost.saturating_add(item_cost(tries, cost));
         self.items = self.items.checked_add(1).ok_or(NoMemory)?;
         self.tries = self.tries.checked_add(tries as u64).ok_or(NoMemory)?;
         Ok(())
@@ -94,6 +95,17 @@ fn item_candidates<P: Pattern>(
     Ok(places)
 }
 
+/// About what the options of the rules at these places cost on so many bytes.
+fn cost_of_options<P: Pattern>(set: &RuleSet<P>, places: &[u32], bytes: usize) -> u64 {
+    let mut cost = 0u64;
+    for place in places {
+        if let Some(rule) = set.rules().get(*place as usize) {
+            cost = cost.saturating_add(options_cost(rule.opts.as_slice(), bytes));
+        }
+    }
+    cost
+}
+
 /// Tries the candidates of an item.
 #[inline(never)]
 fn try_candidates<P: Pattern>(
@@ -114,7 +126,8 @@ fn try_candidates<P: Pattern>(
     ensures more { OnOk result (length tally.old.hits.items ≤ length tally.new.hits.items) }
 {
     let rules = matching_among(inspector.alloc, inspector.set, places, head, payload, bits)?;
-    tally.count(payload.len(), places.len())?;
+    let cost = cost_of_options(inspector.set, places, payload.len());
+    tally.count(places.len(), cost)?;
     tally.tell(inspector.all, head, rules)?;
     Ok(())
 }
@@ -187,7 +200,7 @@ fn try_packet<P: Pattern>(
 {
     let places = item_candidates(inspector, p.head, p.payload, &mut tally.cost)?;
     if places.is_empty() && !inspector.all {
-        return tally.count(p.payload.len(), 0);
+        return tally.count(0, 0);
     }
     try_with_facts(inspector, &places, facts, p, bits, tally)
 }

@@ -1,12 +1,13 @@
 //! What work is worth: about how long items take, and how many threads such work is worth.
 //!
 //! Neither bytes nor rules tell: a payload that no header of a rule asks for costs a glance, another one as much as the
-//! sieve and the walks that it lets begin, and one with candidates is searched for each of them. So items are counted as
-//! they are tried, each by what such items took when they were measured, and a batch is thought to take what the one
-//! before it took. All costs are in nanoseconds. To try it on: a thread is worth 1,000 items without data, or 57 packets
-//! of 256 bytes with one candidate each.
+//! sieve and the walks that it lets begin, and one with candidates what their options take. So items are counted as they
+//! are tried, each by what such items took when they were measured, and a batch is thought to take what the one before it
+//! took. Threads help only with what other lanes than the dearest do. All costs are in nanoseconds. To try it on: a second
+//! thread is worth 1,000 items without data in other lanes than the dearest.
 
 use fast_pattern::Effort;
+use rule_types::Opt;
 
 /// What an item costs whatever it is: its flow, its session, the test for candidates.
 const ITEM_COST: u64 = 150;
@@ -21,11 +22,14 @@ const WALK_COST: u64 = 70;
 /// What a walk costs for each byte at least. Among many patterns that nearly occur it may be six times as much.
 const WALKED_COST: u64 = 2;
 
-/// What a candidate costs whatever the payload is.
-const CANDIDATE_COST: u64 = 400;
+/// What a candidate costs whatever its options are: it took some 430 instructions where its header or a field failed.
+const CANDIDATE_COST: u64 = 70;
 
-/// What a candidate costs for each byte of the payload.
-const SEARCH_COST: u64 = 8;
+/// How many bytes are searched for a content in one nanosecond.
+const SOUGHT_BYTES: u64 = 3;
+
+/// How many bytes an expression reads in one nanosecond: an automaton a third of that, a search for its literals more.
+const READ_BYTES: u64 = 2;
 
 /// The work that a thread is worth. Its start and its join took 44 µs on a quiet machine, and over 100 µs on others.
 const THREAD_COST: u64 = 150_000;
@@ -40,20 +44,42 @@ pub(crate) fn effort_cost(effort: &Effort) -> u64 {
         .saturating_add(effort.sieved / SIEVED_BYTES)
 }
 
-/// About what an item costs besides, by the bytes of its payload and the number of its candidates.
+/// About what an item costs besides, by the number of its candidates and what their options cost.
 #[inline]
-pub(crate) fn item_cost(bytes: usize, candidates: usize) -> u64 {
-    if candidates == 0 {
-        return ITEM_COST;
-    }
-    let each = (bytes as u64)
-        .saturating_mul(SEARCH_COST)
-        .saturating_add(CANDIDATE_COST);
-    each.saturating_mul(candidates as u64)
+pub(crate) fn item_cost(candidates: usize, options: u64) -> u64 {
+    (candidates as u64)
+        .saturating_mul(CANDIDATE_COST)
+        .saturating_add(options)
         .saturating_add(ITEM_COST)
 }
 
-/// How many threads work of this cost is worth.
-pub(crate) fn threads_worth(cost: u64) -> u64 {
-    cost / THREAD_COST
+/// About what a candidate's options cost on so many bytes, if all of them are looked for: an expression reads all bytes,
+/// and so does a search for a content, but for one, since a candidate's pattern stands in the payload.
+pub(crate) fn options_cost(opts: &[Opt], bytes: usize) -> u64 {
+    let mut contents = 0u64;
+    let mut expressions = 0u64;
+    for opt in opts {
+        match opt {
+            Opt::Content(_) => contents = contents.saturating_add(1),
+            Opt::Pcre { .. } => expressions = expressions.saturating_add(1),
+            _ => {}
+        }
+    }
+    let sought = contents
+        .saturating_sub(1)
+        .saturating_mul(bytes as u64 / SOUGHT_BYTES);
+    let read = expressions.saturating_mul(bytes as u64 / READ_BYTES);
+    sought.saturating_add(read)
+}
+
+/// What the next batch is thought to have beside its dearest lane: what the last one had, but at most twice what that one
+/// was thought to have. So threads that start in vain, for a cheap batch behind dear ones, were earned by these.
+pub(crate) fn thought_beside(thought: u64, had: u64) -> u64 {
+    let most = thought.saturating_mul(2).max(THREAD_COST / 2);
+    had.min(most)
+}
+
+/// How many threads a batch is worth that has so much to do beside its dearest lane.
+pub(crate) fn threads_worth(beside: u64) -> u64 {
+    (beside / THREAD_COST).saturating_add(1)
 }
