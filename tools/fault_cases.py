@@ -178,7 +178,8 @@ def site_lines(seed, count):
     return lines + [(END, attack(count - 1, it)) for it in attacked]
 
 # A case: its name, its words, its files, its lines, the status, and whether it is run with several lanes.
-Case = collections.namedtuple("Case", "name words files lines status spread", defaults=({}, [], 0, True))
+# `faults` names the groups of faults that a case is for, where these aren't all.
+Case = collections.namedtuple("Case", "name words files lines status spread faults", defaults=({}, [], 0, True, None))
 CASES = [
     Case("fragments", "-c r -r p", FRAGMENTED, [line(2, 1, FRAGMENT)]),
     Case("hosts", "-c r -r p --host-table h", {**FRAGMENTED, "h": b"10.0.0.2 last linux\n"}, [line(2, 2, FRAGMENT)]),
@@ -228,6 +229,11 @@ CASES = [
         "r": UDP_FLOWS + rules('content:"abc"; sid:1;'),
         "p": pcap([U(b"abc" + b"x" * 247, ports=(1000 + it % 16, 2000)) for it in range(300)])},
          [line(it, 1, UDP.replace("1000", str(1000 + it % 16))) for it in range(300)]),
+    # Expressions that read whole payloads are work enough for threads, of which small captures start none.
+    Case("threads", "-c r -r p", {
+        "r": UDP_FLOWS + rules('content:"abc"; sid:1;', *(f'pcre:"/x[0-9]{{{it}}}y/"; sid:{it};' for it in range(2, 10))),
+        "p": pcap([U((b"xyz" if it % 100 else b"abc") + b"x" * 1397, ports=(1000 + it % 16, 2000)) for it in range(1536)])},
+         [line(it, 1, UDP.replace("1000", str(1000 + it % 16))) for it in range(0, 1536, 100)], faults=["threads"]),
     Case("pcapng", "-c r -r p", {"r": rules('content:"abc"; sid:1;'), "p": pcapng([U(b"abc"), U(b"xyz"), U6(b"xabc")])},
          [line(0, 1), line(2, 1, UDP6)]),
     Case("pcapng-blocks", "-c r -r p", {

@@ -238,13 +238,13 @@ def run_cases(program, given):
             if what := wrong_clean(case, clean):
                 wrong.append(f"{case.name}, lanes {lanes}, no fault: {what}; {clean.errors!r}")
             for group in given.faults if not what else []:
-                ends = []
-                for fault in FAULTS[group]:
+                ends, is_for = [], group in (case.faults or FAULTS)
+                for fault in FAULTS[group] if is_for else []:
                     result = (system_faults(program, case, words, clean) if fault == "system"
                               else each_number(program, case, words, fault, clean, given.stacks))
                     ends += result.ends
                     wrong += [f"{case.name}, lanes {lanes}, {fault} {it}" for it in result.wrong]
-                cells.append(counted(ends))
+                cells.append(counted(ends) if is_for else "")
             row = [case.name, lanes if case.spread else "", *cells, str(len(wrong) - before or "none")]
             print("".join(f"| {it} " for it in row) + "|", flush=True)
     return wrong
