@@ -1,9 +1,10 @@
 //! Calls at the places of a slice, of which the busy ones are spread evenly over threads.
 //!
-//! The slice is cut in two, each of which gets half of the threads and of the busy places as many as these
-//! threads' share of all; the two are done beside each other, and each is cut in the same way. To try it on:
-//! of the busy places 0, 1, 4 and 5 and two threads, one does 0 and 1, the other 4 and 5; of three threads
-//! the first does 0, the second 1, the third 4 and 5.
+//! The share of one thread is cut off in front and done in a new thread; what is behind it is spread over the threads
+//! that are left in the same way, and the caller's thread does the last share. So all threads start from one: where
+//! threads start threads, Linux has two of them take the same idle processor, and one waits for the other. To try it on:
+//! of the busy places 0, 1, 4 and 5 and two threads, one does 0 and 1, the other 4 and 5; of three threads the first
+//! does 0, the second 1, the third 4 and 5.
 
 ghost use Rattle.std.specs.Prelude.{◌≡◌, ℕ, ◌+◌, ◌-◌, ◌*◌, ◌^◌, ◌<◌, ◌≤◌, length, slice_index_or};
 ghost use Rattle.std.specs.Fork.{AcceptsAt, AcceptsEach, ChangesAt, ChangesEach};
@@ -85,18 +86,17 @@ fn spread<R: Threads + Sync, T: Send, F: Fn(usize, &mut T) + Sync>(
         in_turn(s, base, f);
         return;
     }
-    let few = threads / 2;
-    let mid = cut_at(busy, count.saturating_mul(few) / threads);
+    let mid = cut_at(busy, count / threads);
     let (busy_front, busy_back) = busy.split_at(mid);
     let (front, back) = s.split_at_mut(mid);
     let low = Part {
         base,
-        threads: few,
+        threads: 1,
         busy: busy_front,
     };
     let up = Part {
         base: base + mid,
-        threads: threads - few,
+        threads: threads - 1,
         busy: busy_back,
     };
     both(rt, f, low, front, up, back);
