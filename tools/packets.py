@@ -48,8 +48,8 @@ def end_of(word):
         raise Wrong(f"no address: {word}")
     return ipaddress.ip_address(found[1] or found[2]), int(found[3] or 0)
 
-def checksum(data):  # RFC 1071: a sum in ones' complement is a remainder by 65535
-    return -int.from_bytes(data + b"\0" * (len(data) % 2), "big") % 65535
+def checksum(data):  # RFC 1071: a sum in ones' complement is a remainder by 65535, and 0 only if all is 0
+    return -int.from_bytes(data + b"\0" * (len(data) % 2), "big") % 65535 if any(data) else 65535
 
 def summed(source, target, protocol, body, at, is_wrong):
     """The body with its checksum at a place, over the pseudo header where the protocol has one."""
