@@ -3,8 +3,8 @@
 //! Neither bytes nor rules tell: a payload that no header of a rule asks for costs a glance, another one as much as the
 //! sieve and the walks that it lets begin, and one with candidates what their options take. So items are counted as they
 //! are tried, each by what such items took when they were measured, and a batch is thought to take what the one before it
-//! took. Threads help only with what other lanes than the dearest do. All costs are in nanoseconds. To try it on: a second
-//! thread is worth 1,000 items without data in other lanes than the dearest.
+//! took. Threads help only with what other lanes than the dearest do. All costs are in nanoseconds. To try it on: 2,666
+//! items without data in other lanes than the dearest are worth no second thread, 2,667 are worth three threads.
 
 use fast_pattern::Effort;
 use rule_types::Opt;
@@ -33,6 +33,10 @@ const READ_BYTES: u64 = 2;
 
 /// The work that a thread is worth. Its start and its join took 44 µs on a quiet machine, and over 100 µs on others.
 const THREAD_COST: u64 = 150_000;
+
+/// The work that threads are worth at all. Beside each other lanes took up to 1.6 times the processor time that they took in
+/// turn, and where 258 µs were to be spread a batch took longer in threads.
+const LEAST_SPREAD: u64 = 400_000;
 
 /// About what finding the candidates of an item cost.
 #[inline]
@@ -81,5 +85,8 @@ pub(crate) fn thought_beside(thought: u64, had: u64) -> u64 {
 
 /// How many threads a batch is worth that has so much to do beside its dearest lane.
 pub(crate) fn threads_worth(beside: u64) -> u64 {
+    if beside < LEAST_SPREAD {
+        return 1;
+    }
     (beside / THREAD_COST).saturating_add(1)
 }
