@@ -1,6 +1,6 @@
 -- How parts of a reading follow each other, over contents that a host may have.
-use Rattle.std.proofs.Common.{◌≡◌, ℕ, zero, suc, ◌+◌, ◌-◌, ◌<◌, ◌≤◌, Bool, true, false, cond, ltb, List, [], ◌∷◌, ◌++◌, length, Option, Some, None, Result, Ok, Err, refl, sym, ap, subst, ◌∙◌, inl, inr, arith}
-use Rattle.std.specs.Prelude.{⊤, ◌⊎◌, IfErr}
+use Rattle.std.proofs.Common.{◌≡◌, ℕ, suc, ◌-◌, ◌<◌, ◌≤◌, Bool, true, false, cond, ltb, List, [], ◌∷◌, length, Option, Some, None, Result, Ok, Err, refl, ap, subst, ◌∙◌, inl, inr, arith}
+use Rattle.std.specs.Prelude.{IfErr}
 use Rattle.std.proofs.lemmas.Bool.{lt-ltb, le-ltb}
 use Rattle.std.specs.FinMap.{get}
 use Rattle.std.proofs.lemmas.Bool.Decides.{nat_tests}
@@ -8,13 +8,12 @@ use Rattle.edge_io.specs.Files.{Files, Lacks}
 use Rattle.edge_io.specs.Told.{Rose}
 use Rattle.net_lists.specs.declared.lines.Numbered.{Numbered}
 use Rattle.conf_parser.specs.declared.reading.At.{At}
-use Rattle.conf_parser.specs.declared.reading.Output.{Output}
 use Rattle.conf_parser.specs.declared.reading.Read.{Read}
 use Rattle.conf_parser.specs.declared.reading.Source.{Source}
 use Rattle.conf_parser.specs.declared.reading.Stopped.{Stopped}
 use Rattle.conf_parser.specs.declared.reading.Stopped.TheVariants as stopped
-use Rattle.conf_parser.specs.Reading.{Contents, told, Ended, Whole, Refused, Asks, Including, file_count, onward, line_read, lines_read, file_read}
-use Rattle.conf_parser.specs.Loading.{Tells, AreSame, Goes, AsksFor, Stops, GoesOn, HasCause, whole_next, inner}
+use Rattle.conf_parser.specs.Reading.{Contents, Ended, Whole, Refused, Including, file_count, onward, line_read, lines_read, file_read}
+use Rattle.conf_parser.specs.Loading.{Tells, AreSame, Goes, Stops, GoesOn, HasCause, whole_next, inner}
 use Rattle.conf_parser.specs.Steps.{StepsTo}
 
 -- ---- contents
@@ -145,13 +144,11 @@ stops-from host low a b (stopped.Asks name output) same x = record { seen = x.se
 
 -- ---- answers
 
--- a part behind which another one answers, on a host whose contents are the same
-pub goes-then : (host now : Option Files) (low mid : ℕ) (a b : Contents → Ended) (result : Result Read Stopped) → now ≡ host → Goes host low mid a b
-    → GoesOn now mid file_count whole_next b result → GoesOn host low file_count whole_next a result
-goes-then host now low mid a b (Ok read) same x y =
-    goes-goes host low mid (file_count read) a b (whole_next read) x (subst (λ (h : Option Files). Goes h mid (file_count read) b (whole_next read)) same y)
-goes-then host now low mid a b (Err stop) same x y =
-    goes-stops host low mid a b stop x (subst (λ (h : Option Files). Stops h mid b stop) same y)
+-- a part behind which another one answers
+pub goes-then : (host : Option Files) (low mid : ℕ) (a b : Contents → Ended) (result : Result Read Stopped) → Goes host low mid a b
+    → GoesOn host mid file_count whole_next b result → GoesOn host low file_count whole_next a result
+goes-then host low mid a b (Ok read) x y = goes-goes host low mid (file_count read) a b (whole_next read) x y
+goes-then host low mid a b (Err stop) x y = goes-stops host low mid a b stop x y
 
 -- the same answer, for the same reading
 pub goes_on-from : (host : Option Files) (low mid : ℕ) (a b : Contents → Ended) (result : Result Read Stopped) → mid ≡ low → ((contents : Contents) → a contents ≡ b contents)
@@ -206,18 +203,6 @@ lines-end host low high left source a (line ∷ lines) read ends x = absurd (nev
   where
     never : length (line ∷ lines) ≡ 0 → ⊥
     never e = omega arith
-
--- the same on a host whose contents are the same
-pub lines-then-goes : (host now : Option Files) (low mid high left : ℕ) (source : Source) (a : Contents → Ended) (lines rest : List Numbered) (line : Numbered) (read next : Read) → now ≡ host → lines ≡ line ∷ rest
-    → Goes host low mid a (lines_of left source lines read) → Goes now mid high (line_of left source line read) (whole_next next)
-    → Goes host low high a (lines_of left source rest next)
-lines-then-goes host now low mid high left source a lines rest line read next same begins x y =
-    lines-next host low mid high left source a lines rest line read next begins x (subst (λ (h : Option Files). Goes h mid high (line_of left source line read) (whole_next next)) same y)
-
-pub lines-then-stops : (host now : Option Files) (low mid left : ℕ) (source : Source) (a : Contents → Ended) (lines rest : List Numbered) (line : Numbered) (read : Read) (stop : Stopped) → now ≡ host → lines ≡ line ∷ rest
-    → Goes host low mid a (lines_of left source lines read) → Stops now mid (line_of left source line read) stop → Stops host low a stop
-lines-then-stops host now low mid left source a lines rest line read stop same begins x y =
-    lines-stop host low mid left source a lines rest line read stop begins x (subst (λ (h : Option Files). Stops h mid (line_of left source line read) stop) same y)
 
 -- where no include may nest, what was read is all
 pub inner-none : (host : Option Files) (left : ℕ) (name : List ℕ) (at : At) (read : Read) → left ≡ 0 → Goes host (file_count read) (file_count read) (λ contents. inner contents left name at read) (whole_next read)

@@ -6,6 +6,7 @@ pub mod Joining
 pub mod Included
 pub mod LineSteps
 pub mod Goings
+pub mod Seeing
 pub mod Opening
 pub mod Finishing
 pub mod Soundness

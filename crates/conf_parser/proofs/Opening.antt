@@ -1,22 +1,19 @@
 -- A file that is loaded, or is not, and the reading of it.
-use Rattle.std.proofs.Common.{◌≡◌, ℕ, zero, suc, ◌+◌, ◌-◌, ◌<◌, ◌≤◌, Bool, true, false, cond, ltb, List, [], ◌∷◌, ◌++◌, length, Option, Some, None, Result, Ok, Err, refl, sym, ap, subst, ◌∙◌, arith, length-append}
-use Rattle.std.specs.Prelude.{nat_le, ⊤, ◌⊎◌}
+use Rattle.std.proofs.Common.{◌≡◌, ℕ, zero, suc, ◌-◌, ◌<◌, ◌≤◌, cond, List, [], ◌∷◌, ◌++◌, length, Option, Some, None, Result, Err, refl, sym, ap, subst, ◌∙◌, arith, length-append}
 use Rattle.std.proofs.lemmas.Bool.{le-leb, lt-leb}
 use Rattle.std.specs.FinMap.{get}
-use Rattle.edge_io.specs.Files.{Files, Holds, Lacks, IsLonger}
+use Rattle.edge_io.specs.Files.{Files, Holds, IsLonger}
 use Rattle.edge_io.specs.declared.host.LoadFault.{LoadFault}
 use Rattle.edge_io.specs.declared.host.LoadFault.TheVariants as load
 use Rattle.conf_parser.specs.declared.line.ConfFault.{ConfFault}
 use Rattle.conf_parser.specs.declared.line.ConfKind.TheVariants.{TooLarge}
 use Rattle.conf_parser.specs.declared.reading.At.{At}
-use Rattle.conf_parser.specs.declared.reading.Opened.{Opened}
 use Rattle.conf_parser.specs.declared.reading.Output.{Output}
 use Rattle.conf_parser.specs.declared.reading.Read.{Read}
 use Rattle.conf_parser.specs.declared.reading.Stopped.{Stopped}
 use Rattle.conf_parser.specs.declared.reading.Stopped.TheVariants as stopped
-use Rattle.conf_parser.specs.Lines.{content_lines}
-use Rattle.conf_parser.specs.Reading.{Contents, Ended, Whole, Refused, Asks, Including, fault_at, file_count, read_with, with_file, most_bytes, lines_read, too_large, contents_read, file_read}
-use Rattle.conf_parser.specs.Loading.{Tells, AreSame, Goes, AsksFor, Stops, inner, opened_of, opened_count, opened_next, LoadsFile, output_before, StopsAtLarge, StopsAtFile}
+use Rattle.conf_parser.specs.Reading.{Contents, Refused, Asks, fault_at, file_count, most_bytes, too_large, contents_read, file_read}
+use Rattle.conf_parser.specs.Loading.{Tells, Goes, Stops, inner, opened_of, opened_count, opened_next, LoadsFile, output_before, StopsAtFile}
 use Rattle.conf_parser.proofs.Goings.{seen_by, tells-seen_by}
 
 -- ---- a file by its contents
@@ -126,15 +123,15 @@ asks-missing host left name at read within = record {
 abbrev pub unloaded : LoadFault → Result (List ℕ) LoadFault
 unloaded fault = Err fault
 
-pub stops-unloaded : (rose : Type 0) (host : Option Files) (left : ℕ) (name : List ℕ) (at : At) (read : Read) (fault : LoadFault) (stop : Stopped) → left ≤ 16
-    → LoadsFile rose host name (unloaded fault) → StopsAtFile name at read.output fault stop → Stops host (file_count read) (λ contents. file_read contents left name at read) stop
-stops-unloaded rose host left name at read load.Failed stop within loads is =
+pub stops-unloaded : (host : Option Files) (left : ℕ) (name : List ℕ) (at : At) (read : Read) (fault : LoadFault) (stop : Stopped) → left ≤ 16
+    → LoadsFile host name (unloaded fault) → StopsAtFile name at read.output fault stop → Stops host (file_count read) (λ contents. file_read contents left name at read) stop
+stops-unloaded host left name at read load.Failed stop within loads is =
     subst (λ (s : Stopped). Stops host (file_count read) (λ contents. file_read contents left name at read) s) (sym is) (asks-missing host left name at read within)
-stops-unloaded rose host left name at read load.NoMemory stop within loads is =
+stops-unloaded host left name at read load.NoMemory stop within loads is =
     subst (λ (s : Stopped). Stops host (file_count read) (λ contents. file_read contents left name at read) s) (sym is) tt
-stops-unloaded rose host left name at read load.TooLarge stopped.NoMemory within loads is = tt
-stops-unloaded rose host left name at read load.TooLarge (stopped.Asks other before) within loads is = absurd is
-stops-unloaded rose host left name at read load.TooLarge (stopped.Refused fault before) within loads is =
+stops-unloaded host left name at read load.TooLarge stopped.NoMemory within loads is = tt
+stops-unloaded host left name at read load.TooLarge (stopped.Asks other before) within loads is = absurd is
+stops-unloaded host left name at read load.TooLarge (stopped.Refused fault before) within loads is =
     subst (λ (f : ConfFault). Stops host (file_count read) (λ contents. file_read contents left name at read) (stopped.Refused f before)) (sym is.0)
     (subst (λ (o : Output). Stops host (file_count read) (λ contents. file_read contents left name at read) (stopped.Refused (fault_at at TooLarge) o)) (sym is.1)
     (stops-long host left name at read within loads))

@@ -1,8 +1,9 @@
 -- What the files that a host loads, or does not, say of a reading.
 --
--- A host that tells its files answers each load by them, unless it fails; of a host that tells nothing, there
--- are some contents that its loads gave. So each answer is that of the reading over some contents, which are
--- the host's own where it tells them. A file that is not loaded ends the reading: it is what the reading asks
+-- What may be seen of a host are files that give all that it answered, or, where it tells none, no files. Seen
+-- files give what each load gave; where none are seen, there are some contents that the loads gave. So each
+-- answer is that of the reading over some contents, which are those of the seen files, if there are any. A file
+-- that is not loaded ends the reading: it is what the reading asks
 -- for over all contents that give the files before it and lack this one.
 -- To try it on: where a host tells the file `a` with the line `include b`, lacks `b`, and fails at nothing, the
 -- reading of `a` asks for `b`, with `a` among the files.
@@ -23,10 +24,10 @@ use Rattle.conf_parser.specs.declared.reading.At.{At}
 use Rattle.conf_parser.specs.declared.reading.Opened.{Opened}
 use Rattle.conf_parser.specs.declared.line.ConfKind.TheVariants.{TooLarge}
 use Rattle.conf_parser.specs.Lines.{content_lines}
-use Rattle.conf_parser.specs.Reading.{Contents, told, Ended, Whole, Refused, Asks, Including, fault_at, file_count, read_with, with_file, most_bytes, lines_read, file_read, read_files}
+use Rattle.conf_parser.specs.Reading.{Contents, Ended, Whole, Refused, Asks, Including, fault_at, file_count, read_with, with_file, most_bytes, lines_read, file_read, read_files}
 use Rattle.conf_parser.specs.Loaded.{loaded_of}
 
--- these contents are the host's own, where it tells them
+-- these contents are those of the seen files, if there are any
 abbrev pub Tells : Option Files → Contents → Type 0
 Tells None contents = ⊤
 Tells (Some files) contents = (number : ℕ) (name : List ℕ) → contents number name ≡ get files name
@@ -97,12 +98,12 @@ opened_count opened = file_count opened.read
 abbrev pub opened_next : ℕ → Opened → Contents → Ended
 opened_next left opened contents = lines_read (inner contents left) opened.source opened.lines opened.read
 
--- what a load answers for a file: its bytes, or why not; want of memory is free
-abbrev pub LoadsFile : Type 0 → Option Files → List ℕ → Result (List ℕ) LoadFault → Type 0
-LoadsFile rose host name (Ok bytes) = Holds host name bytes × (length bytes ≤ most_bytes)
-LoadsFile rose host name (Err load.Failed) = rose ⊎ Lacks host name
-LoadsFile rose host name (Err load.TooLarge) = IsLonger host name most_bytes
-LoadsFile rose host name (Err load.NoMemory) = ⊤
+-- what a load answers for a file: its bytes, or that it is too large; a failure and want of memory are free
+abbrev pub LoadsFile : Option Files → List ℕ → Result (List ℕ) LoadFault → Type 0
+LoadsFile seen name (Ok bytes) = Holds seen name bytes
+LoadsFile seen name (Err load.Failed) = ⊤
+LoadsFile seen name (Err load.TooLarge) = IsLonger seen name most_bytes
+LoadsFile seen name (Err load.NoMemory) = ⊤
 
 -- what was handed on before a file that is too large
 abbrev pub output_before : At → List ℕ → Output → Output

@@ -1,8 +1,8 @@
 //! Loading a configuration: its first file, and each included file where its line stands.
-ghost use Rattle.std.specs.Prelude.{◌≡◌, ◌<◌, ◌≤◌, true, Some, length, IfOk, IfErr, OnOk};
+ghost use Rattle.std.specs.Prelude.{◌≡◌, ◌<◌, ◌≤◌, ◌⊎◌, true, Option, Some, length, IfOk, IfErr, OnOk, IsErrOf};
 ghost use Rattle.std.specs.Str.{is_utf8};
 ghost use Rattle.edge_io.specs.Told.{Rose};
-ghost use Rattle.edge_io.specs.Files.{Files};
+ghost use Rattle.edge_io.specs.Files.{Files, Lacks, MaySee};
 ghost use Rattle.conf_parser.specs.Reading.{told, with_file, file_count, file_read, lines_read, line_read, most_bytes, read_files, nothing_read};
 ghost use Rattle.conf_parser.specs.Steps.{MayBeRead, most_files};
 ghost use Rattle.conf_parser.specs.Loaded.{loaded_of};
@@ -29,9 +29,16 @@ const MOST_BYTES: usize = 16_777_216;
 /// The bytes of the file of this name.
 fn file_bytes<H: Host>(alloc: Global, host: &mut H, name: &[u8]) -> Result<Text, LoadFault>
     requires { is_utf8 name.now ≡ true }
-    ensures loads { LoadsFile (Rose (H.faults host.old) (H.faults host.new)) (H.contents host.old) name.now result }
+    ensures loads { (seen : Option Files) → MaySee (H.contents host.new) (H.agrees host.new) seen
+        → LoadsFile seen name.now result }
+    ensures within { IfOk result (λ bytes. length bytes ≤ most_bytes) }
+    ensures failed { IsErrOf result LoadFault.Failed
+        → Rose (H.faults host.old) (H.faults host.new) ⊎ Lacks (H.contents host.old) name.now }
     ensures same { (H.contents host.new ≡ H.contents host.old) × (H.left host.new ≡ H.left host.old)
         × (H.opens host.new ≡ H.opens host.old) }
+    ensures same_left { (files : Files) → H.left_of host.new files ≡ H.left_of host.old files }
+    ensures earlier { (seen : Option Files) → MaySee (H.contents host.new) (H.agrees host.new) seen
+        → MaySee (H.contents host.old) (H.agrees host.old) seen }
     ensures later { H.faults host.old ≤ H.faults host.new }
 {
     let Ok(name) = str::from_utf8(name) else {
@@ -120,13 +127,17 @@ fn open_file<H: Host>(
 ) -> Result<Opened, Stopped>
     requires name { MayBeRead (file_count read) name }
     requires left { left ≤ 16 }
-    ensures goes { GoesOn (H.contents host.old) (file_count read) opened_count (opened_next left)
+    ensures goes { (seen : Option Files) → MaySee (H.contents host.new) (H.agrees host.new) seen
+        → GoesOn seen (file_count read) opened_count (opened_next left)
         (λ contents. file_read contents left name at read) result }
     ensures text { IfOk result (λ opened. is_utf8 opened.source.name ≡ true) }
     ensures few { IfOk result (λ opened. file_count opened.read ≤ most_files) }
     ensures cause { IfErr result (HasCause (Rose (H.faults host.old) (H.faults host.new)) (H.contents host.old)) }
     ensures same { (H.contents host.new ≡ H.contents host.old) × (H.left host.new ≡ H.left host.old)
         × (H.opens host.new ≡ H.opens host.old) }
+    ensures same_left { (files : Files) → H.left_of host.new files ≡ H.left_of host.old files }
+    ensures earlier { (seen : Option Files) → MaySee (H.contents host.new) (H.agrees host.new) seen
+        → MaySee (H.contents host.old) (H.agrees host.old) seen }
     ensures later { H.faults host.old ≤ H.faults host.new }
 {
     match file_bytes(alloc, host, name.bytes()) {
@@ -151,12 +162,16 @@ fn read_lines<H: Host>(
     requires name { is_utf8 source.now.name ≡ true }
     requires few { file_count read ≤ most_files }
     requires left { left ≤ 16 }
-    ensures goes { GoesOn (H.contents host.old) (file_count read) file_count whole_next
+    ensures goes { (seen : Option Files) → MaySee (H.contents host.new) (H.agrees host.new) seen
+        → GoesOn seen (file_count read) file_count whole_next
         (λ contents. lines_read (inner contents left) source.now lines.now read) result }
     ensures few { IfOk result (λ read. file_count read ≤ most_files) }
     ensures cause { IfErr result (HasCause (Rose (H.faults host.old) (H.faults host.new)) (H.contents host.old)) }
     ensures same { (H.contents host.new ≡ H.contents host.old) × (H.left host.new ≡ H.left host.old)
         × (H.opens host.new ≡ H.opens host.old) }
+    ensures same_left { (files : Files) → H.left_of host.new files ≡ H.left_of host.old files }
+    ensures earlier { (seen : Option Files) → MaySee (H.contents host.new) (H.agrees host.new) seen
+        → MaySee (H.contents host.old) (H.agrees host.old) seen }
     ensures later { H.faults host.old ≤ H.faults host.new }
 {
     let mut read = read;
@@ -181,12 +196,16 @@ fn read_line<H: Host>(
     requires name { is_utf8 source.now.name ≡ true }
     requires few { file_count read ≤ most_files }
     requires left { left ≤ 16 }
-    ensures goes { GoesOn (H.contents host.old) (file_count read) file_count whole_next
+    ensures goes { (seen : Option Files) → MaySee (H.contents host.new) (H.agrees host.new) seen
+        → GoesOn seen (file_count read) file_count whole_next
         (λ contents. line_read (inner contents left) source.now line.now read) result }
     ensures few { IfOk result (λ read. file_count read ≤ most_files) }
     ensures cause { IfErr result (HasCause (Rose (H.faults host.old) (H.faults host.new)) (H.contents host.old)) }
     ensures same { (H.contents host.new ≡ H.contents host.old) × (H.left host.new ≡ H.left host.old)
         × (H.opens host.new ≡ H.opens host.old) }
+    ensures same_left { (files : Files) → H.left_of host.new files ≡ H.left_of host.old files }
+    ensures earlier { (seen : Option Files) → MaySee (H.contents host.new) (H.agrees host.new) seen
+        → MaySee (H.contents host.old) (H.agrees host.old) seen }
     ensures later { H.faults host.old ≤ H.faults host.new }
 {
     match line_step(alloc, source, line, read)? {
@@ -213,12 +232,16 @@ fn included<H: Host>(
 ) -> Result<Read, Stopped>
     requires name { MayBeRead (file_count read) name }
     requires left { left ≤ 16 }
-    ensures goes { GoesOn (H.contents host.old) (file_count read) file_count whole_next
+    ensures goes { (seen : Option Files) → MaySee (H.contents host.new) (H.agrees host.new) seen
+        → GoesOn seen (file_count read) file_count whole_next
         (λ contents. inner contents left name at read) result }
     ensures few { IfOk result (λ read. file_count read ≤ most_files) }
     ensures cause { IfErr result (HasCause (Rose (H.faults host.old) (H.faults host.new)) (H.contents host.old)) }
     ensures same { (H.contents host.new ≡ H.contents host.old) × (H.left host.new ≡ H.left host.old)
         × (H.opens host.new ≡ H.opens host.old) }
+    ensures same_left { (files : Files) → H.left_of host.new files ≡ H.left_of host.old files }
+    ensures earlier { (seen : Option Files) → MaySee (H.contents host.new) (H.agrees host.new) seen
+        → MaySee (H.contents host.old) (H.agrees host.old) seen }
     ensures later { H.faults host.old ≤ H.faults host.new }
 {
     if left == 0 {
@@ -239,12 +262,16 @@ fn read_file<H: Host>(
 ) -> Result<Read, Stopped>
     requires name { MayBeRead (file_count read) name }
     requires left { left ≤ 16 }
-    ensures goes { GoesOn (H.contents host.old) (file_count read) file_count whole_next
+    ensures goes { (seen : Option Files) → MaySee (H.contents host.new) (H.agrees host.new) seen
+        → GoesOn seen (file_count read) file_count whole_next
         (λ contents. file_read contents left name at read) result }
     ensures few { IfOk result (λ read. file_count read ≤ most_files) }
     ensures cause { IfErr result (HasCause (Rose (H.faults host.old) (H.faults host.new)) (H.contents host.old)) }
     ensures same { (H.contents host.new ≡ H.contents host.old) × (H.left host.new ≡ H.left host.old)
         × (H.opens host.new ≡ H.opens host.old) }
+    ensures same_left { (files : Files) → H.left_of host.new files ≡ H.left_of host.old files }
+    ensures earlier { (seen : Option Files) → MaySee (H.contents host.new) (H.agrees host.new) seen
+        → MaySee (H.contents host.old) (H.agrees host.old) seen }
     ensures later { H.faults host.old ≤ H.faults host.new }
 {
     let opened = open_file(alloc, host, left, name, at, read)?;
@@ -319,7 +346,15 @@ pub fn load<H: Host>(
     vars: &mut Vars,
     out: &mut Loaded,
 ) -> Result<(), LoadStop>
-    // The answer is that of the reading, over contents that are the host's own where it tells them.
+    // The answer is that of the reading, over contents that are what may be seen of the host afterwards: what it
+    // tells, or files that give all that it answered.
+    ensures reading_seen { (seen : Option Files) → MaySee (H.contents host.new) (H.agrees host.new) seen
+        → IsLoading seen name.now vars.old result vars.new out.new }
+    ensures agreed { (files : Files) → H.agrees host.new files
+        → EndsUnlessFailed (Rose (H.faults host.old) (H.faults host.new))
+        (read_files (told files) name.now vars.old) result vars.new out.new }
+
+    // The same by what the host tells.
     ensures reading { IsLoading (H.contents host.old) name.now vars.old result vars.new out.new }
     ensures told { (files : Files) → H.contents host.old ≡ Some files
         → EndsUnlessFailed (Rose (H.faults host.old) (H.faults host.new))
@@ -333,6 +368,9 @@ pub fn load<H: Host>(
     // The host is as before, but for its count.
     ensures same { (H.contents host.new ≡ H.contents host.old) × (H.left host.new ≡ H.left host.old)
         × (H.opens host.new ≡ H.opens host.old) }
+    ensures same_left { (files : Files) → H.left_of host.new files ≡ H.left_of host.old files }
+    ensures earlier { (seen : Option Files) → MaySee (H.contents host.new) (H.agrees host.new) seen
+        → MaySee (H.contents host.old) (H.agrees host.old) seen }
     ensures later { H.faults host.old ≤ H.faults host.new }
 {
     let Ok(first) = Text::copy(alloc, name.as_bytes()) else {

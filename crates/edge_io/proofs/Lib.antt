@@ -8,3 +8,6 @@ pub mod Places
 pub mod Folding
 pub mod Known
 pub mod Words
+pub mod Walks
+pub mod Hearing
+pub mod Seeing

@@ -40,3 +40,25 @@ LeftIsTold (Some files) left = ⊤
 abbrev pub IsUnopened : Option Files → Option (List ℕ) → Type 0
 IsUnopened None left = ⊥
 IsUnopened (Some files) left = left ≡ None
+
+-- files that are told agree with what was answered, they alone, and by them as much is left as is told
+pub record IsAsTold (files : Files) (left : Option (List ℕ)) (agrees : Files → Type 0)
+    (left_of : Files → Option (List ℕ)) : Type 0 where
+  pub agree : agrees files
+  pub alone : (other : Files) → agrees other → other ≡ files
+  pub left_is : left_of files ≡ left
+
+-- the same where files are told; where none are, nothing is told to be left
+abbrev pub AsTold : Option Files → Option (List ℕ) → (Files → Type 0) → (Files → Option (List ℕ)) → Type 0
+AsTold None left agrees left_of = left ≡ None
+AsTold (Some files) left agrees left_of = IsAsTold files left agrees left_of
+
+-- these files may be seen of a host: they give all that it answered; or none, where it tells none
+abbrev pub MaySee : Option Files → (Files → Type 0) → Option Files → Type 0
+MaySee contents agrees None = contents ≡ None
+MaySee contents agrees (Some files) = agrees files
+
+-- what is left by these files, if any
+abbrev pub left_by : (Files → Option (List ℕ)) → Option Files → Option (List ℕ)
+left_by left_of None = None
+left_by left_of (Some files) = left_of files

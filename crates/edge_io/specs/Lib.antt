@@ -14,3 +14,5 @@ pub mod Matching
 pub mod Literals
 pub mod RealFiles
 pub mod RealStreams
+pub mod Answers
+pub mod Notes

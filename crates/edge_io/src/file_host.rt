@@ -149,11 +149,17 @@ impl<R: Files> Host for FileHost<R> {
 
     ghost left = { λ _. None };
 
+    ghost agrees = { λ _ _. ⊥ };
+
+    ghost left_of = { λ _ _. None };
+
     ghost faults = { λ host. host.faults };
 
     ghost opens = { λ host. host.opens };
 
     ghost left_is_told = { λ host. refl };
+
+    ghost as_told = { λ host. refl };
 
     fn load(&mut self, name: &str, limit: usize, out: &mut Vec<u8>) -> Result<(), LoadFault>
         ensures appends { OnOk result (out.new.items ≡ out.old.items ++ drop (vec_len out.old) out.new.items) }

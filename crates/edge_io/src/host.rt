@@ -1,6 +1,7 @@
-ghost use Rattle.std.specs.Prelude.{◌≡◌, ℕ, ◌+◌, ◌<◌, ◌≤◌, ◌++◌, ◌⊎◌, Option, None, List, length, take, drop, vec_len, IfOk, OnOk, OnErr, IsErrOf};
+ghost use Rattle.std.specs.Prelude.{◌≡◌, ℕ, ◌+◌, ◌<◌, ◌≤◌, ◌++◌, ◌⊎◌, Option, None, Some, List, length, take, drop, vec_len, IfOk, OnOk, OnErr, IsErrOf};
+ghost use Rattle.std.specs.FinMap.{get};
 ghost use Rattle.edge_io.specs.Told.{before, NothingLeft, one_more, Rose};
-ghost use Rattle.edge_io.specs.Files.{Files, Holds, Lacks, IsLonger, IsOpened, IsUnopened, LeftIsTold};
+ghost use Rattle.edge_io.specs.Files.{Files, AsTold, Holds, Lacks, IsLonger, IsOpened, IsUnopened, LeftIsTold};
 
 use crate::Failed;
 use std::alloc::AllocError;
@@ -26,6 +27,10 @@ pub trait Host {
 
     ghost left: { Self → Option (List ℕ) };
 
+    ghost agrees: { Self → Files → Type 0 };
+
+    ghost left_of: { Self → Files → Option (List ℕ) };
+
     ghost faults: { Self → ℕ };
 
     ghost opens: { Self → ℕ };
@@ -41,6 +46,12 @@ pub trait Host {
         ensures refused { OnErr result (out.new.items ≡ out.old.items) }
         ensures same_contents { contents self.new ≡ contents self.old }
         ensures same_left { left self.new ≡ left self.old }
+        ensures agreed { OnOk result ((files : Files) → agrees self.new files
+            → get files name.now ≡ Some (drop (vec_len out.old) out.new.items)) }
+        ensures agreed_large { IsErrOf result LoadFault.TooLarge
+            → (files : Files) → agrees self.new files → IsLonger (Some files) name.now limit }
+        ensures same_left_of { (files : Files) → left_of self.new files ≡ left_of self.old files }
+        ensures earlier { (files : Files) → agrees self.new files → agrees self.old files }
         ensures same_opens { opens self.new ≡ opens self.old }
         ensures later { faults self.old ≤ faults self.new };
 
@@ -52,6 +63,10 @@ pub trait Host {
         ensures closed { OnErr result (left self.new ≡ None) }
         ensures counted { opens self.new ≡ one_more (opens self.old) }
         ensures same_contents { contents self.new ≡ contents self.old }
+        ensures agreed { OnOk result ((files : Files) → agrees self.new files
+            → IsOpened (Some files) name.now (left_of self.new files)) }
+        ensures agreed_closed { OnErr result ((files : Files) → left_of self.new files ≡ None) }
+        ensures earlier { (files : Files) → agrees self.new files → agrees self.old files }
         ensures later { faults self.old ≤ faults self.new };
 
     /// Takes bytes off the front of the open capture into the front of `buf`, as many as the answer
@@ -66,10 +81,20 @@ pub trait Host {
         ensures failed { OnErr result (Rose (faults self.old) (faults self.new)) }
         ensures nothing_taken { OnErr result (left self.new ≡ left self.old) }
         ensures same_contents { contents self.new ≡ contents self.old }
+        ensures agreed { IfOk result (λ count. (files : Files) → agrees self.new files
+            → left_of self.old files ≡ before (take count buf.new) (left_of self.new files)) }
+        ensures agreed_end { IfOk result (λ count. count ≡ 0
+            → (files : Files) → agrees self.new files → NothingLeft (left_of self.old files)) }
+        ensures agreed_unopened { IfOk result (λ count. (files : Files) → agrees self.new files
+            → left_of self.old files ≡ None → count ≡ 0) }
+        ensures agreed_failed { OnErr result ((files : Files) → left_of self.new files ≡ left_of self.old files) }
+        ensures earlier { (files : Files) → agrees self.new files → agrees self.old files }
         ensures same_opens { opens self.new ≡ opens self.old }
         ensures later { faults self.old ≤ faults self.new };
 
     ghost left_is_told: { (host : Self) → LeftIsTold (contents host) (left host) };
+
+    ghost as_told: { (host : Self) → AsTold (contents host) (left host) (agrees host) (left_of host) };
 }
 
 impl From<Failed> for LoadFault {

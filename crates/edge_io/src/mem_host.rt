@@ -1,4 +1,4 @@
-ghost use Rattle.std.specs.Prelude.{◌≡◌, ◌<◌, ◌≤◌, ◌++◌, [], Option, Some, None, length, drop, take, vec_len, min, Ok, Err, IfOk, OnOk, OnErr, IfSome, IfNone, IsErrOf, IsErr, IsSome, IsTrue};
+ghost use Rattle.std.specs.Prelude.{◌≡◌, ◌<◌, ◌≤◌, ◌++◌, [], Option, Some, None, length, drop, take, vec_len, min, Ok, Err, IfOk, OnOk, OnErr, IfSome, IfNone, IsErrOf, IsErr, IsSome, IsTrue, refl};
 ghost use Rattle.std.specs.FinMap.{get, insert};
 ghost use Rattle.std.specs.Option.{option_copied};
 ghost use Rattle.edge_io.specs.Calls.{fails};
@@ -166,11 +166,17 @@ impl Host for MemHost {
 
     ghost left = { λ host. host.left };
 
+    ghost agrees = { λ host files. files ≡ host.files };
+
+    ghost left_of = { λ host _. host.left };
+
     ghost faults = { λ host. host.faults };
 
     ghost opens = { λ host. host.opens };
 
     ghost left_is_told = { λ host. tt };
+
+    ghost as_told = { λ host. record { agree = refl; alone = λ _ same. same; left_is = refl } };
 
     fn load(&mut self, name: &str, limit: usize, out: &mut Vec<u8>) -> Result<(), LoadFault>
         ensures state { self.new ≡ after_call self.old }

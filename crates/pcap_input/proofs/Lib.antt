@@ -6,6 +6,7 @@ pub mod Records
 pub mod Endings
 pub mod Steps
 pub mod Reading
+pub mod Opened
 pub mod Making
 pub mod MadeCaptures
 pub mod Sections

@@ -1,6 +1,6 @@
 ghost use Rattle.std.specs.Prelude.{◌≡◌, ◌+◌, ◌*◌, ◌<◌, ◌≤◌, ◌⊎◌, List, ℕ, Option, None, Some, length, drop, Result, IfOk, IfErr, IfSome, IfNone, OnOk, Err, IsErrOf};
 ghost use Rattle.edge_io.specs.Told.{before, one_more, Rose};
-ghost use Rattle.edge_io.specs.Files.{Lacks, IsUnopened};
+ghost use Rattle.edge_io.specs.Files.{Files, Lacks, IsUnopened, MaySee, left_by};
 ghost use Rattle.pcap_input.specs.Savefile.{file_header, record_header, longest, most_records, IsReachable, Clean, Ends, head_of, next_of, next_behind};
 ghost use Rattle.pcap_input.specs.Reader.{reader_at, after_next, after_refusal, Opens, Tells, TakesHead, IsOfHead, Gives, TakesRecord, TakesNone};
 ghost use Rattle.pcap_input.specs.Pieces.{Reads, TakesFileHeader, GivesOne, TakesBytes, TakesFewer, TakesLess};
@@ -54,6 +54,45 @@ impl CaptureReader {
         ensures failed { IsErrOf result CaptureFault.Failed
             → Rose (H.faults host.old) (H.faults host.new) ⊎ Lacks (H.contents host.old) name.now }
         ensures same_contents { H.contents host.new ≡ H.contents host.old }
+        ensures counted { H.opens host.new ≡ one_more (H.opens host.old) }
+        ensures later { H.faults host.old ≤ H.faults host.new }
+
+        // The same by whatever may be seen of the host afterwards: what it tells, or files that give all
+        // that it answered.
+        ensures seen_gives { (seen : Option Files) → MaySee (H.contents host.new) (H.agrees host.new) seen
+            → (bytes : List ℕ) → Tells seen name.now bytes → Opens result (head_of bytes) }
+        ensures seen_rest { (seen : Option Files) → MaySee (H.contents host.new) (H.agrees host.new) seen
+            → (bytes : List ℕ) → Tells seen name.now bytes
+            → OnOk result (left_by (H.left_of host.new) seen ≡ Some (drop file_header bytes)) }
+        ensures seen_takes { (seen : Option Files) → MaySee (H.contents host.new) (H.agrees host.new) seen
+            → TakesHead seen name.now result (left_by (H.left_of host.new) seen)
+            ⊎ (IsErrOf result CaptureFault.Failed × (left_by (H.left_of host.new) seen ≡ None)) }
+        ensures earlier { (seen : Option Files) → MaySee (H.contents host.new) (H.agrees host.new) seen
+            → MaySee (H.contents host.old) (H.agrees host.old) seen }
+    {
+        CaptureReader::open_seen(host, name)
+    }
+
+    /// What `open` does, by whatever may be seen of the host afterwards.
+    fn open_seen<H: Host>(host: &mut H, name: &str) -> Result<CaptureReader, CaptureFault>
+        // Where contents are told, the head is that of the file's bytes, or its refusal.
+        ensures gives { (seen : Option Files) → MaySee (H.contents host.new) (H.agrees host.new) seen
+            → (bytes : List ℕ) → Tells seen name.now bytes → Opens result (head_of bytes) }
+        ensures rest { (seen : Option Files) → MaySee (H.contents host.new) (H.agrees host.new) seen
+            → (bytes : List ℕ) → Tells seen name.now bytes
+            → OnOk result (left_by (H.left_of host.new) seen ≡ Some (drop file_header bytes)) }
+
+        // At most 24 bytes are taken; where the opening itself failed, nothing is open.
+        ensures takes { (seen : Option Files) → MaySee (H.contents host.new) (H.agrees host.new) seen
+            → TakesHead seen name.now result (left_by (H.left_of host.new) seen)
+            ⊎ (IsErrOf result CaptureFault.Failed × (left_by (H.left_of host.new) seen ≡ None)) }
+
+        ensures kinds { IfErr result IsOfHead }
+        ensures failed { IsErrOf result CaptureFault.Failed
+            → Rose (H.faults host.old) (H.faults host.new) ⊎ Lacks (H.contents host.old) name.now }
+        ensures same_contents { H.contents host.new ≡ H.contents host.old }
+        ensures earlier { (seen : Option Files) → MaySee (H.contents host.new) (H.agrees host.new) seen
+            → MaySee (H.contents host.old) (H.agrees host.old) seen }
         ensures counted { H.opens host.new ≡ one_more (H.opens host.old) }
         ensures later { H.faults host.old ≤ H.faults host.new }
     {
@@ -128,6 +167,72 @@ impl CaptureReader {
         ensures same_contents { H.contents host.new ≡ H.contents host.old }
         ensures same_opens { H.opens host.new ≡ H.opens host.old }
         ensures later { H.faults host.old ≤ H.faults host.new }
+
+        // The same by whatever may be seen of the host afterwards: what it tells, or files that give all
+        // that it answered.
+        ensures seen_gives { (seen : Option Files) → MaySee (H.contents host.new) (H.agrees host.new) seen
+            → self.old.refused ≡ None → (rest : List ℕ) → left_by (H.left_of host.old) seen ≡ Some rest
+            → Gives result (next_of self.old.head self.old.number self.old.at rest) }
+        ensures seen_unopened { (seen : Option Files) → MaySee (H.contents host.new) (H.agrees host.new) seen
+            → self.old.refused ≡ None → IsUnopened seen (left_by (H.left_of host.old) seen)
+            → Gives result (Ends Clean) }
+        ensures seen_takes { (seen : Option Files) → MaySee (H.contents host.new) (H.agrees host.new) seen
+            → IfOk result (λ given. IfSome given (λ r. TakesRecord self.old r
+                (left_by (H.left_of host.old) seen) (left_by (H.left_of host.new) seen))) }
+        ensures seen_ended { (seen : Option Files) → MaySee (H.contents host.new) (H.agrees host.new) seen
+            → IfOk result (λ given. IfNone given (left_by (H.left_of host.new) seen ≡ left_by (H.left_of host.old) seen)) }
+        ensures seen_partial { (seen : Option Files) → MaySee (H.contents host.new) (H.agrees host.new) seen
+            → self.old.refused ≡ None
+            → IfErr result (λ why. TakesNone self.old why
+                (left_by (H.left_of host.old) seen) (left_by (H.left_of host.new) seen)) }
+        ensures earlier { (seen : Option Files) → MaySee (H.contents host.new) (H.agrees host.new) seen
+            → MaySee (H.contents host.old) (H.agrees host.old) seen }
+    {
+        self.next_seen(alloc, host)
+    }
+
+    /// What `next` does, by whatever may be seen of the host afterwards.
+    fn next_seen<H: Host>(
+        &mut self,
+        alloc: Global,
+        host: &mut H,
+    ) -> Result<Option<Record>, CaptureFault>
+        // Where the bytes left are told, the answer is what stands next in them; where nothing is
+        // open, it is the end.
+        ensures gives { (seen : Option Files) → MaySee (H.contents host.new) (H.agrees host.new) seen
+            → self.old.refused ≡ None → (rest : List ℕ) → left_by (H.left_of host.old) seen ≡ Some rest
+            → Gives result (next_of self.old.head self.old.number self.old.at rest) }
+        ensures unopened { (seen : Option Files) → MaySee (H.contents host.new) (H.agrees host.new) seen
+            → self.old.refused ≡ None → IsUnopened seen (left_by (H.left_of host.old) seen)
+            → Gives result (Ends Clean) }
+
+        // What is taken: the bytes of the record that is given and none behind it. Before a refusal
+        // no record is whole within what is taken.
+        ensures takes { (seen : Option Files) → MaySee (H.contents host.new) (H.agrees host.new) seen
+            → IfOk result (λ given. IfSome given (λ r. TakesRecord self.old r
+                (left_by (H.left_of host.old) seen) (left_by (H.left_of host.new) seen))) }
+        ensures ended { (seen : Option Files) → MaySee (H.contents host.new) (H.agrees host.new) seen
+            → IfOk result (λ given. IfNone given (left_by (H.left_of host.new) seen ≡ left_by (H.left_of host.old) seen)) }
+        ensures partial { (seen : Option Files) → MaySee (H.contents host.new) (H.agrees host.new) seen
+            → self.old.refused ≡ None
+            → IfErr result (λ why. TakesNone self.old why
+                (left_by (H.left_of host.old) seen) (left_by (H.left_of host.new) seen)) }
+
+        // Where the reader stands afterwards.
+        ensures stands { IfOk result (λ given. self.new ≡ after_next self.old given) }
+        ensures refused { IfErr result (λ why. self.new ≡ after_refusal self.old why) }
+
+        // A refusal is repeated, and nothing is read.
+        ensures again { (why : CaptureFault) → self.old.refused ≡ Some why → result ≡ Err why }
+        ensures untouched { (why : CaptureFault) → self.old.refused ≡ Some why → host.new ≡ host.old }
+
+        ensures failed { IsErrOf result CaptureFault.Failed
+            → Rose (H.faults host.old) (H.faults host.new) ⊎ (self.old.refused ≡ Some CaptureFault.Failed) }
+        ensures same_contents { H.contents host.new ≡ H.contents host.old }
+        ensures earlier { (seen : Option Files) → MaySee (H.contents host.new) (H.agrees host.new) seen
+            → MaySee (H.contents host.old) (H.agrees host.old) seen }
+        ensures same_opens { H.opens host.new ≡ H.opens host.old }
+        ensures later { H.faults host.old ≤ H.faults host.new }
     {
         if let Some(why) = self.refused {
             return Err(why);
@@ -150,13 +255,18 @@ impl CaptureReader {
 
 /// Reads the file header of the capture that was opened.
 fn opened_head<H: Host>(host: &mut H) -> Result<CaptureHead, CaptureFault>
-    ensures gives { (bytes : List ℕ) → H.left host.old ≡ Some bytes → Reads result (head_of bytes) }
-    ensures rest { (bytes : List ℕ) → H.left host.old ≡ Some bytes
-        → OnOk result (H.left host.new ≡ Some (drop file_header bytes)) }
-    ensures takes { TakesFileHeader result (H.left host.old) (H.left host.new) }
+    ensures gives { (seen : Option Files) → MaySee (H.contents host.new) (H.agrees host.new) seen
+        → (bytes : List ℕ) → left_by (H.left_of host.old) seen ≡ Some bytes → Reads result (head_of bytes) }
+    ensures rest { (seen : Option Files) → MaySee (H.contents host.new) (H.agrees host.new) seen
+        → (bytes : List ℕ) → left_by (H.left_of host.old) seen ≡ Some bytes
+        → OnOk result (left_by (H.left_of host.new) seen ≡ Some (drop file_header bytes)) }
+    ensures takes { (seen : Option Files) → MaySee (H.contents host.new) (H.agrees host.new) seen
+        → TakesFileHeader result (left_by (H.left_of host.old) seen) (left_by (H.left_of host.new) seen) }
     ensures kinds { IfErr result IsOfHead }
     ensures failed { IsErrOf result CaptureFault.Failed → Rose (H.faults host.old) (H.faults host.new) }
     ensures same_contents { H.contents host.new ≡ H.contents host.old }
+    ensures earlier { (seen : Option Files) → MaySee (H.contents host.new) (H.agrees host.new) seen
+        → MaySee (H.contents host.old) (H.agrees host.old) seen }
     ensures same_opens { H.opens host.new ≡ H.opens host.old }
     ensures later { H.faults host.old ≤ H.faults host.new }
 {
@@ -178,15 +288,23 @@ fn read_record<H: Host>(
     at: u64,
     block: Vec<u8>,
 ) -> Result<Option<Record>, CaptureFault>
-    ensures gives { (rest : List ℕ) → H.left host.old ≡ Some rest → Gives result (next_of head number at rest) }
-    ensures unopened { IsUnopened (H.contents host.old) (H.left host.old) → Gives result (Ends Clean) }
-    ensures takes { IfOk result (λ given. IfSome given
-        (λ r. TakesRecord (reader_at head number at) r (H.left host.old) (H.left host.new))) }
-    ensures ended { IfOk result (λ given. IfNone given (H.left host.new ≡ H.left host.old)) }
-    ensures partial { IfErr result (λ why. TakesNone (reader_at head number at) why (H.left host.old) (H.left host.new)) }
+    ensures gives { (seen : Option Files) → MaySee (H.contents host.new) (H.agrees host.new) seen
+        → (rest : List ℕ) → left_by (H.left_of host.old) seen ≡ Some rest → Gives result (next_of head number at rest) }
+    ensures unopened { (seen : Option Files) → MaySee (H.contents host.new) (H.agrees host.new) seen
+        → IsUnopened seen (left_by (H.left_of host.old) seen) → Gives result (Ends Clean) }
+    ensures takes { (seen : Option Files) → MaySee (H.contents host.new) (H.agrees host.new) seen
+        → IfOk result (λ given. IfSome given
+        (λ r. TakesRecord (reader_at head number at) r (left_by (H.left_of host.old) seen) (left_by (H.left_of host.new) seen))) }
+    ensures ended { (seen : Option Files) → MaySee (H.contents host.new) (H.agrees host.new) seen
+        → IfOk result (λ given. IfNone given (left_by (H.left_of host.new) seen ≡ left_by (H.left_of host.old) seen)) }
+    ensures partial { (seen : Option Files) → MaySee (H.contents host.new) (H.agrees host.new) seen
+        → IfErr result (λ why. TakesNone (reader_at head number at) why
+            (left_by (H.left_of host.old) seen) (left_by (H.left_of host.new) seen)) }
     ensures fits { IfOk result (λ given. IfSome given (λ r. (length r.bytes ≤ longest) × (number < most_records))) }
     ensures failed { IsErrOf result CaptureFault.Failed → Rose (H.faults host.old) (H.faults host.new) }
     ensures same_contents { H.contents host.new ≡ H.contents host.old }
+    ensures earlier { (seen : Option Files) → MaySee (H.contents host.new) (H.agrees host.new) seen
+        → MaySee (H.contents host.old) (H.agrees host.old) seen }
     ensures same_opens { H.opens host.new ≡ H.opens host.old }
     ensures later { H.faults host.old ≤ H.faults host.new }
 {
@@ -217,12 +335,20 @@ fn read_behind<H: Host>(
     block: Vec<u8>,
 ) -> Result<Record, CaptureFault>
     requires { length header.now ≡ record_header }
-    ensures gives { (rest : List ℕ) → H.left host.old ≡ Some rest → GivesOne result (next_behind head number at header.now rest) }
-    ensures takes { IfOk result (λ given. TakesBytes head number at header.now given (H.left host.old) (H.left host.new)) }
-    ensures partial { IfErr result (λ why. TakesFewer head number at header.now why (H.left host.old) (H.left host.new)) }
+    ensures gives { (seen : Option Files) → MaySee (H.contents host.new) (H.agrees host.new) seen
+        → (rest : List ℕ) → left_by (H.left_of host.old) seen ≡ Some rest
+        → GivesOne result (next_behind head number at header.now rest) }
+    ensures takes { (seen : Option Files) → MaySee (H.contents host.new) (H.agrees host.new) seen
+        → IfOk result (λ given. TakesBytes head number at header.now given
+            (left_by (H.left_of host.old) seen) (left_by (H.left_of host.new) seen)) }
+    ensures partial { (seen : Option Files) → MaySee (H.contents host.new) (H.agrees host.new) seen
+        → IfErr result (λ why. TakesFewer head number at header.now why
+            (left_by (H.left_of host.old) seen) (left_by (H.left_of host.new) seen)) }
     ensures fits { IfOk result (λ given. length given.bytes ≤ longest) }
     ensures failed { IsErrOf result CaptureFault.Failed → Rose (H.faults host.old) (H.faults host.new) }
     ensures same_contents { H.contents host.new ≡ H.contents host.old }
+    ensures earlier { (seen : Option Files) → MaySee (H.contents host.new) (H.agrees host.new) seen
+        → MaySee (H.contents host.old) (H.agrees host.old) seen }
     ensures same_opens { H.opens host.new ≡ H.opens host.old }
     ensures later { H.faults host.old ≤ H.faults host.new }
 {
@@ -246,10 +372,16 @@ fn read_bytes<H: Host>(
     len: usize,
     block: Vec<u8>,
 ) -> Result<Vec<u8>, CaptureFault>
-    ensures whole { IfOk result (λ bytes. (length bytes.items ≡ len) × (H.left host.old ≡ before bytes.items (H.left host.new))) }
-    ensures partial { IfErr result (λ why. TakesLess at len why (H.left host.old) (H.left host.new)) }
+    ensures size { IfOk result (λ bytes. length bytes.items ≡ len) }
+    ensures whole { (seen : Option Files) → MaySee (H.contents host.new) (H.agrees host.new) seen
+        → IfOk result (λ bytes. (length bytes.items ≡ len) × (left_by (H.left_of host.old) seen
+            ≡ before bytes.items (left_by (H.left_of host.new) seen))) }
+    ensures partial { (seen : Option Files) → MaySee (H.contents host.new) (H.agrees host.new) seen
+        → IfErr result (λ why. TakesLess at len why (left_by (H.left_of host.old) seen) (left_by (H.left_of host.new) seen)) }
     ensures failed { IsErrOf result CaptureFault.Failed → Rose (H.faults host.old) (H.faults host.new) }
     ensures same_contents { H.contents host.new ≡ H.contents host.old }
+    ensures earlier { (seen : Option Files) → MaySee (H.contents host.new) (H.agrees host.new) seen
+        → MaySee (H.contents host.old) (H.agrees host.old) seen }
     ensures same_opens { H.opens host.new ≡ H.opens host.old }
     ensures later { H.faults host.old ≤ H.faults host.new }
 {

@@ -1,4 +1,5 @@
-ghost use Rattle.std.specs.Prelude.{◌≡◌, ◌+◌, ◌≤◌, IfOk, IfErr, IsErrOf};
+ghost use Rattle.std.specs.Prelude.{◌≡◌, ◌+◌, ◌≤◌, Option, IfOk, IfErr, IsErrOf};
+ghost use Rattle.edge_io.specs.Files.{Files, MaySee, left_by};
 ghost use Rattle.edge_io.specs.Told.{Rose};
 ghost use Rattle.pcapng_input.specs.Steps.{TakesLess, TakesLast};
 
@@ -16,10 +17,16 @@ pub fn is_closed<H: Host>(
     swapped: bool,
     total: u32,
 ) -> Result<bool, NgFault>
-    ensures whole { IfOk result (λ same. TakesLast swapped total count same (H.left host.old) (H.left host.new)) }
-    ensures partial { IfErr result (λ why. TakesLess at (count + 4) why (H.left host.old) (H.left host.new)) }
+    ensures whole { (seen : Option Files) → MaySee (H.contents host.new) (H.agrees host.new) seen
+        → IfOk result (λ same. TakesLast swapped total count same
+            (left_by (H.left_of host.old) seen) (left_by (H.left_of host.new) seen)) }
+    ensures partial { (seen : Option Files) → MaySee (H.contents host.new) (H.agrees host.new) seen
+        → IfErr result (λ why. TakesLess at (count + 4) why
+            (left_by (H.left_of host.old) seen) (left_by (H.left_of host.new) seen)) }
     ensures failed { IsErrOf result NgFault.Failed → Rose (H.faults host.old) (H.faults host.new) }
     ensures same_contents { H.contents host.new ≡ H.contents host.old }
+    ensures earlier { (seen : Option Files) → MaySee (H.contents host.new) (H.agrees host.new) seen
+        → MaySee (H.contents host.old) (H.agrees host.old) seen }
     ensures same_opens { H.opens host.new ≡ H.opens host.old }
     ensures later { H.faults host.old ≤ H.faults host.new }
 {

@@ -1,4 +1,5 @@
-ghost use Rattle.std.specs.Prelude.{◌≡◌, ◌≤◌, length, IfOk, IfErr, OnOk, IsErrOf};
+ghost use Rattle.std.specs.Prelude.{◌≡◌, ◌≤◌, Option, length, IfOk, IfErr, OnOk, IsErrOf};
+ghost use Rattle.edge_io.specs.Files.{Files, MaySee, left_by};
 ghost use Rattle.edge_io.specs.Told.{before, Rose};
 ghost use Rattle.pcapng_input.specs.Steps.{TakesLess, TakesBytes};
 
@@ -12,10 +13,15 @@ const PIECE: usize = 512;
 
 /// Reads a piece of the block that begins at `at`, as long as `piece` is.
 pub fn read_piece<H: Host>(host: &mut H, at: u64, piece: &mut [u8]) -> Result<(), NgFault>
-    ensures whole { OnOk result (H.left host.old ≡ before piece.new (H.left host.new)) }
-    ensures partial { IfErr result (λ why. TakesLess at (length piece.old) why (H.left host.old) (H.left host.new)) }
+    ensures whole { (seen : Option Files) → MaySee (H.contents host.new) (H.agrees host.new) seen
+        → OnOk result (left_by (H.left_of host.old) seen ≡ before piece.new (left_by (H.left_of host.new) seen)) }
+    ensures partial { (seen : Option Files) → MaySee (H.contents host.new) (H.agrees host.new) seen
+        → IfErr result (λ why. TakesLess at (length piece.old) why
+            (left_by (H.left_of host.old) seen) (left_by (H.left_of host.new) seen)) }
     ensures failed { IsErrOf result NgFault.Failed → Rose (H.faults host.old) (H.faults host.new) }
     ensures same_contents { H.contents host.new ≡ H.contents host.old }
+    ensures earlier { (seen : Option Files) → MaySee (H.contents host.new) (H.agrees host.new) seen
+        → MaySee (H.contents host.old) (H.agrees host.old) seen }
     ensures same_opens { H.opens host.new ≡ H.opens host.old }
     ensures later { H.faults host.old ≤ H.faults host.new }
 {
@@ -35,11 +41,15 @@ pub fn read_bytes<H: Host>(
     len: u32,
     memory: Vec<u8>,
 ) -> Result<Vec<u8>, NgFault>
-    ensures whole { IfOk result (λ bytes. (length bytes.items ≡ len)
-        × (H.left host.old ≡ before bytes.items (H.left host.new))) }
-    ensures partial { IfErr result (λ why. TakesLess at len why (H.left host.old) (H.left host.new)) }
+    ensures whole { (seen : Option Files) → MaySee (H.contents host.new) (H.agrees host.new) seen
+        → IfOk result (λ bytes. (length bytes.items ≡ len)
+            × (left_by (H.left_of host.old) seen ≡ before bytes.items (left_by (H.left_of host.new) seen))) }
+    ensures partial { (seen : Option Files) → MaySee (H.contents host.new) (H.agrees host.new) seen
+        → IfErr result (λ why. TakesLess at len why (left_by (H.left_of host.old) seen) (left_by (H.left_of host.new) seen)) }
     ensures failed { IsErrOf result NgFault.Failed → Rose (H.faults host.old) (H.faults host.new) }
     ensures same_contents { H.contents host.new ≡ H.contents host.old }
+    ensures earlier { (seen : Option Files) → MaySee (H.contents host.new) (H.agrees host.new) seen
+        → MaySee (H.contents host.old) (H.agrees host.old) seen }
     ensures same_opens { H.opens host.new ≡ H.opens host.old }
     ensures later { H.faults host.old ≤ H.faults host.new }
 {
@@ -55,10 +65,14 @@ pub fn read_bytes<H: Host>(
 
 /// Passes over so many bytes of the block that begins at `at`, piece by piece, and keeps none.
 pub fn skip<H: Host>(host: &mut H, at: u64, count: u32) -> Result<(), NgFault>
-    ensures whole { OnOk result (TakesBytes count (H.left host.old) (H.left host.new)) }
-    ensures partial { IfErr result (λ why. TakesLess at count why (H.left host.old) (H.left host.new)) }
+    ensures whole { (seen : Option Files) → MaySee (H.contents host.new) (H.agrees host.new) seen
+        → OnOk result (TakesBytes count (left_by (H.left_of host.old) seen) (left_by (H.left_of host.new) seen)) }
+    ensures partial { (seen : Option Files) → MaySee (H.contents host.new) (H.agrees host.new) seen
+        → IfErr result (λ why. TakesLess at count why (left_by (H.left_of host.old) seen) (left_by (H.left_of host.new) seen)) }
     ensures failed { IsErrOf result NgFault.Failed → Rose (H.faults host.old) (H.faults host.new) }
     ensures same_contents { H.contents host.new ≡ H.contents host.old }
+    ensures earlier { (seen : Option Files) → MaySee (H.contents host.new) (H.agrees host.new) seen
+        → MaySee (H.contents host.old) (H.agrees host.old) seen }
     ensures same_opens { H.opens host.new ≡ H.opens host.old }
     ensures later { H.faults host.old ≤ H.faults host.new }
 {

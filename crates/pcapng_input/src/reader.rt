@@ -1,6 +1,6 @@
 ghost use Rattle.std.specs.Prelude.{◌≡◌, ◌≤◌, ◌⊎◌, List, ℕ, Option, None, Some, IfOk, IfErr, IfSome, IfNone, Err, IsErrOf};
 ghost use Rattle.edge_io.specs.Told.{one_more, Rose};
-ghost use Rattle.edge_io.specs.Files.{Lacks, IsUnopened};
+ghost use Rattle.edge_io.specs.Files.{Files, Lacks, IsUnopened, MaySee, left_by};
 ghost use Rattle.pcapng_input.specs.Blocks.{Clean, Ends, opening, first_walk, next_of};
 ghost use Rattle.pcapng_input.specs.Steps.{Shows};
 ghost use Rattle.pcap_input.specs.Reader.{Tells};
@@ -56,6 +56,41 @@ impl NgReader {
         ensures same_contents { H.contents host.new ≡ H.contents host.old }
         ensures counted { H.opens host.new ≡ one_more (H.opens host.old) }
         ensures later { H.faults host.old ≤ H.faults host.new }
+
+        // The same by whatever may be seen of the host afterwards: what it tells, or files that give all
+        // that it answered.
+        ensures seen_gives { (seen : Option Files) → MaySee (H.contents host.new) (H.agrees host.new) seen
+            → (bytes : List ℕ) → Tells seen name.now bytes → Opens result (opening bytes) }
+        ensures seen_takes { (seen : Option Files) → MaySee (H.contents host.new) (H.agrees host.new) seen
+            → TakesHead seen name.now result (left_by (H.left_of host.new) seen)
+                ⊎ (IsErrOf result NgFault.Failed × (left_by (H.left_of host.new) seen ≡ None)) }
+        ensures earlier { (seen : Option Files) → MaySee (H.contents host.new) (H.agrees host.new) seen
+            → MaySee (H.contents host.old) (H.agrees host.old) seen }
+    {
+        NgReader::open_seen(alloc, host, name)
+    }
+
+    /// What `open` does, by whatever may be seen of the host afterwards.
+    fn open_seen<H: Host>(alloc: Global, host: &mut H, name: &str) -> Result<NgReader, NgFault>
+        // Where contents are told, the answer is what the file's first block gives.
+        ensures gives { (seen : Option Files) → MaySee (H.contents host.new) (H.agrees host.new) seen
+            → (bytes : List ℕ) → Tells seen name.now bytes → Opens result (opening bytes) }
+
+        // What is taken: the first block and nothing behind it. Before a refusal it isn't whole within
+        // what is taken; where the opening itself failed, nothing is open.
+        ensures takes { (seen : Option Files) → MaySee (H.contents host.new) (H.agrees host.new) seen
+            → TakesHead seen name.now result (left_by (H.left_of host.new) seen)
+                ⊎ (IsErrOf result NgFault.Failed × (left_by (H.left_of host.new) seen ≡ None)) }
+
+        ensures fresh { IfOk result (λ reader. reader.refused ≡ None) }
+        ensures kinds { IfErr result IsOfHead }
+        ensures failed { IsErrOf result NgFault.Failed
+            → Rose (H.faults host.old) (H.faults host.new) ⊎ Lacks (H.contents host.old) name.now }
+        ensures same_contents { H.contents host.new ≡ H.contents host.old }
+        ensures earlier { (seen : Option Files) → MaySee (H.contents host.new) (H.agrees host.new) seen
+            → MaySee (H.contents host.old) (H.agrees host.old) seen }
+        ensures counted { H.opens host.new ≡ one_more (H.opens host.old) }
+        ensures later { H.faults host.old ≤ H.faults host.new }
     {
         host.open(name)?;
         let mut walk = Walk::new(alloc);
@@ -109,6 +144,71 @@ impl NgReader {
         ensures same_contents { H.contents host.new ≡ H.contents host.old }
         ensures same_opens { H.opens host.new ≡ H.opens host.old }
         ensures later { H.faults host.old ≤ H.faults host.new }
+
+        // The same by whatever may be seen of the host afterwards: what it tells, or files that give all
+        // that it answered.
+        ensures seen_gives { (seen : Option Files) → MaySee (H.contents host.new) (H.agrees host.new) seen
+            → self.old.refused ≡ None → (rest : List ℕ) → left_by (H.left_of host.old) seen ≡ Some rest
+                → Answers result (next_of self.old.walk rest) }
+        ensures seen_unopened { (seen : Option Files) → MaySee (H.contents host.new) (H.agrees host.new) seen
+            → self.old.refused ≡ None → IsUnopened seen (left_by (H.left_of host.old) seen)
+                → Answers result (Ends Clean) }
+        ensures seen_takes { (seen : Option Files) → MaySee (H.contents host.new) (H.agrees host.new) seen
+            → IfOk result (λ given. IfSome given
+                (λ r. TakesRecord self.old self.new r (left_by (H.left_of host.old) seen) (left_by (H.left_of host.new) seen))) }
+        ensures seen_ended { (seen : Option Files) → MaySee (H.contents host.new) (H.agrees host.new) seen
+            → IfOk result (λ given. IfNone given (TakesBlocks self.old self.new
+                (left_by (H.left_of host.old) seen) (left_by (H.left_of host.new) seen))) }
+        ensures seen_partial { (seen : Option Files) → MaySee (H.contents host.new) (H.agrees host.new) seen
+            → self.old.refused ≡ None
+                → IfErr result (λ why. TakesNone self.old why
+                    (left_by (H.left_of host.old) seen) (left_by (H.left_of host.new) seen)) }
+        ensures earlier { (seen : Option Files) → MaySee (H.contents host.new) (H.agrees host.new) seen
+            → MaySee (H.contents host.old) (H.agrees host.old) seen }
+    {
+        self.next_seen(alloc, host)
+    }
+
+    /// What `next` does, by whatever may be seen of the host afterwards.
+    fn next_seen<H: Host>(
+        &mut self,
+        alloc: Global,
+        host: &mut H,
+    ) -> Result<Option<NgRecord>, NgFault>
+        // Where the bytes left are told, the answer is what stands next in them; where nothing is
+        // open, it is the end.
+        ensures gives { (seen : Option Files) → MaySee (H.contents host.new) (H.agrees host.new) seen
+            → self.old.refused ≡ None → (rest : List ℕ) → left_by (H.left_of host.old) seen ≡ Some rest
+                → Answers result (next_of self.old.walk rest) }
+        ensures unopened { (seen : Option Files) → MaySee (H.contents host.new) (H.agrees host.new) seen
+            → self.old.refused ≡ None → IsUnopened seen (left_by (H.left_of host.old) seen)
+                → Answers result (Ends Clean) }
+
+        // What is taken: the bytes up to the end of the record's block and none behind them, or the blocks
+        // that no record follows. Before a refusal no record is whole within what is taken.
+        ensures takes { (seen : Option Files) → MaySee (H.contents host.new) (H.agrees host.new) seen
+            → IfOk result (λ given. IfSome given
+                (λ r. TakesRecord self.old self.new r (left_by (H.left_of host.old) seen) (left_by (H.left_of host.new) seen))) }
+        ensures ended { (seen : Option Files) → MaySee (H.contents host.new) (H.agrees host.new) seen
+            → IfOk result (λ given. IfNone given (TakesBlocks self.old self.new
+                (left_by (H.left_of host.old) seen) (left_by (H.left_of host.new) seen))) }
+        ensures partial { (seen : Option Files) → MaySee (H.contents host.new) (H.agrees host.new) seen
+            → self.old.refused ≡ None
+                → IfErr result (λ why. TakesNone self.old why
+                    (left_by (H.left_of host.old) seen) (left_by (H.left_of host.new) seen)) }
+
+        // A refusal is kept and repeated, and then nothing is read.
+        ensures refused { IfErr result (λ why. self.new.refused ≡ Some why) }
+        ensures again { (why : NgFault) → self.old.refused ≡ Some why → result ≡ Err why }
+        ensures untouched { (why : NgFault) → self.old.refused ≡ Some why → host.new ≡ host.old }
+
+        ensures failed { IsErrOf result NgFault.Failed
+            → Rose (H.faults host.old) (H.faults host.new) ⊎ (self.old.refused ≡ Some NgFault.Failed) }
+        ensures same_contents { H.contents host.new ≡ H.contents host.old }
+        ensures earlier { (seen : Option Files) → MaySee (H.contents host.new) (H.agrees host.new) seen
+            → MaySee (H.contents host.old) (H.agrees host.old) seen }
+        ensures same_opens { H.opens host.new ≡ H.opens host.old }
+        ensures later { H.faults host.old ≤ H.faults host.new }
     {
         if let Some(why) = self.refused {
             return Err(why);
@@ -131,10 +231,13 @@ fn read_first<H: Host>(
     host: &mut H,
 ) -> Result<BlockRead, NgFault>
     requires { walk.old ≡ first_walk }
-    ensures shows { Shows opening walk.new result (H.left host.old) (H.left host.new) }
+    ensures shows { (seen : Option Files) → MaySee (H.contents host.new) (H.agrees host.new) seen
+        → Shows opening walk.new result (left_by (H.left_of host.old) seen) (left_by (H.left_of host.new) seen) }
     ensures kinds { IsHeadAnswer result }
     ensures failed { IsErrOf result NgFault.Failed → Rose (H.faults host.old) (H.faults host.new) }
     ensures same_contents { H.contents host.new ≡ H.contents host.old }
+    ensures earlier { (seen : Option Files) → MaySee (H.contents host.new) (H.agrees host.new) seen
+        → MaySee (H.contents host.old) (H.agrees host.old) seen }
     ensures same_opens { H.opens host.new ≡ H.opens host.old }
     ensures later { H.faults host.old ≤ H.faults host.new }
 {
@@ -174,10 +277,14 @@ fn read_next<H: Host>(
     alloc: Global,
     host: &mut H,
 ) -> Result<Option<NgRecord>, NgFault>
-    ensures goes { Goes walk.old walk.new result (H.left host.old) (H.left host.new) }
-    ensures unopened { IsUnopened (H.contents host.old) (H.left host.old) → IsNothing result }
+    ensures goes { (seen : Option Files) → MaySee (H.contents host.new) (H.agrees host.new) seen
+        → Goes walk.old walk.new result (left_by (H.left_of host.old) seen) (left_by (H.left_of host.new) seen) }
+    ensures unopened { (seen : Option Files) → MaySee (H.contents host.new) (H.agrees host.new) seen
+        → IsUnopened seen (left_by (H.left_of host.old) seen) → IsNothing result }
     ensures failed { IsErrOf result NgFault.Failed → Rose (H.faults host.old) (H.faults host.new) }
     ensures same_contents { H.contents host.new ≡ H.contents host.old }
+    ensures earlier { (seen : Option Files) → MaySee (H.contents host.new) (H.agrees host.new) seen
+        → MaySee (H.contents host.old) (H.agrees host.old) seen }
     ensures same_opens { H.opens host.new ≡ H.opens host.old }
     ensures later { H.faults host.old ≤ H.faults host.new }
 {

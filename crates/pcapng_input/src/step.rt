@@ -1,5 +1,5 @@
-ghost use Rattle.std.specs.Prelude.{◌≡◌, ◌<◌, ◌≤◌, IsTrue, length, IfOk, IsErrOf};
-ghost use Rattle.edge_io.specs.Files.{IsUnopened};
+ghost use Rattle.std.specs.Prelude.{◌≡◌, ◌<◌, ◌≤◌, Option, IsTrue, length, IfOk, IsErrOf};
+ghost use Rattle.edge_io.specs.Files.{Files, IsUnopened, MaySee, left_by};
 ghost use Rattle.edge_io.specs.Told.{Rose};
 ghost use Rattle.pcapng_input.specs.declared.content.Content.TheVariants as content;
 ghost use Rattle.pcapng_input.specs.Blocks.{is_sized, inner_length, order_of, closing, known, section_begun, begun, step_of};
@@ -55,9 +55,13 @@ pub fn order_of(magic: &[u8]) -> Option<bool>
 fn pass_over<H: Host>(walk: &mut Walk, host: &mut H, block: Block) -> Result<BlockRead, NgFault>
     requires sized { IsTrue (is_sized block) }
     requires room { HasRoom walk.old }
-    ensures shows { Shows (closing walk.old block content.Skipped) walk.new result (H.left host.old) (H.left host.new) }
+    ensures shows { (seen : Option Files) → MaySee (H.contents host.new) (H.agrees host.new) seen
+        → Shows (closing walk.old block content.Skipped) walk.new result
+            (left_by (H.left_of host.old) seen) (left_by (H.left_of host.new) seen) }
     ensures failed { IsErrOf result NgFault.Failed → Rose (H.faults host.old) (H.faults host.new) }
     ensures same_contents { H.contents host.new ≡ H.contents host.old }
+    ensures earlier { (seen : Option Files) → MaySee (H.contents host.new) (H.agrees host.new) seen
+        → MaySee (H.contents host.old) (H.agrees host.old) seen }
     ensures same_opens { H.opens host.new ≡ H.opens host.old }
     ensures later { H.faults host.old ≤ H.faults host.new }
 {
@@ -81,10 +85,13 @@ fn read_interface<H: Host>(
 ) -> Result<BlockRead, NgFault>
     requires sized { IsTrue (is_sized block) }
     requires room { HasRoom walk.old }
-    ensures shows { Shows (closing walk.old block (content.Interface link snaplen)) walk.new result
-        (H.left host.old) (H.left host.new) }
+    ensures shows { (seen : Option Files) → MaySee (H.contents host.new) (H.agrees host.new) seen
+        → Shows (closing walk.old block (content.Interface link snaplen)) walk.new result
+            (left_by (H.left_of host.old) seen) (left_by (H.left_of host.new) seen) }
     ensures failed { IsErrOf result NgFault.Failed → Rose (H.faults host.old) (H.faults host.new) }
     ensures same_contents { H.contents host.new ≡ H.contents host.old }
+    ensures earlier { (seen : Option Files) → MaySee (H.contents host.new) (H.agrees host.new) seen
+        → MaySee (H.contents host.old) (H.agrees host.old) seen }
     ensures same_opens { H.opens host.new ≡ H.opens host.old }
     ensures later { H.faults host.old ≤ H.faults host.new }
 {
@@ -121,9 +128,13 @@ fn read_packet<H: Host>(
     requires sized { IsTrue (is_sized block) }
     requires room { HasRoom walk.old }
     requires fits { packet.captured ≤ inner_length block }
-    ensures shows { Shows (closing walk.old block (content.Packet packet)) walk.new result (H.left host.old) (H.left host.new) }
+    ensures shows { (seen : Option Files) → MaySee (H.contents host.new) (H.agrees host.new) seen
+        → Shows (closing walk.old block (content.Packet packet)) walk.new result
+            (left_by (H.left_of host.old) seen) (left_by (H.left_of host.new) seen) }
     ensures failed { IsErrOf result NgFault.Failed → Rose (H.faults host.old) (H.faults host.new) }
     ensures same_contents { H.contents host.new ≡ H.contents host.old }
+    ensures earlier { (seen : Option Files) → MaySee (H.contents host.new) (H.agrees host.new) seen
+        → MaySee (H.contents host.old) (H.agrees host.old) seen }
     ensures same_opens { H.opens host.new ≡ H.opens host.old }
     ensures later { H.faults host.old ≤ H.faults host.new }
 {
@@ -160,9 +171,13 @@ fn read_closing<H: Host>(
     requires sized { IsTrue (is_sized block) }
     requires room { HasRoom walk.old }
     requires fits { FitsIn block told }
-    ensures shows { Shows (closing walk.old block told) walk.new result (H.left host.old) (H.left host.new) }
+    ensures shows { (seen : Option Files) → MaySee (H.contents host.new) (H.agrees host.new) seen
+        → Shows (closing walk.old block told) walk.new result
+            (left_by (H.left_of host.old) seen) (left_by (H.left_of host.new) seen) }
     ensures failed { IsErrOf result NgFault.Failed → Rose (H.faults host.old) (H.faults host.new) }
     ensures same_contents { H.contents host.new ≡ H.contents host.old }
+    ensures earlier { (seen : Option Files) → MaySee (H.contents host.new) (H.agrees host.new) seen
+        → MaySee (H.contents host.old) (H.agrees host.old) seen }
     ensures same_opens { H.opens host.new ≡ H.opens host.old }
     ensures later { H.faults host.old ≤ H.faults host.new }
 {
@@ -184,9 +199,12 @@ pub fn read_known<H: Host>(
     block: Block,
 ) -> Result<BlockRead, NgFault>
     requires room { HasRoom walk.old }
-    ensures shows { Shows (known walk.old block) walk.new result (H.left host.old) (H.left host.new) }
+    ensures shows { (seen : Option Files) → MaySee (H.contents host.new) (H.agrees host.new) seen
+        → Shows (known walk.old block) walk.new result (left_by (H.left_of host.old) seen) (left_by (H.left_of host.new) seen) }
     ensures failed { IsErrOf result NgFault.Failed → Rose (H.faults host.old) (H.faults host.new) }
     ensures same_contents { H.contents host.new ≡ H.contents host.old }
+    ensures earlier { (seen : Option Files) → MaySee (H.contents host.new) (H.agrees host.new) seen
+        → MaySee (H.contents host.old) (H.agrees host.old) seen }
     ensures same_opens { H.opens host.new ≡ H.opens host.old }
     ensures later { H.faults host.old ≤ H.faults host.new }
 {
@@ -211,9 +229,13 @@ fn read_section<H: Host>(
 ) -> Result<BlockRead, NgFault>
     requires eight { length first.now ≡ 8 }
     requires room { HasRoom walk.old }
-    ensures shows { Shows (section_begun walk.old first.now) walk.new result (H.left host.old) (H.left host.new) }
+    ensures shows { (seen : Option Files) → MaySee (H.contents host.new) (H.agrees host.new) seen
+        → Shows (section_begun walk.old first.now) walk.new result
+            (left_by (H.left_of host.old) seen) (left_by (H.left_of host.new) seen) }
     ensures failed { IsErrOf result NgFault.Failed → Rose (H.faults host.old) (H.faults host.new) }
     ensures same_contents { H.contents host.new ≡ H.contents host.old }
+    ensures earlier { (seen : Option Files) → MaySee (H.contents host.new) (H.agrees host.new) seen
+        → MaySee (H.contents host.old) (H.agrees host.old) seen }
     ensures same_opens { H.opens host.new ≡ H.opens host.old }
     ensures later { H.faults host.old ≤ H.faults host.new }
 {
@@ -242,9 +264,13 @@ fn read_begun<H: Host>(
 ) -> Result<BlockRead, NgFault>
     requires eight { length first.now ≡ 8 }
     requires room { HasRoom walk.old }
-    ensures shows { Shows (begun walk.old first.now) walk.new result (H.left host.old) (H.left host.new) }
+    ensures shows { (seen : Option Files) → MaySee (H.contents host.new) (H.agrees host.new) seen
+        → Shows (begun walk.old first.now) walk.new result
+            (left_by (H.left_of host.old) seen) (left_by (H.left_of host.new) seen) }
     ensures failed { IsErrOf result NgFault.Failed → Rose (H.faults host.old) (H.faults host.new) }
     ensures same_contents { H.contents host.new ≡ H.contents host.old }
+    ensures earlier { (seen : Option Files) → MaySee (H.contents host.new) (H.agrees host.new) seen
+        → MaySee (H.contents host.old) (H.agrees host.old) seen }
     ensures same_opens { H.opens host.new ≡ H.opens host.old }
     ensures later { H.faults host.old ≤ H.faults host.new }
 {
@@ -267,10 +293,14 @@ pub fn read_block<H: Host>(
     alloc: Global,
     host: &mut H,
 ) -> Result<BlockRead, NgFault>
-    ensures shows { Shows (step_of walk.old) walk.new result (H.left host.old) (H.left host.new) }
-    ensures unopened { IsUnopened (H.contents host.old) (H.left host.old) → IsAtEnd result }
+    ensures shows { (seen : Option Files) → MaySee (H.contents host.new) (H.agrees host.new) seen
+        → Shows (step_of walk.old) walk.new result (left_by (H.left_of host.old) seen) (left_by (H.left_of host.new) seen) }
+    ensures unopened { (seen : Option Files) → MaySee (H.contents host.new) (H.agrees host.new) seen
+        → IsUnopened seen (left_by (H.left_of host.old) seen) → IsAtEnd result }
     ensures failed { IsErrOf result NgFault.Failed → Rose (H.faults host.old) (H.faults host.new) }
     ensures same_contents { H.contents host.new ≡ H.contents host.old }
+    ensures earlier { (seen : Option Files) → MaySee (H.contents host.new) (H.agrees host.new) seen
+        → MaySee (H.contents host.old) (H.agrees host.old) seen }
     ensures same_opens { H.opens host.new ≡ H.opens host.old }
     ensures later { H.faults host.old ≤ H.faults host.new }
 {

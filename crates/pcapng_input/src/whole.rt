@@ -1,8 +1,8 @@
 //! A whole pcapng capture as a list of its records, read by the calls of the reader one after another.
 
-ghost use Rattle.std.specs.Prelude.{◌≡◌, ◌≤◌, ◌⊎◌, List, ℕ, length, IfOk};
+ghost use Rattle.std.specs.Prelude.{◌≡◌, ◌≤◌, ◌⊎◌, Option, List, ℕ, length, IfOk};
 ghost use Rattle.edge_io.specs.Told.{one_more, Rose};
-ghost use Rattle.edge_io.specs.Files.{Lacks};
+ghost use Rattle.edge_io.specs.Files.{Files, Lacks, MaySee};
 ghost use Rattle.pcap_input.specs.Reader.{Tells};
 ghost use Rattle.pcapng_input.specs.Calls.{AreFirst};
 ghost use Rattle.pcapng_input.specs.Whole.{IsHeld, HasFailed};
@@ -42,6 +42,39 @@ pub fn read_up_to<H: Host>(
     ensures failed { HasFailed result → Rose (H.faults host.old) (H.faults host.new) ⊎ Lacks (H.contents host.old) name.now }
     ensures within { IfOk result (λ found. length found.records ≤ limit) }
     ensures same_contents { H.contents host.new ≡ H.contents host.old }
+    ensures counted { H.opens host.new ≡ one_more (H.opens host.old) }
+    ensures later { H.faults host.old ≤ H.faults host.new }
+
+    // The same by whatever may be seen of the host afterwards: what it tells, or files that give all
+    // that it answered.
+    ensures seen_held { (seen : Option Files) → MaySee (H.contents host.new) (H.agrees host.new) seen
+        → (bytes : List ℕ) → Tells seen name.now bytes → IsHeld result limit bytes }
+    ensures seen_first { (seen : Option Files) → MaySee (H.contents host.new) (H.agrees host.new) seen
+        → (bytes : List ℕ) → Tells seen name.now bytes
+            → IfOk result (λ found. AreFirst found.records bytes) }
+    ensures earlier { (seen : Option Files) → MaySee (H.contents host.new) (H.agrees host.new) seen
+        → MaySee (H.contents host.old) (H.agrees host.old) seen }
+{
+    read_seen(alloc, host, name, limit)
+}
+
+/// What `read_up_to` does, by whatever may be seen of the host afterwards.
+fn read_seen<H: Host>(
+    alloc: Global,
+    host: &mut H,
+    name: &str,
+    limit: usize,
+) -> Result<Found, NgFault>
+    ensures held { (seen : Option Files) → MaySee (H.contents host.new) (H.agrees host.new) seen
+        → (bytes : List ℕ) → Tells seen name.now bytes → IsHeld result limit bytes }
+    ensures first { (seen : Option Files) → MaySee (H.contents host.new) (H.agrees host.new) seen
+        → (bytes : List ℕ) → Tells seen name.now bytes
+            → IfOk result (λ found. AreFirst found.records bytes) }
+    ensures failed { HasFailed result → Rose (H.faults host.old) (H.faults host.new) ⊎ Lacks (H.contents host.old) name.now }
+    ensures within { IfOk result (λ found. length found.records ≤ limit) }
+    ensures same_contents { H.contents host.new ≡ H.contents host.old }
+    ensures earlier { (seen : Option Files) → MaySee (H.contents host.new) (H.agrees host.new) seen
+        → MaySee (H.contents host.old) (H.agrees host.old) seen }
     ensures counted { H.opens host.new ≡ one_more (H.opens host.old) }
     ensures later { H.faults host.old ≤ H.faults host.new }
 {

@@ -20,11 +20,17 @@ impl<H: Host> Host for Poor<H> {
 
     ghost left = { λ poor. H.left poor.host };
 
+    ghost agrees = { λ poor. H.agrees poor.host };
+
+    ghost left_of = { λ poor. H.left_of poor.host };
+
     ghost faults = { λ poor. H.faults poor.host };
 
     ghost opens = { λ poor. H.opens poor.host };
 
     ghost left_is_told = { λ poor. H.left_is_told poor.host };
+
+    ghost as_told = { λ poor. H.as_told poor.host };
 
     fn load(&mut self, _name: &str, _limit: usize, _out: &mut Vec<u8>) -> Result<(), LoadFault> {
         Err(LoadFault::NoMemory)

@@ -51,7 +51,7 @@ impl<'a> MadeCapture<'a> {
 }
 
 impl Host for MadeCapture<'_> {
-    ghost use Rattle.std.specs.Prelude.{Some};
+    ghost use Rattle.std.specs.Prelude.{◌≡◌, Some, refl};
     ghost use Rattle.std.specs.FinMap.{empty};
     ghost use Rattle.snort_engine.specs.Steps.MadeCapture.{left_of};
 
@@ -59,11 +59,17 @@ impl Host for MadeCapture<'_> {
 
     ghost left = { left_of };
 
+    ghost agrees = { λ _ files. files ≡ empty };
+
+    ghost left_of = { λ made _. left_of made };
+
     ghost faults = { λ _. 0 };
 
     ghost opens = { λ made. made.opens };
 
     ghost left_is_told = { λ _. tt };
+
+    ghost as_told = { λ _. record { agree = refl; alone = λ _ same. same; left_is = refl } };
 
     fn load(&mut self, _name: &str, _limit: usize, _out: &mut Vec<u8>) -> Result<(), LoadFault> {
         Err(LoadFault::Failed)

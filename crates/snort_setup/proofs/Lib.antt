@@ -5,5 +5,6 @@ pub mod Stepping
 pub mod Standing
 pub mod One
 pub mod Wholes
+pub mod Seeing
 pub mod Few
 pub mod Configuring

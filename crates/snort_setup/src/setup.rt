@@ -1,6 +1,6 @@
 //! The setup: configuration, rule lines and host table, in this order.
-ghost use Rattle.std.specs.Prelude.{◌≡◌, ◌≤◌, All, IfOk, IfErr, Some, length};
-ghost use Rattle.edge_io.specs.Files.{Files};
+ghost use Rattle.std.specs.Prelude.{◌≡◌, ◌≤◌, All, IfOk, IfErr, Some, length, Option};
+ghost use Rattle.edge_io.specs.Files.{Files, MaySee};
 ghost use Rattle.edge_io.specs.Told.{Rose};
 ghost use Rattle.conf_types.specs.Sound as conf;
 ghost use Rattle.conf_parser.specs.Reading.{Ended};
@@ -94,7 +94,10 @@ pub fn read_setup<H: Host, M: PatternMaker>(
     warnings: &mut Items<Text>,
 ) -> Result<Setup<M::Made>, SetupStop>
     requires { HasName (words_of words.now).definition }
-    // Where the host tells its files, the answer is their setup, and words and files have one.
+    // By files that give all that the host answered, the answer is their setup, and words and files have one.
+    ensures agreed { (files : Files) → H.agrees host.new files
+        → SetsUp ready_of (words_of words.now) files (Rose (H.faults host.old) (H.faults host.new))
+        (grown_by (M.refusals maker.old) (M.refusals maker.new)) result warnings.new }
     ensures setup { (files : Files) → H.contents host.old ≡ Some files
         → SetsUp ready_of (words_of words.now) files (Rose (H.faults host.old) (H.faults host.new))
         (grown_by (M.refusals maker.old) (M.refusals maker.new)) result warnings.new }
@@ -110,6 +113,9 @@ pub fn read_setup<H: Host, M: PatternMaker>(
     // The host is as before, but for its count, and the maker but for what it refused.
     ensures same { (H.contents host.new ≡ H.contents host.old)
         × (H.left host.new ≡ H.left host.old) × (H.opens host.new ≡ H.opens host.old) }
+    ensures same_left { (files : Files) → H.left_of host.new files ≡ H.left_of host.old files }
+    ensures earlier { (seen : Option Files) → MaySee (H.contents host.new) (H.agrees host.new) seen
+        → MaySee (H.contents host.old) (H.agrees host.old) seen }
     ensures later { H.faults host.old ≤ H.faults host.new }
     ensures grows { Grows (M.refusals maker.old) (M.refusals maker.new) }
     ensures same_meaning { SameMeaning (M.means maker.old) (M.means maker.new) }

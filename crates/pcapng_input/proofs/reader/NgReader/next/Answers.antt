@@ -1,28 +1,38 @@
--- What the walk answers is what the reader does.
-use Rattle.std.proofs.Common.{◌≡◌, Ok, Err, None, rules}
-use Rattle.pcapng_input.proofs.Walking.{goes_answers, goes_none, takes_by, ended_by, none_refused}
+-- What holds by whatever may be seen holds by what is told.
+use Rattle.std.proofs.Common.{◌≡◌, ℕ, List, Some, None}
+use Rattle.std.specs.Prelude.{IfOk, IfErr, IfSome, IfNone}
+use Rattle.edge_io.specs.Files.{IsUnopened}
+use Rattle.edge_io.proofs.Seeing.{told}
+use Rattle.pcapng_input.specs.Blocks.{Clean, Ends, next_of}
+use Rattle.pcapng_input.specs.Reader.{Answers, TakesRecord, TakesBlocks, TakesNone}
 use Rattle.pcapng_input.proofs.reader.NgReader.next.Goals as goal
 
-pub returns-in-Ok-clause-gives : goal.returns-in-Ok-clause-gives
-returns-in-Ok-clause-gives g c = λ fresh rest told.
-    rw (← c.self.view_is) (goes_answers c.self.inside.walk c.read_next.new.walk (Ok c.in-Ok.given) (g.H.Host.left c.args.host.now) (g.H.Host.left c.read_next.new.host) c.in-Ok.ensures.goes rest told)
+pub returns-clause-gives : goal.returns-clause-gives
+returns-clause-gives g c =
+    told g.H.Host g.met.H.Host.as_told c.args.host.now c.next_seen.new.host
+    (λ contents old new. c.args.self.now.refused ≡ None → (rest : List ℕ) → old ≡ Some rest → Answers c.next_seen.result (next_of c.args.self.now.walk rest))
+    c.next_seen.ensures.same_contents c.next_seen.ensures.gives
 
-pub returns-in-Err-clause-gives : goal.returns-in-Err-clause-gives
-returns-in-Err-clause-gives g c = λ fresh rest told.
-    rw (← c.self.view_is) (goes_answers c.self.inside.walk c.read_next.new.walk (Err c.in-Err.why) (g.H.Host.left c.args.host.now) (g.H.Host.left c.read_next.new.host) c.in-Err.ensures.goes rest told)
+pub returns-clause-unopened : goal.returns-clause-unopened
+returns-clause-unopened g c =
+    told g.H.Host g.met.H.Host.as_told c.args.host.now c.next_seen.new.host
+    (λ contents old new. c.args.self.now.refused ≡ None → IsUnopened contents old → Answers c.next_seen.result (Ends Clean))
+    c.next_seen.ensures.same_contents c.next_seen.ensures.unopened
 
-pub returns-in-Ok-clause-takes : goal.returns-in-Ok-clause-takes
-returns-in-Ok-clause-takes g c =
-    let fresh : c.self.inside.refused ≡ None = first_of (cc, search rules, search (rules, none_refused)) in
-    rw (← c.self.view_is) (takes_by (record { walk = c.self.inside.walk; refused = c.self.inside.refused }) (record { walk = c.read_next.new.walk; refused = c.self.inside.refused }) c.in-Ok.given
-    (g.H.Host.left c.args.host.now) (g.H.Host.left c.read_next.new.host) c.in-Ok.ensures.goes fresh)
+pub returns-clause-takes : goal.returns-clause-takes
+returns-clause-takes g c =
+    told g.H.Host g.met.H.Host.as_told c.args.host.now c.next_seen.new.host
+    (λ contents old new. IfOk c.next_seen.result (λ given. IfSome given (λ r. TakesRecord c.args.self.now c.next_seen.new.self r old new)))
+    c.next_seen.ensures.same_contents c.next_seen.ensures.takes
 
-pub returns-in-Ok-clause-ended : goal.returns-in-Ok-clause-ended
-returns-in-Ok-clause-ended g c =
-    let fresh : c.self.inside.refused ≡ None = first_of (cc, search rules, search (rules, none_refused)) in
-    rw (← c.self.view_is) (ended_by (record { walk = c.self.inside.walk; refused = c.self.inside.refused }) (record { walk = c.read_next.new.walk; refused = c.self.inside.refused }) c.in-Ok.given
-    (g.H.Host.left c.args.host.now) (g.H.Host.left c.read_next.new.host) c.in-Ok.ensures.goes fresh)
+pub returns-clause-ended : goal.returns-clause-ended
+returns-clause-ended g c =
+    told g.H.Host g.met.H.Host.as_told c.args.host.now c.next_seen.new.host
+    (λ contents old new. IfOk c.next_seen.result (λ given. IfNone given (TakesBlocks c.args.self.now c.next_seen.new.self old new)))
+    c.next_seen.ensures.same_contents c.next_seen.ensures.ended
 
-pub returns-in-Err-clause-partial : goal.returns-in-Err-clause-partial
-returns-in-Err-clause-partial g c = λ fresh.
-    rw (← c.self.view_is) (goes_none (record { walk = c.self.inside.walk; refused = c.self.inside.refused }) c.read_next.new.walk c.in-Err.why (g.H.Host.left c.args.host.now) (g.H.Host.left c.read_next.new.host) c.in-Err.ensures.goes)
+pub returns-clause-partial : goal.returns-clause-partial
+returns-clause-partial g c =
+    told g.H.Host g.met.H.Host.as_told c.args.host.now c.next_seen.new.host
+    (λ contents old new. c.args.self.now.refused ≡ None → IfErr c.next_seen.result (λ why. TakesNone c.args.self.now why old new))
+    c.next_seen.ensures.same_contents c.next_seen.ensures.partial

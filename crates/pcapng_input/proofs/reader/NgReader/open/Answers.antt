@@ -1,27 +1,19 @@
--- What was opened is what the name holds, and its first block is what was read.
-use Rattle.std.proofs.Common.{inl}
-use Rattle.std.proofs.lemmas.Result.{err_from_is_err_and}
-use Rattle.pcapng_input.proofs.Heads.{ok_opens, ok_takes, err_opens, err_takes}
+-- What holds by whatever may be seen holds by what is told.
+use Rattle.std.proofs.Common.{◌≡◌, ℕ, List, None}
+use Rattle.std.specs.Prelude.{IsErrOf, ◌⊎◌}
+use Rattle.edge_io.proofs.Seeing.{told}
+use Rattle.pcap_input.specs.Reader.{Tells}
+use Rattle.pcapng_input.specs.declared.capture.NgFault.TheVariants as fault
+use Rattle.pcapng_input.specs.Blocks.{opening}
+use Rattle.pcapng_input.specs.Reader.{Opens, TakesHead}
 use Rattle.pcapng_input.proofs.reader.NgReader.open.Goals as goal
 
-pub returns-in_err-read_first-clause-gives : goal.returns-in_err-read_first-clause-gives
-returns-in_err-read_first-clause-gives g c = λ bytes tells.
-    let p = err_from_is_err_and c.from_residual-in_err-read_first.result c.from_residual-in_err-read_first.ensures.1 in
-    rw (p.1, p.2) (err_opens (g.H.Host.contents c.args.host.now) c.args.name.now bytes c.read_first.new.walk c.in_err-read_first.field-0.0 (g.H.Host.left c.open.new.self) (g.H.Host.left c.read_first.new.host)
-    c.in_err-read_first.ensures.shows c.in_ok-open.ensures.opened tells)
-
-pub returns-in_err-read_first-clause-takes : goal.returns-in_err-read_first-clause-takes
-returns-in_err-read_first-clause-takes g c =
-    let p = err_from_is_err_and c.from_residual-in_err-read_first.result c.from_residual-in_err-read_first.ensures.1 in
-    rw (p.1, p.2) (inl (err_takes (g.H.Host.contents c.args.host.now) c.args.name.now c.read_first.new.walk c.in_err-read_first.field-0.0 (g.H.Host.left c.open.new.self) (g.H.Host.left c.read_first.new.host)
-    c.in_err-read_first.ensures.shows c.in_ok-open.ensures.opened))
-
 pub returns-clause-gives : goal.returns-clause-gives
-returns-clause-gives g c = λ bytes tells.
-    ok_opens (g.H.Host.contents c.args.host.now) c.args.name.now bytes c.read_first.new.walk c.in_ok-read_first.field-0 (g.H.Host.left c.open.new.self) (g.H.Host.left c.read_first.new.host)
-    c.in_ok-read_first.ensures.kinds c.in_ok-read_first.ensures.shows c.in_ok-open.ensures.opened tells
+returns-clause-gives g c =
+    told g.H.Host g.met.H.Host.as_told c.args.host.now c.open_seen.new.host
+    (λ contents old new. (bytes : List ℕ) → Tells contents c.args.name.now bytes → Opens c.open_seen.result (opening bytes)) c.open_seen.ensures.same_contents c.open_seen.ensures.gives
 
 pub returns-clause-takes : goal.returns-clause-takes
 returns-clause-takes g c =
-    inl (ok_takes (g.H.Host.contents c.args.host.now) c.args.name.now c.read_first.new.walk c.in_ok-read_first.field-0 (g.H.Host.left c.open.new.self) (g.H.Host.left c.read_first.new.host)
-    c.in_ok-read_first.ensures.kinds c.in_ok-read_first.ensures.shows c.in_ok-open.ensures.opened)
+    told g.H.Host g.met.H.Host.as_told c.args.host.now c.open_seen.new.host
+    (λ contents old new. TakesHead contents c.args.name.now c.open_seen.result new ⊎ (IsErrOf c.open_seen.result fault.Failed × (new ≡ None))) c.open_seen.ensures.same_contents c.open_seen.ensures.takes
