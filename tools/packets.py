@@ -11,7 +11,7 @@ A packet is a kind, its two ends, fields and a payload; all but the kind may be 
 A payload is quoted text with pairs of hex digits between bars, as in a rule's content; `*n` behind it repeats it, and
 several of them stand one behind another. Fields of all kinds: ttl, tos, id, df, reserved, more, offset (in bytes, of a
 fragment), protocol (of `ip`), badsum (a wrong checksum). Of `tcp`: flags (letters FSRPAUEC), seq, ack, window. Of `icmp`:
-type, code, icmp_id, icmp_seq.
+type, code, icmp_id, icmp_seq. `->` between the ends is the same as `>`.
 """
 import ipaddress, re, struct
 
@@ -19,7 +19,11 @@ FLAGS = "FSRPAUEC"
 PROTOCOLS = {"udp": 17, "tcp": 6, "icmp": 1, "ip": 253}
 NUMBERS = {"ttl": 64, "tos": 0, "id": 1, "offset": 0, "protocol": None, "seq": 0, "ack": 0, "window": 65535,
            "type": 8, "code": 0, "icmp_id": 0, "icmp_seq": 0}
+MOST = {"ttl": 255, "tos": 255, "id": 2**32 - 1, "offset": 65528, "protocol": 255, "seq": 2**32 - 1, "ack": 2**32 - 1,
+        "window": 65535, "type": 255, "code": 255, "icmp_id": 65535, "icmp_seq": 65535}
 MARKS = ("df", "reserved", "more", "badsum")
+HEADS = {"udp": 8, "tcp": 20, "icmp": 8, "ip": 0}  # bytes of the header behind that of IP
+LONGEST = 65535  # bytes behind the IP header of version 6, and with it in version 4
 END = re.compile(r"(?:\[([0-9a-fA-F:.]+)\]|([0-9.]+))(?::(\d+))?\Z")
 PART = re.compile(r'"((?:[^"\\]|\\.)*)"(?:\*(\d+))?|(\S+)')
 
@@ -32,21 +36,28 @@ def payload(text):
     while at < len(text):
         if text[at] == "|":
             end = text.find("|", at + 1)
+            if end < 0:
+                raise Wrong(f"no closing bar: {text[at:]}")
             try:
-                out += bytes.fromhex(text[at + 1:end if end > 0 else len(text)])
+                out += bytes.fromhex(text[at + 1:end])
             except ValueError:
-                raise Wrong(f"no hex digits: {text[at:]}") from None
-            at = end + 1 if end > 0 else len(text)
+                raise Wrong(f"no hex digits: {text[at:end + 1]}") from None
+            at = end + 1
             continue
         at += text[at] == "\\" and at + 1 < len(text)
-        out += text[at].encode()
+        out += text[at].encode("utf-8", "surrogateescape")
         at += 1
     return bytes(out)
 
 def end_of(word):
     if not (found := END.match(word)):
         raise Wrong(f"no address: {word}")
-    return ipaddress.ip_address(found[1] or found[2]), int(found[3] or 0)
+    if len(found[3] or "") > 5 or int(found[3] or 0) > 65535:
+        raise Wrong(f"no port: {word}")
+    try:
+        return ipaddress.ip_address(found[1] or found[2]), int(found[3] or 0)
+    except ValueError:
+        raise Wrong(f"no address: {word}") from None
 
 def checksum(data):  # RFC 1071: a sum in ones' complement is a remainder by 65535, and 0 only if all is 0
     return -int.from_bytes(data + b"\0" * (len(data) % 2), "big") % 65535 if any(data) else 65535
@@ -78,10 +89,14 @@ def datagram(kind, source, target, given, data):
     protocol = numbers["protocol"] if numbers["protocol"] is not None else PROTOCOLS[kind]
     if kind == "icmp" and here.version == 6:
         protocol = 58
+    is_fragment = "more" in given or "offset" in given
+    most = LONGEST - (0 if is_fragment else HEADS[kind]) - (8 * is_fragment if here.version == 6 else 20)
+    if len(data) > most:
+        raise Wrong(f"a payload of {len(data)} bytes: {kind} over IPv{here.version} has at most {most}")
     body = transport(kind, source, target, given, data)
     fragment = ("more" in given) << 13 | numbers["offset"] // 8
     if here.version == 6:
-        if "more" in given or "offset" in given:
+        if is_fragment:
             part = (numbers["offset"] // 8) << 3 | ("more" in given)
             body, protocol = struct.pack(">BBHI", protocol, 0, part, numbers["id"]) + body, 44
         head = struct.pack(">IHBB", 6 << 28 | numbers["tos"] << 20, len(body), protocol, numbers["ttl"])
@@ -101,24 +116,36 @@ def field(word):
     name, equals, value = word.partition("=")
     if name == "flags" and equals and all(letter in FLAGS for letter in value):
         return name, sum(1 << FLAGS.index(letter) for letter in set(value))
-    if name in NUMBERS and value.isdecimal():
+    if name in NUMBERS and value.isascii() and value.isdecimal():
+        if len(value) > 10 or int(value) > MOST[name]:
+            raise Wrong(f"a number of more than {MOST[name]}: {word}")
+        if name == "offset" and int(value) % 8:
+            raise Wrong(f"an offset that is no multiple of 8: {word}")
         return name, int(value)
     if name in MARKS and not equals:
         return name, True
     raise Wrong(f"no field of a packet: {word}")
 
-def packet(text, source="10.0.0.1:1000", target="10.0.0.2:2000"):
-    """The frame of a packet's text; its ends are these where it names none."""
-    kind, _, rest = text.strip().partition(" ")
+def repeated(text, times):
+    data = payload(text)
+    if times and (len(times) > 9 or len(data) * int(times) > LONGEST):
+        raise Wrong(f"a payload of more than {LONGEST} bytes: \"{text}\"*{times}")
+    return data * int(times or 1)
+
+def packet(text, data=b""):
+    """The frame of a packet's text, and of a payload behind the one that is written in it."""
+    source, target = "10.0.0.1:1000", "10.0.0.2:2000"
+    kind, rest = [*text.split(None, 1), "", ""][:2]
     if kind not in PROTOCOLS:
         raise Wrong(f"no kind of packet: {kind}")
-    words, data, given = [], b"", {}
+    words, written, given = [], b"", {}
     for found in PART.finditer(rest):
         if found[3] is None:
-            data += payload(found[1]) * int(found[2] or 1)
+            written += repeated(found[1], found[2])
         else:
             words.append(found[3])
-    if len(words) >= 3 and words[1] == ">":
+    data = written + data
+    if len(words) >= 3 and words[1] in (">", "->"):
         source, target, words = words[0], words[2], words[3:]
     for word in words:
         name, value = field(word)
@@ -126,6 +153,8 @@ def packet(text, source="10.0.0.1:1000", target="10.0.0.2:2000"):
     source, target = end_of(source), end_of(target)
     if source[0].version != target[0].version:
         raise Wrong("two addresses of different versions")
+    if source[0].version == 4 and given.get("id", 0) > 65535:
+        raise Wrong(f"a number of more than 65535: id={given['id']}")
     try:
         return frame(kind, source, target, given, data)
     except struct.error as fault:

@@ -3,12 +3,14 @@
 Files, includes and variables are read as docs/manual/configuration.md says. Whether a rule is accepted isn't looked at.
 Used by alerts and check_rules.
 """
-import os, re
+import functools, os, re
 from collections import namedtuple
 
 Rule = namedtuple("Rule", "gid sid msg text file line")
 VARIABLE = re.compile(r"\$(?:(\w+)|\((\w+)(?::-([^)]*))?\))")
 CLASS = re.compile(r"config\s+classification\s*:(.*)", re.S)
+WORD = re.compile(r"[ \t]*(?![ \t])((?:[^ \t\[]|\[[^\[\]]*\])*)(?=[ \t]|\Z)")  # one without brackets in brackets
+OPTION = re.compile(r'[^"\\;]*(?:(?:\\.|"[^"\\]*(?:\\.[^"\\]*)*")[^"\\;]*)*;', re.S)
 MOST_DEEP = 16
 
 class Rules:
@@ -36,23 +38,46 @@ class Rules:
             rule = Rule(int(gid), int(sid), unquoted(options.get("msg", "")), tidy(text), file, line)
             self.by_mark.setdefault((rule.gid, rule.sid), rule)
 
+@functools.lru_cache(maxsize=16384)
+def word_spans(rule):
+    """Where the seven words of a rule's header begin and end: they stand between blanks outside brackets; the last ones may be
+    empty."""
+    spans, at = [], 0
+    for _ in range(7):
+        if found := WORD.match(rule, at):
+            spans.append(found.span(1))
+            at = found.end()
+            continue
+        while at < len(rule) and rule[at] in " \t":
+            at += 1
+        begin, depth = at, 0
+        while at < len(rule) and (depth or rule[at] not in " \t"):
+            depth = max(depth + (rule[at] == "[") - (rule[at] == "]"), 0)
+            at += 1
+        spans.append((begin, at))
+    return tuple(spans)
+
+def options_start(rule):
+    """Where what stands behind a rule's header begins."""
+    at = word_spans(rule)[6][1]
+    return at + len(rule[at:]) - len(rule[at:].lstrip(" \t"))
+
+@functools.lru_cache(maxsize=16384)
+def option_spans(rule):
+    """Where the options of a rule begin and end, each without its `;` and the blanks around it."""
+    at = options_start(rule) + 1
+    end, spans = rule.rfind(")"), []
+    end = end if end >= at else len(rule)
+    while found := OPTION.match(rule, at, end):
+        text = rule[at:found.end() - 1]
+        front = len(text) - len(text.lstrip(" \t"))
+        spans.append((at + front, at + max(len(text.rstrip(" \t")), front)))
+        at = found.end()
+    return tuple(spans)
+
 def options_of(rule):
     """The options of a rule, each without its `;`."""
-    begin, options, quoted, at = rule.find("("), [""], False, 0
-    body = rule[begin + 1:rule.rfind(")")]
-    while begin >= 0 and at < len(body):
-        letter = body[at]
-        if letter == "\\":
-            options[-1] += body[at:at + 2]
-            at += 2
-            continue
-        quoted ^= letter == '"'
-        if letter == ";" and not quoted:
-            options.append("")
-        else:
-            options[-1] += letter
-        at += 1
-    return [it.strip() for it in options[:-1]]
+    return [rule[begin:end] for begin, end in option_spans(rule)]
 
 def unquoted(value):
     """What a quoted text says: a backslash gives the letter behind it."""
@@ -69,17 +94,23 @@ def text_of(data):
     except UnicodeDecodeError:
         return data.decode("latin-1")
 
+def cut_lines(text):
+    """The lines of a text or of bytes, without a return before a line feed."""
+    feed, back = ("\n", "\r") if isinstance(text, str) else (b"\n", b"\r")
+    *lines, last = text.split(feed)
+    return [*(it.removesuffix(back) for it in lines), last]
+
 def joined_lines(name):
     """The lines of a file, those joined that end in a backslash: the number of the first, and the text."""
     with open(name, "rb") as file:
-        lines = [text_of(it.removesuffix(b"\r")) for it in file.read().split(b"\n")]
+        lines = [text_of(it) for it in cut_lines(file.read())]
     at = 0
     while at < len(lines):
-        first, text = at, lines[at]
-        while text.endswith("\\") and at + 1 < len(lines):
+        first, text, goes_on = at, "", True
+        while goes_on and at < len(lines):  # the file's last line may end in a backslash, too
+            goes_on = lines[at].endswith("\\")
+            text += lines[at][:-1] if goes_on else lines[at]
             at += 1
-            text = text[:-1] + lines[at]
-        at += 1
         yield first + 1, text.strip(" \t")
 
 def expand(text, values):
@@ -87,23 +118,23 @@ def expand(text, values):
 
 def read_into(rules, name, values, fixed, depth):
     for number, text in joined_lines(name):
-        word, _, rest = text.replace("\t", " ").partition(" ")
+        word, rest = [*re.split(r"[ \t]+", text, maxsplit=1), ""][:2]
         if word == "alert":
             rules.add_rule(text, name, number)
         elif found := CLASS.match(text):
             rules.add_class(found[1])
         elif word in ("var", "ipvar", "portvar"):
-            key, _, value = rest.strip().partition(" ")
+            key, value = [*re.split(r"[ \t]+", rest, maxsplit=1), ""][:2]
             if key not in fixed:
-                values[key] = expand(value.strip(), values)
+                values[key] = expand(value, values)
         elif word == "include" and depth < MOST_DEEP:
-            asked = expand(rest.strip(), values)
+            asked = expand(rest, values)
             path = asked if asked.startswith("/") else os.path.join(os.path.dirname(name), asked)
             read_into(rules, path, values, fixed, depth + 1)
 
 def read(name, defined=None):
     """What the configuration of this name says, with the variable that `-S` defines."""
-    fixed = dict([defined.split("=", 1)] if defined else [])
+    fixed = dict([defined.split("=", 1)] if defined and "=" in defined else [])
     rules = Rules()
     read_into(rules, name, dict(fixed), fixed, 0)
     return rules

@@ -1,0 +1,48 @@
+"""What scripts have in common: their help, how they end, and the program that they run."""
+import os, signal, sys
+
+TOP = os.path.dirname(os.path.dirname(os.path.realpath(__file__)))
+
+class Stop(Exception):
+    """Why a script gives no answer: a sentence."""
+
+def program():
+    """The program: ./snort, or the one that SNORT names."""
+    return os.path.abspath(os.environ.get("SNORT") or f"{TOP}/snort")
+
+def status_of(main, help_text):
+    words = sys.argv[1:]
+    if words[:1] == ["--help"]:
+        print(help_text.strip())
+        return 0
+    return main(words)
+
+def run(main, help_text):
+    """Runs a script: main gives its status for its words. Without an answer the status is 2, and a sentence says why.
+
+    Where who reads the output went away, it ends without a word.
+    """
+    for stream in (sys.stdout, sys.stderr):
+        stream.reconfigure(encoding="utf-8", errors="surrogateescape")
+    for number in (signal.SIGTERM, signal.SIGHUP):
+        if signal.getsignal(number) != signal.SIG_IGN:
+            signal.signal(number, lambda number, frame: sys.exit(128 + number))
+    status = told = None
+    try:
+        status = status_of(main, help_text)
+        sys.stdout.flush()
+    except BrokenPipeError:
+        status = 1
+    except KeyboardInterrupt:
+        status = 130
+    except Stop as why:
+        status, told = 2, str(why)
+    except OSError as fault:
+        status, told = 2, f"{fault.filename or 'standard output'}: {fault.strerror}"
+    if told:
+        print(told, file=sys.stderr)
+    try:
+        sys.stdout.flush()
+    except OSError:  # what can't be written any more is left
+        os.dup2(os.open(os.devnull, os.O_WRONLY), sys.stdout.fileno())
+    sys.exit(status)
