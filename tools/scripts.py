@@ -22,7 +22,10 @@ def run(main, help_text):
 
     Where who reads the output went away, it ends without a word.
     """
-    for stream in (sys.stdout, sys.stderr):
+    if sys.stdout is None:
+        print("standard output is closed", file=sys.stderr)
+        sys.exit(2)
+    for stream in filter(None, (sys.stdout, sys.stderr)):
         stream.reconfigure(encoding="utf-8", errors="surrogateescape")
     for number in (signal.SIGTERM, signal.SIGHUP):
         if signal.getsignal(number) != signal.SIG_IGN:
