@@ -10,7 +10,7 @@ docs/manual/unified2.md: an event, of kind 7 or 72, and the packet behind it, of
 import argparse, calendar, contextlib, datetime, functools, ipaddress, os, re, struct, sys
 from collections import namedtuple
 
-import rule_texts
+import capture_records, packet_heads, rule_texts
 from rule_texts import text_of
 
 # The moment is in microseconds since 1970; `place` is that of the class among the configuration's, from 1 on, and 0 where
@@ -22,9 +22,12 @@ PROTOCOLS = {1: "ICMP", 2: "IGMP", 6: "TCP", 17: "UDP", 41: "IPv6", 47: "GRE", 5
              103: "PIM", 132: "SCTP"}  # by the names of IANA, as EVE has them
 NUMBERS = {name.upper(): number for number, name in PROTOCOLS.items()}
 ICMP, ICMP6, WITH_PORTS = 1, 58, (6, 17)
-LINE = re.compile(rb"(\d\d)/(\d\d)(?:/(\d\d))?-(\d\d):(\d\d):(\d\d)\.(\d{6})  \[\*\*\] "
-                  rb"\[(\d{1,10}):(\d{1,10}):(\d{1,10})\] (.*) \[\*\*\] (?:\[Classification: (.*)\] )?"
-                  rb"\[Priority: (\d{1,10})\] \{(?:PROTO:(\d{3})|([A-Z0-9-]+))\} (\S+) -> (\S+)", re.S)
+# A line is three parts, each of which comes again and again: up to the stars, up to the protocol, and the rest.
+STAMP = re.compile(rb"(\d\d)/(\d\d)(?:/(\d\d))?-(\d\d):(\d\d):(\d\d)\.(\d{6})")
+STARS = b"  [**] "
+RULE = re.compile(rb"\[(\d{1,10}):(\d{1,10}):(\d{1,10})\] (.*) \[\*\*\] (?:\[Classification: (.*)\] )?"
+                  rb"\[Priority: (\d{1,10})\]", re.S)
+ENDS = re.compile(rb"\{(?:PROTO:(\d{3})|([A-Z0-9-]+))\} (\S+) -> (\S+)")
 PORT = re.compile(r"(.*):(0|[1-9]\d{0,4})\Z")
 PACKET, EVENTS = 2, {7: struct.Struct(">9I4s4s2H4B"), 72: struct.Struct(">9I16s16s2H4B")}
 PACKET_HEAD = struct.Struct(">7I")
@@ -42,63 +45,116 @@ def latest_year(month, day, today):
             return year
     raise ValueError
 
-@functools.lru_cache(maxsize=1024)
-def midnight(month, day, year, asked):
-    """The second at which a date begins; its year is that of the line, else the one that was asked for."""
-    if not 1 <= month <= 12:
-        raise Wrong("no such date")
-    try:
-        if year is None and asked is None:
-            asked = latest_year(month, day, datetime.datetime.now(datetime.timezone.utc).date())
-        date = datetime.date(asked if year is None else 2000 + year, month, day)
-    except ValueError:
-        raise Wrong("no such date") from None
-    return calendar.timegm(date.timetuple())
+def year_behind(before, month, day):
+    """The year of a date that comes behind another one, in which times may run back.
 
-def is_address(text):
-    try:
-        return bool(re.fullmatch(r"[0-9a-fA-F.:]+", text)) and ipaddress.ip_address(text).version
-    except ValueError:
-        return False
+    A date that is more than half a year earlier in the year is in the next one, and one that is more than eleven months
+    later in the one before, since so long a capture has no alert in between more seldom than times run back.
+    """
+    ahead = (datetime.date(2000, month, day) - before.replace(year=2000)).days
+    return before.year + (ahead < -183) - (ahead > 335)
+
+class Years:
+    """The dates of the lines of a file, which have no year.
+
+    The first one has the year that is asked for; else that in which it comes behind a date that is known, that of a capture's
+    first record; else the latest one in which it isn't after today, a guess of which `tell` hears. Each further one comes
+    behind the one before. A line with a year of its own has that.
+    """
+    def __init__(self, asked=None, known=None, tell=lambda year: None):
+        self.asked, self.before, self.tell, self.months_and_day, self.second = asked, known, tell, None, 0
+
+    def year_of(self, month, day):
+        if self.before:
+            return year_behind(self.before, month, day)
+        if self.asked:
+            return self.asked
+        return latest_year(month, day, datetime.datetime.now(datetime.timezone.utc).date())
+
+    def midnight(self, month, day, own=None):
+        """The second at which a date begins."""
+        if self.months_and_day == (month, day, own):
+            return self.second
+        try:
+            datetime.date(2000, month, day)
+            year = self.year_of(month, day) if own is None else 2000 + own
+        except ValueError:
+            raise Wrong("no such date") from None
+        try:
+            date = datetime.date(year, month, day)
+        except ValueError:
+            raise Wrong(f"no such date in {year}") from None
+        if own is None and not (self.before or self.asked):
+            self.tell(year)
+        self.months_and_day, self.before, self.second = (month, day, own), date, calendar.timegm(date.timetuple())
+        return self.second
 
 @functools.lru_cache(maxsize=65536)
+def version_of(text):
+    """The version of an address; 0 where it is none."""
+    try:
+        return ipaddress.ip_address(text).version if re.fullmatch(r"[0-9a-fA-F.:]+", text) else 0
+    except ValueError:
+        return 0
+
 def ends(source, target, has_ports):
     """Both ends of a line, as address, port, address, port.
 
     A port stands behind a colon, also that of an address of version 6: what can be read as an address and a port is read so.
     """
     pair = [PORT.match(it) for it in (source, target)] if has_ports else [None]
-    if all(it and is_address(it[1]) and int(it[2]) < 65536 for it in pair):
+    if all(it and version_of(it[1]) and int(it[2]) < 65536 for it in pair):
         (source, sport), (target, dport) = [(it[1], int(it[2])) for it in pair]
     else:
         sport = dport = None
-    if not is_address(source) or is_address(source) != is_address(target):
+    if not version_of(source) or version_of(source) != version_of(target):
         raise Wrong("no two addresses")
     return source, sport, target, dport
 
-def alert_of_line(line, year=None):
-    """The alert of a line, without what ends it."""
-    if not (found := LINE.fullmatch(line)):
+@functools.lru_cache(maxsize=65536)
+def rule_part(text):
+    """gid, sid, rev, msg, class and priority."""
+    if not (found := RULE.fullmatch(text)):
         raise Wrong("no alert line")
-    month, day, own, hour, minute, second, micro, gid, sid, rev = (it and int(it) for it in found.groups()[:10])
-    msg, category, priority, number, name, source, target = found.groups()[10:]
-    if hour > 23 or minute > 59 or second > 59:
-        raise Wrong("no such time")
+    gid, sid, rev, msg, category, priority = found.groups()
+    return int(gid), int(sid), int(rev), text_of(msg), text_of(category or b""), 0, int(priority)
+
+@functools.lru_cache(maxsize=65536)
+def ends_part(text):
+    """Protocol, and both ends."""
+    if not (found := ENDS.fullmatch(text)):
+        raise Wrong("no alert line")
+    number, name, source, target = found.groups()
     protocol = int(number) if number else NUMBERS.get(name.decode(), 256)
     if protocol > 255:
         raise Wrong("no such protocol")
-    clock = midnight(month, day, own, year) + 3600 * hour + 60 * minute + second
-    source, sport, target, dport = ends(text_of(source), text_of(target), protocol in WITH_PORTS)
-    return Alert(clock * 10**6 + micro, gid, sid, rev, text_of(msg), text_of(category or b""), 0, int(priority), protocol,
-                 source, sport, target, dport)
+    return (protocol, *ends(text_of(source), text_of(target), protocol in WITH_PORTS))
 
-def of_lines(file, name, year, tell):
+def moment_part(text, years):
+    """The moment, in microseconds since 1970."""
+    if not (found := STAMP.fullmatch(text)):
+        raise Wrong("no alert line")
+    month, day, own, hour, minute, second, micro = (it and int(it) for it in found.groups())
+    if hour > 23 or minute > 59 or second > 59:
+        raise Wrong("no such time")
+    return (years.midnight(month, day, own) + 3600 * hour + 60 * minute + second) * 10**6 + micro
+
+def alert_of_line(line, years):
+    """The alert of a line, without what ends it."""
+    stamp, _, rest = line.partition(STARS)
+    middle = rest.rfind(b"] {") + 1  # of what is behind it nothing may look like this
+    if not middle:
+        raise Wrong("no alert line")
+    rule, ends = rule_part(rest[:middle]), ends_part(rest[middle + 1:])
+    return Alert(moment_part(stamp, years), *rule, *ends)  # the date last, since dates of what is no alert don't count
+
+def of_lines(file, name, years, tell):
     """The alerts of the lines of a file; of a line that is none, `tell` hears."""
     for number, line in enumerate(file, 1):
         try:
             if not line.endswith(b"\n"):
                 raise Wrong("no line feed ends the line, so it may be cut off")
-            yield alert_of_line(line[:-1].removesuffix(b"\r"), year)
+            yield alert_of_line(line[:-1].removesuffix(b"\r"), years)
         except Wrong as fault:
             tell(f"{name}({number}) {fault}: {ascii(text_of(line[:80].rstrip()))[1:-1]}")
 
@@ -116,27 +172,9 @@ def colon_text(data):
 def address_of(data):
     return ".".join(map(str, data)) if len(data) == 4 else colon_text(data)
 
-def datagram(link, data):
-    """The bytes of a record from its IP header on."""
-    if link == 101:  # no link header
-        return data
-    at = {1: 12, 113: 14}[link]  # where the type stands: Ethernet, and the cooked form of Linux
-    while link == 1 and data[at:at + 2] in (b"\x81\0", b"\x88\xa8"):
-        at += 4
-    return data[at + 2:]
-
 def is_fragment(link, data):
-    """Whether a record is a fragment (RFC 791, section 3.1; RFC 8200, sections 4.1 and 4.5)."""
-    try:
-        ip = datagram(link, data)
-        if ip[0] >> 4 == 4:
-            return int.from_bytes(ip[6:8], "big") & 0x3FFF != 0
-        following, at = ip[6], 40
-        while following in (0, 43, 60):
-            following, at = ip[at], at + 8 + 8 * ip[at + 1]
-        return following == 44 and int.from_bytes(ip[at + 2:at + 4], "big") & 0xFFF9 != 0
-    except (IndexError, KeyError):
-        return False
+    heads = packet_heads.heads_of(link, data)
+    return bool(heads and heads.fragment)
 
 def is_record(kind, length, body):
     """Whether a body is whole, and of the length that its kind has."""
@@ -197,23 +235,51 @@ class Words(argparse.ArgumentParser):
     def error(self, message):
         sys.exit(f"{message}\n{self.usage}")
 
-def asked_words(text, more=()):
-    """The words of the command: those that eve and report have alike, and more."""
+class Help(argparse.Action):
+    def __call__(self, parser, words, values, option=None):
+        print(parser.usage)
+        sys.exit(0)
+
+def parser_of(text):
+    """What reads the words of a command, of which `text` is the help."""
     parser = Words(usage=text.strip(), add_help=False, allow_abbrev=False)
+    parser.add_argument("-h", "--help", nargs=0, action=Help)
+    parser.add_argument("files", nargs="*")
+    return parser
+
+def asked_words(text, more=()):
+    """The words of the command: those that eve and report have alike, and more, each with what argparse should know of it."""
+    parser = parser_of(text)
     parser.add_argument("-c", dest="conf")
     parser.add_argument("-S", dest="defined")
     parser.add_argument("--year", type=int)
+    parser.add_argument("--capture")
     parser.add_argument("--lines", dest="form", action="store_const", const="lines")
     parser.add_argument("--unified2", dest="form", action="store_const", const="unified2")
-    for word in more:
-        parser.add_argument(word)
-    parser.add_argument("files", nargs="*")
-    words = parser.parse_args()
+    for word, known in more:
+        parser.add_argument(word, **known)
+    words = parser.parse_intermixed_args()
     if words.year is not None and not 1970 <= words.year <= 9999:
         parser.error("--year is a year from 1970 on")
+    if words.year is not None and words.capture is not None:
+        parser.error("--year or --capture, not both")
     if words.defined is not None and "=" not in words.defined:
         parser.error("-S wants NAME=VALUE")
     return words
+
+def text_of_word(word):
+    """The text of a word of the command, whatever bytes it has."""
+    return text_of(os.fsencode(word))
+
+def first_date(name):
+    """The date of the first record of a capture."""
+    try:
+        second = capture_records.first_moment(name) // 10**9
+        return (datetime.datetime(1970, 1, 1) + datetime.timedelta(seconds=second)).date()
+    except OSError as fault:
+        sys.exit(f"cannot read {name}: {fault.strerror}")
+    except (capture_records.Wrong, OverflowError) as fault:
+        sys.exit(f"{name} tells no year: {fault}")
 
 class Input:
     """The alerts of the files that a command names, or of standard input, in their order.
@@ -222,6 +288,7 @@ class Input:
     """
     def __init__(self, words):
         self.words, self.status = words, 0
+        self.known = first_date(words.capture) if words.capture is not None else None
         try:
             self.rules = rule_texts.read(words.conf, words.defined) if words.conf else rule_texts.Rules()
         except OSError as fault:
@@ -234,7 +301,7 @@ class Input:
     def alerts(self):
         for name in self.words.files or ["-"]:
             try:
-                with contextlib.nullcontext(sys.stdin.buffer) if name == "-" else open(name, "rb") as file:
+                with standard_input() if name == "-" else open(name, "rb") as file:
                     yield from self.of_file(file, "standard input" if name == "-" else name)
             except OSError as fault:
                 sys.exit(f"cannot read {name}: {fault.strerror}")
@@ -244,16 +311,29 @@ class Input:
         form = self.words.form or ("unified2" if file.peek(1)[:1] == b"\0" else "lines")
         if form == "unified2":
             return of_unified2(file, name, self.rules, self.tell)
-        return of_lines(file, name, self.words.year, self.tell)
+        def guessed(year):
+            print(f"{name}: {year} is a guess, since lines have no year: --year N or --capture FILE tells it",
+                  file=sys.stderr, flush=True)
+        return of_lines(file, name, Years(self.words.year, self.known, guessed), self.tell)
+
+def standard_input():
+    if sys.stdin is None:
+        sys.exit("cannot read standard input: it is closed")
+    return contextlib.nullcontext(sys.stdin.buffer)
 
 def run(main):
     """Runs a command; where who reads its output went away, it ends without a word."""
+    if sys.stdout is None:
+        sys.exit("cannot write: standard output is closed")
     try:
-        status = main()
+        try:
+            status = main()
+        except SystemExit as ended:
+            status = ended.code
         sys.stdout.flush()
-    except BrokenPipeError:
+    except OSError as fault:
         os.dup2(os.open(os.devnull, os.O_WRONLY), sys.stdout.fileno())
-        status = 1
+        status = 1 if isinstance(fault, BrokenPipeError) else f"cannot write: {fault.strerror}"
     except KeyboardInterrupt:
         status = 130
     sys.exit(status)
