@@ -7,7 +7,7 @@ A line is that of docs/manual/events.md, with the year that Snort's `-y` writes 
 What stands in `msg` may look like the rest of a line, so the rest is taken from the end. Records are those of
 docs/manual/unified2.md: an event, of kind 7 or 72, and the packet behind it, of kind 2. Other kinds are passed over.
 """
-import argparse, calendar, contextlib, datetime, functools, ipaddress, os, re, struct, sys
+import argparse, calendar, contextlib, datetime, functools, os, re, socket, struct, sys
 from collections import namedtuple
 
 import capture_records, packet_heads, rule_texts
@@ -16,18 +16,22 @@ from rule_texts import text_of
 # The moment is in microseconds since 1970; `place` is that of the class among the configuration's, from 1 on, and 0 where
 # the record has no number of a class; ports are None where the item has none; icmp is a type and a code; packet is a link
 # type and the bytes of a record. A text that a record doesn't have is empty.
-Alert = namedtuple("Alert", "moment gid sid rev msg category place priority protocol source sport target dport "
-                            "icmp packet is_blocked", defaults=(None, None, False))
+Alert = namedtuple("Alert", "moment is_blocked gid sid rev msg category place priority "
+                            "protocol source sport target dport icmp packet")
+OF_RULE, OF_FLOW = slice(1, 9), slice(9, 15)  # the parts that come again and again
+new_tuple = tuple.__new__
 PROTOCOLS = {1: "ICMP", 2: "IGMP", 6: "TCP", 17: "UDP", 41: "IPv6", 47: "GRE", 50: "ESP", 51: "AH", 58: "IPv6-ICMP",
              103: "PIM", 132: "SCTP"}  # by the names of IANA, as EVE has them
 NUMBERS = {name.upper(): number for number, name in PROTOCOLS.items()}
-ICMP, ICMP6, WITH_PORTS = 1, 58, (6, 17)
+ICMP, TCP, UDP, ICMP6 = 1, 6, 17, 58
+WITH_PORTS = TCP, UDP
 # A line is three parts, each of which comes again and again: up to the stars, up to the protocol, and the rest.
-STAMP = re.compile(rb"(\d\d)/(\d\d)(?:/(\d\d))?-(\d\d):(\d\d):(\d\d)\.(\d{6})")
 STARS = b"  [**] "
+SECOND = re.compile(rb"(\d\d)/(\d\d)(?:/(\d\d))?-(\d\d):(\d\d):(\d\d)")
 RULE = re.compile(rb"\[(\d{1,10}):(\d{1,10}):(\d{1,10})\] (.*) \[\*\*\] (?:\[Classification: (.*)\] )?"
                   rb"\[Priority: (\d{1,10})\]", re.S)
 ENDS = re.compile(rb"\{(?:PROTO:(\d{3})|([A-Z0-9-]+))\} (\S+) -> (\S+)")
+USUAL_ENDS = re.compile(rb"\{(TCP|UDP)\} ([0-9.]+):(0|[1-9]\d{0,4}) -> ([0-9.]+):(0|[1-9]\d{0,4})")
 PORT = re.compile(r"(.*):(0|[1-9]\d{0,4})\Z")
 PACKET, EVENTS = 2, {7: struct.Struct(">9I4s4s2H4B"), 72: struct.Struct(">9I16s16s2H4B")}
 PACKET_HEAD = struct.Struct(">7I")
@@ -62,7 +66,8 @@ class Years:
     behind the one before. A line with a year of its own has that.
     """
     def __init__(self, asked=None, known=None, tell=lambda year: None):
-        self.asked, self.before, self.tell, self.months_and_day, self.second = asked, known, tell, None, 0
+        self.asked, self.before, self.tell = asked, known, tell
+        self.date = self.midnight = self.text = self.second = None  # of the line before, and what these give
 
     def year_of(self, month, day):
         if self.before:
@@ -71,10 +76,8 @@ class Years:
             return self.asked
         return latest_year(month, day, datetime.datetime.now(datetime.timezone.utc).date())
 
-    def midnight(self, month, day, own=None):
+    def midnight_of(self, month, day, own):
         """The second at which a date begins."""
-        if self.months_and_day == (month, day, own):
-            return self.second
         try:
             datetime.date(2000, month, day)
             year = self.year_of(month, day) if own is None else 2000 + own
@@ -86,16 +89,36 @@ class Years:
             raise Wrong(f"no such date in {year}") from None
         if own is None and not (self.before or self.asked):
             self.tell(year)
-        self.months_and_day, self.before, self.second = (month, day, own), date, calendar.timegm(date.timetuple())
+        self.before = date
+        return calendar.timegm(date.timetuple())
+
+    def second_of(self, text):
+        """The second that stands ahead of a line."""
+        if text != self.text:
+            if not (found := SECOND.fullmatch(text)):
+                raise Wrong("no alert line")
+            date, (hour, minute, second) = text[:-9], map(int, found.group(4, 5, 6))
+            if hour > 23 or minute > 59 or second > 59:
+                raise Wrong("no such time")
+            if date != self.date:
+                month, day, own = (it and int(it) for it in found.group(1, 2, 3))
+                self.midnight, self.date = self.midnight_of(month, day, own), date
+            self.text, self.second = text, self.midnight + 3600 * hour + 60 * minute + second
         return self.second
 
 @functools.lru_cache(maxsize=65536)
-def version_of(text):
-    """The version of an address; 0 where it is none."""
+def packed(text):
+    """The bytes of an address; none where it is no address."""
     try:
-        return ipaddress.ip_address(text).version if re.fullmatch(r"[0-9a-fA-F.:]+", text) else 0
-    except ValueError:
-        return 0
+        return socket.inet_pton(socket.AF_INET6 if ":" in text else socket.AF_INET, text)
+    except (OSError, ValueError):  # ValueError where a byte 0 is in it
+        return b""
+
+@functools.lru_cache(maxsize=65536)
+def usual_address(data):
+    """An address of version 4 as text; none where it is no address."""
+    text = data.decode()
+    return text if packed(text) else ""
 
 def ends(source, target, has_ports):
     """Both ends of a line, as address, port, address, port.
@@ -103,11 +126,11 @@ def ends(source, target, has_ports):
     A port stands behind a colon, also that of an address of version 6: what can be read as an address and a port is read so.
     """
     pair = [PORT.match(it) for it in (source, target)] if has_ports else [None]
-    if all(it and version_of(it[1]) and int(it[2]) < 65536 for it in pair):
+    if all(it and packed(it[1]) and int(it[2]) < 65536 for it in pair):
         (source, sport), (target, dport) = [(it[1], int(it[2])) for it in pair]
     else:
         sport = dport = None
-    if not version_of(source) or version_of(source) != version_of(target):
+    if not packed(source) or len(packed(source)) != len(packed(target)):
         raise Wrong("no two addresses")
     return source, sport, target, dport
 
@@ -119,9 +142,14 @@ def rule_part(text):
     gid, sid, rev, msg, category, priority = found.groups()
     return int(gid), int(sid), int(rev), text_of(msg), text_of(category or b""), 0, int(priority)
 
-@functools.lru_cache(maxsize=65536)
+@functools.lru_cache(maxsize=16384)
 def ends_part(text):
-    """Protocol, and both ends."""
+    """Protocol, and both ends. What is usual is read at once; all could be read as what isn't."""
+    if found := USUAL_ENDS.fullmatch(text):
+        name, source, sport, target, dport = found.groups()
+        source, sport, target, dport = usual_address(source), int(sport), usual_address(target), int(dport)
+        if source and target and sport < 65536 and dport < 65536:
+            return TCP if name == b"TCP" else UDP, source, sport, target, dport
     if not (found := ENDS.fullmatch(text)):
         raise Wrong("no alert line")
     number, name, source, target = found.groups()
@@ -130,31 +158,24 @@ def ends_part(text):
         raise Wrong("no such protocol")
     return (protocol, *ends(text_of(source), text_of(target), protocol in WITH_PORTS))
 
-def moment_part(text, years):
-    """The moment, in microseconds since 1970."""
-    if not (found := STAMP.fullmatch(text)):
-        raise Wrong("no alert line")
-    month, day, own, hour, minute, second, micro = (it and int(it) for it in found.groups())
-    if hour > 23 or minute > 59 or second > 59:
-        raise Wrong("no such time")
-    return (years.midnight(month, day, own) + 3600 * hour + 60 * minute + second) * 10**6 + micro
-
 def alert_of_line(line, years):
     """The alert of a line, without what ends it."""
     stamp, _, rest = line.partition(STARS)
     middle = rest.rfind(b"] {") + 1  # of what is behind it nothing may look like this
-    if not middle:
+    second, _, micro = stamp.partition(b".")
+    if not middle or len(micro) != 6 or not micro.isdigit():
         raise Wrong("no alert line")
     rule, ends = rule_part(rest[:middle]), ends_part(rest[middle + 1:])
-    return Alert(moment_part(stamp, years), *rule, *ends)  # the date last, since dates of what is no alert don't count
+    moment = years.second_of(second) * 1000000 + int(micro)  # last, since dates of what is no alert don't count
+    return new_tuple(Alert, (moment, False, *rule, *ends, None, None))
 
 def of_lines(file, name, years, tell):
     """The alerts of the lines of a file; of a line that is none, `tell` hears."""
     for number, line in enumerate(file, 1):
         try:
-            if not line.endswith(b"\n"):
+            if line[-1:] != b"\n":
                 raise Wrong("no line feed ends the line, so it may be cut off")
-            yield alert_of_line(line[:-1].removesuffix(b"\r"), years)
+            yield alert_of_line(line[:-2] if line[-2:] == b"\r\n" else line[:-1], years)
         except Wrong as fault:
             tell(f"{name}({number}) {fault}: {ascii(text_of(line[:80].rstrip()))[1:-1]}")
 
@@ -207,8 +228,8 @@ def alert_of_event(kind, body, packet, rules):
     sport, dport = ports if protocol in WITH_PORTS else (None, None)
     has_icmp = protocol in (ICMP, ICMP6) and icmp[0] is not None
     rule = rules.by_mark.get((gid, sid))
-    return Alert(second * 10**6 + micro, gid, sid, rev, rule.msg if rule else "", rules.class_text(place), place, priority,
-                 protocol, address_of(source), sport, address_of(target), dport, icmp if has_icmp else None, packet, blocked == 1)
+    return Alert(second * 10**6 + micro, blocked == 1, gid, sid, rev, rule.msg if rule else "", rules.class_text(place), place,
+                 priority, protocol, address_of(source), sport, address_of(target), dport, icmp if has_icmp else None, packet)
 
 def of_unified2(file, name, rules, tell):
     """The alerts of the records of a file, up to the first that isn't whole, of which `tell` hears."""

@@ -1,5 +1,7 @@
 """Alert lines and Unified2 records, worked out by hand, and what runs scripts on them. Used by test_field and test_report."""
 import io, os, struct, subprocess, sys
+from base64 import b64encode
+from hashlib import sha1
 
 import alerts, rule_texts
 
@@ -11,9 +13,11 @@ FRAME = bytes.fromhex("0200000000020200000000010800" "4500001f00010000401166cb0a
 EVENT = bytes.fromhex("0000000700000034" "00000000000000010000000000000000000000010000000100000000" "0000000000000000"
                       "0a0000010a000002" "03e807d0" "11000000")
 PACKET = bytes.fromhex("0000000200000049" "000000000000000100000000" "0000000000000000" "00000001" "0000002d") + FRAME
-EVE = ('{"timestamp":"1970-01-01T00:00:00.000000+0000","event_type":"alert","src_ip":"10.0.0.1","src_port":1000,'
-       '"dest_ip":"10.0.0.2","dest_port":2000,"proto":"UDP","alert":{"action":"allowed","gid":1,"signature_id":1,"rev":0,'
-       '"signature":"%s","category":"","severity":0}%s}\n')
+FLOW = sha1(bytes.fromhex("0000" "0a000001" "0a000002" "11" "00" "03e8" "07d0")).digest()  # as a community ID has it
+EVE = (f'{{"timestamp":"1970-01-01T00:00:00.000000+0000","flow_id":{int(FLOW.hex()[:12], 16)},"event_type":"alert",'
+       f'"src_ip":"10.0.0.1","src_port":1000,"dest_ip":"10.0.0.2","dest_port":2000,"proto":"UDP",'
+       f'"community_id":"1:{b64encode(FLOW).decode()}","alert":{{"action":"allowed","gid":1,"signature_id":1,"rev":0,'
+       '"signature":"%s","category":"","severity":3}%s}\n')
 
 def tool(name, *words, given=b""):
     """The status, the output and the messages of a script."""
