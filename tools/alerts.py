@@ -256,6 +256,14 @@ class Words(argparse.ArgumentParser):
     def error(self, message):
         sys.exit(f"{message}\n{self.usage}")
 
+    def asked(self):
+        """The words of the command, files and others in any order; behind `--` all are files."""
+        words = sys.argv[1:]
+        end = words.index("--") if "--" in words else len(words)
+        found = self.parse_intermixed_args(words[:end])
+        found.files += words[end + 1:]
+        return found
+
 class Help(argparse.Action):
     def __call__(self, parser, words, values, option=None):
         print(parser.usage)
@@ -279,7 +287,7 @@ def asked_words(text, more=()):
     parser.add_argument("--unified2", dest="form", action="store_const", const="unified2")
     for word, known in more:
         parser.add_argument(word, **known)
-    words = parser.parse_intermixed_args()
+    words = parser.asked()
     if words.year is not None and not 1970 <= words.year <= 9999:
         parser.error("--year is a year from 1970 on")
     if words.year is not None and words.capture is not None:

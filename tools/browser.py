@@ -13,7 +13,7 @@ class Failed(Exception):
 class Browser:
     """One page of a browser; messages are JSON, with a byte 0 behind each."""
     def __init__(self, width=1280, height=900):
-        self.profile, self.count, self.kept, self.events = tempfile.TemporaryDirectory(ignore_cleanup_errors=True), 0, b"", []
+        self.profile, self.count, self.kept, self.events = tempfile.mkdtemp(), 0, b"", []
         (to_read, self.to), (self.answers, to_write) = os.pipe(), os.pipe()
         def pipes():  # the browser reads commands at 3 and writes answers at 4
             at = [os.dup(to_read), os.dup(to_write)]
@@ -21,7 +21,7 @@ class Browser:
             os.dup2(at[1], 4)
         self.ran = subprocess.Popen(
             [program(), "--headless=new", "--no-sandbox", "--disable-gpu", "--disable-dev-shm-usage", "--no-first-run",
-             "--remote-debugging-pipe", f"--user-data-dir={self.profile.name}", "about:blank"],
+             "--remote-debugging-pipe", f"--user-data-dir={self.profile}", "about:blank"],
             preexec_fn=pipes, close_fds=False, stdout=subprocess.DEVNULL, stderr=subprocess.DEVNULL, stdin=subprocess.DEVNULL)
         os.close(to_read)
         os.close(to_write)
@@ -37,7 +37,7 @@ class Browser:
         os.close(self.answers)
         self.ran.terminate()
         self.ran.wait()
-        self.profile.cleanup()
+        shutil.rmtree(self.profile, ignore_errors=True)  # the browser's children may still write there
 
     def message(self):
         while b"\0" not in self.kept:
