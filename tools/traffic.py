@@ -17,6 +17,10 @@ lacks its last fragment, of eight pairs of segments one is out of order. The lim
 """
 import random, struct, sys
 
+if sys.argv[1:] == ["--help"]:
+    print(__doc__.strip())
+    sys.exit()
+
 rng = random.Random(2026)
 CLIENTS, SERVERS, RESOLVERS = 0xC6120000, 0xC0000200, 0xC6336400  # 198.18.0.0/15, 192.0.2.0/24, 198.51.100.0/24
 FIN, SYN, ACK = 1, 2, 16  # RFC 9293
