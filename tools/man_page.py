@@ -1,8 +1,11 @@
-"""The man page snort(8), made of pages of the manual. Used by package.
+"""The man page snort(8), made of pages of the manual, and those of the scripts, made of their help. Used by package.
 
 What the pages say stays as it is: headings, paragraphs, lists, tables and examples become their requests of man(7), and a
 link becomes its text, in italics. A table's first column becomes the tags of a list. ./snort is called snort here, and rows
 of tables that are about the launcher of that name, or about what no package has, are left out.
+
+A script's help says in its first sentence what it does. Its lines in front of which blanks stand stay lines, and the first
+such block that begins with the script's name is how it is called. So do lists with columns. What else it says are paragraphs.
 """
 import re, textwrap
 
@@ -135,6 +138,44 @@ def synopsis(lines):
                          for it in words), ".br"]
     return out[:-1]
 
+def help_blocks(text):
+    """A help text in groups: whether it is lines that stay lines, and these. A list with columns stays lines, too."""
+    out = []
+    for group in re.split(r"\n\s*\n", text.strip("\n")):
+        lines = group.splitlines()
+        first = next((at for at, it in enumerate(lines) if not it.startswith("  ")), len(lines))
+        for is_code, part in [(True, lines[:first]), (re.search(r"^  |\S   +\S", "\n".join(lines[first:]), re.M), lines[first:])]:
+            if part:
+                out.append((bool(is_code), textwrap.dedent("\n".join(part)).splitlines()))
+    return out
+
+def first_sentence(text):
+    return re.split(r"(?<=\.) ", text, maxsplit=1)
+
+def script_page(name, text, version, date, behind):
+    """The man page of a script that is called so, of its help."""
+    blocks = [it for it in help_blocks(text) if not it[1][0].startswith("usage:")]
+    if not blocks or blocks[0][0]:
+        raise NoSection(f"the help of {name} doesn't begin with what it does")
+    what, *rest = first_sentence(" ".join(blocks[0][1]))
+    usage = next((lines for is_code, lines in blocks if is_code and lines[0].startswith(name)), None)
+    if not usage:
+        raise NoSection(f"the help of {name} doesn't say how it is called")
+    out = [rf'.TH {plain(name.upper())} 1 {date} "{plain(version)}" "User Commands"', ".SH NAME",
+           rf"{plain(name)} \- {plain((what[0].lower() + what[1:].rstrip('.')).replace('`', ''))}",
+           ".SH SYNOPSIS", ".nf", *(line(plain(it)) for it in usage), ".fi", ".SH DESCRIPTION"]
+    for is_code, lines in [(False, rest), *blocks[1:]]:
+        if lines and lines != usage:
+            out += example(lines) if is_code else paragraph(" ".join(lines))
+    for head, texts in behind:
+        out += [f".SH {head}", *(it for text in texts for it in paragraph(text))]
+    return joined(out)
+
+def joined(lines):
+    """The page of its lines. A paragraph begins behind a heading by itself."""
+    return "\n".join(it for before, it in zip(["", *lines], lines)
+                     if not (it == ".PP" and before.startswith((".SH", ".SS")))) + "\n"
+
 def page(top, about, version, date, behind):
     """The man page of the manual below a folder: what the program is about, and heads with paragraphs behind the manual's."""
     usage = next(lines for kind, lines in blocks(section(top, WORDS, "")) if kind == "example")
@@ -148,5 +189,4 @@ def page(top, about, version, date, behind):
             out += [it for kind, lines in blocks(section(top, name, heading)) if lines != usage for it in requests(kind, lines)]
     for head, texts in behind:
         out += [f".SH {head}", *(it for text in texts for it in paragraph(text))]
-    # A paragraph begins behind a heading by itself.
-    return "\n".join(it for before, it in zip(["", *out], out) if not (it == ".PP" and before.startswith((".SH", ".SS")))) + "\n"
+    return joined(out)
