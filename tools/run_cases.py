@@ -1,4 +1,4 @@
-"""What the tests of runs and join have in common: captures by their form, and files in a folder of their own."""
+"""What the tests of runs, join and inspect have in common: captures by their form, and files in a folder of their own."""
 import os, shutil, struct, subprocess, tempfile, unittest
 
 TOOLS = os.path.dirname(os.path.realpath(__file__))

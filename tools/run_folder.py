@@ -1,4 +1,4 @@
-"""A folder of runs, as tools/runs makes it: its plan, its list, and which captures have a result. Used by runs.
+"""A folder of runs, as tools/runs makes it: its plan, its list, and which captures have a result. Used by runs and inspect.
 
     plan                      the program, its words, and the SHA-256 of each file that they read
     settings                  what doesn't change a result: limits, and when the plan's files were changed
