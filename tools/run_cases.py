@@ -1,5 +1,5 @@
 """What the tests of runs, join and inspect have in common: captures by their form, and files in a folder of their own."""
-import os, shutil, struct, subprocess, tempfile, unittest
+import os, shutil, struct, subprocess, sys, tempfile, unittest
 
 TOOLS = os.path.dirname(os.path.realpath(__file__))
 MICRO, NANO = 0xA1B2C3D4, 0xA1B23C4D
@@ -39,3 +39,10 @@ class Case(unittest.TestCase):
         if not has(program):
             self.skipTest(f"skipped: no {program}")
         return self.file(name, subprocess.run([program, "-c"], input=data, capture_output=True, check=True).stdout)
+
+def main():
+    """Runs the tests, and says what was skipped, and why."""
+    ran = unittest.main(verbosity=0, exit=False).result
+    for reason in sorted({it for _, it in ran.skipped}):
+        print(reason)
+    sys.exit(not ran.wasSuccessful())
