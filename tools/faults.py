@@ -2,6 +2,7 @@
 """Runs the detector with one fault at a time, and tells the runs that end otherwise than the manual says.
 
     tools/faults.py [--program PATH] [--cases WORD,..] [--faults WORD,..] [--lanes N,..] [--stacks] > table.md
+    tools/faults.py .. --resume FILE [--minutes M] > table.md
     tools/faults.py --test PATH NAME
 
 A case is a command with its files, and with its lines and the records at which they come, worked out by hand: see
@@ -29,11 +30,16 @@ Each run ends within 20 seconds and by no signal. Where a fault lets it go on, a
 The table is in Markdown: a cell says how many numbers ended with which status. Wrong ends follow, one a line, and with
 --stacks the calls that the faulty one stood in (by gdb). The exit status is 1 where there are some. --test runs a test
 function of the file that `rt test` leaves in a crate's `out`, each call for memory refused in turn: each run passes.
+
+With --resume a piece, which is all numbers of one fault in one case and number of lanes, is kept in FILE once it has run, and
+the next run with this FILE takes it over, if the program and the cases are the same. After so many minutes no piece begins,
+and the exit status is 3 where some are left.
 """
-import argparse, collections, os, resource, signal, struct, subprocess, sys, tempfile
+import argparse, collections, os, resource, signal, struct, subprocess, sys, tempfile, time
 
 sys.dont_write_bytecode = True
 from fault_cases import CASES, record_ends
+from fault_pieces import Kept, OutOfTime, Pieces, sum_of
 
 TOP = os.path.dirname(os.path.dirname(os.path.abspath(__file__)))
 SECONDS = 20
@@ -139,7 +145,7 @@ class Result:
             self.wrong.append("\n      ".join([told, *stack]))
 
 def counted(ends):
-    counts = sorted(collections.Counter(map(str, ends)).items())
+    counts = sorted(ends.items())
     return ", ".join(f"{count} × {end}" for end, count in counts) or "none"
 
 def each_number(program, case, words, fault, clean, stacks):
@@ -219,7 +225,13 @@ def wrong_clean(case, clean):
     if clean[:2] != (case.status, lines):
         return f"not status {case.status} and lines {lines[-300:]!r}: {clean.alerts[-300:]!r}"
 
-def run_cases(program, given):
+def run_piece(program, case, words, fault, clean, stacks):
+    """How many runs ended with which status, and what is wrong with some."""
+    result = (system_faults(program, case, words, clean) if fault == "system"
+              else each_number(program, case, words, fault, clean, stacks))
+    return {"ends": collections.Counter(map(str, result.ends)), "wrong": result.wrong}
+
+def run_cases(program, given, pieces):
     print("".join(f"| {it} " for it in ["Case", "Lanes", *given.faults, "Wrong"]) + "|")
     print("|---" * (3 + len(given.faults)) + "|")
     wrong = []
@@ -238,12 +250,12 @@ def run_cases(program, given):
             if what := wrong_clean(case, clean):
                 wrong.append(f"{case.name}, lanes {lanes}, no fault: {what}; {clean.errors!r}")
             for group in given.faults if not what else []:
-                ends, is_for = [], group in (case.faults or FAULTS)
+                ends, is_for = collections.Counter(), group in (case.faults or FAULTS)
                 for fault in FAULTS[group] if is_for else []:
-                    result = (system_faults(program, case, words, clean) if fault == "system"
-                              else each_number(program, case, words, fault, clean, given.stacks))
-                    ends += result.ends
-                    wrong += [f"{case.name}, lanes {lanes}, {fault} {it}" for it in result.wrong]
+                    name = f"{case.name}, lanes {lanes}, {fault}"
+                    gave = pieces.piece(name, lambda: run_piece(program, case, words, fault, clean, given.stacks))
+                    ends.update(gave["ends"])
+                    wrong += [f"{name} {it}" for it in gave["wrong"]]
                 cells.append(counted(ends) if is_for else "")
             row = [case.name, lanes if case.spread else "", *cells, str(len(wrong) - before or "none")]
             print("".join(f"| {it} " for it in row) + "|", flush=True)
@@ -257,7 +269,7 @@ def run_test(program, name):
             what = "no pass" if end.status != 0 or b"test result: ok" not in end.alerts else None
             result.add(number, end, what)
         if not seen.met:
-            print(counted(result.ends))
+            print(counted(collections.Counter(map(str, result.ends))))
             return result.wrong
         number += 1
 
@@ -269,8 +281,12 @@ def main():
     words.add_argument("--faults", type=listed, default=[*FAULTS], metavar="WORD,..", help=" ".join(FAULTS))
     words.add_argument("--lanes", type=listed, default=["1", "4", "64"], metavar="N,..")
     words.add_argument("--stacks", action="store_true")
+    words.add_argument("--resume", metavar="FILE")
+    words.add_argument("--minutes", type=float, metavar="M")
     words.add_argument("--test", nargs=2, metavar=("PATH", "NAME"))
     given = words.parse_args()
+    if given.minutes is not None and not 0 <= given.minutes < 1e6:
+        words.error("--minutes is a number of minutes")
     unknown = {*(given.cases or [])} - {it.name for it in CASES} | {*given.faults} - {*FAULTS}
     if unknown:
         words.error("no such case or fault: " + " ".join(sorted(unknown)))
@@ -279,9 +295,26 @@ def main():
         if given.test:
             wrong = run_test(Program(given.test[0], work), given.test[1])
         else:
-            wrong = run_cases(Program(given.program, work), given)
+            wrong = run_all(given, work)
     print("".join(f"\n- {it}" for it in wrong))
     sys.exit(1 if wrong else 0)
+
+def run_all(given, work):
+    """What is wrong, over all pieces; it ends here where some are left."""
+    if not os.access(given.program, os.X_OK):
+        sys.exit(f"there is no program {given.program}: build it with ./snort -V")
+    until = None if given.minutes is None else time.monotonic() + 60 * given.minutes
+    try:
+        own = [f"{TOP}/tools/{it}" for it in ("faults.py", "fault_cases.py", "refuse.c")]
+        pieces = Pieces(given.resume, sum_of(given.program, *own), until)
+        wrong = run_cases(Program(given.program, work), given, pieces)
+    except OutOfTime:
+        print(f"\n{len(pieces.known)} pieces so far; the others are left", flush=True)
+        sys.exit(3)
+    except (Kept, OSError) as fault:
+        sys.exit(str(fault))
+    print(f"\nRan on {', '.join(pieces.days())}." if pieces.known else "", end="\n" if pieces.known else "")
+    return wrong
 
 if __name__ == "__main__":
     main()
