@@ -29,14 +29,14 @@ pub fn fill<H: Host>(host: &mut H, buf: &mut [u8]) -> Result<usize, FillStop>
     // that it answered.
     ensures seen_taken { (seen : Option Files) → MaySee (H.contents host.new) (H.agrees host.new) seen
         → IfOk result (λ count. left_by (H.left_of host.old) seen
-            ≡ before (take count buf.new) (left_by (H.left_of host.new) seen)) }
+        ≡ before (take count buf.new) (left_by (H.left_of host.new) seen)) }
     ensures seen_ended { (seen : Option Files) → MaySee (H.contents host.new) (H.agrees host.new) seen
         → IfOk result (λ count. count < length buf.old → NothingLeft (left_by (H.left_of host.new) seen)) }
     ensures seen_unopened { (seen : Option Files) → MaySee (H.contents host.new) (H.agrees host.new) seen
         → IsUnopened seen (left_by (H.left_of host.old) seen) → IfOk result (λ count. count ≡ 0) }
     ensures seen_stopped { (seen : Option Files) → MaySee (H.contents host.new) (H.agrees host.new) seen
         → IfErr result (λ stop. left_by (H.left_of host.old) seen
-            ≡ before (take stop.done buf.new) (left_by (H.left_of host.new) seen)) }
+        ≡ before (take stop.done buf.new) (left_by (H.left_of host.new) seen)) }
     ensures earlier { (seen : Option Files) → MaySee (H.contents host.new) (H.agrees host.new) seen
         → MaySee (H.contents host.old) (H.agrees host.old) seen }
 {
@@ -50,14 +50,14 @@ fn fill_seen<H: Host>(host: &mut H, buf: &mut [u8]) -> Result<usize, FillStop>
     ensures within { IfOk result (λ count. count ≤ length buf.old) }
     ensures taken { (seen : Option Files) → MaySee (H.contents host.new) (H.agrees host.new) seen
         → IfOk result (λ count. left_by (H.left_of host.old) seen
-            ≡ before (take count buf.new) (left_by (H.left_of host.new) seen)) }
+        ≡ before (take count buf.new) (left_by (H.left_of host.new) seen)) }
     ensures ended { (seen : Option Files) → MaySee (H.contents host.new) (H.agrees host.new) seen
         → IfOk result (λ count. count < length buf.old → NothingLeft (left_by (H.left_of host.new) seen)) }
     ensures unopened { (seen : Option Files) → MaySee (H.contents host.new) (H.agrees host.new) seen
         → IsUnopened seen (left_by (H.left_of host.old) seen) → IfOk result (λ count. count ≡ 0) }
     ensures stopped { (seen : Option Files) → MaySee (H.contents host.new) (H.agrees host.new) seen
         → IfErr result (λ stop. left_by (H.left_of host.old) seen
-            ≡ before (take stop.done buf.new) (left_by (H.left_of host.new) seen)) }
+        ≡ before (take stop.done buf.new) (left_by (H.left_of host.new) seen)) }
     ensures short { IfErr result (λ stop. stop.done < length buf.old) }
     ensures failed { OnErr result (Rose (H.faults host.old) (H.faults host.new)) }
     ensures same_contents { H.contents host.new ≡ H.contents host.old }

@@ -178,13 +178,13 @@ impl CaptureReader {
             → Gives result (Ends Clean) }
         ensures seen_takes { (seen : Option Files) → MaySee (H.contents host.new) (H.agrees host.new) seen
             → IfOk result (λ given. IfSome given (λ r. TakesRecord self.old r
-                (left_by (H.left_of host.old) seen) (left_by (H.left_of host.new) seen))) }
+            (left_by (H.left_of host.old) seen) (left_by (H.left_of host.new) seen))) }
         ensures seen_ended { (seen : Option Files) → MaySee (H.contents host.new) (H.agrees host.new) seen
             → IfOk result (λ given. IfNone given (left_by (H.left_of host.new) seen ≡ left_by (H.left_of host.old) seen)) }
         ensures seen_partial { (seen : Option Files) → MaySee (H.contents host.new) (H.agrees host.new) seen
             → self.old.refused ≡ None
             → IfErr result (λ why. TakesNone self.old why
-                (left_by (H.left_of host.old) seen) (left_by (H.left_of host.new) seen)) }
+            (left_by (H.left_of host.old) seen) (left_by (H.left_of host.new) seen)) }
         ensures earlier { (seen : Option Files) → MaySee (H.contents host.new) (H.agrees host.new) seen
             → MaySee (H.contents host.old) (H.agrees host.old) seen }
     {
@@ -210,13 +210,13 @@ impl CaptureReader {
         // no record is whole within what is taken.
         ensures takes { (seen : Option Files) → MaySee (H.contents host.new) (H.agrees host.new) seen
             → IfOk result (λ given. IfSome given (λ r. TakesRecord self.old r
-                (left_by (H.left_of host.old) seen) (left_by (H.left_of host.new) seen))) }
+            (left_by (H.left_of host.old) seen) (left_by (H.left_of host.new) seen))) }
         ensures ended { (seen : Option Files) → MaySee (H.contents host.new) (H.agrees host.new) seen
             → IfOk result (λ given. IfNone given (left_by (H.left_of host.new) seen ≡ left_by (H.left_of host.old) seen)) }
         ensures partial { (seen : Option Files) → MaySee (H.contents host.new) (H.agrees host.new) seen
             → self.old.refused ≡ None
             → IfErr result (λ why. TakesNone self.old why
-                (left_by (H.left_of host.old) seen) (left_by (H.left_of host.new) seen)) }
+            (left_by (H.left_of host.old) seen) (left_by (H.left_of host.new) seen)) }
 
         // Where the reader stands afterwards.
         ensures stands { IfOk result (λ given. self.new ≡ after_next self.old given) }
@@ -299,7 +299,7 @@ fn read_record<H: Host>(
         → IfOk result (λ given. IfNone given (left_by (H.left_of host.new) seen ≡ left_by (H.left_of host.old) seen)) }
     ensures partial { (seen : Option Files) → MaySee (H.contents host.new) (H.agrees host.new) seen
         → IfErr result (λ why. TakesNone (reader_at head number at) why
-            (left_by (H.left_of host.old) seen) (left_by (H.left_of host.new) seen)) }
+        (left_by (H.left_of host.old) seen) (left_by (H.left_of host.new) seen)) }
     ensures fits { IfOk result (λ given. IfSome given (λ r. (length r.bytes ≤ longest) × (number < most_records))) }
     ensures failed { IsErrOf result CaptureFault.Failed → Rose (H.faults host.old) (H.faults host.new) }
     ensures same_contents { H.contents host.new ≡ H.contents host.old }
@@ -340,10 +340,10 @@ fn read_behind<H: Host>(
         → GivesOne result (next_behind head number at header.now rest) }
     ensures takes { (seen : Option Files) → MaySee (H.contents host.new) (H.agrees host.new) seen
         → IfOk result (λ given. TakesBytes head number at header.now given
-            (left_by (H.left_of host.old) seen) (left_by (H.left_of host.new) seen)) }
+        (left_by (H.left_of host.old) seen) (left_by (H.left_of host.new) seen)) }
     ensures partial { (seen : Option Files) → MaySee (H.contents host.new) (H.agrees host.new) seen
         → IfErr result (λ why. TakesFewer head number at header.now why
-            (left_by (H.left_of host.old) seen) (left_by (H.left_of host.new) seen)) }
+        (left_by (H.left_of host.old) seen) (left_by (H.left_of host.new) seen)) }
     ensures fits { IfOk result (λ given. length given.bytes ≤ longest) }
     ensures failed { IsErrOf result CaptureFault.Failed → Rose (H.faults host.old) (H.faults host.new) }
     ensures same_contents { H.contents host.new ≡ H.contents host.old }
@@ -375,7 +375,7 @@ fn read_bytes<H: Host>(
     ensures size { IfOk result (λ bytes. length bytes.items ≡ len) }
     ensures whole { (seen : Option Files) → MaySee (H.contents host.new) (H.agrees host.new) seen
         → IfOk result (λ bytes. (length bytes.items ≡ len) × (left_by (H.left_of host.old) seen
-            ≡ before bytes.items (left_by (H.left_of host.new) seen))) }
+        ≡ before bytes.items (left_by (H.left_of host.new) seen))) }
     ensures partial { (seen : Option Files) → MaySee (H.contents host.new) (H.agrees host.new) seen
         → IfErr result (λ why. TakesLess at len why (left_by (H.left_of host.old) seen) (left_by (H.left_of host.new) seen)) }
     ensures failed { IsErrOf result CaptureFault.Failed → Rose (H.faults host.old) (H.faults host.new) }

@@ -19,10 +19,10 @@ pub fn is_closed<H: Host>(
 ) -> Result<bool, NgFault>
     ensures whole { (seen : Option Files) → MaySee (H.contents host.new) (H.agrees host.new) seen
         → IfOk result (λ same. TakesLast swapped total count same
-            (left_by (H.left_of host.old) seen) (left_by (H.left_of host.new) seen)) }
+        (left_by (H.left_of host.old) seen) (left_by (H.left_of host.new) seen)) }
     ensures partial { (seen : Option Files) → MaySee (H.contents host.new) (H.agrees host.new) seen
         → IfErr result (λ why. TakesLess at (count + 4) why
-            (left_by (H.left_of host.old) seen) (left_by (H.left_of host.new) seen)) }
+        (left_by (H.left_of host.old) seen) (left_by (H.left_of host.new) seen)) }
     ensures failed { IsErrOf result NgFault.Failed → Rose (H.faults host.old) (H.faults host.new) }
     ensures same_contents { H.contents host.new ≡ H.contents host.old }
     ensures earlier { (seen : Option Files) → MaySee (H.contents host.new) (H.agrees host.new) seen

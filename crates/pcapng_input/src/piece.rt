@@ -17,7 +17,7 @@ pub fn read_piece<H: Host>(host: &mut H, at: u64, piece: &mut [u8]) -> Result<()
         → OnOk result (left_by (H.left_of host.old) seen ≡ before piece.new (left_by (H.left_of host.new) seen)) }
     ensures partial { (seen : Option Files) → MaySee (H.contents host.new) (H.agrees host.new) seen
         → IfErr result (λ why. TakesLess at (length piece.old) why
-            (left_by (H.left_of host.old) seen) (left_by (H.left_of host.new) seen)) }
+        (left_by (H.left_of host.old) seen) (left_by (H.left_of host.new) seen)) }
     ensures failed { IsErrOf result NgFault.Failed → Rose (H.faults host.old) (H.faults host.new) }
     ensures same_contents { H.contents host.new ≡ H.contents host.old }
     ensures earlier { (seen : Option Files) → MaySee (H.contents host.new) (H.agrees host.new) seen
@@ -43,7 +43,7 @@ pub fn read_bytes<H: Host>(
 ) -> Result<Vec<u8>, NgFault>
     ensures whole { (seen : Option Files) → MaySee (H.contents host.new) (H.agrees host.new) seen
         → IfOk result (λ bytes. (length bytes.items ≡ len)
-            × (left_by (H.left_of host.old) seen ≡ before bytes.items (left_by (H.left_of host.new) seen))) }
+        × (left_by (H.left_of host.old) seen ≡ before bytes.items (left_by (H.left_of host.new) seen))) }
     ensures partial { (seen : Option Files) → MaySee (H.contents host.new) (H.agrees host.new) seen
         → IfErr result (λ why. TakesLess at len why (left_by (H.left_of host.old) seen) (left_by (H.left_of host.new) seen)) }
     ensures failed { IsErrOf result NgFault.Failed → Rose (H.faults host.old) (H.faults host.new) }

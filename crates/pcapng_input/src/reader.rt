@@ -63,7 +63,7 @@ impl NgReader {
             → (bytes : List ℕ) → Tells seen name.now bytes → Opens result (opening bytes) }
         ensures seen_takes { (seen : Option Files) → MaySee (H.contents host.new) (H.agrees host.new) seen
             → TakesHead seen name.now result (left_by (H.left_of host.new) seen)
-                ⊎ (IsErrOf result NgFault.Failed × (left_by (H.left_of host.new) seen ≡ None)) }
+            ⊎ (IsErrOf result NgFault.Failed × (left_by (H.left_of host.new) seen ≡ None)) }
         ensures earlier { (seen : Option Files) → MaySee (H.contents host.new) (H.agrees host.new) seen
             → MaySee (H.contents host.old) (H.agrees host.old) seen }
     {
@@ -80,7 +80,7 @@ impl NgReader {
         // what is taken; where the opening itself failed, nothing is open.
         ensures takes { (seen : Option Files) → MaySee (H.contents host.new) (H.agrees host.new) seen
             → TakesHead seen name.now result (left_by (H.left_of host.new) seen)
-                ⊎ (IsErrOf result NgFault.Failed × (left_by (H.left_of host.new) seen ≡ None)) }
+            ⊎ (IsErrOf result NgFault.Failed × (left_by (H.left_of host.new) seen ≡ None)) }
 
         ensures fresh { IfOk result (λ reader. reader.refused ≡ None) }
         ensures kinds { IfErr result IsOfHead }
@@ -149,20 +149,20 @@ impl NgReader {
         // that it answered.
         ensures seen_gives { (seen : Option Files) → MaySee (H.contents host.new) (H.agrees host.new) seen
             → self.old.refused ≡ None → (rest : List ℕ) → left_by (H.left_of host.old) seen ≡ Some rest
-                → Answers result (next_of self.old.walk rest) }
+            → Answers result (next_of self.old.walk rest) }
         ensures seen_unopened { (seen : Option Files) → MaySee (H.contents host.new) (H.agrees host.new) seen
             → self.old.refused ≡ None → IsUnopened seen (left_by (H.left_of host.old) seen)
-                → Answers result (Ends Clean) }
+            → Answers result (Ends Clean) }
         ensures seen_takes { (seen : Option Files) → MaySee (H.contents host.new) (H.agrees host.new) seen
             → IfOk result (λ given. IfSome given
-                (λ r. TakesRecord self.old self.new r (left_by (H.left_of host.old) seen) (left_by (H.left_of host.new) seen))) }
+            (λ r. TakesRecord self.old self.new r (left_by (H.left_of host.old) seen) (left_by (H.left_of host.new) seen))) }
         ensures seen_ended { (seen : Option Files) → MaySee (H.contents host.new) (H.agrees host.new) seen
             → IfOk result (λ given. IfNone given (TakesBlocks self.old self.new
-                (left_by (H.left_of host.old) seen) (left_by (H.left_of host.new) seen))) }
+            (left_by (H.left_of host.old) seen) (left_by (H.left_of host.new) seen))) }
         ensures seen_partial { (seen : Option Files) → MaySee (H.contents host.new) (H.agrees host.new) seen
             → self.old.refused ≡ None
-                → IfErr result (λ why. TakesNone self.old why
-                    (left_by (H.left_of host.old) seen) (left_by (H.left_of host.new) seen)) }
+            → IfErr result (λ why. TakesNone self.old why
+            (left_by (H.left_of host.old) seen) (left_by (H.left_of host.new) seen)) }
         ensures earlier { (seen : Option Files) → MaySee (H.contents host.new) (H.agrees host.new) seen
             → MaySee (H.contents host.old) (H.agrees host.old) seen }
     {
@@ -179,23 +179,23 @@ impl NgReader {
         // open, it is the end.
         ensures gives { (seen : Option Files) → MaySee (H.contents host.new) (H.agrees host.new) seen
             → self.old.refused ≡ None → (rest : List ℕ) → left_by (H.left_of host.old) seen ≡ Some rest
-                → Answers result (next_of self.old.walk rest) }
+            → Answers result (next_of self.old.walk rest) }
         ensures unopened { (seen : Option Files) → MaySee (H.contents host.new) (H.agrees host.new) seen
             → self.old.refused ≡ None → IsUnopened seen (left_by (H.left_of host.old) seen)
-                → Answers result (Ends Clean) }
+            → Answers result (Ends Clean) }
 
         // What is taken: the bytes up to the end of the record's block and none behind them, or the blocks
         // that no record follows. Before a refusal no record is whole within what is taken.
         ensures takes { (seen : Option Files) → MaySee (H.contents host.new) (H.agrees host.new) seen
             → IfOk result (λ given. IfSome given
-                (λ r. TakesRecord self.old self.new r (left_by (H.left_of host.old) seen) (left_by (H.left_of host.new) seen))) }
+            (λ r. TakesRecord self.old self.new r (left_by (H.left_of host.old) seen) (left_by (H.left_of host.new) seen))) }
         ensures ended { (seen : Option Files) → MaySee (H.contents host.new) (H.agrees host.new) seen
             → IfOk result (λ given. IfNone given (TakesBlocks self.old self.new
-                (left_by (H.left_of host.old) seen) (left_by (H.left_of host.new) seen))) }
+            (left_by (H.left_of host.old) seen) (left_by (H.left_of host.new) seen))) }
         ensures partial { (seen : Option Files) → MaySee (H.contents host.new) (H.agrees host.new) seen
             → self.old.refused ≡ None
-                → IfErr result (λ why. TakesNone self.old why
-                    (left_by (H.left_of host.old) seen) (left_by (H.left_of host.new) seen)) }
+            → IfErr result (λ why. TakesNone self.old why
+            (left_by (H.left_of host.old) seen) (left_by (H.left_of host.new) seen)) }
 
         // A refusal is kept and repeated, and then nothing is read.
         ensures refused { IfErr result (λ why. self.new.refused ≡ Some why) }

@@ -57,7 +57,7 @@ fn pass_over<H: Host>(walk: &mut Walk, host: &mut H, block: Block) -> Result<Blo
     requires room { HasRoom walk.old }
     ensures shows { (seen : Option Files) → MaySee (H.contents host.new) (H.agrees host.new) seen
         → Shows (closing walk.old block content.Skipped) walk.new result
-            (left_by (H.left_of host.old) seen) (left_by (H.left_of host.new) seen) }
+        (left_by (H.left_of host.old) seen) (left_by (H.left_of host.new) seen) }
     ensures failed { IsErrOf result NgFault.Failed → Rose (H.faults host.old) (H.faults host.new) }
     ensures same_contents { H.contents host.new ≡ H.contents host.old }
     ensures earlier { (seen : Option Files) → MaySee (H.contents host.new) (H.agrees host.new) seen
@@ -87,7 +87,7 @@ fn read_interface<H: Host>(
     requires room { HasRoom walk.old }
     ensures shows { (seen : Option Files) → MaySee (H.contents host.new) (H.agrees host.new) seen
         → Shows (closing walk.old block (content.Interface link snaplen)) walk.new result
-            (left_by (H.left_of host.old) seen) (left_by (H.left_of host.new) seen) }
+        (left_by (H.left_of host.old) seen) (left_by (H.left_of host.new) seen) }
     ensures failed { IsErrOf result NgFault.Failed → Rose (H.faults host.old) (H.faults host.new) }
     ensures same_contents { H.contents host.new ≡ H.contents host.old }
     ensures earlier { (seen : Option Files) → MaySee (H.contents host.new) (H.agrees host.new) seen
@@ -130,7 +130,7 @@ fn read_packet<H: Host>(
     requires fits { packet.captured ≤ inner_length block }
     ensures shows { (seen : Option Files) → MaySee (H.contents host.new) (H.agrees host.new) seen
         → Shows (closing walk.old block (content.Packet packet)) walk.new result
-            (left_by (H.left_of host.old) seen) (left_by (H.left_of host.new) seen) }
+        (left_by (H.left_of host.old) seen) (left_by (H.left_of host.new) seen) }
     ensures failed { IsErrOf result NgFault.Failed → Rose (H.faults host.old) (H.faults host.new) }
     ensures same_contents { H.contents host.new ≡ H.contents host.old }
     ensures earlier { (seen : Option Files) → MaySee (H.contents host.new) (H.agrees host.new) seen
@@ -173,7 +173,7 @@ fn read_closing<H: Host>(
     requires fits { FitsIn block told }
     ensures shows { (seen : Option Files) → MaySee (H.contents host.new) (H.agrees host.new) seen
         → Shows (closing walk.old block told) walk.new result
-            (left_by (H.left_of host.old) seen) (left_by (H.left_of host.new) seen) }
+        (left_by (H.left_of host.old) seen) (left_by (H.left_of host.new) seen) }
     ensures failed { IsErrOf result NgFault.Failed → Rose (H.faults host.old) (H.faults host.new) }
     ensures same_contents { H.contents host.new ≡ H.contents host.old }
     ensures earlier { (seen : Option Files) → MaySee (H.contents host.new) (H.agrees host.new) seen
@@ -231,7 +231,7 @@ fn read_section<H: Host>(
     requires room { HasRoom walk.old }
     ensures shows { (seen : Option Files) → MaySee (H.contents host.new) (H.agrees host.new) seen
         → Shows (section_begun walk.old first.now) walk.new result
-            (left_by (H.left_of host.old) seen) (left_by (H.left_of host.new) seen) }
+        (left_by (H.left_of host.old) seen) (left_by (H.left_of host.new) seen) }
     ensures failed { IsErrOf result NgFault.Failed → Rose (H.faults host.old) (H.faults host.new) }
     ensures same_contents { H.contents host.new ≡ H.contents host.old }
     ensures earlier { (seen : Option Files) → MaySee (H.contents host.new) (H.agrees host.new) seen
@@ -266,7 +266,7 @@ fn read_begun<H: Host>(
     requires room { HasRoom walk.old }
     ensures shows { (seen : Option Files) → MaySee (H.contents host.new) (H.agrees host.new) seen
         → Shows (begun walk.old first.now) walk.new result
-            (left_by (H.left_of host.old) seen) (left_by (H.left_of host.new) seen) }
+        (left_by (H.left_of host.old) seen) (left_by (H.left_of host.new) seen) }
     ensures failed { IsErrOf result NgFault.Failed → Rose (H.faults host.old) (H.faults host.new) }
     ensures same_contents { H.contents host.new ≡ H.contents host.old }
     ensures earlier { (seen : Option Files) → MaySee (H.contents host.new) (H.agrees host.new) seen

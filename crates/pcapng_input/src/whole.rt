@@ -51,7 +51,7 @@ pub fn read_up_to<H: Host>(
         → (bytes : List ℕ) → Tells seen name.now bytes → IsHeld result limit bytes }
     ensures seen_first { (seen : Option Files) → MaySee (H.contents host.new) (H.agrees host.new) seen
         → (bytes : List ℕ) → Tells seen name.now bytes
-            → IfOk result (λ found. AreFirst found.records bytes) }
+        → IfOk result (λ found. AreFirst found.records bytes) }
     ensures earlier { (seen : Option Files) → MaySee (H.contents host.new) (H.agrees host.new) seen
         → MaySee (H.contents host.old) (H.agrees host.old) seen }
 {
@@ -69,7 +69,7 @@ fn read_seen<H: Host>(
         → (bytes : List ℕ) → Tells seen name.now bytes → IsHeld result limit bytes }
     ensures first { (seen : Option Files) → MaySee (H.contents host.new) (H.agrees host.new) seen
         → (bytes : List ℕ) → Tells seen name.now bytes
-            → IfOk result (λ found. AreFirst found.records bytes) }
+        → IfOk result (λ found. AreFirst found.records bytes) }
     ensures failed { HasFailed result → Rose (H.faults host.old) (H.faults host.new) ⊎ Lacks (H.contents host.old) name.now }
     ensures within { IfOk result (λ found. length found.records ≤ limit) }
     ensures same_contents { H.contents host.new ≡ H.contents host.old }

@@ -11,7 +11,7 @@ pub returns-clause-gives : goal.returns-clause-gives
 returns-clause-gives g c =
     told g.H.Host g.met.H.Host.as_told c.args.host.now c.next_seen.new.host
     (λ contents old new. c.args.self.now.refused ≡ None → (rest : List ℕ) → old ≡ Some rest
-        → Gives c.next_seen.result (next_of c.args.self.now.head c.args.self.now.number c.args.self.now.at rest)) c.next_seen.ensures.same_contents c.next_seen.ensures.gives
+    → Gives c.next_seen.result (next_of c.args.self.now.head c.args.self.now.number c.args.self.now.at rest)) c.next_seen.ensures.same_contents c.next_seen.ensures.gives
 
 pub returns-clause-unopened : goal.returns-clause-unopened
 returns-clause-unopened g c =
