@@ -3,8 +3,8 @@
 -- What may be seen of a host are files that give all that it answered, or, where it tells none, no files. Seen
 -- files give what each load gave; where none are seen, there are some contents that the loads gave. So each
 -- answer is that of the reading over some contents, which are those of the seen files, if there are any. A file
--- that is not loaded ends the reading: it is what the reading asks
--- for over all contents that give the files before it and lack this one.
+-- that is not loaded ends the reading: it is what the reading asks for over all contents that give the files
+-- before it and lack this one.
 -- To try it on: where a host tells the file `a` with the line `include b`, lacks `b`, and fails at nothing, the
 -- reading of `a` asks for `b`, with `a` among the files.
 use Rattle.std.specs.Prelude.{◌≡◌, ◌⊎◌, ℕ, zero, suc, ◌-◌, ◌<◌, ◌≤◌, List, Option, Some, None, Result, Ok, Err, ⊤, length, nat_le, nat_lt, if◌then◌else◌}

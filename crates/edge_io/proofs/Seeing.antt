@@ -5,17 +5,20 @@ use Rattle.edge_io.specs.Files.{Files, Holds, Lacks, IsLonger, IsOpened, IsUnope
 use Rattle.edge_io.specs.Told.{before, NothingLeft}
 use Rattle.edge_io.specs.declared.host.Host.{Ghosts as HostOf}
 
+-- what a read took
 pub seen_taken : (contents : Option Files) (agrees : Files → Type 0) (old new : Files → Option (List ℕ)) (bytes : List ℕ) (seen : Option Files) → MaySee contents agrees seen
     → ((files : Files) → agrees files → old files ≡ before bytes (new files)) → left_by old seen ≡ before bytes (left_by new seen)
 unfolding before
 seen_taken contents agrees old new bytes None may took = refl
 seen_taken contents agrees old new bytes (Some files) may took = took files may
 
+-- that a read found the end
 pub seen_ended : (contents : Option Files) (agrees : Files → Type 0) (left : Files → Option (List ℕ)) (seen : Option Files) → MaySee contents agrees seen
     → ((files : Files) → agrees files → NothingLeft (left files)) → NothingLeft (left_by left seen)
 seen_ended contents agrees left None may ended = tt
 seen_ended contents agrees left (Some files) may ended = ended files may
 
+-- what an opening left
 pub seen_opened : (contents : Option Files) (agrees : Files → Type 0) (name : List ℕ) (left : Files → Option (List ℕ)) (seen : Option Files) → MaySee contents agrees seen
     → ((files : Files) → agrees files → IsOpened (Some files) name (left files)) → IsOpened seen name (left_by left seen)
 seen_opened contents agrees name left None may opened = tt
@@ -27,6 +30,7 @@ pub seen_earlier : (old new : Option Files) (agrees_old agrees_new : Files → T
 seen_earlier old new agrees_old agrees_new None same earlier may = sym same ∙ may
 seen_earlier old new agrees_old agrees_new (Some files) same earlier may = earlier files may
 
+-- what a read gave where nothing is open
 pub seen_unopened : (contents : Option Files) (agrees : Files → Type 0) (left : Files → Option (List ℕ)) (count : ℕ) (seen : Option Files) → MaySee contents agrees seen
     → ((files : Files) → agrees files → left files ≡ None → count ≡ 0) → IsUnopened seen (left_by left seen) → count ≡ 0
 seen_unopened contents agrees left count None may rule unopened = absurd unopened

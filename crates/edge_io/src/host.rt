@@ -20,8 +20,10 @@ pub enum LoadFault {
 /// Files by name, and one open capture that is read piece by piece.
 ///
 /// The meanings: `contents`, the files where they are told; `left`, the bytes left of the open
-/// capture where one is open and they are told; `faults`, a count that never falls; `opens`, a count
-/// that `open` alone raises, by one. A host that tells `left` tells `contents`.
+/// capture where one is open and they are told; `agrees`, the files that give all that the host
+/// answered so far, which no call makes more; `left_of`, the bytes left of the open capture by such
+/// files; `faults`, a count that never falls; `opens`, a count that `open` alone raises, by one. A
+/// host that tells `left` tells `contents`, and of one that tells files these alone agree.
 pub trait Host {
     ghost contents: { Self → Option Files };
 
