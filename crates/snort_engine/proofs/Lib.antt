@@ -24,4 +24,5 @@ pub mod Named
 pub mod Prepared
 pub mod Reported
 pub mod Runs
+pub mod Seeing
 pub mod Refuted

@@ -6,7 +6,7 @@ use Rattle.std.proofs.Math.ListN.{drop_of_length-le}
 use Rattle.std.proofs.lemmas.List.{append-nil, drop_at}
 use Rattle.std.proofs.lemmas.Bool.Decides.{nat_tests}
 use Rattle.edge_io.specs.Told.{one_more, Rose}
-use Rattle.edge_io.specs.Files.{Files, IsOpened}
+use Rattle.edge_io.specs.Files.{Files, IsOpened, Lacks}
 use Rattle.pcap_input.specs.declared.capture.CaptureHead.{CaptureHead}
 use Rattle.pcap_input.specs.declared.capture.CaptureFault.{CaptureFault}
 use Rattle.pcap_input.specs.declared.capture.CaptureFault.TheVariants as savefile_fault
@@ -39,7 +39,7 @@ use Rattle.snort_engine.specs.declared.fault.ReadFault.TheVariants as fault
 use Rattle.snort_engine.specs.declared.reader.RecordReader.TheVariants.{Savefile, Blocks}
 use Rattle.snort_engine.specs.Records.{Refused, Recording, none_before, of_savefile, of_blocks, recording_of, recording_in, recording_of_blocks, recording_in_blocks, is_of_blocks, records_in, first_of}
 use Rattle.snort_engine.specs.Steps.Reader.{IsFresh, number_of, recording_for, BeginsBehind, IsBarelyOpen, IsRefusedAtOnce, IsRefusedOpening, Opens, MayBeOther, OpensSo}
-use Rattle.snort_engine.specs.Records.{IsToldOther}
+use Rattle.snort_engine.specs.Records.{IsOther, IsToldOther}
 use Rattle.snort_engine.proofs.Recordings.{recording_of-first, recording_of_blocks-first}
 
 -- ---- which of the two a file is
@@ -331,6 +331,60 @@ pub blocks_number : {contents : Option Files} (name : List ℕ) (reader : blocks
 blocks_number name reader left takes = (opening_section (takes.taken ++ []) reader.walk [] (takes.shows [])).none
 
 -- ---- how often it was opened
+
+-- a savefile begins as one
+not_other : (files : Files) (name : List ℕ) (reader : classic_reader.Reading) → ((bytes : List ℕ) → get files name ≡ Some bytes → classic_reader.Opens (Ok reader) (head_of bytes)) → IsOther (get files name) → ⊥
+not_other files name reader gives other =
+    let opened = opened_by other.bytes reader (head_of other.bytes) refl (gives other.bytes other.told) in
+    let apart : Ok opened.0 ≡ Err savefile_fault.NotPcap = sym opened.1 ∙ other.head in
+    cc
+
+-- it was opened once, as a savefile
+pub once_opened : (seen : Option Files) (name : List ℕ) (reader : classic_reader.Reading) (failed : Type 0) (old new : ℕ) → new ≡ one_more old
+    → ((bytes : List ℕ) → classic_reader.Tells seen name bytes → classic_reader.Opens (Ok reader) (head_of bytes)) → OpensSo seen name failed old new
+once_opened None name reader failed old new once gives = inl (once, λ other. absurd other)
+once_opened (Some files) name reader failed old new once gives = inl (once, λ other. absurd (not_other files name reader gives other))
+
+-- a refusal of bytes that begin as no savefile does is another one, or the host failed
+refused_failed : (files : Files) (name bytes : List ℕ) (why : CaptureFault) (failed : Type 0) → get files name ≡ Some bytes → head_of bytes ≡ Err savefile_fault.NotPcap → (why ≡ savefile_fault.NotPcap → ⊥)
+    → (why ≡ savefile_fault.Failed → failed ⊎ Lacks (Some files) name) → classic_reader.Opens (Err why) (head_of bytes) → failed
+refused_failed files name bytes savefile_fault.NotPcap failed told head apart lost opens = absurd (apart refl)
+refused_failed files name bytes (savefile_fault.LinkType link_type) failed told head apart lost opens = absurd cc
+refused_failed files name bytes (savefile_fault.Truncated at) failed told head apart lost opens = absurd cc
+refused_failed files name bytes (savefile_fault.TooLong at len) failed told head apart lost opens = absurd cc
+refused_failed files name bytes savefile_fault.TooMany failed told head apart lost opens = absurd cc
+refused_failed files name bytes savefile_fault.NoMemory failed told head apart lost opens = absurd cc
+refused_failed files name bytes savefile_fault.Failed failed told head apart lost opens = ⊎_elim (λ (counted : failed). counted) (λ (lacks : get files name ≡ None). absurd (none (sym lacks ∙ told))) (lost refl)
+  where
+    none : None ≡ Some bytes → ⊥
+    none e = cc
+
+-- it was opened once, and refused
+pub once_refused : (seen : Option Files) (name : List ℕ) (why : CaptureFault) (failed : Type 0) (old new : ℕ) → new ≡ one_more old → (why ≡ savefile_fault.NotPcap → ⊥) → (why ≡ savefile_fault.Failed → failed ⊎ Lacks seen name)
+    → ((bytes : List ℕ) → classic_reader.Tells seen name bytes → classic_reader.Opens (Err why) (head_of bytes)) → OpensSo seen name failed old new
+once_refused None name why failed old new once apart lost gives = inl (once, λ other. absurd other)
+once_refused (Some files) name why failed old new once apart lost gives =
+    inl (once, λ other. refused_failed files name other.bytes why failed other.told other.head apart lost (gives other.bytes other.told))
+
+-- a file that was opened, and refused since it begins as no savefile does
+is_other : (files : Files) (name : List ℕ) (left : Option (List ℕ)) → ((bytes : List ℕ) → get files name ≡ Some bytes → head_of bytes ≡ Err savefile_fault.NotPcap)
+    → classic_reader.TakesHead (Some files) name (Err savefile_fault.NotPcap) left ⊎ ((◌≡◌ {A = Result classic_reader.Reading CaptureFault} (Err savefile_fault.NotPcap) (Err savefile_fault.Failed)) × (left ≡ None)) → IsOther (get files name)
+is_other files name left gives takes =
+    ⊎_elim
+    (λ (head : classic_reader.TakesHead (Some files) name (Err savefile_fault.NotPcap) left).
+    let held = held_opened files name head.whole head.opened in record { bytes = held.0; told = held.1; head = gives held.0 held.1 })
+    (λ nothing. let apart = nothing.0 in absurd cc)
+    takes
+
+-- and once more, as blocks
+pub opened_again : (seen : Option Files) (name : List ℕ) (why : CaptureFault) (left : Option (List ℕ)) (failed : Type 0) (old middle new : ℕ) → middle ≡ one_more old → new ≡ one_more middle → why ≡ savefile_fault.NotPcap
+    → ((bytes : List ℕ) → classic_reader.Tells seen name bytes → classic_reader.Opens (Err why) (head_of bytes))
+    → classic_reader.TakesHead seen name (Err why) left ⊎ ((◌≡◌ {A = Result classic_reader.Reading CaptureFault} (Err why) (Err savefile_fault.Failed)) × (left ≡ None)) → OpensSo seen name failed old new
+opened_again None name why left failed old middle new once twice is gives takes = inr (twice ∙ ap one_more once, tt)
+opened_again (Some files) name why left failed old middle new once twice is gives takes =
+    inr (twice ∙ ap one_more once, is_other files name left
+    (subst (λ (w : CaptureFault). (bytes : List ℕ) → get files name ≡ Some bytes → classic_reader.Opens (Err w) (head_of bytes)) is gives)
+    (subst (λ (w : CaptureFault). classic_reader.TakesHead (Some files) name (Err w) left ⊎ ((◌≡◌ {A = Result classic_reader.Reading CaptureFault} (Err w) (Err savefile_fault.Failed)) × (left ≡ None))) is takes))
 
 -- more faults came later
 pub opens_later : (contents : Option Files) (name : List ℕ) (first middle last old new : ℕ) → middle ≤ last → OpensSo contents name (Rose first middle) old new → OpensSo contents name (Rose first last) old new

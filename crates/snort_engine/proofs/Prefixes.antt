@@ -153,12 +153,13 @@ rose_on old middle new rose later = omega (arith, rose)
 
 -- nothing was done with it
 pub read_not : {H : Type 0} (g : HostOf H) (host : H) → OnlyRead g host host
-read_not g host = record { files = refl; opens = refl; later = omega arith }
+read_not g host = record { files = refl; earlier = λ seen may. may; opens = refl; later = omega arith }
 
 -- it was read from, and again
 pub read_on : {H : Type 0} (g : HostOf H) (old middle new : H) → OnlyRead g old middle → OnlyRead g middle new → OnlyRead g old new
 read_on g old middle new one two = record {
   files = two.files ∙ one.files;
+  earlier = λ seen may. one.earlier seen (two.earlier seen may);
   opens = two.opens ∙ one.opens;
   later = let before = one.later in let after = two.later in omega (arith, before, after);
 }

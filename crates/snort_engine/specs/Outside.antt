@@ -6,7 +6,7 @@
 use Rattle.std.specs.Prelude.{◌≡◌, ℕ, ◌≤◌, ◌⊎◌, List, Option}
 use mathlib.Core.List.{IsPrefix}
 use Rattle.edge_io.specs.Told.{behind, Rose}
-use Rattle.edge_io.specs.Files.{Files}
+use Rattle.edge_io.specs.Files.{Files, MaySee, left_by}
 use Rattle.edge_io.specs.declared.host.Host.{Ghosts as HostOf}
 use Rattle.edge_io.specs.declared.pattern.Refusal.{Refusal}
 use Rattle.edge_io.specs.declared.sink.Sink.{Ghosts as SinkOf}
@@ -39,6 +39,10 @@ outside h a e host alerts errors refusals = record {
   refusals = refusals;
 }
 
+-- a host as it is seen by these files, if any
+abbrev pub by : {H : Type 0} → Option Files → HostOf H → HostOf H
+by seen h = record h { contents = λ _. seen; left = λ host. left_by (h.left_of host) seen }
+
 -- of the capture and the alert sink alone
 pub record Work : Type 0 where
   pub left : Option (List ℕ)
@@ -54,16 +58,20 @@ work h a host alerts = record { left = h.left host; opens = h.opens host; host_f
 abbrev pub work_of : Outside → Work
 work_of seen = record { left = seen.left; opens = seen.opens; host_faults = seen.host_faults; alerts = seen.alerts }
 
--- a host was only read from: its files stay, nothing was opened, and no fault is forgotten
+-- a host was only read from: its files stay, what may be seen of it afterwards might have been seen before, nothing
+-- was opened, and no fault is forgotten
 pub record OnlyRead {H : Type 0} (g : HostOf H) (old new : H) : Type 0 where
   pub files : g.contents new ≡ g.contents old
+  pub earlier : (seen : Option Files) → MaySee (g.contents new) (g.agrees new) seen → MaySee (g.contents old) (g.agrees old) seen
   pub opens : g.opens new ≡ g.opens old
   pub later : g.faults old ≤ g.faults new
 
 -- files of a host were loaded: what is left of its open capture stays, too
 pub record OnlyLoaded {H : Type 0} (g : HostOf H) (old new : H) : Type 0 where
   pub files : g.contents new ≡ g.contents old
+  pub earlier : (seen : Option Files) → MaySee (g.contents new) (g.agrees new) seen → MaySee (g.contents old) (g.agrees old) seen
   pub left : g.left new ≡ g.left old
+  pub left_of : (files : Files) → g.left_of new files ≡ g.left_of old files
   pub opens : g.opens new ≡ g.opens old
   pub later : g.faults old ≤ g.faults new
 

@@ -1,4 +1,5 @@
-ghost use Rattle.std.specs.Prelude.{◌≡◌, ◌≢◌, ◌+◌, ◌-◌, ◌<◌, ◌≤◌, [], vec_len};
+ghost use Rattle.std.specs.Prelude.{◌≡◌, ◌≢◌, ◌+◌, ◌-◌, ◌<◌, ◌≤◌, [], Option, vec_len};
+ghost use Rattle.edge_io.specs.Files.{Files, MaySee, left_by};
 ghost use Rattle.edge_io.specs.Told.{Rose};
 ghost use Rattle.pcap_input.specs.Savefile.{most_records};
 ghost use Rattle.snort_engine.specs.Steps.Reader.{HasGoneOn, IsFresh, IsNext, number_of};
@@ -35,9 +36,9 @@ fn read_one<H: Host>(
     records: &mut Vec<LinkedRecord>,
 ) -> Reached
     requires { IsFresh reader.old }
-    ensures reads { ReadsOn
-        (record { reader = reader.old; records = records.old.items; left = H.left host.old })
-        (record { reader = reader.new; records = records.new.items; left = H.left host.new }) result }
+    ensures reads { (seen : Option Files) → MaySee (H.contents host.new) (H.agrees host.new) seen → ReadsOn
+        (record { reader = reader.old; records = records.old.items; left = left_by (H.left_of host.old) seen })
+        (record { reader = reader.new; records = records.new.items; left = left_by (H.left_of host.new) seen }) result }
     ensures one { result ≡ Reached.More → vec_len records.new ≡ vec_len records.old + 1 }
     ensures none { result ≢ Reached.More → vec_len records.new ≡ vec_len records.old }
     ensures next { result ≡ Reached.More → IsFresh reader.new × IsNext reader.old reader.new }
@@ -93,9 +94,9 @@ pub(crate) fn read_batch<H: Host>(
     requires fresh { IsFresh reader.old }
     requires some { 0 < most }
     requires empty { records.old.items ≡ [] }
-    ensures reads { ReadsOn
-        (record { reader = reader.old; records = []; left = H.left host.old })
-        (record { reader = reader.new; records = records.new.items; left = H.left host.new }) result }
+    ensures reads { (seen : Option Files) → MaySee (H.contents host.new) (H.agrees host.new) seen → ReadsOn
+        (record { reader = reader.old; records = []; left = left_by (H.left_of host.old) seen })
+        (record { reader = reader.new; records = records.new.items; left = left_by (H.left_of host.new) seen }) result }
     ensures filled { IsFilled most (vec_len records.new) result }
     ensures goes_on { result ≡ Reached.More → HasGoneOn reader.old reader.new (vec_len records.new) }
     ensures within { 0 < vec_len records.new → number_of reader.old + vec_len records.new ≤ most_records }

@@ -1,13 +1,13 @@
 //! The capture of a run: that of a file, or one that is made of a seed.
-ghost use Rattle.std.specs.Prelude.{◌≡◌, ◌≤◌, ◌⊎◌, ◌++◌, Some};
+ghost use Rattle.std.specs.Prelude.{◌≡◌, ◌≤◌, ◌⊎◌, ◌++◌, Option, Some};
 ghost use Rattle.std.specs.List.{concat};
-ghost use Rattle.edge_io.specs.Files.{Files};
+ghost use Rattle.edge_io.specs.Files.{Files, MaySee};
 ghost use Rattle.edge_io.specs.Told.{Rose};
 ghost use Rattle.rule_eval.specs.Hits.{Test};
 ghost use Rattle.snort_engine.specs.Course.{Course, Makes};
 ghost use Rattle.snort_engine.specs.Steps.Preparing.{way_for};
 ghost use Rattle.snort_engine.specs.Steps.Sources.{IsMade, LacksCapture, OpensOn, source_name};
-ghost use Rattle.snort_engine.specs.Outside.{Work, work};
+ghost use Rattle.snort_engine.specs.Outside.{Work, by, work};
 ghost use Rattle.snort_engine.specs.Ending.{Ends};
 ghost use Rattle.snort_engine.specs.Steps.Stop.{outcome_status};
 ghost use Rattle.snort_engine.specs.Steps.Reporting.{outcome_said};
@@ -67,10 +67,10 @@ pub(crate) fn watch_capture<H: Host, P: Pattern, G: Gate, A: Sink, R: Threads + 
     requires plan { IsSoundPlan context.now.plan.now }
     requires none { counts.old ≡ no_counts }
     ensures ends { (matches : Test) → IsTest P.finds context.now.plan.now.setup.set matches
-        → (files : Files) (course : Course) → H.contents host.old ≡ Some files
+        → (files : Files) (course : Course) → H.agrees host.new files
         → course.way ≡ way_for matches context.now.plan.now
         → Ends files course
-        (work H.Host A.Sink host.old alerts.old) (work H.Host A.Sink host.new alerts.new)
+        (work (by (Some files) H.Host) A.Sink host.old alerts.old) (work (by (Some files) H.Host) A.Sink host.new alerts.new)
         (outcome_status result)
         (concat course.warnings ++ outcome_said (source_name context.now.plan.now.source)
         context.now.plan.now.counted result counts.new) }
@@ -78,10 +78,14 @@ pub(crate) fn watch_capture<H: Host, P: Pattern, G: Gate, A: Sink, R: Threads + 
     ensures read_fault { (matches : Test) → outcome_status result ≡ Status.HostFault
         → Rose (H.faults host.old) (H.faults host.new)
         ⊎ LacksCapture (H.contents host.old) (way_for matches context.now.plan.now) }
-    ensures opened { (matches : Test) → OpensOn (H.contents host.old) (way_for matches context.now.plan.now)
+    ensures opened { (matches : Test) → (seen : Option Files) → MaySee (H.contents host.new) (H.agrees host.new) seen
+        → OpensOn seen (way_for matches context.now.plan.now)
         (Rose (H.faults host.old) (H.faults host.new)) (H.opens host.old) (H.opens host.new) }
-    ensures made_unopened { IsMade context.now.plan.now.source → H.left host.new ≡ H.left host.old }
+    ensures made_unopened { IsMade context.now.plan.now.source
+        → (files : Files) → H.left_of host.new files ≡ H.left_of host.old files }
     ensures same_contents { H.contents host.new ≡ H.contents host.old }
+    ensures earlier { (seen : Option Files) → MaySee (H.contents host.new) (H.agrees host.new) seen
+        → MaySee (H.contents host.old) (H.agrees host.old) seen }
     ensures later { H.faults host.old ≤ H.faults host.new }
     ensures later_alerts { A.faults alerts.old ≤ A.faults alerts.new }
 {

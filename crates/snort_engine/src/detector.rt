@@ -1,7 +1,8 @@
-ghost use Rattle.std.specs.Prelude.{◌≡◌, map, string_bytes};
+ghost use Rattle.std.specs.Prelude.{◌≡◌, Option, map, string_bytes};
+ghost use Rattle.edge_io.specs.Files.{Files, MaySee};
 ghost use Rattle.option_eval.specs.RuleSet.{SameMeaning};
 ghost use Rattle.snort_setup.specs.Steps.{Grows};
-ghost use Rattle.snort_engine.specs.Outside.{outside};
+ghost use Rattle.snort_engine.specs.Outside.{by, outside};
 ghost use Rattle.snort_engine.specs.Headline.{Headline};
 
 use crate::Status;
@@ -36,7 +37,15 @@ pub fn run<H: Host, M: PatternMaker, A: Sink, E: Sink, G: Gate, R: Threads + Syn
     errors: &mut E,
     gate: &G,
 ) -> Status
-    ensures headline { Headline (map string_bytes words.now) (M.means maker.old)
+    // The theorem, by whatever may be seen of the host afterwards: what it tells, or files that give all that it
+    // answered in this run.
+    ensures headline { (seen : Option Files) → MaySee (H.contents host.new) (H.agrees host.new) seen
+        → Headline (map string_bytes words.now) (M.means maker.old)
+        (outside (by seen H.Host) A.Sink E.Sink host.old alerts.old errors.old (M.refusals maker.old))
+        (outside (by seen H.Host) A.Sink E.Sink host.new alerts.new errors.new (M.refusals maker.new)) result }
+
+    // The same by what the host tells.
+    ensures told { Headline (map string_bytes words.now) (M.means maker.old)
         (outside H.Host A.Sink E.Sink host.old alerts.old errors.old (M.refusals maker.old))
         (outside H.Host A.Sink E.Sink host.new alerts.new errors.new (M.refusals maker.new)) result }
 

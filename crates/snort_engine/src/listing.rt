@@ -166,7 +166,7 @@ fn too_large(alloc: Global, name: &[u8]) -> Result<Text, NoMemory>
 
 /// Reads the Unified2 file of this name, and gives the lines of its records.
 pub(crate) fn list_records<H: Host>(alloc: Global, name: &str, host: &mut H) -> Result<Text, Stop>
-    ensures lists { (files : Files) → H.contents host.old ≡ Some files
+    ensures lists { (files : Files) → H.agrees host.new files
         → ListsFile name.now files (Rose (H.faults host.old) (H.faults host.new)) result }
     ensures cause { IfErr result (HasCause (Rose (H.faults host.old) (H.faults host.new)) (H.contents host.old)) }
     ensures host { OnlyLoaded H.Host host.old host.new }

@@ -133,7 +133,7 @@ fn set_up<H: Host, M: PatternMaker>(
     warnings: &mut Items<Text>,
 ) -> Result<Setup<M::Made>, SetupStop>
     requires { HasName (setup_words (run_of wanted.now)).definition }
-    ensures set_up { (files : Files) → H.contents host.old ≡ Some files
+    ensures set_up { (files : Files) → H.agrees host.new files
         → IsSetUp ready_of (run_of wanted.now) files (Rose (H.faults host.old) (H.faults host.new))
         (grown_by (M.refusals maker.old) (M.refusals maker.new)) result warnings.new }
     ensures cause { IfErr result (setup_specs.HasCause (Rose (H.faults host.old) (H.faults host.new)) (H.contents host.old)) }
@@ -204,7 +204,7 @@ fn prepare_run<'a, H: Host, M: PatternMaker>(
 ) -> Result<Plan<'a, M::Made>, Stop>
     requires named { HasName (setup_words (run_of wanted.now)).definition }
     requires ranged { IsRanged wanted.now.lanes wanted.now.flush_point }
-    ensures prepared { (files : Files) → H.contents host.old ≡ Some files
+    ensures prepared { (files : Files) → H.agrees host.new files
         → IsPrepared way_for (Some (run (run_of wanted.now))) files (Rose (H.faults host.old) (H.faults host.new))
         (grown_by (M.refusals maker.old) (M.refusals maker.new)) result warnings.new }
     ensures made { IfOk result (λ ready. IsSome wanted.now.generate → IsMade ready.source) }
@@ -236,7 +236,7 @@ pub(crate) fn prepare<'a, H: Host, M: PatternMaker>(
     warnings: &mut Items<Text>,
 ) -> Result<Task<'a, M::Made>, Stop>
     requires { warnings.old ≡ [] }
-    ensures prepared { (files : Files) → H.contents host.old ≡ Some files
+    ensures prepared { (files : Files) → H.agrees host.new files
         → IsPrepared task_way (command_line (map string_bytes words.entry.now)) files
         (Rose (H.faults host.old) (H.faults host.new))
         (grown_by (M.refusals maker.old) (M.refusals maker.new)) result warnings.new }

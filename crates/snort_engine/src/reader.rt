@@ -1,8 +1,8 @@
 //! The reader of a run's capture, in either format.
-ghost use Rattle.std.specs.Prelude.{◌≡◌, ◌≢◌, ◌≤◌, ◌⊎◌, true, false, Some, None, IfOk, IfErr, IsErrOf};
+ghost use Rattle.std.specs.Prelude.{◌≡◌, ◌≢◌, ◌≤◌, ◌⊎◌, true, false, Option, Some, None, IfOk, IfErr, IsErrOf};
 ghost use Rattle.std.specs.FinMap.{get};
 ghost use Rattle.edge_io.specs.Told.{Rose};
-ghost use Rattle.edge_io.specs.Files.{Files, Lacks};
+ghost use Rattle.edge_io.specs.Files.{Files, Lacks, MaySee, left_by};
 ghost use Rattle.snort_engine.specs.declared.reader.RecordReader.TheVariants.{Savefile, Blocks};
 ghost use Rattle.snort_engine.specs.Outside.{OnlyRead};
 ghost use Rattle.snort_engine.specs.Trace.{no_record};
@@ -75,14 +75,16 @@ impl RecordReader {
     /// Opens a file of the host as its capture and reads its head. Where the file begins as no savefile
     /// does, it is opened once more, as blocks.
     pub fn open<H: Host>(alloc: Global, host: &mut H, name: &str) -> Result<RecordReader, ReadFault>
-        ensures opens { (files : Files) → H.contents host.old ≡ Some files
-            → Opens (get files name.now) result (H.left host.new) }
+        ensures opens { (files : Files) → H.agrees host.new files
+            → Opens (get files name.now) result (H.left_of host.new files) }
         ensures fresh { IfOk result (λ reader. IsFresh reader × (number_of reader ≡ 0)) }
         ensures failed { IsErrOf result ReadFault.Failed
             → Rose (H.faults host.old) (H.faults host.new) ⊎ Lacks (H.contents host.old) name.now }
-        ensures opened { OpensSo (H.contents host.old) name.now (Rose (H.faults host.old) (H.faults host.new))
-            (H.opens host.old) (H.opens host.new) }
+        ensures opened { (seen : Option Files) → MaySee (H.contents host.new) (H.agrees host.new) seen
+            → OpensSo seen name.now (Rose (H.faults host.old) (H.faults host.new)) (H.opens host.old) (H.opens host.new) }
         ensures same_contents { H.contents host.new ≡ H.contents host.old }
+        ensures earlier { (seen : Option Files) → MaySee (H.contents host.new) (H.agrees host.new) seen
+            → MaySee (H.contents host.old) (H.agrees host.old) seen }
         ensures later { H.faults host.old ≤ H.faults host.new }
     {
         let why = match CaptureReader::open(host, name) {
@@ -103,7 +105,8 @@ impl RecordReader {
         host: &mut H,
     ) -> Result<Option<LinkedRecord>, ReadFault>
         requires { IsFresh self.old }
-        ensures gives { Gives self.old self.new result (H.left host.old) (H.left host.new) }
+        ensures gives { (seen : Option Files) → MaySee (H.contents host.new) (H.agrees host.new) seen
+            → Gives self.old self.new result (left_by (H.left_of host.old) seen) (left_by (H.left_of host.new) seen) }
         ensures refused { IfErr result (λ why. refusal_of self.new ≡ Some why) }
         ensures failed { IsErrOf result ReadFault.Failed → Rose (H.faults host.old) (H.faults host.new) }
         ensures host { OnlyRead H.Host host.old host.new }
@@ -150,7 +153,9 @@ fn next_of_savefile<H: Host>(
     reader: &mut CaptureReader,
 ) -> Result<Option<LinkedRecord>, ReadFault>
     requires { reader.old.refused ≡ None }
-    ensures gives { Gives (Savefile reader.old) (Savefile reader.new) result (H.left host.old) (H.left host.new) }
+    ensures gives { (seen : Option Files) → MaySee (H.contents host.new) (H.agrees host.new) seen
+        → Gives (Savefile reader.old) (Savefile reader.new) result
+        (left_by (H.left_of host.old) seen) (left_by (H.left_of host.new) seen) }
     ensures refused { IfErr result (λ why. refusal_of (Savefile reader.new) ≡ Some why) }
     ensures failed { IsErrOf result ReadFault.Failed → Rose (H.faults host.old) (H.faults host.new) }
     ensures host { OnlyRead H.Host host.old host.new }
@@ -170,7 +175,9 @@ fn next_of_blocks<H: Host>(
     reader: &mut NgReader,
 ) -> Result<Option<LinkedRecord>, ReadFault>
     requires { reader.old.refused ≡ None }
-    ensures gives { Gives (Blocks reader.old) (Blocks reader.new) result (H.left host.old) (H.left host.new) }
+    ensures gives { (seen : Option Files) → MaySee (H.contents host.new) (H.agrees host.new) seen
+        → Gives (Blocks reader.old) (Blocks reader.new) result
+        (left_by (H.left_of host.old) seen) (left_by (H.left_of host.new) seen) }
     ensures refused { IfErr result (λ why. refusal_of (Blocks reader.new) ≡ Some why) }
     ensures failed { IsErrOf result ReadFault.Failed → Rose (H.faults host.old) (H.faults host.new) }
     ensures host { OnlyRead H.Host host.old host.new }

@@ -1,12 +1,12 @@
-ghost use Rattle.std.specs.Prelude.{◌≡◌, ◌+◌, ◌^◌, ◌<◌, ◌≤◌, ◌⊎◌, ◌++◌, Some, true, [], length, OnOk, IsErrOf};
+ghost use Rattle.std.specs.Prelude.{◌≡◌, ◌+◌, ◌^◌, ◌<◌, ◌≤◌, ◌⊎◌, ◌++◌, Option, Some, true, [], length, OnOk, IsErrOf};
 ghost use Rattle.std.specs.List.{concat};
-ghost use Rattle.edge_io.specs.Files.{Files, Lacks};
+ghost use Rattle.edge_io.specs.Files.{Files, Lacks, MaySee};
 ghost use Rattle.edge_io.specs.Told.{Rose};
 ghost use Rattle.rule_eval.specs.Hits.{Test};
 ghost use Rattle.snort_engine.specs.Course.{Course, Goes};
 ghost use Rattle.snort_engine.specs.Steps.Reader.{IsReadable, number_of, OpensSo};
 ghost use Rattle.snort_engine.specs.Steps.Sources.{source_name};
-ghost use Rattle.snort_engine.specs.Outside.{OnlyRead, work};
+ghost use Rattle.snort_engine.specs.Outside.{OnlyRead, by, work};
 ghost use Rattle.snort_engine.specs.Ending.{Ends};
 ghost use Rattle.snort_engine.specs.Steps.Stop.{outcome_status};
 ghost use Rattle.snort_engine.specs.Steps.Reporting.{outcome_said};
@@ -61,9 +61,10 @@ fn watch_batch<H: Host, P: Pattern, G: Gate, A: Sink, R: Threads + Sync>(
     requires ready { MayGoOn context.now.plan.now reader.old detector.old }
     requires no_records { records.old.items ≡ [] }
     ensures goes_on { (matches : Test) → IsTest P.finds context.now.plan.now.setup.set matches
+        → (seen : Option Files) → MaySee (H.contents host.new) (H.agrees host.new) seen
         → WatchesOn (plan_of matches context.now.plan.now)
-        (standing H.Host A.Sink reader.old room.old detector.old host.old alerts.old)
-        (standing H.Host A.Sink reader.new room.new detector.new host.new alerts.new)
+        (standing (by seen H.Host) A.Sink reader.old room.old detector.old host.old alerts.old)
+        (standing (by seen H.Host) A.Sink reader.new room.new detector.new host.new alerts.new)
         (Rose (H.faults host.old) (H.faults host.new)) result }
     ensures further { result ≡ Ok true → number_of reader.old < number_of reader.new }
     ensures ready { result ≡ Ok true → MayGoOn context.now.plan.now reader.new detector.new }
@@ -103,8 +104,9 @@ fn watch_batches<H: Host, P: Pattern, G: Gate, A: Sink, R: Threads + Sync>(
     requires ready { MayGoOn context.now.plan.now reader.old detector.old }
     ensures comes { (matches : Test) → IsTest P.finds context.now.plan.now.setup.set matches
         → DetectorStands (plan_of matches context.now.plan.now) [] detector.old
+        → (seen : Option Files) → MaySee (H.contents host.new) (H.agrees host.new) seen
         → ComesOver (plan_of matches context.now.plan.now) reader.old
-        (streams H.Host A.Sink host.old alerts.old) (streams H.Host A.Sink host.new alerts.new)
+        (streams (by seen H.Host) A.Sink host.old alerts.old) (streams (by seen H.Host) A.Sink host.new alerts.new)
         (Rose (H.faults host.old) (H.faults host.new)) detector.new result }
     ensures closable { MayClose context.now.plan.now detector.new result }
     ensures write_fault { IsErrOf result Stop.CannotWrite → Rose (A.faults alerts.old) (A.faults alerts.new) }
@@ -165,11 +167,14 @@ pub(crate) fn watch_records<H: Host, P: Pattern, G: Gate, A: Sink, R: Threads + 
     requires plan { IsSoundPlan context.now.plan.now }
     requires readable { IsReadable reader.old }
     ensures watches { (matches : Test) → IsTest P.finds context.now.plan.now.setup.set matches
+        → (seen : Option Files) → MaySee (H.contents host.new) (H.agrees host.new) seen
         → Watches (plan_of matches context.now.plan.now) reader.old
-        (streams H.Host A.Sink host.old alerts.old) (streams H.Host A.Sink host.new alerts.new) counts.new result }
+        (streams (by seen H.Host) A.Sink host.old alerts.old) (streams (by seen H.Host) A.Sink host.new alerts.new)
+        counts.new result }
     ensures close { (matches : Test) → IsTest P.finds context.now.plan.now.setup.set matches
+        → (seen : Option Files) → MaySee (H.contents host.new) (H.agrees host.new) seen
         → IsCloseBehind (plan_of matches context.now.plan.now) reader.old
-        (streams H.Host A.Sink host.old alerts.old) (streams H.Host A.Sink host.new alerts.new)
+        (streams (by seen H.Host) A.Sink host.old alerts.old) (streams (by seen H.Host) A.Sink host.new alerts.new)
         (Rose (H.faults host.old) (H.faults host.new)) result }
     ensures write_fault { IsErrOf result Stop.CannotWrite → Rose (A.faults alerts.old) (A.faults alerts.new) }
     ensures read_fault { outcome_status result ≡ Status.HostFault → Rose (H.faults host.old) (H.faults host.new) }
@@ -195,18 +200,20 @@ pub(crate) fn watch_file<H: Host, P: Pattern, G: Gate, A: Sink, R: Threads + Syn
     requires named { source_name context.now.plan.now.source ≡ name.now }
     requires none { counts.old ≡ no_counts }
     ensures ends { (matches : Test) → IsTest P.finds context.now.plan.now.setup.set matches
-        → (files : Files) (course : Course) → H.contents host.old ≡ Some files
+        → (files : Files) (course : Course) → H.agrees host.new files
         → course.way ≡ Goes (plan_of matches context.now.plan.now)
         → Ends files course
-        (work H.Host A.Sink host.old alerts.old) (work H.Host A.Sink host.new alerts.new)
+        (work (by (Some files) H.Host) A.Sink host.old alerts.old) (work (by (Some files) H.Host) A.Sink host.new alerts.new)
         (outcome_status result)
         (concat course.warnings ++ outcome_said name.now context.now.plan.now.counted result counts.new) }
     ensures write_fault { outcome_status result ≡ Status.WriteFault → Rose (A.faults alerts.old) (A.faults alerts.new) }
     ensures read_fault { outcome_status result ≡ Status.HostFault
         → Rose (H.faults host.old) (H.faults host.new) ⊎ Lacks (H.contents host.old) name.now }
-    ensures opened { OpensSo (H.contents host.old) name.now (Rose (H.faults host.old) (H.faults host.new))
-        (H.opens host.old) (H.opens host.new) }
+    ensures opened { (seen : Option Files) → MaySee (H.contents host.new) (H.agrees host.new) seen
+        → OpensSo seen name.now (Rose (H.faults host.old) (H.faults host.new)) (H.opens host.old) (H.opens host.new) }
     ensures same_contents { H.contents host.new ≡ H.contents host.old }
+    ensures earlier { (seen : Option Files) → MaySee (H.contents host.new) (H.agrees host.new) seen
+        → MaySee (H.contents host.old) (H.agrees host.old) seen }
     ensures later { H.faults host.old ≤ H.faults host.new }
     ensures later_alerts { A.faults alerts.old ≤ A.faults alerts.new }
 {

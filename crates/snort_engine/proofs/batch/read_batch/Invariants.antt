@@ -1,5 +1,6 @@
 -- Reading went on from where the batch began, by as many records as the batch has.
-use Rattle.std.proofs.Common.{◌≡◌, ◌+◌, ◌-◌, ◌<◌, ◌≤◌, [], vec_len}
+use Rattle.std.proofs.Common.{◌≡◌, ◌+◌, ◌-◌, ◌<◌, ◌≤◌, [], Option, vec_len}
+use Rattle.edge_io.specs.Files.{Files, MaySee, left_by}
 use Rattle.pcap_input.specs.Savefile.{most_records}
 use Rattle.snort_engine.specs.Steps.Reader.{IsFresh, number_of}
 use Rattle.snort_engine.specs.Steps.Batch.{ReadsOn}
@@ -9,7 +10,8 @@ use Rattle.snort_engine.proofs.batch.read_batch.Given as goal
 
 abbrev pub invariant-batch : goal.invariant-batch
 invariant-batch g l = record {
-  reads : ReadsOn (record { reader = l.fn.reader; records = []; left = g.H.Host.left l.fn.host }) (record { reader = l.reader; records = l.records.items; left = g.H.Host.left l.host }) More;
+  reads : (seen : Option Files) → MaySee (g.H.Host.contents l.host) (g.H.Host.agrees l.host) seen
+      → ReadsOn (record { reader = l.fn.reader; records = []; left = left_by (g.H.Host.left_of l.fn.host) seen }) (record { reader = l.reader; records = l.records.items; left = left_by (g.H.Host.left_of l.host) seen }) More;
   fresh : IsFresh l.reader;
   few : vec_len l.records ≤ l.most;
   number : number_of l.reader ≡ number_of l.fn.reader + vec_len l.records;

@@ -1,41 +1,44 @@
 -- What was reached, by the answer of `next`.
 use Rattle.std.proofs.Common.{◌≡◌, [], ◌∷◌, ◌++◌, Some, refl, ap, ◌∙◌, inl, inr}
+use Rattle.edge_io.specs.Files.{left_by}
 use Rattle.snort_engine.specs.declared.fault.ReadFault.{ReadFault}
 use Rattle.snort_engine.specs.declared.fault.ReadFault.TheVariants.{NoMemory}
 use Rattle.snort_engine.specs.Steps.Batch.{Place}
 use Rattle.snort_engine.proofs.Batches.{reads_record, reads_end, reads_fault, reads_lacking}
+use Rattle.snort_engine.proofs.Seeing.{told_may}
 use Rattle.snort_engine.proofs.batch.read_one.Goals as goal
 
 pub returns-then-is_err-clause-reads : goal.returns-then-is_err-clause-reads
-returns-then-is_err-clause-reads g c =
-    let old : Place = record { reader = c.args.reader.now; records = c.args.records.now.items; left = g.H.Host.left c.args.host.now } in
-    let new : Place = record { reader = c.args.reader.now; records = c.reserve.new.self.items; left = g.H.Host.left c.args.host.now } in
+returns-then-is_err-clause-reads g c = λ seen may.
+    let old : Place = record { reader = c.args.reader.now; records = c.args.records.now.items; left = left_by (g.H.Host.left_of c.args.host.now) seen } in
+    let new : Place = record { reader = c.args.reader.now; records = c.reserve.new.self.items; left = left_by (g.H.Host.left_of c.args.host.now) seen } in
     reads_lacking old new c.reserve.ensures.items refl
 
 pub returns-in-Ok-clause-reads : goal.returns-in-Ok-clause-reads
-returns-in-Ok-clause-reads g c =
-    let gives = rw c.in-Ok-Some.field-0-is at c.in-Ok-Some.ensures.gives in
-    let old : Place = record { reader = c.args.reader.now; records = c.args.records.now.items; left = g.H.Host.left c.args.host.now } in
-    let new : Place = record { reader = c.next.new.self; records = c.push.new.self.items; left = g.H.Host.left c.next.new.host } in
+returns-in-Ok-clause-reads g c = λ seen may.
+    let gives = rw c.in-Ok-Some.field-0-is at (c.in-Ok-Some.ensures.gives seen may) in
+    let old : Place = record { reader = c.args.reader.now; records = c.args.records.now.items; left = left_by (g.H.Host.left_of c.args.host.now) seen } in
+    let new : Place = record { reader = c.next.new.self; records = c.push.new.self.items; left = left_by (g.H.Host.left_of c.next.new.host) seen } in
     reads_record old new c.in-Ok-Some.given gives.0 (c.in-Ok.ensures.items ∙ ap (λ records. records ++ c.in-Ok-Some.given ∷ []) c.reserve.ensures.items)
 
 pub returns-in-Ok-clause-next : goal.returns-in-Ok-clause-next
 returns-in-Ok-clause-next g c = λ more.
-    let gives = rw c.in-Ok-Some.field-0-is at c.in-Ok-Some.ensures.gives in
+    let may = told_may g.H.Host c.next.new.host (g.met.H.Host.as_told c.next.new.host) in
+    let gives = rw c.in-Ok-Some.field-0-is at (c.in-Ok-Some.ensures.gives (g.H.Host.contents c.next.new.host) may) in
     (gives.0.fresh, gives.1)
 
 pub returns-in-Ok-None-clause-reads : goal.returns-in-Ok-None-clause-reads
-returns-in-Ok-None-clause-reads g c =
-    let gives = rw c.in-Ok-None.field-0-is at c.in-Ok-None.ensures.gives in
-    let old : Place = record { reader = c.args.reader.now; records = c.args.records.now.items; left = g.H.Host.left c.args.host.now } in
-    let new : Place = record { reader = c.next.new.self; records = c.reserve.new.self.items; left = g.H.Host.left c.next.new.host } in
+returns-in-Ok-None-clause-reads g c = λ seen may.
+    let gives = rw c.in-Ok-None.field-0-is at (c.in-Ok-None.ensures.gives seen may) in
+    let old : Place = record { reader = c.args.reader.now; records = c.args.records.now.items; left = left_by (g.H.Host.left_of c.args.host.now) seen } in
+    let new : Place = record { reader = c.next.new.self; records = c.reserve.new.self.items; left = left_by (g.H.Host.left_of c.next.new.host) seen } in
     reads_end old new c.reserve.ensures.items gives.0 gives.1
 
 pub returns-in-Err-clause-reads : goal.returns-in-Err-clause-reads
-returns-in-Err-clause-reads g c =
-    let old : Place = record { reader = c.args.reader.now; records = c.args.records.now.items; left = g.H.Host.left c.args.host.now } in
-    let new : Place = record { reader = c.next.new.self; records = c.reserve.new.self.items; left = g.H.Host.left c.next.new.host } in
-    reads_fault old new c.in-Err.why c.reserve.ensures.items c.in-Err.ensures.gives.0 c.in-Err.ensures.gives.1
+returns-in-Err-clause-reads g c = λ seen may.
+    let old : Place = record { reader = c.args.reader.now; records = c.args.records.now.items; left = left_by (g.H.Host.left_of c.args.host.now) seen } in
+    let new : Place = record { reader = c.next.new.self; records = c.reserve.new.self.items; left = left_by (g.H.Host.left_of c.next.new.host) seen } in
+    reads_fault old new c.in-Err.why c.reserve.ensures.items (c.in-Err.ensures.gives seen may).0 (c.in-Err.ensures.gives seen may).1
 
 pub returns-then-is_err-clause-own : goal.returns-then-is_err-clause-own
 returns-then-is_err-clause-own g c = λ why is.

@@ -5,16 +5,16 @@ use Rattle.snort_engine.specs.Steps.Watching.{plan_of}
 use Rattle.snort_engine.proofs.capture.watch_capture.Goals as goal
 
 pub returns-in-File-clause-ends : goal.returns-in-File-clause-ends
-returns-in-File-clause-ends g c = λ matches test files course told goes.
+returns-in-File-clause-ends g c = λ matches test files course agree goes.
     let way = goes ∙ ap (λ (s : Source). way_from s (plan_of matches c.args.context.now.plan.now)) c.in-File.is in
-    rw c.in-File.is (c.watch_file.ensures.ends matches test files course told way)
+    rw c.in-File.is (c.watch_file.ensures.ends matches test files course agree way)
 
 pub returns-in-Made-clause-ends : goal.returns-in-Made-clause-ends
-returns-in-Made-clause-ends g c = λ matches test files course told goes.
+returns-in-Made-clause-ends g c = λ matches test files course agree goes.
     let way = goes ∙ ap (λ (s : Source). way_from s (plan_of matches c.args.context.now.plan.now)) c.in-Made.is in
     c.watch_made.ensures.ends matches test files course
     (record {
-      left = g.H.Host.left c.args.host.now;
+      left = g.H.Host.left_of c.args.host.now files;
       opens = g.H.Host.opens c.args.host.now;
       host_faults = g.H.Host.faults c.args.host.now;
       alerts = g.A.Sink.written c.args.alerts.now;

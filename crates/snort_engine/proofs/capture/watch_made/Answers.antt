@@ -1,5 +1,7 @@
 use Rattle.std.proofs.Common.{ℕ, List, Some, ◌≤◌, length, drop, refl, ap, sym, ◌∙◌, subst, arith}
 use Rattle.std.proofs.lemmas.Result.{err_from_is_err_and}
+use Rattle.std.specs.FinMap.{empty}
+use Rattle.edge_io.specs.Files.{Files}
 use Rattle.snort_engine.specs.Steps.Reader.{IsReadable}
 use Rattle.snort_engine.specs.Steps.Stop.{stop_text}
 use Rattle.snort_engine.specs.Steps.Watching.{plan_of}
@@ -21,10 +23,11 @@ returns-in_err-bytes-clause-ends g c = λ matches test files course before same 
 
 pub returns-clause-ends : goal.returns-clause-ends
 returns-clause-ends g c = λ matches test files course before same makes.
+    let none : Files = empty in
     made_ends (plan_of matches c.args.context.now.plan.now) files course c.args.seed c.args.count c.in_ok-bytes.bytes.items c.made_reader-reader.result _ _ _ _ before _ c.watch_records.result
     makes same c.in_ok-bytes.ensures c.made_reader-reader.ensures
     (c.new-made.ensures ∙ ap (λ (xs : List ℕ). Some (drop 24 xs)) c.deref.ensures.value)
-    (c.watch_records.ensures.watches matches test)
+    (c.watch_records.ensures.watches matches test (Some none) refl)
     (λ failed. never_rose (c.watch_records.ensures.read_fault failed))
 
 pub returns-clause-no_read_fault : goal.returns-clause-no_read_fault

@@ -1,8 +1,12 @@
 use Rattle.std.proofs.Common.{refl, ◌∙◌, arith}
+use Rattle.edge_io.specs.Files.{left_by}
+use Rattle.edge_io.specs.Told.{Rose}
+use Rattle.edge_io.proofs.Seeing.{seen_left}
 use Rattle.snort_engine.specs.Steps.Preparing.{task_way}
 use Rattle.snort_engine.specs.declared.prepare.Task.TheVariants.{Watch, Tell}
 use Rattle.snort_engine.proofs.FileWays.{listed_ends, no_host_stop, write_stop}
 use Rattle.snort_engine.proofs.Runs.{headline, stopped_run, watched_run, opens_made}
+use Rattle.snort_engine.proofs.Seeing.{seen_agree, seen_ends, capture_cause_by, stop_cause_by, told_headline}
 use Rattle.snort_engine.proofs.detector.run.Goals as goal
 
 pub watch_capture-outcome-requires-clause-plan : goal.watch_capture-outcome-requires-clause-plan
@@ -14,35 +18,42 @@ watch_capture-outcome-requires-clause-plan g c κs within = record {
 }
 
 pub returns-in-Ok-Watch-clause-headline : goal.returns-in-Ok-Watch-clause-headline
-returns-in-Ok-Watch-clause-headline g c =
+returns-in-Ok-Watch-clause-headline g c = λ seen may.
+    let first = c.prepare-prepared.new.host in
+    let last = c.watch_capture-outcome.new.host in
+    let law = g.met.H.Host.as_told last in
+    let before = c.watch_capture-outcome.ensures.earlier seen may in
+    let still = seen_left (g.H.Host.left_of c.args.host.now) (g.H.Host.left_of first) seen c.prepare-prepared.ensures.host.left_of in
     headline _ _ _ _ _
     (watched_run (task_way {P = g.row.M-Made.Denot}) _ _ _ _ (Watch c.in-Ok-Watch.plan) _ c.watch_capture-outcome.result c.prepare-prepared.new.warnings _ (c.matching_is_decided.ensures _)
     (record {
       middle = record {
-        left = g.H.Host.left c.prepare-prepared.new.host;
+        left = left_by (g.H.Host.left_of first) seen;
         opens = g.H.Host.opens c.prepare-prepared.new.host;
         host_faults = g.H.Host.faults c.prepare-prepared.new.host;
         alerts = g.A.Sink.written c.args.alerts.now;
       };
-      prepared = λ files is. (rw c.in-Ok-Watch.field-0-is at c.in-Ok-Watch.ensures.prepared) files is;
+      prepared = λ files is. (rw c.in-Ok-Watch.field-0-is at c.in-Ok-Watch.ensures.prepared) files (seen_agree g.H.Host first seen files before is);
       faulty_words = λ none. c.in-Ok-Watch.ensures.faulty_words none;
       fileless = c.in-Ok-Watch.ensures.fileless;
-      since = record { left = c.prepare-prepared.ensures.host.left; opens = c.prepare-prepared.ensures.host.opens; alerts = refl; later = c.prepare-prepared.ensures.host.later };
+      since = record { left = still; opens = c.prepare-prepared.ensures.host.opens; alerts = refl; later = c.prepare-prepared.ensures.host.later };
       ends = λ matches tells files course is goes.
-          c.watch_capture-outcome.ensures.ends matches
+          seen_ends g.H.Host g.A.Sink first last c.args.alerts.now c.watch_capture-outcome.new.alerts files course _ _ seen is
+          (c.watch_capture-outcome.ensures.ends matches
           (record { means = g.M.PatternMaker.means c.args.maker.now; find = rw c.in-Ok-Watch.field-0-is at c.in-Ok-Watch.ensures.meant; tells = tells })
-          files course (c.prepare-prepared.ensures.host.files ∙ is) goes;
+          files course (seen_agree g.H.Host last seen files may is) goes);
       write_fault = c.watch_capture-outcome.ensures.write_fault;
       read_fault = λ matches failed.
-          rw c.prepare-prepared.ensures.host.files at (c.watch_capture-outcome.ensures.read_fault matches failed);
+          capture_cause_by g.H.Host first last (task_way {P = g.row.M-Made.Denot} matches (Watch c.in-Ok-Watch.plan)) (Rose (g.H.Host.faults first) (g.H.Host.faults last)) seen law
+          c.watch_capture-outcome.ensures.same_contents may (c.watch_capture-outcome.ensures.read_fault matches failed);
       opened = λ matches.
-          rw (c.prepare-prepared.ensures.host.files, c.prepare-prepared.ensures.host.opens) at (c.watch_capture-outcome.ensures.opened matches);
+          rw c.prepare-prepared.ensures.host.opens at (c.watch_capture-outcome.ensures.opened matches seen may);
       made_unopened = λ for_made.
           let made = (rw c.in-Ok-Watch.field-0-is at c.in-Ok-Watch.ensures.made) for_made in (
-            opens_made _ c.in-Ok-Watch.plan.source _ _ _ _ made (c.watch_capture-outcome.ensures.opened (c.matching_is_decided.ensures (g.M.PatternMaker.means c.args.maker.now)).0) ∙ c.prepare-prepared.ensures.host.opens,
-            c.watch_capture-outcome.ensures.made_unopened made ∙ c.prepare-prepared.ensures.host.left,
+            opens_made _ c.in-Ok-Watch.plan.source _ _ _ _ made (c.watch_capture-outcome.ensures.opened (c.matching_is_decided.ensures (g.M.PatternMaker.means c.args.maker.now)).0 seen may) ∙ c.prepare-prepared.ensures.host.opens,
+            seen_left (g.H.Host.left_of first) (g.H.Host.left_of last) seen (c.watch_capture-outcome.ensures.made_unopened made) ∙ still,
           );
-      same_files = c.watch_capture-outcome.ensures.same_contents ∙ c.prepare-prepared.ensures.host.files;
+      same_files = refl;
       counts = record {
         host = omega (arith, c.prepare-prepared.ensures.host.later, c.watch_capture-outcome.ensures.later);
         alerts = c.watch_capture-outcome.ensures.later_alerts;
@@ -60,28 +71,30 @@ returns-in-Ok-Watch-clause-headline g c =
     }))
 
 pub returns-in-Ok-Tell-clause-headline : goal.returns-in-Ok-Tell-clause-headline
-returns-in-Ok-Tell-clause-headline g c =
+returns-in-Ok-Tell-clause-headline g c = λ seen may.
+    let first = c.prepare-prepared.new.host in
+    let still = seen_left (g.H.Host.left_of c.args.host.now) (g.H.Host.left_of first) seen c.prepare-prepared.ensures.host.left_of in
     headline _ _ _ _ _
     (watched_run (task_way {P = g.row.M-Made.Denot}) _ _ _ _ (Tell c.in-Ok-Tell.lines) _ c.offer-outcome.result c.prepare-prepared.new.warnings _ (c.matching_is_decided.ensures _)
     (record {
       middle = record {
-        left = g.H.Host.left c.prepare-prepared.new.host;
+        left = left_by (g.H.Host.left_of first) seen;
         opens = g.H.Host.opens c.prepare-prepared.new.host;
         host_faults = g.H.Host.faults c.prepare-prepared.new.host;
         alerts = g.A.Sink.written c.args.alerts.now;
       };
-      prepared = λ files is. (rw c.in-Ok-Tell.field-0-is at c.in-Ok-Tell.ensures.prepared) files is;
+      prepared = λ files is. (rw c.in-Ok-Tell.field-0-is at c.in-Ok-Tell.ensures.prepared) files (seen_agree g.H.Host first seen files may is);
       faulty_words = λ none. c.in-Ok-Tell.ensures.faulty_words none;
       fileless = c.in-Ok-Tell.ensures.fileless;
-      since = record { left = c.prepare-prepared.ensures.host.left; opens = c.prepare-prepared.ensures.host.opens; alerts = refl; later = c.prepare-prepared.ensures.host.later };
+      since = record { left = still; opens = c.prepare-prepared.ensures.host.opens; alerts = refl; later = c.prepare-prepared.ensures.host.later };
       ends = λ matches tells files course is lists.
           listed_ends files course c.in-Ok-Tell.lines _ _ c.offer-outcome.result lists refl refl
           (rw c.into_vec-block.ensures at c.offer-outcome.ensures.offered) (rw c.into_vec-block.ensures at c.offer-outcome.ensures.stopped) c.offer-outcome.ensures.kind;
       write_fault = λ failed. write_stop c.offer-outcome.result c.offer-outcome.ensures.kind c.offer-outcome.ensures.fault failed;
       read_fault = λ matches failed. absurd (no_host_stop c.offer-outcome.result c.offer-outcome.ensures.kind failed);
       opened = λ matches. c.prepare-prepared.ensures.host.opens;
-      made_unopened = λ for_made. (c.prepare-prepared.ensures.host.opens, c.prepare-prepared.ensures.host.left);
-      same_files = c.prepare-prepared.ensures.host.files;
+      made_unopened = λ for_made. (c.prepare-prepared.ensures.host.opens, still);
+      same_files = refl;
       counts = record {
         host = c.prepare-prepared.ensures.host.later;
         alerts = c.offer-outcome.ensures.later;
@@ -99,16 +112,19 @@ returns-in-Ok-Tell-clause-headline g c =
     }))
 
 pub returns-clause-headline : goal.returns-clause-headline
-returns-clause-headline g c =
+returns-clause-headline g c = λ seen may.
+    let first = c.prepare-prepared.new.host in
+    let still = seen_left (g.H.Host.left_of c.args.host.now) (g.H.Host.left_of first) seen c.prepare-prepared.ensures.host.left_of in
     headline _ _ _ _ _
     (stopped_run (task_way {P = g.row.M-Made.Denot}) _ _ _ _ c.in-Err.stop c.prepare-prepared.new.warnings _ (c.matching_is_decided.ensures _)
     (record {
-      prepared = λ files is. c.in-Err.ensures.prepared files is;
-      cause = c.in-Err.ensures.cause;
+      prepared = λ files is. c.in-Err.ensures.prepared files (seen_agree g.H.Host first seen files may is);
+      cause = stop_cause_by g.H.Host c.args.host.now first (Rose (g.H.Host.faults c.args.host.now) (g.H.Host.faults first)) c.in-Err.stop seen (g.met.H.Host.as_told first)
+          c.prepare-prepared.ensures.host.files may c.in-Err.ensures.cause;
       faulty_words = λ none. c.in-Err.ensures.faulty_words none;
       fileless = c.in-Err.ensures.fileless;
-      unopened = record { left = c.prepare-prepared.ensures.host.left; opens = c.prepare-prepared.ensures.host.opens; alerts = refl };
-      same_files = c.prepare-prepared.ensures.host.files;
+      unopened = record { left = still; opens = c.prepare-prepared.ensures.host.opens; alerts = refl };
+      same_files = refl;
       counts = record { host = c.prepare-prepared.ensures.host.later; alerts = omega arith; errors = omega (arith, c.tell_all-well.ensures.later, c.report-in-Err.ensures.later) };
     })
     (record {
@@ -120,3 +136,18 @@ returns-clause-headline g c =
       warned = rw c.as_slice.ensures at c.tell_all-well.ensures.tells;
       reports = c.report-in-Err.ensures.reports;
     }))
+
+pub returns-in-Ok-Watch-clause-told : goal.returns-in-Ok-Watch-clause-told
+returns-in-Ok-Watch-clause-told g c =
+    told_headline g.H.Host g.A.Sink g.E.Sink _ _ c.args.host.now c.watch_capture-outcome.new.host c.args.alerts.now c.watch_capture-outcome.new.alerts c.args.errors.now c.report.new.errors _ _ _ g.met.H.Host.as_told
+    (c.watch_capture-outcome.ensures.same_contents ∙ c.prepare-prepared.ensures.host.files) (returns-in-Ok-Watch-clause-headline g c)
+
+pub returns-in-Ok-Tell-clause-told : goal.returns-in-Ok-Tell-clause-told
+returns-in-Ok-Tell-clause-told g c =
+    told_headline g.H.Host g.A.Sink g.E.Sink _ _ c.args.host.now c.prepare-prepared.new.host c.args.alerts.now c.offer-outcome.new.alerts c.args.errors.now c.report-in-Ok-Tell.new.errors _ _ _ g.met.H.Host.as_told
+    c.prepare-prepared.ensures.host.files (returns-in-Ok-Tell-clause-headline g c)
+
+pub returns-clause-told : goal.returns-clause-told
+returns-clause-told g c =
+    told_headline g.H.Host g.A.Sink g.E.Sink _ _ c.args.host.now c.prepare-prepared.new.host c.args.alerts.now c.args.alerts.now c.args.errors.now c.report-in-Err.new.errors _ _ _ g.met.H.Host.as_told
+    c.prepare-prepared.ensures.host.files (returns-clause-headline g c)

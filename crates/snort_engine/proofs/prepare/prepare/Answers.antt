@@ -43,38 +43,38 @@ returns-in_err-prepare_run-in-Ok-Run-clause-fileless g c = λ so.
     absurd (not_fileless_run _ (run_of c.in-Ok-Run.wanted) (rw c.in-Ok-Run.field-0-is at c.in-Ok-Run.ensures) so)
 
 pub returns-in-Ok-Help-clause-prepared : goal.returns-in-Ok-Help-clause-prepared
-returns-in-Ok-Help-clause-prepared g c = λ files told. prepared_help task_way _ files _ _ _ (rw c.in-Ok-Help.field-0-is at c.in-Ok-Help.ensures) c.requires
+returns-in-Ok-Help-clause-prepared g c = λ files agree. prepared_help task_way _ files _ _ _ (rw c.in-Ok-Help.field-0-is at c.in-Ok-Help.ensures) c.requires
 
 pub returns-in-Ok-Version-clause-prepared : goal.returns-in-Ok-Version-clause-prepared
-returns-in-Ok-Version-clause-prepared g c = λ files told. prepared_version task_way _ files _ _ _ (rw c.in-Ok-Version.field-0-is at c.in-Ok-Version.ensures) c.requires
+returns-in-Ok-Version-clause-prepared g c = λ files agree. prepared_version task_way _ files _ _ _ (rw c.in-Ok-Version.field-0-is at c.in-Ok-Version.ensures) c.requires
 
 pub returns-in-Err-CommandLine-clause-prepared : goal.returns-in-Err-CommandLine-clause-prepared
-returns-in-Err-CommandLine-clause-prepared g c = λ files told. prepared_faulty task_way _ files _ _ _ (rw c.in-Err-CommandLine.field-0-is at c.in-Err-CommandLine.ensures) c.requires
+returns-in-Err-CommandLine-clause-prepared g c = λ files agree. prepared_faulty task_way _ files _ _ _ (rw c.in-Err-CommandLine.field-0-is at c.in-Err-CommandLine.ensures) c.requires
 
 pub returns-in-Err-NoMemory-clause-prepared : goal.returns-in-Err-NoMemory-clause-prepared
-returns-in-Err-NoMemory-clause-prepared g c = λ files told. prepared_lacking task_way _ files _ _ _ c.requires
+returns-in-Err-NoMemory-clause-prepared g c = λ files agree. prepared_lacking task_way _ files _ _ _ c.requires
 
 pub returns-in_ok-list_records-in-Ok-ReadUnified2-clause-prepared : goal.returns-in_ok-list_records-in-Ok-ReadUnified2-clause-prepared
-returns-in_ok-list_records-in-Ok-ReadUnified2-clause-prepared g c = λ files told.
+returns-in_ok-list_records-in-Ok-ReadUnified2-clause-prepared g c = λ files agree.
     prepared_listed {P = g.row.M-Made.Denot} _ c.in-Ok-ReadUnified2.file.now files _ _ c.in_ok-list_records-in-Ok-ReadUnified2.field-0 _
     (rw c.in-Ok-ReadUnified2.field-0-is at c.in-Ok-ReadUnified2.ensures) c.requires
-    (c.in_ok-list_records-in-Ok-ReadUnified2.ensures.lists files told)
+    (c.in_ok-list_records-in-Ok-ReadUnified2.ensures.lists files agree)
 
 pub returns-in_err-list_records-in-Ok-ReadUnified2-clause-prepared : goal.returns-in_err-list_records-in-Ok-ReadUnified2-clause-prepared
-returns-in_err-list_records-in-Ok-ReadUnified2-clause-prepared g c = λ files told.
+returns-in_err-list_records-in-Ok-ReadUnified2-clause-prepared g c = λ files agree.
     let p = err_from_is_err_and c.from_residual.result c.from_residual.ensures.1 in
     rw (p.1, p.2) (prepared_unlisted (task_way {P = g.row.M-Made.Denot}) _ c.in-Ok-ReadUnified2.file.now files _ _ c.in_err-list_records-in-Ok-ReadUnified2.field-0.0 c.args.warnings.now
     (rw c.in-Ok-ReadUnified2.field-0-is at c.in-Ok-ReadUnified2.ensures) c.requires
-    (c.in_err-list_records-in-Ok-ReadUnified2.ensures.lists files told))
+    (c.in_err-list_records-in-Ok-ReadUnified2.ensures.lists files agree))
 
 pub returns-in_ok-prepare_run-in-Ok-Run-clause-prepared : goal.returns-in_ok-prepare_run-in-Ok-Run-clause-prepared
-returns-in_ok-prepare_run-in-Ok-Run-clause-prepared g c = λ files told.
+returns-in_ok-prepare_run-in-Ok-Run-clause-prepared g c = λ files agree.
     let asked = rw c.in-Ok-Run.field-0-is at c.in-Ok-Run.ensures in
-    rw asked (task_ready _ files _ _ c.in_ok-prepare_run-in-Ok-Run.field-0 _ (c.in_ok-prepare_run-in-Ok-Run.ensures.prepared files told))
+    rw asked (task_ready _ files _ _ c.in_ok-prepare_run-in-Ok-Run.field-0 _ (c.in_ok-prepare_run-in-Ok-Run.ensures.prepared files agree))
 
 pub returns-in_err-prepare_run-in-Ok-Run-clause-prepared : goal.returns-in_err-prepare_run-in-Ok-Run-clause-prepared
-returns-in_err-prepare_run-in-Ok-Run-clause-prepared g c = λ files told.
+returns-in_err-prepare_run-in-Ok-Run-clause-prepared g c = λ files agree.
     let asked = rw c.in-Ok-Run.field-0-is at c.in-Ok-Run.ensures in
     let p = err_from_is_err_and c.from_residual-in_err-prepare_run-in-Ok-Run.result c.from_residual-in_err-prepare_run-in-Ok-Run.ensures.1 in
     rw (p.1, p.2, asked) (task_stopped (way_for {P = g.row.M-Made.Denot}) (task_way {P = g.row.M-Made.Denot}) _ files _ _ c.in_err-prepare_run-in-Ok-Run.field-0.0 _
-    (c.in_err-prepare_run-in-Ok-Run.ensures.prepared files told))
+    (c.in_err-prepare_run-in-Ok-Run.ensures.prepared files agree))

@@ -6,9 +6,9 @@ use Rattle.snort_engine.proofs.Prepared.{setup_stopped, setup_ready, setup_cause
 use Rattle.snort_engine.proofs.prepare.prepare_run.Goals as goal
 
 pub returns-in_err-setup-clause-prepared : goal.returns-in_err-setup-clause-prepared
-returns-in_err-setup-clause-prepared g c = λ files told.
+returns-in_err-setup-clause-prepared g c = λ files agree.
     let p = err_from_is_err_and c.from_residual.result c.from_residual.ensures.1 in
-    rw (p.1, p.2) (setup_stopped ready_of way_for (run_of c.args.wanted.now) files _ _ c.in_err-setup.field-0.0 _ (c.in_err-setup.ensures.set_up files told))
+    rw (p.1, p.2) (setup_stopped ready_of way_for (run_of c.args.wanted.now) files _ _ c.in_err-setup.field-0.0 _ (c.in_err-setup.ensures.set_up files agree))
 
 pub returns-in_err-setup-clause-cause : goal.returns-in_err-setup-clause-cause
 returns-in_err-setup-clause-cause g c =
@@ -16,8 +16,8 @@ returns-in_err-setup-clause-cause g c =
     rw (p.1, p.2) (setup_cause _ _ c.in_err-setup.field-0.0 c.in_err-setup.ensures.cause)
 
 pub returns-clause-prepared : goal.returns-clause-prepared
-returns-clause-prepared g c = λ files told.
-    setup_ready (run_of c.args.wanted.now) files _ _ c.in_ok-setup.setup c.ready.result _ (c.in_ok-setup.ensures.set_up files told) c.ready.ensures.way c.ready.ensures.kept
+returns-clause-prepared g c = λ files agree.
+    setup_ready (run_of c.args.wanted.now) files _ _ c.in_ok-setup.setup c.ready.result _ (c.in_ok-setup.ensures.set_up files agree) c.ready.ensures.way c.ready.ensures.kept
 
 pub returns-clause-cause : goal.returns-clause-cause
 returns-clause-cause g c = kept_cause _ _ c.in_ok-setup.setup c.ready.result c.ready.ensures.kept

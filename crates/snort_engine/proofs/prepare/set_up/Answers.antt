@@ -1,8 +1,8 @@
 use Rattle.snort_engine.proofs.prepare.set_up.Goals as goal
 
 pub returns-clause-set_up : goal.returns-clause-set_up
-returns-clause-set_up g c = λ files told. record {
+returns-clause-set_up g c = λ files agree. record {
   given_warnings = c.read_setup-outcome.new.warnings;
-  sets_up = rw c.setup_words.ensures at (c.read_setup-outcome.ensures.setup files told);
+  sets_up = rw c.setup_words.ensures at (c.read_setup-outcome.ensures.agreed files agree);
   told_are = c.told_of.ensures;
 }

@@ -1,5 +1,6 @@
 -- The work is under way, a batch may come, no record waits, and no count fell.
-use Rattle.std.proofs.Common.{◌≡◌, ◌≤◌, ◌-◌, []}
+use Rattle.std.proofs.Common.{◌≡◌, ◌≤◌, ◌-◌, [], Option}
+use Rattle.edge_io.specs.Files.{Files, MaySee, left_by}
 use Rattle.rule_eval.specs.Hits.{Test}
 use Rattle.snort_engine.specs.Outside.{OnlyRead}
 use Rattle.snort_engine.specs.Steps.Reader.{number_of}
@@ -10,8 +11,9 @@ use Rattle.snort_engine.proofs.watch.watch_batches.Given as goal
 abbrev pub invariant-batches : goal.invariant-batches
 invariant-batches g l = record {
   going : (matches : Test) → IsTest g.P.Pattern.finds l.context.plan.now.setup.set matches → DetectorStands (plan_of matches l.context.plan.now) [] l.fn.detector
-      → IsUnderWay (plan_of matches l.context.plan.now) l.fn.reader (record { left = g.H.Host.left l.fn.host; written = g.A.Sink.written l.fn.alerts })
-      (record { reader = l.reader; room = l.room; detector = l.detector; streams = record { left = g.H.Host.left l.host; written = g.A.Sink.written l.alerts } });
+      → (seen : Option Files) → MaySee (g.H.Host.contents l.host) (g.H.Host.agrees l.host) seen
+      → IsUnderWay (plan_of matches l.context.plan.now) l.fn.reader (record { left = left_by (g.H.Host.left_of l.fn.host) seen; written = g.A.Sink.written l.fn.alerts })
+      (record { reader = l.reader; room = l.room; detector = l.detector; streams = record { left = left_by (g.H.Host.left_of l.host) seen; written = g.A.Sink.written l.alerts } });
   ready : MayGoOn l.context.plan.now l.reader l.detector;
   shown : l.records.items ≡ [];
   host : OnlyRead g.H.Host l.fn.host l.host;

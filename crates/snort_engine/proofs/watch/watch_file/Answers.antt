@@ -1,9 +1,11 @@
-use Rattle.std.proofs.Common.{Err, refl, sym, ap, ◌∙◌, arith}
+use Rattle.std.proofs.Common.{Some, Err, refl, sym, ap, ◌∙◌, arith}
 use Rattle.std.proofs.lemmas.Result.{err_from_is_err_and}
+use Rattle.edge_io.specs.Told.{Rose}
 use Rattle.snort_engine.specs.Steps.Watching.{plan_of}
 use Rattle.snort_engine.proofs.Prefixes.{rose_since}
 use Rattle.snort_engine.proofs.Captures.{open_stops, capture_ends}
 use Rattle.snort_engine.proofs.Opening.{opens_later}
+use Rattle.snort_engine.proofs.Seeing.{cause_by}
 use Rattle.snort_engine.proofs.watch.watch_file.Goals as goal
 
 pub watch_records-requires-clause-readable : goal.watch_records-requires-clause-readable
@@ -12,28 +14,30 @@ watch_records-requires-clause-readable g c κs within =
     record { fresh = c.in_ok-reader.ensures.fresh.0; within = omega (arith, none) }
 
 pub returns-in_err-reader-clause-ends : goal.returns-in_err-reader-clause-ends
-returns-in_err-reader-clause-ends g c = λ matches test files course told goes.
+returns-in_err-reader-clause-ends g c = λ matches test files course agree goes.
     let named = sym c.requires.named in
     let p = err_from_is_err_and c.from_residual.result c.from_residual.ensures.1 in
-    let opens = rw named at (c.in_err-reader.ensures.opens files told) in
-    let failed = rw (told, named) at c.in_err-reader.ensures.failed in
+    let opens = rw named at (c.in_err-reader.ensures.opens files agree) in
+    let host = c.open.new.host in
+    let law = g.met.H.Host.as_told host in
+    let rose = Rose (g.H.Host.faults c.args.host.now) (g.H.Host.faults host) in
     rw named (open_stops (plan_of matches c.args.context.now.plan.now) files course c.in_err-reader.field-0.0 _ _ _ c.from_residual.result p.0 c.requires.none p.1 p.2
-    goes refl opens (λ is. failed (ap Err is)))
+    goes refl opens (λ is. rw named at (cause_by g.H.Host c.args.host.now host c.args.name.now rose (Some files) law c.in_err-reader.ensures.same_contents agree (c.in_err-reader.ensures.failed (ap Err is)))))
 
 pub returns-clause-ends : goal.returns-clause-ends
-returns-clause-ends g c = λ matches test files course told goes.
+returns-clause-ends g c = λ matches test files course agree goes.
     let named = sym c.requires.named in
-    let opens = rw named at (c.in_ok-reader.ensures.opens files told) in
-    let watches = c.watch_records.ensures.watches matches test in
+    let opens = rw named at (c.in_ok-reader.ensures.opens files (c.watch_records.ensures.host.earlier (Some files) agree)) in
+    let watches = c.watch_records.ensures.watches matches test (Some files) agree in
     rw named (capture_ends (plan_of matches c.args.context.now.plan.now) files course c.in_ok-reader.reader _ _ _ _ _ c.watch_records.result
-    goes opens watches (c.watch_records.ensures.close matches test)
+    goes opens watches (c.watch_records.ensures.close matches test (Some files) agree)
     (λ rose. rose_since _ _ _ c.in_ok-reader.ensures.later rose)
     (λ is. rose_since _ _ _ c.in_ok-reader.ensures.later (c.watch_records.ensures.read_fault is)))
 
 pub returns-clause-opened : goal.returns-clause-opened
-returns-clause-opened g c =
-    rw c.watch_records.ensures.host.opens (opens_later _ c.args.name.now (g.H.Host.faults c.args.host.now) _ _ (g.H.Host.opens c.args.host.now) _
-    c.watch_records.ensures.host.later c.in_ok-reader.ensures.opened)
+returns-clause-opened g c = λ seen may.
+    rw c.watch_records.ensures.host.opens (opens_later seen c.args.name.now (g.H.Host.faults c.args.host.now) _ _ (g.H.Host.opens c.args.host.now) _
+    c.watch_records.ensures.host.later (c.in_ok-reader.ensures.opened seen (c.watch_records.ensures.host.earlier seen may)))
 
 pub returns-clause-same_contents : goal.returns-clause-same_contents
 returns-clause-same_contents g c = c.watch_records.ensures.host.files ∙ c.in_ok-reader.ensures.same_contents

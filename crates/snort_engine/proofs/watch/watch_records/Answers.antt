@@ -13,21 +13,21 @@ watch_batches-watched-requires-clause-ready g c κs within = record {
 }
 
 pub returns-in_err-detector-clause-watches : goal.returns-in_err-detector-clause-watches
-returns-in_err-detector-clause-watches g c = λ matches test.
+returns-in_err-detector-clause-watches g c = λ matches test seen may.
     let p = err_from_is_err_and c.from_residual.result c.from_residual.ensures.1 in
     rw (p.1, p.2) (λ rest told. WritesPart-none _ _)
 
 pub returns-in_err-detector-clause-close : goal.returns-in_err-detector-clause-close
-returns-in_err-detector-clause-close g c = λ matches test.
+returns-in_err-detector-clause-close g c = λ matches test seen may.
     let p = err_from_is_err_and c.from_residual.result c.from_residual.ensures.1 in
     rw (p.1, p.2) (close-start (plan_of matches c.args.context.now.plan.now) c.args.reader.now _ _ c.requires.readable.fresh)
 
 pub returns-clause-watches : goal.returns-clause-watches
-returns-clause-watches g c = λ matches test.
+returns-clause-watches g c = λ matches test seen may.
     closed_watch (plan_of matches c.args.context.now.plan.now) c.args.reader.now _ _ c.watch_batches-watched.new.detector _ _ c.watch_batches-watched.result c.close_watched.result
-    ((c.watch_batches-watched.ensures.comes matches test (c.in_ok-detector.ensures.stands matches)).0) (c.close_watched.ensures.closes matches test)
+    ((c.watch_batches-watched.ensures.comes matches test (c.in_ok-detector.ensures.stands matches) seen may).0) (c.close_watched.ensures.closes matches test)
 
 pub returns-clause-close : goal.returns-clause-close
-returns-clause-close g c = λ matches test.
+returns-clause-close g c = λ matches test seen may.
     closed_behind (plan_of matches c.args.context.now.plan.now) c.args.reader.now _ _ c.watch_batches-watched.new.detector _ _ _ c.watch_batches-watched.result c.close_watched.result
-    (c.watch_batches-watched.ensures.comes matches test (c.in_ok-detector.ensures.stands matches)) (c.close_watched.ensures.closes matches test)
+    (c.watch_batches-watched.ensures.comes matches test (c.in_ok-detector.ensures.stands matches) seen may) (c.close_watched.ensures.closes matches test)
