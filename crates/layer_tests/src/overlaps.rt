@@ -1,9 +1,8 @@
 //! The overlap table worked out by hand, and each call once. The rows are text, so that another one costs nothing
 //! to prove.
 
-use edge_io::crossing::{sendable, shareable};
 use edge_io::{Preference, Text};
-use overlap_core::{Bounds, Piece, Queue, Run, wins};
+use overlap_core::{Bounds, Queue, Run, wins};
 use std::alloc::Global;
 use std::process::Abort;
 use std::test::Fail;
@@ -54,7 +53,7 @@ last bsd-right linux: 0WWWWWWWW 8XXXXXXXX 8YYYYYYYYYYYYYYYYYYYYYYYY 8ZZZZZZZZZZZ
 ";
 
 /// The preference of a name.
-fn preference_of(name: &str) -> Option<Preference> {
+pub(crate) fn preference_of(name: &str) -> Option<Preference> {
     for (word, preference) in PREFERENCES.iter() {
         if *word == name {
             return Some(*preference);
@@ -185,7 +184,7 @@ fn kept_behind(
 }
 
 /// The first places and the bytes of runs.
-fn runs_text(alloc: Global, runs: &[Run]) -> Result<String, Fail> {
+pub(crate) fn runs_text(alloc: Global, runs: &[Run]) -> Result<String, Fail> {
     let mut text = String::new(alloc);
     for run in runs {
         let bytes = shown(run.bytes.bytes());
@@ -268,13 +267,4 @@ fn many_segments_in_order(rt: HostRuntime) -> Result<(), Fail> {
     );
     assert!(rt; queue.pieces().iter().next().is_none());
     Ok(())
-}
-
-/// A queue and its runs may move to another thread, and runs may be read by several.
-#[test]
-fn types_cross_threads() {
-    sendable::<Queue>();
-    sendable::<Piece>();
-    sendable::<Run>();
-    shareable::<Run>();
 }

@@ -1,7 +1,7 @@
 use Rattle.std.proofs.Common.{arith, sym, subst}
 use Rattle.flow_lanes.specs.Standing.{AreSoundFor}
 use Rattle.flow_lanes.proofs.Course.{course_next, course_sound}
-use Rattle.assembly_tests.proofs.lanes.first_fault.Goals as goal
+use Rattle.layer_tests.proofs.lanes.first_fault.Goals as goal
 
 pub batch-requires-clause-sound : goal.batch-requires-clause-sound
 batch-requires-clause-sound g c κs within = λ working.

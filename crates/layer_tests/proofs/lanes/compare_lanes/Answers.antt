@@ -1,5 +1,5 @@
 use Rattle.std.proofs.Common.{◌∷◌, [], ap}
-use Rattle.assembly_tests.proofs.lanes.compare_lanes.Goals as goal
+use Rattle.layer_tests.proofs.lanes.compare_lanes.Goals as goal
 
 pub first_fault-requires-clause-jobs : goal.first_fault-requires-clause-jobs
 first_fault-requires-clause-jobs g c κs within = record {

@@ -1,6 +1,6 @@
 use Rattle.std.proofs.Common.{sym, ◌∙◌}
 use Rattle.std.proofs.lemmas.Bool.{true≢false}
-use Rattle.assembly_tests.proofs.lanes.next_fault.Goals as goal
+use Rattle.layer_tests.proofs.lanes.next_fault.Goals as goal
 
 pub batch-requires-clause-sound : goal.batch-requires-clause-sound
 batch-requires-clause-sound g c κs within = λ working. absurd (true≢false (sym c.requires.failed ∙ working))

@@ -1,0 +1,12 @@
+//! Tests of public calls that no clause and no row says, of the crates below a run. They stand in a crate of their own,
+//! since a crate is proved once more with each test that it has.
+#![tactic(auto)]
+
+#[cfg(test)]
+mod crossing;
+#[cfg(test)]
+mod lanes;
+#[cfg(test)]
+mod overlaps;
+#[cfg(test)]
+mod refusals;
