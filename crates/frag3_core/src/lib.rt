@@ -12,9 +12,8 @@ mod answer;
 mod frag3;
 mod hashed;
 mod key;
-mod seed;
-#[cfg(test)]
-mod tests;
+#[doc(hidden)]
+pub mod seed;
 mod tracker;
 mod trackers;
 

@@ -11,7 +11,7 @@ use std::hash::{BuildHasher, DefaultHasher, Hash, Hasher};
 ///
 /// The hasher has taken whole words of 8 bytes: behind a part of a word it takes a key byte by byte.
 #[derive(Clone, Copy)]
-pub(crate) struct Seed {
+pub struct Seed {
     initial: DefaultHasher,
 }
 

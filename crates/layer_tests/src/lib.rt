@@ -5,6 +5,8 @@
 #[cfg(test)]
 mod crossing;
 #[cfg(test)]
+mod fragments;
+#[cfg(test)]
 mod lanes;
 #[cfg(test)]
 mod overlaps;
