@@ -5,6 +5,8 @@
 #[cfg(test)]
 mod crossing;
 #[cfg(test)]
+mod directions;
+#[cfg(test)]
 mod fragments;
 #[cfg(test)]
 mod lanes;

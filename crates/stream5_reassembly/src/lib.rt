@@ -12,8 +12,6 @@ mod direction;
 mod extent;
 mod limits;
 mod sequence;
-#[cfg(test)]
-mod tests;
 
 pub use direction::Direction;
 pub use extent::Extent;

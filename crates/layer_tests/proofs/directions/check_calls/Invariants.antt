@@ -1,6 +1,6 @@
 use Rattle.std.proofs.Common.{◌≤◌, ◌*◌, ◌^◌}
 use Rattle.stream5_reassembly.specs.Segments.{passed}
-use Rattle.stream5_reassembly.proofs.tests.compare.Given as goal
+use Rattle.layer_tests.proofs.directions.check_calls.Given as goal
 
 abbrev pub invariant-loop-step : goal.invariant-loop-step
-invariant-loop-step g l = passed l.direction ≤ 2 ^ 30 * l.step-index
+invariant-loop-step l = passed l.direction ≤ 2 ^ 30 * l.done
