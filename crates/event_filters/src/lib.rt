@@ -16,9 +16,9 @@ mod laws;
 mod lines;
 mod queue;
 mod seed;
+#[doc(hidden)]
+pub mod spread;
 mod suppress;
-#[cfg(test)]
-mod tests;
 
 pub use filters::Filters;
 pub use laws::nothing_matches;

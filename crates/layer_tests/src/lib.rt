@@ -14,3 +14,5 @@ mod lanes;
 mod overlaps;
 #[cfg(test)]
 mod refusals;
+#[cfg(test)]
+mod seeds;

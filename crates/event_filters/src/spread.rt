@@ -1,0 +1,27 @@
+//! For a test of how the keys of windows are hashed.
+
+use crate::counting::Key;
+use crate::seed::Seed;
+use edge_io::Addr;
+use std::hash::{BuildHasher, BuildHasherDefault, FoldHasher};
+
+/// The key of events of one rule, of an address.
+fn key_of(addr: Addr) -> Key {
+    Key {
+        place: 0,
+        gid: 1,
+        sid: 1,
+        addr,
+    }
+}
+
+/// The hash of the key by std's default hasher.
+pub fn usual_hash(addr: Addr) -> u64 {
+    let hasher: BuildHasherDefault<FoldHasher> = BuildHasherDefault::new();
+    hasher.hash_one(key_of(addr))
+}
+
+/// The hash of the key behind no rule.
+pub fn seeded_hash(addr: Addr) -> u64 {
+    Seed::of(&[]).hash_one(key_of(addr))
+}
