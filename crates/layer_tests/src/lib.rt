@@ -13,6 +13,8 @@ mod lanes;
 #[cfg(test)]
 mod overlaps;
 #[cfg(test)]
+mod records;
+#[cfg(test)]
 mod refusals;
 #[cfg(test)]
 mod seeds;

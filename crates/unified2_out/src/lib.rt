@@ -12,8 +12,6 @@
 mod kinds;
 mod read;
 mod record;
-#[cfg(test)]
-mod tests;
 mod write;
 
 pub use kinds::MAX_PACKET;

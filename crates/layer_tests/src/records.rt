@@ -1,13 +1,13 @@
-//! Records with the bytes that the format's tables give, worked out by hand, and borders of what is
-//! read. The rows are text, so that another one costs nothing to prove.
+//! Records of Unified2 with the bytes that the format's tables give, worked out by hand. The borders of what is read
+//! are rows of snort_rows.
 
 ghost use Rattle.std.specs.Prelude.{◌<◌};
 ghost use Rattle.unified2_out.specs.Records.{AreOfOneVersion};
 
-use crate::{U2, U2Event, U2Packet, read_records, write_record};
 use edge_io::{Addr, Text};
 use std::alloc::{AllocError, Global};
 use std::test::Fail;
+use unified2_out::{U2, U2Event, U2Packet, read_records, write_record};
 
 /// A datagram in an Ethernet frame: from 10.0.0.1 port 1000 to 10.0.0.2 port 2000, `abc`.
 const FRAME: &[u8; 45] =
@@ -77,32 +77,6 @@ fn event_ip6() -> U2Event
     }
 }
 
-/// Bytes, and how many records they are or where they are bad: a name, the bytes, the answer.
-const ROWS: &str = "nothing | | 0 records
-an event and its packet | event packet 00*45 | 2 records
-without the last byte | event packet 00*44 | unified2 file is bad at byte 60
-a byte more | event packet 00*45 00 | unified2 file is bad at byte 141
-7 bytes | 00000063 000000 | unified2 file is bad at byte 0
-a kind that is none of these, no body | 00000063 00000000 | 1 records
-a body of 2 bytes | 00000063 00000002 6162 | 1 records
-a body of 2 bytes, one there | 00000063 00000002 61 | unified2 file is bad at byte 0
-an event of 51 bytes | 00000007 00000033 00*51 | unified2 file is bad at byte 0
-an event of 52 bytes | 00000007 00000034 00*52 | 1 records
-an event of 53 bytes | 00000007 00000035 00*53 | unified2 file is bad at byte 0
-an event of 76 bytes | 00000007 0000004c 00*76 | unified2 file is bad at byte 0
-an event of version 6 of 52 bytes | 00000048 00000034 00*52 | unified2 file is bad at byte 0
-an event of version 6 of 75 bytes | 00000048 0000004b 00*75 | unified2 file is bad at byte 0
-an event of version 6 of 76 bytes | 00000048 0000004c 00*76 | 1 records
-an event of version 6 of 77 bytes | 00000048 0000004d 00*77 | unified2 file is bad at byte 0
-a packet of 27 bytes | 00000002 0000001b 00*27 | unified2 file is bad at byte 0
-a packet without bytes | 00000002 0000001c 00*28 | 1 records
-a packet that counts 1 of 2 bytes | 00000002 0000001e 00*24 00000001 6162 | unified2 file is bad at byte 0
-a packet that counts 3 of 2 bytes | 00000002 0000001e 00*24 00000003 6162 63 | unified2 file is bad at byte 0
-the longest body | 00000063 00100000 00*1048576 | 1 records
-a byte longer | 00000063 00100001 00*1048577 | unified2 file is bad at byte 0
-the longest packet | 00000002 00100000 00*24 000fffe4 00*1048548 | 1 records
-a byte longer | 00000002 00100001 00*24 000fffe5 00*1048549 | unified2 file is bad at byte 0";
-
 /// The value of a hexadecimal digit.
 fn digit(byte: u8) -> u8
     ensures { result < 16 }
@@ -126,20 +100,6 @@ fn bytes_of(alloc: Global, text: &str) -> Result<Vec<u8>, AllocError> {
                 }
             }
         }
-    }
-    Ok(bytes)
-}
-
-/// The bytes of a row, in which two words stand for the texts of the event and of the packet.
-fn row_bytes(alloc: Global, row: &str) -> Result<Vec<u8>, AllocError> {
-    let mut bytes = Vec::new(alloc);
-    for word in row.split_whitespace() {
-        let text = match word {
-            "event" => EVENT,
-            "packet" => PACKET,
-            other => other,
-        };
-        bytes.extend_from_slice(&bytes_of(alloc, text)?)?;
     }
     Ok(bytes)
 }
@@ -212,23 +172,6 @@ fn bytes_are_read_as_these_records(rt: HostRuntime) -> Result<(), Fail> {
             assert_eq!(rt; bytes.bytes(), b"ab".as_slice());
         }
         _ => assert!(rt; false, "records of other kinds"),
-    }
-    Ok(())
-}
-
-#[test]
-fn bytes_are_records_up_to_there(rt: HostRuntime) -> Result<(), Fail> {
-    let alloc = rt.alloc();
-    for row in ROWS.lines() {
-        let (name, rest) = row.split_once('|').unwrap_or((row, ""));
-        let (digits, answer) = rest.split_once('|').unwrap_or((rest, ""));
-        let bytes = row_bytes(alloc, digits)?;
-        let mut entries = Vec::new(alloc);
-        let told = match read_records(alloc, &bytes, &mut entries) {
-            Ok(()) => format!(in alloc; "{} records", entries.len())?,
-            Err(fault) => format!(in alloc; "{fault}")?,
-        };
-        assert_eq!(rt; told.as_str(), answer.trim(), "{name}");
     }
     Ok(())
 }
