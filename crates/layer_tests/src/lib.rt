@@ -7,6 +7,8 @@ mod crossing;
 #[cfg(test)]
 mod directions;
 #[cfg(test)]
+mod expressions;
+#[cfg(test)]
 mod fragments;
 #[cfg(test)]
 mod lanes;

@@ -7,14 +7,14 @@
 //! Users Manual 2.9, section 3.5, pcre).
 #![tactic(auto)]
 
+#[doc(hidden)]
+pub mod kept;
 mod made;
 mod maker;
 mod memory;
 mod shelf;
 mod sieve;
 mod tally;
-#[cfg(test)]
-mod tests;
 
 pub use made::RegexPattern;
 pub use maker::RegexMaker;

@@ -1,8 +1,8 @@
 //! Expressions and what they find, worked out by hand.
 
-use crate::{RegexMaker, RegexPattern};
-use edge_io::crossing::{sendable, shareable};
 use edge_io::{MakeFault, NoMemory, Pattern, PatternFlags, PatternMaker, Span};
+use regex_maker::kept::{counted, emptied, with_most};
+use regex_maker::{RegexMaker, RegexPattern};
 use std::alloc::Global;
 use std::process::Abort;
 use std::test::Fail;
@@ -151,11 +151,6 @@ fn patterns_with_too_many_states_are_searched(rt: HostRuntime) -> Result<(), Fai
 /// How many patterns there are in the tests of what they keep.
 const PATTERNS: usize = 4;
 
-/// The bytes that the maker's patterns are counted for.
-fn counted(maker: &RegexMaker) -> Option<u64> {
-    maker.tally.as_ref().map(|tally| tally.counted())
-}
-
 /// One search in bytes all of which match. The count is never above what the patterns may keep.
 fn check_search(
     rt: &impl Abort,
@@ -190,24 +185,10 @@ fn searched(
     Ok(patterns)
 }
 
-/// Takes from the shelves of the patterns all that lies there. How many memories, and their sizes.
-fn emptied(patterns: &[RegexPattern]) -> (usize, u64) {
-    let mut all = (0usize, 0u64);
-    for pattern in patterns {
-        for _ in 0..16u32 {
-            if let Some(memory) = pattern.shelf.take() {
-                let size = memory.size(&pattern.program.dfa);
-                all = (all.0.saturating_add(1), all.1.saturating_add(size));
-            }
-        }
-    }
-    all
-}
-
 /// How many memories patterns keep that may keep so much, and what they are counted for. What comes
 /// off a shelf and is dropped counts no longer.
 fn kept(rt: &impl Abort, alloc: Global, most: u64) -> Result<(usize, u64), Fail> {
-    let mut maker = RegexMaker::with_most(alloc, most);
+    let mut maker = with_most(alloc, most);
     let patterns = searched(rt, alloc, &mut maker, most)?;
     let before = counted(&maker);
     let (memories, size) = emptied(&patterns);
@@ -240,10 +221,4 @@ fn patterns_that_are_dropped_keep_nothing(rt: HostRuntime) -> Result<(), Fail> {
     drop(patterns);
     assert_eq!(rt; counted(&maker), Some(0));
     Ok(())
-}
-
-#[test]
-fn patterns_cross_threads() {
-    sendable::<RegexPattern>();
-    shareable::<RegexPattern>();
 }
