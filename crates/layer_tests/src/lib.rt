@@ -7,6 +7,8 @@ mod crossing;
 #[cfg(test)]
 mod directions;
 #[cfg(test)]
+mod drops;
+#[cfg(test)]
 mod expressions;
 #[cfg(test)]
 mod fragments;

@@ -16,8 +16,6 @@ mod nodes;
 mod ring;
 mod single;
 mod spare;
-#[cfg(test)]
-mod tests;
 
 pub use iter::Iter;
 pub use list::PieceList;
