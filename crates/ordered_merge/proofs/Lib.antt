@@ -1,4 +1,3 @@
-pub mod Dealing
 pub mod Ends
 pub mod Falling
 pub mod Finding

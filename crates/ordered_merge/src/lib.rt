@@ -9,8 +9,6 @@
 mod greatest;
 mod merging;
 mod numbered;
-#[cfg(test)]
-mod tests;
 
 pub use merging::{merge, permuted_numbers_stand_apart};
 pub use numbered::Numbered;
