@@ -6,8 +6,6 @@
 #![tactic(auto)]
 
 mod bits;
-#[cfg(test)]
-mod tests;
 mod words;
 
 pub use bits::Bits;
