@@ -16,8 +16,6 @@ mod header;
 mod laws;
 mod numbers;
 mod records;
-#[cfg(test)]
-mod tests;
 mod version;
 mod walk;
 

@@ -22,8 +22,6 @@ mod placed;
 mod records;
 mod skip;
 mod start;
-#[cfg(test)]
-mod tests;
 mod transport;
 mod version;
 
