@@ -5,7 +5,7 @@ use crate::row::Row;
 use crate::trial::Answer;
 use crate::{
     alerts, batches, candidates, captures, commands, configurations, dialogues, events, flows,
-    headers, hosts, lists, packets, payloads, rules, sessions, setups,
+    headers, hosts, lists, outside, packets, payloads, rules, sessions, setups,
 };
 use std::thread::Threads;
 
@@ -35,7 +35,8 @@ impl Answer for Calls {
             "dialogue" => dialogues::dialogue(page, row, given),
             "batches" => batches::batches(rt, page, row, given),
             _ => {
-                return lists::call(page, call, given)
+                return outside::call(page, row, call, given)
+                    || lists::call(page, call, given)
                     || configurations::call(page, row, call, given)
                     || rules::call(page, row, call, given)
                     || payloads::call(page, row, call, given)

@@ -25,6 +25,7 @@ mod hosts;
 mod items;
 mod lists;
 mod notation;
+mod outside;
 mod packets;
 mod page;
 mod payloads;

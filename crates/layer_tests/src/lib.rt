@@ -15,6 +15,8 @@ mod fragments;
 #[cfg(test)]
 mod lanes;
 #[cfg(test)]
+mod outside;
+#[cfg(test)]
 mod overlaps;
 #[cfg(test)]
 mod records;
