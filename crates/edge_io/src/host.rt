@@ -45,6 +45,7 @@ pub trait Host {
         ensures too_large { IsErrOf result LoadFault.TooLarge → IsLonger (contents self.old) name.now limit }
         ensures failed { IsErrOf result LoadFault.Failed
             → Rose (faults self.old) (faults self.new) ⊎ Lacks (contents self.old) name.now }
+        ensures unfailed { (IsErrOf result LoadFault.Failed → ⊥) → faults self.new ≡ faults self.old }
         ensures refused { OnErr result (out.new.items ≡ out.old.items) }
         ensures same_contents { contents self.new ≡ contents self.old }
         ensures same_left { left self.new ≡ left self.old }
@@ -62,6 +63,7 @@ pub trait Host {
     fn open(&mut self, name: &str) -> Result<(), Failed>
         ensures opened { OnOk result (IsOpened (contents self.old) name.now (left self.new)) }
         ensures failed { OnErr result (Rose (faults self.old) (faults self.new) ⊎ Lacks (contents self.old) name.now) }
+        ensures unfailed { OnOk result (faults self.new ≡ faults self.old) }
         ensures closed { OnErr result (left self.new ≡ None) }
         ensures counted { opens self.new ≡ one_more (opens self.old) }
         ensures same_contents { contents self.new ≡ contents self.old }
@@ -81,6 +83,7 @@ pub trait Host {
         ensures ended { IfOk result (λ count. count ≡ 0 → NothingLeft (left self.old)) }
         ensures unopened { IsUnopened (contents self.old) (left self.old) → IfOk result (λ count. count ≡ 0) }
         ensures failed { OnErr result (Rose (faults self.old) (faults self.new)) }
+        ensures unfailed { OnOk result (faults self.new ≡ faults self.old) }
         ensures nothing_taken { OnErr result (left self.new ≡ left self.old) }
         ensures same_contents { contents self.new ≡ contents self.old }
         ensures agreed { IfOk result (λ count. (files : Files) → agrees self.new files

@@ -1,4 +1,4 @@
-ghost use Rattle.std.specs.Prelude.{◌≡◌, ◌<◌, ◌≤◌, ◌++◌, [], Option, Some, None, length, drop, take, vec_len, min, Ok, Err, IfOk, OnOk, OnErr, IfSome, IfNone, IsErrOf, IsErr, IsSome, IsTrue, refl};
+ghost use Rattle.std.specs.Prelude.{◌≡◌, ◌<◌, ◌≤◌, ◌++◌, [], Option, Some, None, length, drop, take, vec_len, min, Ok, Err, IfOk, OnOk, OnErr, IfSome, IfNone, IsErrOf, IsErr, IsSome, IsTrue, false, refl};
 ghost use Rattle.std.specs.FinMap.{get, insert};
 ghost use Rattle.std.specs.Option.{option_copied};
 ghost use Rattle.edge_io.specs.Calls.{fails};
@@ -98,6 +98,7 @@ impl MemHost {
     /// Counts a call and, where it fails by its number, the fault.
     fn next_fails(&mut self) -> bool
         ensures failing { result ≡ fails self.old.calls }
+        ensures quiet { result ≡ false → self.new.faults ≡ self.old.faults }
         ensures state { self.new ≡ after_call self.old }
         ensures later { self.old.faults ≤ self.new.faults }
     {
@@ -185,6 +186,7 @@ impl Host for MemHost {
         ensures failed { IsErrOf result LoadFault.Failed → load_result self.old name.now limit ≡ Err LoadFault.Failed }
         ensures too_large { IsErrOf result LoadFault.TooLarge → load_result self.old name.now limit ≡ Err LoadFault.TooLarge }
         ensures refused { OnErr result (out.new.items ≡ out.old.items) }
+        ensures unfailed { (IsErrOf result LoadFault.Failed → ⊥) → self.new.faults ≡ self.old.faults }
         ensures later { self.old.faults ≤ self.new.faults }
     {
         if self.next_fails() {
@@ -201,6 +203,7 @@ impl Host for MemHost {
         ensures state { self.new ≡ after_open self.old name.now }
         ensures opened { OnOk result (IsSome (found_by_call self.old name.now)) }
         ensures failed { OnErr result (found_by_call self.old name.now ≡ None) }
+        ensures unfailed { OnOk result (self.new.faults ≡ self.old.faults) }
         ensures later { self.old.faults ≤ self.new.faults }
     {
         self.opens = self.opens.saturating_add(1);
@@ -220,6 +223,7 @@ impl Host for MemHost {
         ensures taken { IfOk result (λ count. self.old.left ≡ before (take count buf.new) self.new.left) }
         ensures failed { OnErr result (IsTrue (fails self.old.calls)) }
         ensures failing { IsTrue (fails self.old.calls) → IsErr result }
+        ensures unfailed { OnOk result (self.new.faults ≡ self.old.faults) }
         ensures later { self.old.faults ≤ self.new.faults }
     {
         if self.next_fails() {

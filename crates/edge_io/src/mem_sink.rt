@@ -83,6 +83,7 @@ impl Sink for MemSink {
         ensures appended { IfOk result (λ count. Some self.new.written ≡ behind (Some self.old.written) (take count piece.now)) }
         ensures accepted { OnOk result (refuses self.old ≡ false) }
         ensures failed { OnErr result (IsTrue (refuses self.old)) }
+        ensures unfailed { OnOk result (self.new.faults ≡ self.old.faults) }
         ensures later { self.old.faults ≤ self.new.faults }
     {
         let fails = self.calls.next_fails();
