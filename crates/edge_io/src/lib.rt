@@ -22,6 +22,8 @@ mod heard;
 mod heard_host;
 mod heard_sink;
 mod host;
+#[doc(hidden)]
+pub mod interrupted;
 mod items;
 mod laws;
 mod link;
@@ -54,6 +56,3 @@ pub use policy::{FragPolicy, Preference, StreamPolicy};
 pub use sink::{Sink, WriteStop, write_all};
 pub use std_sink::StdSink;
 pub use text::Text;
-
-#[cfg(test)]
-mod tests;

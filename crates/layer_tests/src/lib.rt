@@ -13,6 +13,8 @@ mod expressions;
 #[cfg(test)]
 mod fragments;
 #[cfg(test)]
+mod interrupted;
+#[cfg(test)]
 mod lanes;
 #[cfg(test)]
 mod outside;

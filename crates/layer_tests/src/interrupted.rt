@@ -2,9 +2,8 @@
 
 ghost use Rattle.std.specs.Prelude.{◌≤◌, IfOk};
 
-use crate::fault::FaultCount;
-use crate::file_host::read_once;
-use crate::{Failed, Sink, StdSink};
+use edge_io::interrupted::{read_as_file, sink_over};
+use edge_io::{Failed, Sink};
 use std::alloc::Global;
 use std::io;
 use std::io::{ErrorKind, Read, Write};
@@ -85,13 +84,12 @@ fn count_word(alloc: Global, answer: Result<usize, Failed>) -> Result<String, Fa
 /// What reading gives.
 fn given(alloc: Global, words: &str) -> Result<String, Fail> {
     let mut file = stream_of(words)?;
-    let mut faults = FaultCount::new();
-    count_word(alloc, read_once(&mut file, &mut [0; 4], &mut faults))
+    count_word(alloc, read_as_file(&mut file, &mut [0; 4]))
 }
 
 /// What writing gives.
 fn taken(alloc: Global, words: &str) -> Result<String, Fail> {
-    let mut sink = StdSink::over(stream_of(words)?);
+    let mut sink = sink_over(stream_of(words)?);
     count_word(alloc, sink.write(b"line"))
 }
 
