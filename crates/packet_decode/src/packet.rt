@@ -1,3 +1,5 @@
+ghost use Rattle.std.specs.Prelude.{◌≡◌, false};
+
 use edge_io::Addr;
 
 /// The fields of an IP header: of version 4 (RFC 791, section 3.1), or of version 6 with its
@@ -22,6 +24,37 @@ pub struct IpHead {
     pub more: bool,
     /// The fragment offset, in units of 8 bytes.
     pub offset: u16,
+}
+
+impl IpHead {
+    /// A whole datagram's head, from one address to another: time to live 64, all else 0.
+    pub fn between(src: Addr, dst: Addr, protocol: u8) -> IpHead
+        ensures { result ≡ record {
+          src = src;
+          dst = dst;
+          protocol = protocol;
+          ttl = 64;
+          tos = 0;
+          id = 0;
+          reserved = false;
+          dont = false;
+          more = false;
+          offset = 0;
+        } }
+    {
+        IpHead {
+            src,
+            dst,
+            protocol,
+            ttl: 64,
+            tos: 0,
+            id: 0,
+            reserved: false,
+            dont: false,
+            more: false,
+            offset: 0,
+        }
+    }
 }
 
 /// The fields of a TCP header (RFC 793, section 3.1).
