@@ -5,6 +5,7 @@ pub mod OnOption
 pub mod OnResult
 pub mod Told
 pub mod Files
+pub mod Frames
 pub mod Policies
 pub mod Calls
 pub mod HeldFiles

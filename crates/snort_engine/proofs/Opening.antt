@@ -382,9 +382,12 @@ pub opened_again : (seen : Option Files) (name : List ℕ) (why : CaptureFault) 
     → classic_reader.TakesHead seen name (Err why) left ⊎ ((◌≡◌ {A = Result classic_reader.Reading CaptureFault} (Err why) (Err savefile_fault.Failed)) × (left ≡ None)) → OpensSo seen name failed old new
 opened_again None name why left failed old middle new once twice is gives takes = inr (twice ∙ ap one_more once, tt)
 opened_again (Some files) name why left failed old middle new once twice is gives takes =
-    inr (twice ∙ ap one_more once, is_other files name left
-    (subst (λ (w : CaptureFault). (bytes : List ℕ) → get files name ≡ Some bytes → classic_reader.Opens (Err w) (head_of bytes)) is gives)
-    (subst (λ (w : CaptureFault). classic_reader.TakesHead (Some files) name (Err w) left ⊎ ((◌≡◌ {A = Result classic_reader.Reading CaptureFault} (Err w) (Err savefile_fault.Failed)) × (left ≡ None))) is takes))
+    inr (
+      twice ∙ ap one_more once,
+      is_other files name left
+          (subst (λ (w : CaptureFault). (bytes : List ℕ) → get files name ≡ Some bytes → classic_reader.Opens (Err w) (head_of bytes)) is gives)
+          (subst (λ (w : CaptureFault). classic_reader.TakesHead (Some files) name (Err w) left ⊎ ((◌≡◌ {A = Result classic_reader.Reading CaptureFault} (Err w) (Err savefile_fault.Failed)) × (left ≡ None))) is takes),
+    )
 
 -- more faults came later
 pub opens_later : (contents : Option Files) (name : List ℕ) (first middle last old new : ℕ) → middle ≤ last → OpensSo contents name (Rose first middle) old new → OpensSo contents name (Rose first last) old new

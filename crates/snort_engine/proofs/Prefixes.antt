@@ -9,7 +9,8 @@ use Rattle.edge_io.specs.Told.{behind, Rose}
 use Rattle.edge_io.specs.declared.host.Host.{Ghosts as HostOf}
 use Rattle.edge_io.proofs.Told.{behind-nil, behind-behind}
 use Rattle.snort_engine.specs.declared.stop.Stop.{Stop}
-use Rattle.snort_engine.specs.Outside.{OnlyRead, WritesPart}
+use Rattle.edge_io.specs.Frames.{OnlyRead}
+use Rattle.snort_engine.specs.Outside.{WritesPart}
 use Rattle.snort_engine.specs.Steps.Gathering.{Gathering, Gathers}
 
 -- a text is a beginning of itself

@@ -2,6 +2,7 @@
 use Rattle.std.proofs.Common.{◌≡◌, ℕ, ◌≤◌, List, Option, Some, None, sym, subst, inl, inr}
 use Rattle.std.specs.Prelude.{◌⊎◌}
 use Rattle.edge_io.specs.Files.{Files, Lacks, AsTold, MaySee}
+use Rattle.edge_io.specs.Frames.{OnlyLoaded}
 use Rattle.edge_io.specs.declared.host.Host.{Ghosts as HostOf}
 use Rattle.edge_io.specs.declared.pattern.Refusal.{Refusal}
 use Rattle.edge_io.specs.declared.sink.Sink.{Ghosts as SinkOf}
@@ -11,7 +12,7 @@ use Rattle.snort_engine.specs.declared.status.Status.{Status}
 use Rattle.snort_engine.specs.declared.stop.Stop.{Stop}
 use Rattle.snort_engine.specs.declared.stop.Stop.TheVariants as stop
 use Rattle.snort_engine.specs.Course.{Way, Stops, Goes, Makes, Lists, Course}
-use Rattle.snort_engine.specs.Outside.{by, outside, work, OnlyLoaded}
+use Rattle.snort_engine.specs.Outside.{by, outside, work}
 use Rattle.snort_engine.specs.Ending.{Ends}
 use Rattle.snort_engine.specs.Steps.Preparing.{HasCause}
 use Rattle.snort_engine.specs.Steps.Sources.{LacksCapture}

@@ -6,7 +6,7 @@
 use Rattle.std.specs.Prelude.{◌≡◌, ℕ, ◌≤◌, ◌⊎◌, List, Option}
 use mathlib.Core.List.{IsPrefix}
 use Rattle.edge_io.specs.Told.{behind, Rose}
-use Rattle.edge_io.specs.Files.{Files, MaySee, left_by}
+use Rattle.edge_io.specs.Files.{Files, left_by}
 use Rattle.edge_io.specs.declared.host.Host.{Ghosts as HostOf}
 use Rattle.edge_io.specs.declared.pattern.Refusal.{Refusal}
 use Rattle.edge_io.specs.declared.sink.Sink.{Ghosts as SinkOf}
@@ -57,23 +57,6 @@ work h a host alerts = record { left = h.left host; opens = h.opens host; host_f
 -- the part of the outside that the work on a capture touches
 abbrev pub work_of : Outside → Work
 work_of seen = record { left = seen.left; opens = seen.opens; host_faults = seen.host_faults; alerts = seen.alerts }
-
--- a host was only read from: its files stay, what may be seen of it afterwards might have been seen before, nothing
--- was opened, and no fault is forgotten
-pub record OnlyRead {H : Type 0} (g : HostOf H) (old new : H) : Type 0 where
-  pub files : g.contents new ≡ g.contents old
-  pub earlier : (seen : Option Files) → MaySee (g.contents new) (g.agrees new) seen → MaySee (g.contents old) (g.agrees old) seen
-  pub opens : g.opens new ≡ g.opens old
-  pub later : g.faults old ≤ g.faults new
-
--- files of a host were loaded: what is left of its open capture stays, too
-pub record OnlyLoaded {H : Type 0} (g : HostOf H) (old new : H) : Type 0 where
-  pub files : g.contents new ≡ g.contents old
-  pub earlier : (seen : Option Files) → MaySee (g.contents new) (g.agrees new) seen → MaySee (g.contents old) (g.agrees old) seen
-  pub left : g.left new ≡ g.left old
-  pub left_of : (files : Files) → g.left_of new files ≡ g.left_of old files
-  pub opens : g.opens new ≡ g.opens old
-  pub later : g.faults old ≤ g.faults new
 
 -- behind what was told a beginning of the text was written, and no other byte
 unfoldable pub WritesPart : Option (List ℕ) → List ℕ → Option (List ℕ) → Type 0

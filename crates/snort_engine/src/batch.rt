@@ -4,7 +4,7 @@ ghost use Rattle.edge_io.specs.Told.{Rose};
 ghost use Rattle.pcap_input.specs.Savefile.{most_records};
 ghost use Rattle.snort_engine.specs.Steps.Reader.{HasGoneOn, IsFresh, IsNext, number_of};
 ghost use Rattle.snort_engine.specs.Steps.Batch.{IsFaultOf, IsFilled, ReadsOn, lacks_memory, more_of};
-ghost use Rattle.snort_engine.specs.Outside.{OnlyRead};
+ghost use Rattle.edge_io.specs.Frames.{OnlyRead};
 ghost use Rattle.snort_engine.specs.Steps.Watching.{most_at, room_behind};
 
 use crate::fault::ReadFault;

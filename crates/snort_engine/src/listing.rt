@@ -3,7 +3,7 @@ ghost use Rattle.std.specs.Prelude.{◌≡◌, ◌++◌, Some, OnOk, IfOk, IfErr
 ghost use Rattle.edge_io.specs.Files.{Files};
 ghost use Rattle.edge_io.specs.Told.{Rose};
 ghost use Rattle.snort_engine.specs.Messages.{too_large_text};
-ghost use Rattle.snort_engine.specs.Outside.{OnlyLoaded};
+ghost use Rattle.edge_io.specs.Frames.{OnlyLoaded};
 ghost use Rattle.snort_engine.specs.Steps.Preparing.{HasCause, ListsBytes, ListsFile, StopsAtFile};
 ghost use Rattle.snort_engine.specs.RecordLines.{counted_line, end_text, entry_line, entry_lines, event_front};
 ghost use Rattle.snort_engine.specs.RecordLines.{event_line, micro_text};

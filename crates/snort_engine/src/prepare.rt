@@ -17,7 +17,7 @@ ghost use Rattle.snort_setup.specs.Whole.{ready_of};
 ghost use Rattle.snort_engine.specs.Course.{IsFileless, IsForMade, setup_words, checks_of, form_of, way_of};
 ghost use Rattle.snort_engine.specs.Steps.Preparing.{IsPrepared, IsSetUp, KeepsSetup, HasCause, IsForFaultyWords, StopsFileless};
 ghost use Rattle.snort_engine.specs.Steps.Preparing.{OfWatch, task_way, way_for, told_of, way_by};
-ghost use Rattle.snort_engine.specs.Outside.{OnlyLoaded};
+ghost use Rattle.edge_io.specs.Frames.{OnlyLoaded};
 ghost use Rattle.snort_engine.specs.Steps.Sources.{IsMade, IsSourceFor};
 ghost use Rattle.snort_engine.specs.Steps.Detecting.{IsRanged};
 

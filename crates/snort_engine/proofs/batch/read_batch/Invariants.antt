@@ -4,7 +4,7 @@ use Rattle.edge_io.specs.Files.{Files, MaySee, left_by}
 use Rattle.pcap_input.specs.Savefile.{most_records}
 use Rattle.snort_engine.specs.Steps.Reader.{IsFresh, number_of}
 use Rattle.snort_engine.specs.Steps.Batch.{ReadsOn}
-use Rattle.snort_engine.specs.Outside.{OnlyRead}
+use Rattle.edge_io.specs.Frames.{OnlyRead}
 use Rattle.snort_engine.specs.declared.batch.Reached.TheVariants.{More}
 use Rattle.snort_engine.proofs.batch.read_batch.Given as goal
 

@@ -2,7 +2,7 @@
 use Rattle.std.proofs.Common.{◌≡◌, ◌≤◌, ◌-◌, [], Option}
 use Rattle.edge_io.specs.Files.{Files, MaySee, left_by}
 use Rattle.rule_eval.specs.Hits.{Test}
-use Rattle.snort_engine.specs.Outside.{OnlyRead}
+use Rattle.edge_io.specs.Frames.{OnlyRead}
 use Rattle.snort_engine.specs.Steps.Reader.{number_of}
 use Rattle.snort_engine.specs.Steps.Detecting.{DetectorStands}
 use Rattle.snort_engine.specs.Steps.Watching.{plan_of, IsTest, IsUnderWay, MayGoOn}

@@ -12,6 +12,7 @@ read-tells g c = record {
   ended = search rules;
   unopened = search rules;
   failed = search rules;
+  unfailed = search rules;
   nothing_taken = search rules;
   same_contents = search rules;
   agreed = search (rules, taken_by);
