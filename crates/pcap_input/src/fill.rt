@@ -1,4 +1,4 @@
-ghost use Rattle.std.specs.Prelude.{◌≡◌, ◌<◌, ◌≤◌, Option, length, take, IfOk, IfErr, OnErr};
+ghost use Rattle.std.specs.Prelude.{◌≡◌, ◌<◌, ◌≤◌, Option, length, take, IfOk, IfErr, OnOk, OnErr};
 ghost use Rattle.edge_io.specs.Files.{Files, IsUnopened, MaySee, left_by};
 ghost use Rattle.edge_io.specs.Told.{before, NothingLeft, Rose};
 
@@ -23,6 +23,7 @@ pub fn fill<H: Host>(host: &mut H, buf: &mut [u8]) -> Result<usize, FillStop>
     ensures failed { OnErr result (Rose (H.faults host.old) (H.faults host.new)) }
     ensures same_contents { H.contents host.new ≡ H.contents host.old }
     ensures same_opens { H.opens host.new ≡ H.opens host.old }
+    ensures quiet { OnOk result (H.faults host.new ≡ H.faults host.old) }
     ensures later { H.faults host.old ≤ H.faults host.new }
 
     // The same by whatever may be seen of the host afterwards: what it tells, or files that give all
@@ -64,6 +65,7 @@ fn fill_seen<H: Host>(host: &mut H, buf: &mut [u8]) -> Result<usize, FillStop>
     ensures earlier { (seen : Option Files) → MaySee (H.contents host.new) (H.agrees host.new) seen
         → MaySee (H.contents host.old) (H.agrees host.old) seen }
     ensures same_opens { H.opens host.new ≡ H.opens host.old }
+    ensures quiet { OnOk result (H.faults host.new ≡ H.faults host.old) }
     ensures later { H.faults host.old ≤ H.faults host.new }
 {
     let mut done = 0;

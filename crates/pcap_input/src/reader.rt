@@ -55,6 +55,7 @@ impl CaptureReader {
             → Rose (H.faults host.old) (H.faults host.new) ⊎ Lacks (H.contents host.old) name.now }
         ensures same_contents { H.contents host.new ≡ H.contents host.old }
         ensures counted { H.opens host.new ≡ one_more (H.opens host.old) }
+        ensures quiet { (IsErrOf result CaptureFault.Failed → ⊥) → H.faults host.new ≡ H.faults host.old }
         ensures later { H.faults host.old ≤ H.faults host.new }
 
         // The same by whatever may be seen of the host afterwards: what it tells, or files that give all
@@ -94,6 +95,7 @@ impl CaptureReader {
         ensures earlier { (seen : Option Files) → MaySee (H.contents host.new) (H.agrees host.new) seen
             → MaySee (H.contents host.old) (H.agrees host.old) seen }
         ensures counted { H.opens host.new ≡ one_more (H.opens host.old) }
+        ensures quiet { (IsErrOf result CaptureFault.Failed → ⊥) → H.faults host.new ≡ H.faults host.old }
         ensures later { H.faults host.old ≤ H.faults host.new }
     {
         host.open(name)?;
@@ -166,6 +168,7 @@ impl CaptureReader {
             → Rose (H.faults host.old) (H.faults host.new) ⊎ (self.old.refused ≡ Some CaptureFault.Failed) }
         ensures same_contents { H.contents host.new ≡ H.contents host.old }
         ensures same_opens { H.opens host.new ≡ H.opens host.old }
+        ensures quiet { (IsErrOf result CaptureFault.Failed → ⊥) → H.faults host.new ≡ H.faults host.old }
         ensures later { H.faults host.old ≤ H.faults host.new }
 
         // The same by whatever may be seen of the host afterwards: what it tells, or files that give all
@@ -232,6 +235,7 @@ impl CaptureReader {
         ensures earlier { (seen : Option Files) → MaySee (H.contents host.new) (H.agrees host.new) seen
             → MaySee (H.contents host.old) (H.agrees host.old) seen }
         ensures same_opens { H.opens host.new ≡ H.opens host.old }
+        ensures quiet { (IsErrOf result CaptureFault.Failed → ⊥) → H.faults host.new ≡ H.faults host.old }
         ensures later { H.faults host.old ≤ H.faults host.new }
     {
         if let Some(why) = self.refused {
@@ -268,6 +272,7 @@ fn opened_head<H: Host>(host: &mut H) -> Result<CaptureHead, CaptureFault>
     ensures earlier { (seen : Option Files) → MaySee (H.contents host.new) (H.agrees host.new) seen
         → MaySee (H.contents host.old) (H.agrees host.old) seen }
     ensures same_opens { H.opens host.new ≡ H.opens host.old }
+    ensures quiet { (IsErrOf result CaptureFault.Failed → ⊥) → H.faults host.new ≡ H.faults host.old }
     ensures later { H.faults host.old ≤ H.faults host.new }
 {
     let mut header = [0; FILE_HEADER];
@@ -306,6 +311,7 @@ fn read_record<H: Host>(
     ensures earlier { (seen : Option Files) → MaySee (H.contents host.new) (H.agrees host.new) seen
         → MaySee (H.contents host.old) (H.agrees host.old) seen }
     ensures same_opens { H.opens host.new ≡ H.opens host.old }
+    ensures quiet { (IsErrOf result CaptureFault.Failed → ⊥) → H.faults host.new ≡ H.faults host.old }
     ensures later { H.faults host.old ≤ H.faults host.new }
 {
     let mut header = [0; RECORD_HEADER];
@@ -350,6 +356,7 @@ fn read_behind<H: Host>(
     ensures earlier { (seen : Option Files) → MaySee (H.contents host.new) (H.agrees host.new) seen
         → MaySee (H.contents host.old) (H.agrees host.old) seen }
     ensures same_opens { H.opens host.new ≡ H.opens host.old }
+    ensures quiet { (IsErrOf result CaptureFault.Failed → ⊥) → H.faults host.new ≡ H.faults host.old }
     ensures later { H.faults host.old ≤ H.faults host.new }
 {
     let len = head.captured(header);
@@ -383,6 +390,7 @@ fn read_bytes<H: Host>(
     ensures earlier { (seen : Option Files) → MaySee (H.contents host.new) (H.agrees host.new) seen
         → MaySee (H.contents host.old) (H.agrees host.old) seen }
     ensures same_opens { H.opens host.new ≡ H.opens host.old }
+    ensures quiet { (IsErrOf result CaptureFault.Failed → ⊥) → H.faults host.new ≡ H.faults host.old }
     ensures later { H.faults host.old ≤ H.faults host.new }
 {
     let mut bytes = resized(block, len)?;

@@ -28,5 +28,5 @@ loop-done-preserved g c =
       contents = c.in-Ok.ensures.same_contents ∙ c.loop-done.invariant.contents;
       earlier = λ seen may. c.loop-done.invariant.earlier seen (seen_earlier (g.H.Host.contents mid) (g.H.Host.contents new) (g.H.Host.agrees mid) (g.H.Host.agrees new) seen c.in-Ok.ensures.same_contents c.in-Ok.ensures.earlier may);
       opens = c.in-Ok.ensures.same_opens ∙ c.loop-done.invariant.opens;
-      later = omega (arith, c.in-Ok.ensures.later, c.loop-done.invariant.later);
+      same = c.in-Ok.ensures.unfailed ∙ c.loop-done.invariant.same;
     }
