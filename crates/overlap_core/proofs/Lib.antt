@@ -1,7 +1,8 @@
+mod Agreeing
 pub mod Arrivals
 pub mod Behind
 pub mod Ends
-pub mod Laws
+pub mod Choosing
 pub mod OneList
 pub mod Chosen
 pub mod Covered

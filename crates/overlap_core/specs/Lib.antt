@@ -1,5 +1,6 @@
 pub mod Segments
 pub mod Overlap
+pub mod Agreeing
 pub mod Pieces
 pub mod Runs
 pub mod QueueState

@@ -8,6 +8,7 @@
 #![tactic(auto)]
 
 mod arriving;
+mod laws;
 mod piece;
 mod queue;
 mod room;
@@ -16,6 +17,7 @@ mod runs;
 mod segment;
 mod table;
 
+pub use laws::{agreeing_segments_are_one_stream, first_and_last_go_by_arrival, kept_bytes_came};
 pub use piece::Piece;
 pub use queue::Queue;
 pub use segment::{Bounds, Run};

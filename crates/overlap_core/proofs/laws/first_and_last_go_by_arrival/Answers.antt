@@ -1,0 +1,8 @@
+use Rattle.overlap_core.proofs.Agreeing.{first-kept, last-kept}
+use Rattle.overlap_core.proofs.laws.first_and_last_go_by_arrival.Goals as goal
+
+pub returns-clause-first : goal.returns-clause-first
+returns-clause-first c = first-kept
+
+pub returns-clause-last : goal.returns-clause-last
+returns-clause-last c = last-kept

@@ -1,0 +1,5 @@
+use Rattle.overlap_core.proofs.Agreeing.{chosen_byte-came}
+use Rattle.overlap_core.proofs.laws.kept_bytes_came.Goals as goal
+
+pub returns : goal.returns
+returns c = chosen_byte-came
