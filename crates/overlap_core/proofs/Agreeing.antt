@@ -11,7 +11,7 @@ use Rattle.std.proofs.lemmas.List.Sorted.{Contains-permutation, IsPermutation-sy
 use Rattle.edge_io.specs.declared.policy.Preference.{Preference}
 use Rattle.edge_io.specs.declared.policy.Preference.TheVariants.{First, Last}
 use Rattle.overlap_core.specs.Segments.{Segment}
-use Rattle.overlap_core.specs.Agreeing.{Agree}
+use Rattle.overlap_core.specs.Agreeing.{SegmentsAgree}
 use Rattle.overlap_core.specs.Overlap.{bounds_of, byte_at, chosen_byte, chosen_segment, covers, end_of, is_covered, standing, stronger, wins}
 use Rattle.overlap_core.specs.Runs.{AreBytes}
 use Rattle.overlap_core.proofs.Arrivals.{chosen_byte-is_some, chosen_segment-uncovered, chosen_segment-none}
@@ -82,20 +82,20 @@ kept-holds P preference segments place covered each = by_case (chosen_byte prefe
         let one = chosen_byte-came preference segments place byte is in
         subst (λ n. P (Some n)) one.3 (each one.0 one.1 one.2)
 
-pub agreeing-kept : (preference : Preference) (segments : List Segment) (segment : Segment) (place : ℕ) → Agree segments → Contains segments segment → IsTrue (covers segment place)
+pub agreeing-kept : (preference : Preference) (segments : List Segment) (segment : Segment) (place : ℕ) → SegmentsAgree segments → Contains segments segment → IsTrue (covers segment place)
     → chosen_byte preference segments place ≡ Some (byte_at place segment)
 agreeing-kept preference segments segment place agree at covered =
     kept-holds (λ byte. byte ≡ Some (byte_at place segment)) preference segments place (one-covers segments segment place at covered)
     (λ other there covers_too. ap Some (agree other segment place there at covers_too covered))
 
 -- a part of agreeing segments keeps what all keep, where it covers the place
-agreeing-part : (preference other : Preference) (xs ys : List Segment) (place : ℕ) → Agree ys → ((segment : Segment) → Contains xs segment → Contains ys segment) → is_covered xs place ≡ true
+agreeing-part : (preference other : Preference) (xs ys : List Segment) (place : ℕ) → SegmentsAgree ys → ((segment : Segment) → Contains xs segment → Contains ys segment) → is_covered xs place ≡ true
     → chosen_byte preference xs place ≡ chosen_byte other ys place
 agreeing-part preference other xs ys place agree among covered =
     kept-holds (λ byte. byte ≡ chosen_byte other ys place) preference xs place covered
     (λ segment at covers_it. sym (agreeing-kept other ys segment place agree (among segment at) covers_it))
 
-pub agreeing-order : (preference other : Preference) (xs ys : List Segment) (place : ℕ) → Agree xs → IsPermutation xs ys → chosen_byte preference xs place ≡ chosen_byte other ys place
+pub agreeing-order : (preference other : Preference) (xs ys : List Segment) (place : ℕ) → SegmentsAgree xs → IsPermutation xs ys → chosen_byte preference xs place ≡ chosen_byte other ys place
 agreeing-order preference other xs ys place agree moved = by_case (is_covered xs place) refl
   where
     alike : is_covered xs place ≡ is_covered ys place
@@ -106,7 +106,7 @@ agreeing-order preference other xs ys place agree moved = by_case (is_covered xs
         sym (agreeing-part other preference ys xs place agree (λ segment at. Contains-permutation ys xs segment (IsPermutation-sym xs ys moved) at) (sym alike ∙ is))
     by_case false is = chosen_byte-uncovered preference xs place is ∙ sym (chosen_byte-uncovered other ys place (sym alike ∙ is))
 
-pub agreeing-early : (preference : Preference) (segments later : List Segment) (place byte : ℕ) → Agree (segments ++ later) → chosen_byte preference segments place ≡ Some byte
+pub agreeing-early : (preference : Preference) (segments later : List Segment) (place byte : ℕ) → SegmentsAgree (segments ++ later) → chosen_byte preference segments place ≡ Some byte
     → chosen_byte preference (segments ++ later) place ≡ Some byte
 agreeing-early preference segments later place byte agree is =
     let covered : is_covered segments place ≡ true = sym (chosen_byte-is_some preference segments place) ∙ ap is_some is in

@@ -7,6 +7,6 @@ use Rattle.overlap_core.specs.Segments.{Segment}
 use Rattle.overlap_core.specs.Overlap.{byte_at, covers}
 
 -- any two have the same byte at each place that both cover
-abbrev pub Agree : List Segment → Type 0
-Agree segments = (one other : Segment) (place : ℕ) → Contains segments one → Contains segments other
+abbrev pub SegmentsAgree : List Segment → Type 0
+SegmentsAgree segments = (one other : Segment) (place : ℕ) → Contains segments one → Contains segments other
     → IsTrue (covers one place) → IsTrue (covers other place) → byte_at place one ≡ byte_at place other

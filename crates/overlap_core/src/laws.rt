@@ -7,7 +7,7 @@ ghost use Rattle.std.specs.Option.{option_map};
 ghost use Rattle.edge_io.specs.declared.policy.Preference.{Preference};
 ghost use Rattle.edge_io.specs.declared.policy.Preference.TheVariants.{First, Last};
 ghost use Rattle.overlap_core.specs.Segments.{Segment};
-ghost use Rattle.overlap_core.specs.Agreeing.{Agree};
+ghost use Rattle.overlap_core.specs.Agreeing.{SegmentsAgree};
 ghost use Rattle.overlap_core.specs.Overlap.{byte_at, chosen_byte, covers, is_covered};
 ghost use Rattle.overlap_core.specs.Runs.{AreBytes};
 
@@ -24,15 +24,15 @@ pub fn kept_bytes_came()
 /// A byte that is kept stays, whatever agreeing segments come later, so bytes that were read early are those of the
 /// whole stream (`early`).
 pub fn agreeing_segments_are_one_stream()
-    ensures kept { (preference : Preference) (segments : List Segment) (segment : Segment) (place : ℕ) → Agree segments
+    ensures kept { (preference : Preference) (segments : List Segment) (segment : Segment) (place : ℕ) → SegmentsAgree segments
         → Contains segments segment → IsTrue (covers segment place)
         → chosen_byte preference segments place ≡ Some (byte_at place segment) }
-    ensures order { (preference other : Preference) (xs ys : List Segment) (place : ℕ) → Agree xs → IsPermutation xs ys
+    ensures order { (preference other : Preference) (xs ys : List Segment) (place : ℕ) → SegmentsAgree xs → IsPermutation xs ys
         → chosen_byte preference xs place ≡ chosen_byte other ys place }
     ensures stream { (preference : Preference) (segments : List Segment) (stream : ℕ → Option ℕ) (place : ℕ)
         → All (λ segment. AreBytes stream segment.start segment.bytes) segments → IsTrue (is_covered segments place)
         → chosen_byte preference segments place ≡ stream place }
-    ensures early { (preference : Preference) (segments later : List Segment) (place byte : ℕ) → Agree (segments ++ later)
+    ensures early { (preference : Preference) (segments later : List Segment) (place byte : ℕ) → SegmentsAgree (segments ++ later)
         → chosen_byte preference segments place ≡ Some byte
         → chosen_byte preference (segments ++ later) place ≡ Some byte }
 {}
