@@ -55,6 +55,7 @@ impl NgReader {
             → Rose (H.faults host.old) (H.faults host.new) ⊎ Lacks (H.contents host.old) name.now }
         ensures same_contents { H.contents host.new ≡ H.contents host.old }
         ensures counted { H.opens host.new ≡ one_more (H.opens host.old) }
+        ensures quiet { (IsErrOf result NgFault.Failed → ⊥) → H.faults host.new ≡ H.faults host.old }
         ensures later { H.faults host.old ≤ H.faults host.new }
 
         // The same by whatever may be seen of the host afterwards: what it tells, or files that give all
@@ -90,6 +91,7 @@ impl NgReader {
         ensures earlier { (seen : Option Files) → MaySee (H.contents host.new) (H.agrees host.new) seen
             → MaySee (H.contents host.old) (H.agrees host.old) seen }
         ensures counted { H.opens host.new ≡ one_more (H.opens host.old) }
+        ensures quiet { (IsErrOf result NgFault.Failed → ⊥) → H.faults host.new ≡ H.faults host.old }
         ensures later { H.faults host.old ≤ H.faults host.new }
     {
         host.open(name)?;
@@ -143,6 +145,7 @@ impl NgReader {
             → Rose (H.faults host.old) (H.faults host.new) ⊎ (self.old.refused ≡ Some NgFault.Failed) }
         ensures same_contents { H.contents host.new ≡ H.contents host.old }
         ensures same_opens { H.opens host.new ≡ H.opens host.old }
+        ensures quiet { (IsErrOf result NgFault.Failed → ⊥) → H.faults host.new ≡ H.faults host.old }
         ensures later { H.faults host.old ≤ H.faults host.new }
 
         // The same by whatever may be seen of the host afterwards: what it tells, or files that give all
@@ -208,6 +211,7 @@ impl NgReader {
         ensures earlier { (seen : Option Files) → MaySee (H.contents host.new) (H.agrees host.new) seen
             → MaySee (H.contents host.old) (H.agrees host.old) seen }
         ensures same_opens { H.opens host.new ≡ H.opens host.old }
+        ensures quiet { (IsErrOf result NgFault.Failed → ⊥) → H.faults host.new ≡ H.faults host.old }
         ensures later { H.faults host.old ≤ H.faults host.new }
     {
         if let Some(why) = self.refused {
@@ -239,6 +243,7 @@ fn read_first<H: Host>(
     ensures earlier { (seen : Option Files) → MaySee (H.contents host.new) (H.agrees host.new) seen
         → MaySee (H.contents host.old) (H.agrees host.old) seen }
     ensures same_opens { H.opens host.new ≡ H.opens host.old }
+    ensures quiet { (IsErrOf result NgFault.Failed → ⊥) → H.faults host.new ≡ H.faults host.old }
     ensures later { H.faults host.old ≤ H.faults host.new }
 {
     let mut first = [0; 8];
@@ -286,6 +291,7 @@ fn read_next<H: Host>(
     ensures earlier { (seen : Option Files) → MaySee (H.contents host.new) (H.agrees host.new) seen
         → MaySee (H.contents host.old) (H.agrees host.old) seen }
     ensures same_opens { H.opens host.new ≡ H.opens host.old }
+    ensures quiet { (IsErrOf result NgFault.Failed → ⊥) → H.faults host.new ≡ H.faults host.old }
     ensures later { H.faults host.old ≤ H.faults host.new }
 {
     'each: loop {

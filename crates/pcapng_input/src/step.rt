@@ -63,6 +63,7 @@ fn pass_over<H: Host>(walk: &mut Walk, host: &mut H, block: Block) -> Result<Blo
     ensures earlier { (seen : Option Files) → MaySee (H.contents host.new) (H.agrees host.new) seen
         → MaySee (H.contents host.old) (H.agrees host.old) seen }
     ensures same_opens { H.opens host.new ≡ H.opens host.old }
+    ensures quiet { (IsErrOf result NgFault.Failed → ⊥) → H.faults host.new ≡ H.faults host.old }
     ensures later { H.faults host.old ≤ H.faults host.new }
 {
     let swapped = walk.section.swapped;
@@ -93,6 +94,7 @@ fn read_interface<H: Host>(
     ensures earlier { (seen : Option Files) → MaySee (H.contents host.new) (H.agrees host.new) seen
         → MaySee (H.contents host.old) (H.agrees host.old) seen }
     ensures same_opens { H.opens host.new ≡ H.opens host.old }
+    ensures quiet { (IsErrOf result NgFault.Failed → ⊥) → H.faults host.new ≡ H.faults host.old }
     ensures later { H.faults host.old ≤ H.faults host.new }
 {
     let swapped = walk.section.swapped;
@@ -136,6 +138,7 @@ fn read_packet<H: Host>(
     ensures earlier { (seen : Option Files) → MaySee (H.contents host.new) (H.agrees host.new) seen
         → MaySee (H.contents host.old) (H.agrees host.old) seen }
     ensures same_opens { H.opens host.new ≡ H.opens host.old }
+    ensures quiet { (IsErrOf result NgFault.Failed → ⊥) → H.faults host.new ≡ H.faults host.old }
     ensures later { H.faults host.old ≤ H.faults host.new }
 {
     let bytes = read_bytes(host, walk.at, packet.captured, spares.pop(alloc))?;
@@ -179,6 +182,7 @@ fn read_closing<H: Host>(
     ensures earlier { (seen : Option Files) → MaySee (H.contents host.new) (H.agrees host.new) seen
         → MaySee (H.contents host.old) (H.agrees host.old) seen }
     ensures same_opens { H.opens host.new ≡ H.opens host.old }
+    ensures quiet { (IsErrOf result NgFault.Failed → ⊥) → H.faults host.new ≡ H.faults host.old }
     ensures later { H.faults host.old ≤ H.faults host.new }
 {
     match told {
@@ -206,6 +210,7 @@ pub fn read_known<H: Host>(
     ensures earlier { (seen : Option Files) → MaySee (H.contents host.new) (H.agrees host.new) seen
         → MaySee (H.contents host.old) (H.agrees host.old) seen }
     ensures same_opens { H.opens host.new ≡ H.opens host.old }
+    ensures quiet { (IsErrOf result NgFault.Failed → ⊥) → H.faults host.new ≡ H.faults host.old }
     ensures later { H.faults host.old ≤ H.faults host.new }
 {
     let sized = block.is_sized();
@@ -237,6 +242,7 @@ fn read_section<H: Host>(
     ensures earlier { (seen : Option Files) → MaySee (H.contents host.new) (H.agrees host.new) seen
         → MaySee (H.contents host.old) (H.agrees host.old) seen }
     ensures same_opens { H.opens host.new ≡ H.opens host.old }
+    ensures quiet { (IsErrOf result NgFault.Failed → ⊥) → H.faults host.new ≡ H.faults host.old }
     ensures later { H.faults host.old ≤ H.faults host.new }
 {
     let mut magic = [0; 4];
@@ -272,6 +278,7 @@ fn read_begun<H: Host>(
     ensures earlier { (seen : Option Files) → MaySee (H.contents host.new) (H.agrees host.new) seen
         → MaySee (H.contents host.old) (H.agrees host.old) seen }
     ensures same_opens { H.opens host.new ≡ H.opens host.old }
+    ensures quiet { (IsErrOf result NgFault.Failed → ⊥) → H.faults host.new ≡ H.faults host.old }
     ensures later { H.faults host.old ≤ H.faults host.new }
 {
     let kind = u32_at(false, first, 0);
@@ -302,6 +309,7 @@ pub fn read_block<H: Host>(
     ensures earlier { (seen : Option Files) → MaySee (H.contents host.new) (H.agrees host.new) seen
         → MaySee (H.contents host.old) (H.agrees host.old) seen }
     ensures same_opens { H.opens host.new ≡ H.opens host.old }
+    ensures quiet { (IsErrOf result NgFault.Failed → ⊥) → H.faults host.new ≡ H.faults host.old }
     ensures later { H.faults host.old ≤ H.faults host.new }
 {
     let mut first = [0; 8];

@@ -43,6 +43,7 @@ pub fn read_up_to<H: Host>(
     ensures within { IfOk result (λ found. length found.records ≤ limit) }
     ensures same_contents { H.contents host.new ≡ H.contents host.old }
     ensures counted { H.opens host.new ≡ one_more (H.opens host.old) }
+    ensures quiet { (HasFailed result → ⊥) → H.faults host.new ≡ H.faults host.old }
     ensures later { H.faults host.old ≤ H.faults host.new }
 
     // The same by whatever may be seen of the host afterwards: what it tells, or files that give all
@@ -76,6 +77,7 @@ fn read_seen<H: Host>(
     ensures earlier { (seen : Option Files) → MaySee (H.contents host.new) (H.agrees host.new) seen
         → MaySee (H.contents host.old) (H.agrees host.old) seen }
     ensures counted { H.opens host.new ≡ one_more (H.opens host.old) }
+    ensures quiet { (HasFailed result → ⊥) → H.faults host.new ≡ H.faults host.old }
     ensures later { H.faults host.old ≤ H.faults host.new }
 {
     let mut reader = NgReader::open(alloc, host, name)?;

@@ -1,5 +1,5 @@
 -- Each piece lies behind those that were passed over.
-use Rattle.std.proofs.Common.{ℕ, ◌-◌, refl, arith}
+use Rattle.std.proofs.Common.{ℕ, ◌-◌, refl, ◌∙◌, arith}
 use Rattle.std.proofs.lemmas.List.{length-take}
 use Rattle.std.proofs.lemmas.Result.{err_from_is_err_and}
 use Rattle.edge_io.specs.Files.{left_by}
@@ -13,7 +13,7 @@ loop-left-init g c = record {
   contents = refl;
   earlier = λ seen may. may;
   opens = refl;
-  later = omega arith;
+  same = refl;
 }
 
 pub returns-in_err-read_piece-clause-partial : goal.returns-in_err-read_piece-clause-partial
@@ -30,5 +30,5 @@ loop-left-preserved g c = record {
   contents = cc;
   earlier = λ seen may. c.loop-left.invariant.earlier seen (c.in_ok-read_piece.ensures.earlier seen may);
   opens = cc;
-  later = omega arith;
+  same = c.in_ok-read_piece.ensures.quiet (λ e. cc) ∙ c.loop-left.invariant.same;
 }

@@ -11,7 +11,7 @@ invariant-loop-left g l = record {
   contents : g.H.Host.contents l.host ≡ g.H.Host.contents l.fn.host;
   earlier : (seen : Option Files) → MaySee (g.H.Host.contents l.host) (g.H.Host.agrees l.host) seen → MaySee (g.H.Host.contents l.fn.host) (g.H.Host.agrees l.fn.host) seen;
   opens : g.H.Host.opens l.host ≡ g.H.Host.opens l.fn.host;
-  later : g.H.Host.faults l.fn.host ≤ g.H.Host.faults l.host;
+  same : g.H.Host.faults l.host ≡ g.H.Host.faults l.fn.host;
 }
 
 abbrev pub decreases-loop-left : goal.decreases-loop-left

@@ -1,5 +1,5 @@
 -- Each block that is skipped lies behind the others.
-use Rattle.std.proofs.Common.{refl, arith}
+use Rattle.std.proofs.Common.{refl, ◌∙◌, arith}
 use Rattle.std.proofs.lemmas.Result.{err_from_is_err_and}
 use Rattle.edge_io.specs.Files.{left_by}
 use Rattle.edge_io.proofs.Seeing.{told_seen}
@@ -12,7 +12,7 @@ each-init g c = record {
   contents = refl;
   earlier = λ seen may. may;
   opens = refl;
-  later = omega arith;
+  same = refl;
 }
 
 pub returns-in_err-block-clause-goes : goal.returns-in_err-block-clause-goes
@@ -38,7 +38,7 @@ each-preserved g c = record {
   contents = cc;
   earlier = λ seen may. c.each.invariant.earlier seen (c.in_ok-block.ensures.earlier seen may);
   opens = cc;
-  later = omega arith;
+  same = c.in_ok-block.ensures.quiet (λ e. cc) ∙ c.each.invariant.same;
 }
 
 pub each-smaller : goal.each-smaller

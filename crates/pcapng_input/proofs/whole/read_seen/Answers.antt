@@ -1,5 +1,5 @@
 -- Each call adds a record or ends the reading; so does the limit.
-use Rattle.std.proofs.Common.{Ok, length, ap, arith}
+use Rattle.std.proofs.Common.{Ok, length, ap, ◌∙◌, arith}
 use Rattle.std.proofs.lemmas.Result.{err_from_is_err_and}
 use Rattle.edge_io.specs.Files.{Lacks, left_by}
 use Rattle.pcapng_input.specs.Calls.{IsNextCall}
@@ -17,7 +17,7 @@ each-init g c = record {
   contents = cc;
   earlier = λ seen may. c.in_ok-reader.ensures.earlier seen may;
   opens = cc;
-  later = omega arith;
+  same = c.in_ok-reader.ensures.quiet (λ e. cc);
 }
 
 pub each-preserved : goal.each-preserved
@@ -36,7 +36,7 @@ each-preserved g c =
       contents = cc;
       earlier = λ seen may. c.each.invariant.earlier seen (c.in-Ok-Some.ensures.earlier seen may);
       opens = cc;
-      later = omega arith;
+      same = c.in-Ok-Some.ensures.quiet (λ e. cc) ∙ c.each.invariant.same;
     }
 
 pub each-smaller : goal.each-smaller
@@ -92,4 +92,13 @@ returns-in_err-reader-clause-failed g c =
 pub returns-in-Err-clause-failed : goal.returns-in-Err-clause-failed
 returns-in-Err-clause-failed g c =
     rw c.new-in-Err.ensures (λ failed. failed-last (g.H.Host.faults c.args.host.now) (g.H.Host.faults c.each.host) (g.H.Host.faults c.next.new.host) c.each.reader.refused
-    (Lacks (g.H.Host.contents c.args.host.now) c.args.name.now) c.each.invariant.later c.each.invariant.fresh (c.in-Err.ensures.failed (cc)))
+    (Lacks (g.H.Host.contents c.args.host.now) c.args.name.now) (omega (arith, c.each.invariant.same)) c.each.invariant.fresh (c.in-Err.ensures.failed (cc)))
+
+pub returns-in_err-reader-clause-quiet : goal.returns-in_err-reader-clause-quiet
+returns-in_err-reader-clause-quiet g c =
+    let p = err_from_is_err_and c.from_residual.result c.from_residual.ensures.1 in
+    rw (p.1, p.2) (λ other. c.in_err-reader.ensures.quiet (λ same. other (cc)))
+
+pub returns-in-Err-clause-quiet : goal.returns-in-Err-clause-quiet
+returns-in-Err-clause-quiet g c =
+    rw c.new-in-Err.ensures (λ other. c.in-Err.ensures.quiet (λ same. other (cc)) ∙ c.each.invariant.same)
