@@ -75,6 +75,11 @@ abbrev pub HasCause : Type 0 → Option Files → Stopped → Type 0
 HasCause rose host (stopped.Asks name output) = rose ⊎ Lacks host name
 HasCause rose host stop = ⊤
 
+-- unless a reading stops at a file that was not loaded, this holds
+abbrev pub UnlessAsks : {A : Type 0} → Type 0 → Result A Stopped → Type 0
+UnlessAsks holds (Err (stopped.Asks name output)) = ⊤
+UnlessAsks holds result = holds
+
 -- ---- one file
 
 -- how the files are read that a line includes, where includes may nest so many times more behind it
@@ -176,3 +181,8 @@ HandsOut stopped.NoMemory answer out = answer ≡ stop.NoMemory
 abbrev pub HasFailed : Type 0 → Option Files → LoadStop → Type 0
 HasFailed rose host (stop.HostFailed name) = rose ⊎ Lacks host name
 HasFailed rose host stop = ⊤
+
+-- unless a loading ends with HostFailed, this holds
+abbrev pub UnlessHostFailed : {A : Type 0} → Type 0 → Result A LoadStop → Type 0
+UnlessHostFailed holds (Err (stop.HostFailed name)) = ⊤
+UnlessHostFailed holds result = holds

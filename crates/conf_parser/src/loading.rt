@@ -8,7 +8,7 @@ ghost use Rattle.conf_parser.specs.Steps.{MayBeRead, most_files};
 ghost use Rattle.conf_parser.specs.Loaded.{loaded_of};
 ghost use Rattle.conf_parser.specs.Places.{StandInFiles};
 ghost use Rattle.conf_types.specs.Sound.{IsSound};
-ghost use Rattle.conf_parser.specs.Loading.{GoesOn, HasCause, LoadsFile, StopsAtLarge, StopsAtFile, whole_next, inner, opened_of, opened_count, opened_next, IsLoading, EndsUnlessFailed, HandsOut, HasFailed};
+ghost use Rattle.conf_parser.specs.Loading.{GoesOn, HasCause, LoadsFile, StopsAtLarge, StopsAtFile, whole_next, inner, opened_of, opened_count, opened_next, IsLoading, EndsUnlessFailed, HandsOut, HasFailed, UnlessAsks, UnlessHostFailed};
 
 use crate::draft::Settings;
 use crate::line::{ConfFault, ConfKind, LoadStop};
@@ -39,6 +39,7 @@ fn file_bytes<H: Host>(alloc: Global, host: &mut H, name: &[u8]) -> Result<Text,
     ensures same_left { (files : Files) → H.left_of host.new files ≡ H.left_of host.old files }
     ensures earlier { (seen : Option Files) → MaySee (H.contents host.new) (H.agrees host.new) seen
         → MaySee (H.contents host.old) (H.agrees host.old) seen }
+    ensures quiet { (IsErrOf result LoadFault.Failed → ⊥) → H.faults host.new ≡ H.faults host.old }
     ensures later { H.faults host.old ≤ H.faults host.new }
 {
     let Ok(name) = str::from_utf8(name) else {
@@ -138,6 +139,7 @@ fn open_file<H: Host>(
     ensures same_left { (files : Files) → H.left_of host.new files ≡ H.left_of host.old files }
     ensures earlier { (seen : Option Files) → MaySee (H.contents host.new) (H.agrees host.new) seen
         → MaySee (H.contents host.old) (H.agrees host.old) seen }
+    ensures quiet { UnlessAsks (H.faults host.new ≡ H.faults host.old) result }
     ensures later { H.faults host.old ≤ H.faults host.new }
 {
     match file_bytes(alloc, host, name.bytes()) {
@@ -172,6 +174,7 @@ fn read_lines<H: Host>(
     ensures same_left { (files : Files) → H.left_of host.new files ≡ H.left_of host.old files }
     ensures earlier { (seen : Option Files) → MaySee (H.contents host.new) (H.agrees host.new) seen
         → MaySee (H.contents host.old) (H.agrees host.old) seen }
+    ensures quiet { UnlessAsks (H.faults host.new ≡ H.faults host.old) result }
     ensures later { H.faults host.old ≤ H.faults host.new }
 {
     let mut read = read;
@@ -206,6 +209,7 @@ fn read_line<H: Host>(
     ensures same_left { (files : Files) → H.left_of host.new files ≡ H.left_of host.old files }
     ensures earlier { (seen : Option Files) → MaySee (H.contents host.new) (H.agrees host.new) seen
         → MaySee (H.contents host.old) (H.agrees host.old) seen }
+    ensures quiet { UnlessAsks (H.faults host.new ≡ H.faults host.old) result }
     ensures later { H.faults host.old ≤ H.faults host.new }
 {
     match line_step(alloc, source, line, read)? {
@@ -242,6 +246,7 @@ fn included<H: Host>(
     ensures same_left { (files : Files) → H.left_of host.new files ≡ H.left_of host.old files }
     ensures earlier { (seen : Option Files) → MaySee (H.contents host.new) (H.agrees host.new) seen
         → MaySee (H.contents host.old) (H.agrees host.old) seen }
+    ensures quiet { UnlessAsks (H.faults host.new ≡ H.faults host.old) result }
     ensures later { H.faults host.old ≤ H.faults host.new }
 {
     if left == 0 {
@@ -272,6 +277,7 @@ fn read_file<H: Host>(
     ensures same_left { (files : Files) → H.left_of host.new files ≡ H.left_of host.old files }
     ensures earlier { (seen : Option Files) → MaySee (H.contents host.new) (H.agrees host.new) seen
         → MaySee (H.contents host.old) (H.agrees host.old) seen }
+    ensures quiet { UnlessAsks (H.faults host.new ≡ H.faults host.old) result }
     ensures later { H.faults host.old ≤ H.faults host.new }
 {
     let opened = open_file(alloc, host, left, name, at, read)?;
@@ -371,6 +377,7 @@ pub fn load<H: Host>(
     ensures same_left { (files : Files) → H.left_of host.new files ≡ H.left_of host.old files }
     ensures earlier { (seen : Option Files) → MaySee (H.contents host.new) (H.agrees host.new) seen
         → MaySee (H.contents host.old) (H.agrees host.old) seen }
+    ensures quiet { UnlessHostFailed (H.faults host.new ≡ H.faults host.old) result }
     ensures later { H.faults host.old ≤ H.faults host.new }
 {
     let Ok(first) = Text::copy(alloc, name.as_bytes()) else {

@@ -57,7 +57,7 @@ read_lines-lines-init g t c = record {
   left_of = λ files. refl;
   earlier = λ seen may. may;
   opens = refl;
-  later = omega arith;
+  quiet = refl;
 }
 
 pub read_lines-returns-in_err-read-clause-goes : goal.read_lines-returns-in_err-read-clause-goes
@@ -78,7 +78,7 @@ read_lines-lines-preserved g t c = record {
   left_of = λ files. c.read_line.ensures.same_left files ∙ c.lines.invariant.left_of files;
   earlier = λ seen may. c.lines.invariant.earlier seen (c.read_line.ensures.earlier seen may);
   opens = c.read_line.ensures.same.2 ∙ c.lines.invariant.opens;
-  later = omega (arith, c.lines.invariant.later, c.read_line.ensures.later);
+  quiet = c.in_ok-read.ensures.quiet ∙ c.lines.invariant.quiet;
 }
 
 pub read_lines-returns-clause-goes : goal.read_lines-returns-clause-goes

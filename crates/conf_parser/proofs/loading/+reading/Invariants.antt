@@ -28,7 +28,7 @@ invariant-read_lines-lines g l = record {
   left_of : (files : Files) → g.H.Host.left_of l.host files ≡ g.H.Host.left_of l.fn.host files;
   earlier : (seen : Option Files) → MaySee (g.H.Host.contents l.host) (g.H.Host.agrees l.host) seen → MaySee (g.H.Host.contents l.fn.host) (g.H.Host.agrees l.fn.host) seen;
   opens : g.H.Host.opens l.host ≡ g.H.Host.opens l.fn.host;
-  later : g.H.Host.faults l.fn.host ≤ g.H.Host.faults l.host;
+  quiet : g.H.Host.faults l.host ≡ g.H.Host.faults l.fn.host;
 }
 
 abbrev pub decreases-read_lines-lines : goal.decreases-read_lines-lines
