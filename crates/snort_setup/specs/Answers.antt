@@ -75,6 +75,13 @@ abbrev pub HasCause : Type 0 → Option Files → SetupStop → Type 0
 HasCause rose host (stop.CannotRead name) = rose ⊎ Lacks host name
 HasCause rose host stop = ⊤
 
+-- where a setup is ready or refused, this holds; want of memory may come behind a failure of the host
+abbrev pub OnReadyOrRefused : {A : Type 0} → Type 0 → Result A SetupStop → Type 0
+OnReadyOrRefused holds (Ok x) = holds
+OnReadyOrRefused holds (Err (stop.Refused message)) = holds
+OnReadyOrRefused holds (Err (stop.CannotRead name)) = ⊤
+OnReadyOrRefused holds (Err stop.NoMemory) = ⊤
+
 -- words, files and refused lines have one setup
 abbrev pub HasOneSetup : Type 0
 HasOneSetup = (words : Words) (files : Files) (refused : List ℕ) (a b : Warned Ready) → IsSetup words files refused a

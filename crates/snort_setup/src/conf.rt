@@ -6,7 +6,7 @@ ghost use Rattle.conf_parser.specs.Reading.{told};
 ghost use Rattle.conf_types.specs.Sound.{IsSound};
 ghost use Rattle.snort_setup.specs.Words.{words_of, first_variables, HasName};
 ghost use Rattle.snort_setup.specs.Setup.{conf_read, conf_warnings};
-ghost use Rattle.snort_setup.specs.Answers.{HasCause};
+ghost use Rattle.snort_setup.specs.Answers.{HasCause, OnReadyOrRefused};
 ghost use Rattle.snort_setup.specs.Stages.{ConfEnds, StopsAs};
 
 use crate::message::{conf_error, conf_warning};
@@ -84,6 +84,7 @@ pub(crate) fn read_conf<H: Host>(
     ensures same_left { (files : Files) → H.left_of host.new files ≡ H.left_of host.old files }
     ensures earlier { (seen : Option Files) → MaySee (H.contents host.new) (H.agrees host.new) seen
         → MaySee (H.contents host.old) (H.agrees host.old) seen }
+    ensures quiet { OnReadyOrRefused (H.faults host.new ≡ H.faults host.old) result }
     ensures later { H.faults host.old ≤ H.faults host.new }
 {
     let mut vars = first_variables(alloc, words)?;

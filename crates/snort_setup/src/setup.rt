@@ -8,7 +8,7 @@ ghost use Rattle.rule_types.specs.Sound.{IsSound};
 ghost use Rattle.option_eval.specs.RuleSet.{FindWhatIsMeant, SameMeaning};
 ghost use Rattle.snort_setup.specs.Words.{words_of, Words, HasName};
 ghost use Rattle.snort_setup.specs.Rules.{most_rules};
-ghost use Rattle.snort_setup.specs.Answers.{SetsUp, HasCause, HasOneSetup};
+ghost use Rattle.snort_setup.specs.Answers.{SetsUp, HasCause, HasOneSetup, OnReadyOrRefused};
 ghost use Rattle.snort_setup.specs.Stages.{IsConfigured};
 ghost use Rattle.snort_setup.specs.Whole.{RuledGives, IsRulesStop, ruled_of, ready_of};
 ghost use Rattle.snort_setup.specs.Steps.{grown_by, Grows};
@@ -116,6 +116,7 @@ pub fn read_setup<H: Host, M: PatternMaker>(
     ensures same_left { (files : Files) → H.left_of host.new files ≡ H.left_of host.old files }
     ensures earlier { (seen : Option Files) → MaySee (H.contents host.new) (H.agrees host.new) seen
         → MaySee (H.contents host.old) (H.agrees host.old) seen }
+    ensures quiet { OnReadyOrRefused (H.faults host.new ≡ H.faults host.old) result }
     ensures later { H.faults host.old ≤ H.faults host.new }
     ensures grows { Grows (M.refusals maker.old) (M.refusals maker.new) }
     ensures same_meaning { SameMeaning (M.means maker.old) (M.means maker.new) }

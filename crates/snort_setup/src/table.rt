@@ -5,7 +5,7 @@ ghost use Rattle.edge_io.specs.Files.{Files, MaySee};
 ghost use Rattle.edge_io.specs.Told.{Rose};
 ghost use Rattle.snort_setup.specs.Setup.{table_of, table_in, table_read, most_bytes};
 ghost use Rattle.host_table.specs.Hosts.{hosts_of};
-ghost use Rattle.snort_setup.specs.Answers.{HasCause};
+ghost use Rattle.snort_setup.specs.Answers.{HasCause, OnReadyOrRefused};
 ghost use Rattle.snort_setup.specs.Stages.{TableGives, GivesHosts, StopsAtTable, refusal_of};
 
 use crate::message::{host_error, large_error};
@@ -61,6 +61,7 @@ fn named_table<H: Host>(alloc: Global, name: &str, host: &mut H) -> Result<Hosts
     ensures same_left { (files : Files) → H.left_of host.new files ≡ H.left_of host.old files }
     ensures earlier { (seen : Option Files) → MaySee (H.contents host.new) (H.agrees host.new) seen
         → MaySee (H.contents host.old) (H.agrees host.old) seen }
+    ensures quiet { OnReadyOrRefused (H.faults host.new ≡ H.faults host.old) result }
     ensures later { H.faults host.old ≤ H.faults host.new }
 {
     let mut bytes = Vec::new(alloc);
@@ -85,6 +86,7 @@ pub(crate) fn read_table<H: Host>(
     ensures same_left { (files : Files) → H.left_of host.new files ≡ H.left_of host.old files }
     ensures earlier { (seen : Option Files) → MaySee (H.contents host.new) (H.agrees host.new) seen
         → MaySee (H.contents host.old) (H.agrees host.old) seen }
+    ensures quiet { OnReadyOrRefused (H.faults host.new ≡ H.faults host.old) result }
     ensures later { H.faults host.old ≤ H.faults host.new }
 {
     match name {
