@@ -1,5 +1,6 @@
 ghost use Rattle.std.specs.Prelude.{◌≡◌, ◌<◌, ◌≤◌, Option, length, take, IfOk, IfErr, OnOk, OnErr};
 ghost use Rattle.edge_io.specs.Files.{Files, IsUnopened, MaySee, left_by};
+ghost use Rattle.edge_io.specs.Frames.{OnlyRead};
 ghost use Rattle.edge_io.specs.Told.{before, NothingLeft, Rose};
 
 use edge_io::{Failed, Host};
@@ -61,12 +62,8 @@ fn fill_seen<H: Host>(host: &mut H, buf: &mut [u8]) -> Result<usize, FillStop>
         ≡ before (take stop.done buf.new) (left_by (H.left_of host.new) seen)) }
     ensures short { IfErr result (λ stop. stop.done < length buf.old) }
     ensures failed { OnErr result (Rose (H.faults host.old) (H.faults host.new)) }
-    ensures same_contents { H.contents host.new ≡ H.contents host.old }
-    ensures earlier { (seen : Option Files) → MaySee (H.contents host.new) (H.agrees host.new) seen
-        → MaySee (H.contents host.old) (H.agrees host.old) seen }
-    ensures same_opens { H.opens host.new ≡ H.opens host.old }
     ensures quiet { OnOk result (H.faults host.new ≡ H.faults host.old) }
-    ensures later { H.faults host.old ≤ H.faults host.new }
+    ensures only_read { OnlyRead H.Host host.old host.new }
 {
     let mut done = 0;
     while done < buf.len() {

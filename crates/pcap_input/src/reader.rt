@@ -1,4 +1,5 @@
 ghost use Rattle.std.specs.Prelude.{◌≡◌, ◌+◌, ◌*◌, ◌<◌, ◌≤◌, ◌⊎◌, List, ℕ, Option, None, Some, length, drop, Result, IfOk, IfErr, IfSome, IfNone, OnOk, Err, IsErrOf};
+ghost use Rattle.edge_io.specs.Frames.{OnlyRead};
 ghost use Rattle.edge_io.specs.Told.{before, one_more, Rose};
 ghost use Rattle.edge_io.specs.Files.{Files, Lacks, IsUnopened, MaySee, left_by};
 ghost use Rattle.pcap_input.specs.Savefile.{file_header, record_header, longest, most_records, IsReachable, Clean, Ends, head_of, next_of, next_behind};
@@ -231,12 +232,8 @@ impl CaptureReader {
 
         ensures failed { IsErrOf result CaptureFault.Failed
             → Rose (H.faults host.old) (H.faults host.new) ⊎ (self.old.refused ≡ Some CaptureFault.Failed) }
-        ensures same_contents { H.contents host.new ≡ H.contents host.old }
-        ensures earlier { (seen : Option Files) → MaySee (H.contents host.new) (H.agrees host.new) seen
-            → MaySee (H.contents host.old) (H.agrees host.old) seen }
-        ensures same_opens { H.opens host.new ≡ H.opens host.old }
         ensures quiet { (IsErrOf result CaptureFault.Failed → ⊥) → H.faults host.new ≡ H.faults host.old }
-        ensures later { H.faults host.old ≤ H.faults host.new }
+        ensures only_read { OnlyRead H.Host host.old host.new }
     {
         if let Some(why) = self.refused {
             return Err(why);
@@ -268,12 +265,8 @@ fn opened_head<H: Host>(host: &mut H) -> Result<CaptureHead, CaptureFault>
         → TakesFileHeader result (left_by (H.left_of host.old) seen) (left_by (H.left_of host.new) seen) }
     ensures kinds { IfErr result IsOfHead }
     ensures failed { IsErrOf result CaptureFault.Failed → Rose (H.faults host.old) (H.faults host.new) }
-    ensures same_contents { H.contents host.new ≡ H.contents host.old }
-    ensures earlier { (seen : Option Files) → MaySee (H.contents host.new) (H.agrees host.new) seen
-        → MaySee (H.contents host.old) (H.agrees host.old) seen }
-    ensures same_opens { H.opens host.new ≡ H.opens host.old }
     ensures quiet { (IsErrOf result CaptureFault.Failed → ⊥) → H.faults host.new ≡ H.faults host.old }
-    ensures later { H.faults host.old ≤ H.faults host.new }
+    ensures only_read { OnlyRead H.Host host.old host.new }
 {
     let mut header = [0; FILE_HEADER];
     let Ok(count) = fill(host, &mut header) else {
@@ -307,12 +300,8 @@ fn read_record<H: Host>(
         (left_by (H.left_of host.old) seen) (left_by (H.left_of host.new) seen)) }
     ensures fits { IfOk result (λ given. IfSome given (λ r. (length r.bytes ≤ longest) × (number < most_records))) }
     ensures failed { IsErrOf result CaptureFault.Failed → Rose (H.faults host.old) (H.faults host.new) }
-    ensures same_contents { H.contents host.new ≡ H.contents host.old }
-    ensures earlier { (seen : Option Files) → MaySee (H.contents host.new) (H.agrees host.new) seen
-        → MaySee (H.contents host.old) (H.agrees host.old) seen }
-    ensures same_opens { H.opens host.new ≡ H.opens host.old }
     ensures quiet { (IsErrOf result CaptureFault.Failed → ⊥) → H.faults host.new ≡ H.faults host.old }
-    ensures later { H.faults host.old ≤ H.faults host.new }
+    ensures only_read { OnlyRead H.Host host.old host.new }
 {
     let mut header = [0; RECORD_HEADER];
     let Ok(count) = fill(host, &mut header) else {
@@ -352,12 +341,8 @@ fn read_behind<H: Host>(
         (left_by (H.left_of host.old) seen) (left_by (H.left_of host.new) seen)) }
     ensures fits { IfOk result (λ given. length given.bytes ≤ longest) }
     ensures failed { IsErrOf result CaptureFault.Failed → Rose (H.faults host.old) (H.faults host.new) }
-    ensures same_contents { H.contents host.new ≡ H.contents host.old }
-    ensures earlier { (seen : Option Files) → MaySee (H.contents host.new) (H.agrees host.new) seen
-        → MaySee (H.contents host.old) (H.agrees host.old) seen }
-    ensures same_opens { H.opens host.new ≡ H.opens host.old }
     ensures quiet { (IsErrOf result CaptureFault.Failed → ⊥) → H.faults host.new ≡ H.faults host.old }
-    ensures later { H.faults host.old ≤ H.faults host.new }
+    ensures only_read { OnlyRead H.Host host.old host.new }
 {
     let len = head.captured(header);
     if len > LONGEST {
@@ -386,12 +371,8 @@ fn read_bytes<H: Host>(
     ensures partial { (seen : Option Files) → MaySee (H.contents host.new) (H.agrees host.new) seen
         → IfErr result (λ why. TakesLess at len why (left_by (H.left_of host.old) seen) (left_by (H.left_of host.new) seen)) }
     ensures failed { IsErrOf result CaptureFault.Failed → Rose (H.faults host.old) (H.faults host.new) }
-    ensures same_contents { H.contents host.new ≡ H.contents host.old }
-    ensures earlier { (seen : Option Files) → MaySee (H.contents host.new) (H.agrees host.new) seen
-        → MaySee (H.contents host.old) (H.agrees host.old) seen }
-    ensures same_opens { H.opens host.new ≡ H.opens host.old }
     ensures quiet { (IsErrOf result CaptureFault.Failed → ⊥) → H.faults host.new ≡ H.faults host.old }
-    ensures later { H.faults host.old ≤ H.faults host.new }
+    ensures only_read { OnlyRead H.Host host.old host.new }
 {
     let mut bytes = resized(block, len)?;
     let Ok(count) = fill(host, &mut bytes) else {
