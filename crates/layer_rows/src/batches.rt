@@ -42,16 +42,8 @@ fn packet(number: u64, flow: u64, payload: Payload<'_>) -> Job<'_>
                 kind: ItemKind::Packet,
                 moment: Moment { nanos: 0 },
                 ip: IpHead {
-                    src: Addr::V4(1),
-                    dst: Addr::V4(2),
-                    protocol: 17,
-                    ttl: 64,
-                    tos: 0,
                     id: 7,
-                    reserved: false,
-                    dont: false,
-                    more: false,
-                    offset: 0,
+                    ..IpHead::between(Addr::V4(1), Addr::V4(2), 17)
                 },
                 body: Body::Udp {
                     sport: 1000,

@@ -61,16 +61,8 @@ fn tcp_head(src: u32, sport: u16, dst: u32, dport: u16, numbers: Numbers) -> Ite
         kind: ItemKind::Packet,
         moment: Moment { nanos: 0 },
         ip: IpHead {
-            src: Addr::V4(src),
-            dst: Addr::V4(dst),
-            protocol: 6,
-            ttl: 64,
-            tos: 0,
             id: 7,
-            reserved: false,
-            dont: false,
-            more: false,
-            offset: 0,
+            ..IpHead::between(Addr::V4(src), Addr::V4(dst), 6)
         },
         body: Body::Tcp(TcpHead {
             sport,

@@ -5,28 +5,22 @@ use edge_io::{Addr, Moment};
 use packet_decode::{Body, IpHead, ItemHead, ItemKind, SessionFacts, TcpHead};
 
 /// A packet from 10.0.0.1 to 10.0.0.2, of which nothing more is said.
-const PLAIN: ItemHead = ItemHead {
-    kind: ItemKind::Packet,
-    moment: Moment { nanos: 0 },
-    ip: IpHead {
-        src: Addr::V4(0x0a00_0001),
-        dst: Addr::V4(0x0a00_0002),
-        protocol: 17,
-        ttl: 64,
-        tos: 0,
-        id: 7,
-        reserved: false,
-        dont: false,
-        more: false,
-        offset: 0,
-    },
-    body: Body::Other,
-    session: SessionFacts::UNTRACKED,
-};
+fn plain() -> ItemHead {
+    ItemHead {
+        kind: ItemKind::Packet,
+        moment: Moment { nanos: 0 },
+        ip: IpHead {
+            id: 7,
+            ..IpHead::between(Addr::V4(0x0a00_0001), Addr::V4(0x0a00_0002), 17)
+        },
+        body: Body::Other,
+        session: SessionFacts::UNTRACKED,
+    }
+}
 
 /// The item of these words, if each of them is one.
 pub(crate) fn item_of(words: &str) -> Option<ItemHead> {
-    let mut item = PLAIN;
+    let mut item = plain();
     for word in words.split_whitespace() {
         let (key, value) = word.split_once('=')?;
         if !(set_head(&mut item, key, value)

@@ -72,16 +72,8 @@ fn sent_of(step: &str) -> Option<Sent> {
 /// The head of a packet.
 fn head_of(sent: &Sent) -> IpHead {
     IpHead {
-        src: sent.from.addr,
-        dst: sent.to.addr,
-        protocol: 6,
-        ttl: 64,
-        tos: 0,
         id: 1,
-        reserved: false,
-        dont: false,
-        more: false,
-        offset: 0,
+        ..IpHead::between(sent.from.addr, sent.to.addr, 6)
     }
 }
 
