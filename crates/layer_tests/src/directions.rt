@@ -97,7 +97,9 @@ fn answer(alloc: Global, direction: &mut Direction, call: &str) -> Result<String
         "start" => start(alloc, direction, given),
         "add" => add(alloc, direction, given),
         "ack" => ack(alloc, direction, given),
-        _ => ended(alloc, direction, name == "stop"),
+        "flush" => ended(alloc, direction, false),
+        "stop" => ended(alloc, direction, true),
+        _ => Err(Fail::from("no such call")),
     }
 }
 

@@ -74,16 +74,11 @@ struct Part<'a> {
 /// The header of a fragment from 10.0.0.1 to 10.0.0.2 with this offset in units of 8 bytes.
 fn head(ttl: u8, offset: u16, more: bool) -> IpHead {
     IpHead {
-        src: Addr::V4(0x0a00_0001),
-        dst: Addr::V4(0x0a00_0002),
-        protocol: 253,
         ttl,
-        tos: 0,
         id: 7,
-        reserved: false,
-        dont: false,
         more,
         offset,
+        ..IpHead::between(Addr::V4(0x0a00_0001), Addr::V4(0x0a00_0002), 253)
     }
 }
 
@@ -134,6 +129,11 @@ fn check_row(rt: &impl Abort, alloc: Global, row: &str) -> Result<(), Fail> {
     let (parts, answers) = rest.split_once(": ").ok_or("fragments")?;
     let most = most.parse::<u32>()?;
     assert!(rt; most > 0);
+    assert_eq!(rt;
+        parts.split(' ').count(),
+        answers.split(' ').count(),
+        "{row}"
+    );
     let mut frag3 = Frag3::new(alloc, most);
     for (word, want) in parts.split(' ').zip(answers.split(' ')) {
         let part = part_of(word, preference).ok_or("a fragment")?;

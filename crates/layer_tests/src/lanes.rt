@@ -70,16 +70,8 @@ fn unsound_packet(alloc: Global) -> Job<'static> {
                 kind: ItemKind::Packet,
                 moment: Moment { nanos: 0 },
                 ip: IpHead {
-                    src: Addr::V4(1),
-                    dst: Addr::V4(2),
-                    protocol: 253,
-                    ttl: 64,
-                    tos: 0,
                     id: 7,
-                    reserved: false,
-                    dont: false,
-                    more: false,
-                    offset: 0,
+                    ..IpHead::between(Addr::V4(1), Addr::V4(2), 253)
                 },
                 body: Body::Other,
                 session: SessionFacts::UNTRACKED,

@@ -255,16 +255,10 @@ fn compare_direction(
 /// The header of a fragment from 10.0.0.1 to 10.0.0.2 with this place in bytes.
 fn head(place: u16, more: bool) -> IpHead {
     IpHead {
-        src: Addr::V4(0x0a00_0001),
-        dst: Addr::V4(0x0a00_0002),
-        protocol: 253,
-        ttl: 64,
-        tos: 0,
         id: 7,
-        reserved: false,
-        dont: false,
         more,
         offset: place / 8,
+        ..IpHead::between(Addr::V4(0x0a00_0001), Addr::V4(0x0a00_0002), 253)
     }
 }
 

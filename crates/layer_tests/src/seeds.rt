@@ -25,16 +25,9 @@ fn chosen_key(host: u64) -> DatagramKey {
 /// The seed of a first fragment at this moment.
 fn seed_at(nanos: u64) -> Seed {
     let ip = IpHead {
-        src: Addr::V4(0x0a00_0001),
-        dst: Addr::V4(0x0a00_0002),
-        protocol: 253,
-        ttl: 64,
-        tos: 0,
         id: 7,
-        reserved: false,
-        dont: false,
         more: true,
-        offset: 0,
+        ..IpHead::between(Addr::V4(0x0a00_0001), Addr::V4(0x0a00_0002), 253)
     };
     Seed::of(&ip, b"abcdefgh", Moment { nanos })
 }
