@@ -5,6 +5,7 @@ pub mod LinesLaws
 pub mod Reading
 pub mod Opening
 pub mod Stops
+pub mod Quiet
 pub mod Texts
 pub mod Beside
 pub mod Showing

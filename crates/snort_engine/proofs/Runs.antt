@@ -1,6 +1,6 @@
 -- How a run follows its course, and the headline.
 use Rattle.std.proofs.lemmas.Bool.Decides.{nat_tests}
-use Rattle.std.proofs.Common.{◌≡◌, ℕ, ◌+◌, ◌≤◌, Bool, true, List, [], ◌++◌, Option, Some, None, Result, Ok, Err, refl, sym, ap, subst, ◌∙◌, arith, inl, inr, ◌⊎◌, ⊎_elim}
+use Rattle.std.proofs.Common.{◌≡◌, ℕ, ◌+◌, ◌≤◌, Bool, true, false, List, [], ◌++◌, Option, Some, None, Result, Ok, Err, refl, sym, ap, subst, ◌∙◌, arith, inl, inr, ◌⊎◌, ⊎_elim}
 use Rattle.std.specs.List.{concat}
 use Rattle.edge_io.specs.Told.{behind, Rose, one_more}
 use Rattle.edge_io.specs.Files.{Files, Lacks}
@@ -23,12 +23,13 @@ use Rattle.snort_engine.specs.Answer.{Answer, answer_of, way_answer, capture_ans
 use Rattle.snort_engine.specs.Messages.{no_memory_text}
 use Rattle.snort_engine.specs.Outside.{Outside, Work, work_of, NoFault, NoCountFell}
 use Rattle.snort_engine.specs.ReadAhead.{IsUntouched, ReadsAhead}
-use Rattle.snort_engine.specs.Ending.{IsStated, IsAnswered, Ends, EndsEarly, EndsOnCourse, EndsRun}
-use Rattle.snort_engine.specs.Steps.Stop.{stop_status, stop_text, outcome_status}
+use Rattle.snort_engine.specs.Ending.{IsStated, IsUncut, IsAnswered, Ends, EndsEarly, EndsOnCourse, EndsRun}
+use Rattle.snort_engine.specs.Steps.Stop.{stop_status, stop_text, outcome_status, is_uncut, is_written, ReadsQuietly, WritesQuietly}
 use Rattle.snort_engine.specs.Steps.Reporting.{TellsOn, TellsLast}
 use Rattle.snort_engine.specs.Steps.Preparing.{HasWay, stops, Prepares, StopsFileless, IsPrepared, HasCause, IsForFaultyWords}
 use Rattle.snort_engine.specs.Headline.{refused_since, EndsSo, HasAnswer, LacksOne, HasOther, MayBeCut, OpensBy, Headline}
 use Rattle.snort_engine.proofs.Prefixes.{rose_since}
+use Rattle.snort_engine.proofs.Quiet.{status_uncut, uncut_written}
 use Rattle.snort_engine.proofs.LinesLaws.{lines_join, prefix_law}
 use Rattle.snort_engine.proofs.Prepared.{one_course}
 use Rattle.snort_engine.proofs.MadeRecords.{made_is_whole}
@@ -160,6 +161,8 @@ pub record IsRun (asked : Option Asked) (means : Means) (before after : Outside)
   pub told : (files : Files) → before.files ≡ Some files → (refused : List ℕ) × HoldsOf asked matches before after ended files refused
   pub untold : ended ≡ status.HostFault → before.files ≡ None → Rose before.host_faults after.host_faults
   pub write_fault : ended ≡ status.WriteFault → Rose before.alert_faults after.alert_faults
+  pub quiet : IsUncut ended → (after.host_faults ≡ before.host_faults) × (after.alert_faults ≡ before.alert_faults)
+  pub quiet_alerts : ended ≡ status.HostFault → after.alert_faults ≡ before.alert_faults
   pub faulty_words : asked ≡ None → (ended ≡ status.Refused) ⊎ (ended ≡ status.NoMemory)
   pub opened_twice : after.opens ≤ before.opens + 2
   pub made_unopened : IsForMade asked → (after.opens ≡ before.opens) × (after.left ≡ before.left)
@@ -209,6 +212,8 @@ headline words means before after ended run = record {
   made_unopened = run.made_unopened;
   write_fault = run.write_fault;
   host_fault = λ failed. by_files before.files refl failed;
+  quiet = run.quiet;
+  quiet_alerts = run.quiet_alerts;
   faulty_words = run.faulty_words;
   fileless = run.fileless;
   same_files = run.same_files;
@@ -274,6 +279,27 @@ by_outcome : (warnings : List (List ℕ)) (text : List ℕ) (outcome : Result (U
 by_outcome warnings text outcome before after ended other told apart is =
     ⊎_elim (λ said. sym said.0 ∙ is) (λ untold. absurd (apart (sym untold.0 ∙ is))) told.reports
 
+-- a run that isn't cut short has an outcome that isn't
+uncut_by_outcome : (warnings : List (List ℕ)) (text : List ℕ) (outcome : Result (Unit {0}) Stop) (before after : Outside) (ended : Status) → IsTold warnings text outcome before after ended → IsUncut ended → is_uncut (outcome_status outcome) ≡ true
+uncut_by_outcome warnings text outcome before after ended told uncut =
+    ⊎_elim
+    (λ said. ap is_uncut (sym said.0) ∙ status_uncut ended uncut)
+    (λ untold. let never : false ≡ true = ap is_uncut (sym untold.0) ∙ status_uncut ended uncut in absurd cc)
+    told.reports
+
+-- so it met no fault of the host and none of the alert sink, where the work met none
+quiet_run : (warnings : List (List ℕ)) (text : List ℕ) (outcome : Result (Unit {0}) Stop) (before after : Outside) (ended : Status) → IsTold warnings text outcome before after ended
+    → ReadsQuietly outcome before.host_faults after.host_faults → WritesQuietly outcome before.alert_faults after.alert_faults
+    → IsUncut ended → (after.host_faults ≡ before.host_faults) × (after.alert_faults ≡ before.alert_faults)
+quiet_run warnings text outcome before after ended told reads writes uncut =
+    let so = uncut_by_outcome warnings text outcome before after ended told uncut in
+    (reads so, writes (uncut_written (outcome_status outcome) so))
+
+quiet_alerts_run : (warnings : List (List ℕ)) (text : List ℕ) (outcome : Result (Unit {0}) Stop) (before after : Outside) (ended : Status) → IsTold warnings text outcome before after ended
+    → WritesQuietly outcome before.alert_faults after.alert_faults → ended ≡ status.HostFault → after.alert_faults ≡ before.alert_faults
+quiet_alerts_run warnings text outcome before after ended told writes failed =
+    writes (ap is_written (by_outcome warnings text outcome before after ended status.HostFault told (λ e. cc) failed))
+
 -- a run that ends so by its outcome, and so where memory is lacking for the message
 ends_told : (asked : Option Asked) (here : Given) (warnings : List (List ℕ)) (text : List ℕ) (outcome : Result (Unit {0}) Stop) (before after : Outside) (ended : Status) → IsTold warnings text outcome before after ended
     → EndsRun asked here (work_of before) (work_of after) (outcome_status outcome) (concat warnings ++ text)
@@ -325,6 +351,8 @@ pub record IsStopped {A : Type 0} (ways : Test → A → Way) (asked : Option As
   pub faulty_words : asked ≡ None → IsForFaultyWords {A = A} (Err why)
   pub fileless : IsFileless asked → StopsFileless {A = A} asked (Rose before.host_faults after.host_faults) (Err why) warnings
   pub unopened : IsUntouched (work_of before) (work_of after)
+  pub quiet : ReadsQuietly {A = A} (Err why) before.host_faults after.host_faults
+  pub quiet_alerts : after.alert_faults ≡ before.alert_faults
   pub same_files : after.files ≡ before.files
   pub counts : NoCountFell before after
 
@@ -352,6 +380,8 @@ stopped_run {A} ways asked means before after why warnings ended decided run tol
       );
   untold = λ failed none. stop_untold_rose (Rose before.host_faults after.host_faults) before.files why run.cause (by_outcome warnings (stop_text [] why) (Err why) before after ended status.HostFault told (λ e. cc) failed) none;
   write_fault = λ failed. absurd (no_write_stop (Rose before.host_faults after.host_faults) before.files why run.cause (by_outcome warnings (stop_text [] why) (Err why) before after ended status.WriteFault told (λ e. cc) failed));
+  quiet = quiet_run warnings (stop_text [] why) (Err why) before after ended told run.quiet (λ written. run.quiet_alerts);
+  quiet_alerts = λ failed. run.quiet_alerts;
   faulty_words = λ none.
       ⊎_elim
       (λ said. ⊎_elim (λ refused. inl (said.0 ∙ refused)) (λ lacking. inr (said.0 ∙ lacking)) (faulty_status {A = A} (Err why) (run.faulty_words none)))
@@ -419,6 +449,8 @@ pub record IsWatching {A : Type 0} (ways : Test → A → Way) (asked : Option A
       → Ends files course middle (work_of after) (outcome_status outcome) (concat course.warnings ++ text)
   pub write_fault : outcome_status outcome ≡ status.WriteFault → Rose before.alert_faults after.alert_faults
   pub read_fault : (matches : Test) → outcome_status outcome ≡ status.HostFault → Rose middle.host_faults after.host_faults ⊎ LacksCapture before.files (ways matches ready)
+  pub quiet : ReadsQuietly outcome before.host_faults after.host_faults
+  pub quiet_alerts : WritesQuietly outcome before.alert_faults after.alert_faults
   pub opened : (matches : Test) → OpensOn before.files (ways matches ready) (Rose middle.host_faults after.host_faults) before.opens after.opens
   pub made_unopened : IsForMade asked → (after.opens ≡ before.opens) × (after.left ≡ before.left)
   pub same_files : after.files ≡ before.files
@@ -491,6 +523,8 @@ watched_run ways asked means before after ready text outcome warnings ended deci
       (λ (lacks : LacksCapture before.files (ways decided.0 ready)). absurd (none_lacking (ways decided.0 ready) (subst (λ (t : Option Files). LacksCapture t (ways decided.0 ready)) none lacks)))
       (run.read_fault decided.0 (by_outcome warnings text outcome before after ended status.HostFault told (λ e. cc) failed));
   write_fault = λ failed. run.write_fault (by_outcome warnings text outcome before after ended status.WriteFault told (λ e. cc) failed);
+  quiet = quiet_run warnings text outcome before after ended told run.quiet run.quiet_alerts;
+  quiet_alerts = quiet_alerts_run warnings text outcome before after ended told run.quiet_alerts;
   faulty_words = λ none. absurd (run.faulty_words none);
   fileless = λ so. absurd (run.fileless so);
   opened_twice = opens_most before.files (ways decided.0 ready) (Rose run.middle.host_faults after.host_faults) before.opens after.opens (run.opened decided.0);

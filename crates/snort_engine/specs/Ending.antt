@@ -30,6 +30,10 @@ IsStated status.HostFault rose = ¬ rose
 IsStated status.WriteFault rose = ⊥
 IsStated status.NoMemory rose = ⊥
 
+-- a status that tells neither a fault of the outside nor want of memory
+abbrev pub IsUncut : Status → Type 0
+IsUncut ended = (ended ≡ status.Done) ⊎ (ended ≡ status.Refused) ⊎ (ended ≡ status.BadCapture)
+
 -- the status, the alert bytes and the message are the answer's
 pub record IsAnswered (answer : Answer) (ended : Status) (alerts message : List ℕ) : Type 0 where
   pub status : ended ≡ answer.status

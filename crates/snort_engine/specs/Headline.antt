@@ -24,7 +24,7 @@ use Rattle.snort_engine.specs.Lines.{LinesJoin, PrefixLaw}
 use Rattle.snort_engine.specs.Answer.{answer_of}
 use Rattle.snort_engine.specs.Outside.{Outside, work_of, NoFault, NoCountFell}
 use Rattle.snort_engine.specs.Outside.{TellsMessage}
-use Rattle.snort_engine.specs.Ending.{EndsRun}
+use Rattle.snort_engine.specs.Ending.{EndsRun, IsUncut}
 
 -- this holds of the files, where they are told
 abbrev pub OfTold : Option Files → (Files → Type 0) → Type 0
@@ -96,6 +96,10 @@ pub record Headline (words : List (List ℕ)) (means : Means) (before after : Ou
   pub host_fault : ended ≡ status.HostFault
       → Rose before.host_faults after.host_faults
       ⊎ LacksOne before.files (λ files. given files matches refused) (command_line words)
+  -- and the other way: a run that isn't cut short has met no fault of the host and none of the alert sink; one that
+  -- the host's fault ended none of the alert sink
+  pub quiet : IsUncut ended → (after.host_faults ≡ before.host_faults) × (after.alert_faults ≡ before.alert_faults)
+  pub quiet_alerts : ended ≡ status.HostFault → after.alert_faults ≡ before.alert_faults
   pub faulty_words : command_line words ≡ None → (ended ≡ status.Refused) ⊎ (ended ≡ status.NoMemory)
   -- words that read no file end as they do over any files, whatever the host tells
   pub fileless : IsFileless (command_line words) → (files : Files)

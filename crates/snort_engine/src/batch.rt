@@ -44,6 +44,7 @@ fn read_one<H: Host>(
     ensures next { result ≡ Reached.More → IsFresh reader.new × IsNext reader.old reader.new }
     ensures own { (why : ReadFault) → result ≡ Reached.Fault why → IsFaultOf reader.new why }
     ensures failed { result ≡ Reached.Fault ReadFault.Failed → Rose (H.faults host.old) (H.faults host.new) }
+    ensures quiet { result ≢ Reached.Fault ReadFault.Failed → H.faults host.new ≡ H.faults host.old }
     ensures host { OnlyRead H.Host host.old host.new }
 {
     // Room comes first, so that no record is lost that was taken.
@@ -102,6 +103,7 @@ pub(crate) fn read_batch<H: Host>(
     ensures within { 0 < vec_len records.new → number_of reader.old + vec_len records.new ≤ most_records }
     ensures own { (why : ReadFault) → result ≡ Reached.Fault why → IsFaultOf reader.new why }
     ensures failed { result ≡ Reached.Fault ReadFault.Failed → Rose (H.faults host.old) (H.faults host.new) }
+    ensures quiet { result ≢ Reached.Fault ReadFault.Failed → H.faults host.new ≡ H.faults host.old }
     ensures host { OnlyRead H.Host host.old host.new }
 {
     'batch: while records.len() < most {

@@ -9,7 +9,7 @@ ghost use Rattle.snort_engine.specs.Steps.Preparing.{way_for};
 ghost use Rattle.snort_engine.specs.Steps.Sources.{IsMade, LacksCapture, OpensOn, source_name};
 ghost use Rattle.snort_engine.specs.Outside.{Work, by, work};
 ghost use Rattle.snort_engine.specs.Ending.{Ends};
-ghost use Rattle.snort_engine.specs.Steps.Stop.{outcome_status};
+ghost use Rattle.snort_engine.specs.Steps.Stop.{outcome_status, ReadsQuietly, WritesQuietly};
 ghost use Rattle.snort_engine.specs.Steps.Reporting.{outcome_said};
 ghost use Rattle.snort_engine.specs.Counts.{no_counts};
 ghost use Rattle.snort_engine.specs.Steps.Detecting.{IsSoundPlan};
@@ -47,6 +47,7 @@ fn watch_made<P: Pattern, G: Gate, A: Sink, R: Threads + Sync>(
         context.now.plan.now.counted result counts.new) }
     ensures write_fault { outcome_status result ≡ Status.WriteFault → Rose (A.faults alerts.old) (A.faults alerts.new) }
     ensures no_read_fault { ¬ (outcome_status result ≡ Status.HostFault) }
+    ensures quiet_alerts { WritesQuietly result (A.faults alerts.old) (A.faults alerts.new) }
     ensures later_alerts { A.faults alerts.old ≤ A.faults alerts.new }
 {
     let bytes = make_capture(context.alloc, seed, count)?;
@@ -86,6 +87,8 @@ pub(crate) fn watch_capture<H: Host, P: Pattern, G: Gate, A: Sink, R: Threads + 
     ensures same_contents { H.contents host.new ≡ H.contents host.old }
     ensures earlier { (seen : Option Files) → MaySee (H.contents host.new) (H.agrees host.new) seen
         → MaySee (H.contents host.old) (H.agrees host.old) seen }
+    ensures quiet { ReadsQuietly result (H.faults host.old) (H.faults host.new) }
+    ensures quiet_alerts { WritesQuietly result (A.faults alerts.old) (A.faults alerts.new) }
     ensures later { H.faults host.old ≤ H.faults host.new }
     ensures later_alerts { A.faults alerts.old ≤ A.faults alerts.new }
 {

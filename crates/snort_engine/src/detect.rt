@@ -147,6 +147,7 @@ fn run_jobs<P: Pattern, G: Gate, A: Sink, R: Threads + Sync>(
     ensures last_stays { OnOk result (inspection.new.last ≡ inspection.old.last) }
     ensures kind { IfErr result IsShowStop }
     ensures fault { IsErrOf result Stop.CannotWrite → Rose (A.faults alerts.old) (A.faults alerts.new) }
+    ensures quiet { OnOk result (A.faults alerts.new ≡ A.faults alerts.old) }
     ensures later { A.faults alerts.old ≤ A.faults alerts.new }
 {
     let plan = context.plan;
@@ -202,6 +203,7 @@ pub(crate) fn show_records<P: Pattern, G: Gate, A: Sink, R: Threads + Sync>(
         ≡ detector.old.front.counts.records + length records.old.items) }
     ensures kind { IfErr result IsShowStop }
     ensures fault { IsErrOf result Stop.CannotWrite → Rose (A.faults alerts.old) (A.faults alerts.new) }
+    ensures quiet { OnOk result (A.faults alerts.new ≡ A.faults alerts.old) }
     ensures later { A.faults alerts.old ≤ A.faults alerts.new }
 {
     let by = front_config(context.plan);
@@ -249,6 +251,7 @@ pub(crate) fn close<P: Pattern, G: Gate, A: Sink, R: Threads + Sync>(
         (record { detector = detector; written = A.written alerts.old }) (A.written alerts.new)) }
     ensures kind { IfErr result IsShowStop }
     ensures fault { IsErrOf result Stop.CannotWrite → Rose (A.faults alerts.old) (A.faults alerts.new) }
+    ensures quiet { OnOk result (A.faults alerts.new ≡ A.faults alerts.old) }
     ensures later { A.faults alerts.old ≤ A.faults alerts.new }
 {
     let Detector {

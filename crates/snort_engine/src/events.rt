@@ -102,6 +102,7 @@ fn show_item<A: Sink>(
         (record { events = events.old; written = A.written alerts.old }) (A.written alerts.new)) }
     ensures kind { IfErr result IsShowStop }
     ensures fault { IsErrOf result Stop.CannotWrite → Rose (A.faults alerts.old) (A.faults alerts.new) }
+    ensures quiet { OnOk result (A.faults alerts.new ≡ A.faults alerts.old) }
     ensures later { A.faults alerts.old ≤ A.faults alerts.new }
 {
     events.kept.clear();
@@ -146,6 +147,7 @@ fn show_items<A: Sink>(
         (record { events = events.old; written = A.written alerts.old }) (A.written alerts.new)) }
     ensures kind { IfErr result IsShowStop }
     ensures fault { IsErrOf result Stop.CannotWrite → Rose (A.faults alerts.old) (A.faults alerts.new) }
+    ensures quiet { OnOk result (A.faults alerts.new ≡ A.faults alerts.old) }
     ensures later { A.faults alerts.old ≤ A.faults alerts.new }
 {
     for hits in items {
@@ -175,6 +177,7 @@ fn show_hits<A: Sink>(
         (record { events = events.old; written = A.written alerts.old }) (A.written alerts.new)) }
     ensures kind { IfErr result IsShowStop }
     ensures fault { IsErrOf result Stop.CannotWrite → Rose (A.faults alerts.old) (A.faults alerts.new) }
+    ensures quiet { OnOk result (A.faults alerts.new ≡ A.faults alerts.old) }
     ensures later { A.faults alerts.old ≤ A.faults alerts.new }
 {
     let mut place = 0;
@@ -207,6 +210,7 @@ pub(crate) fn show_matches<A: Sink>(
         found.now (record { events = events.old; written = A.written alerts.old }) (A.written alerts.new)) }
     ensures kind { IfErr result IsShowStop }
     ensures fault { IsErrOf result Stop.CannotWrite → Rose (A.faults alerts.old) (A.faults alerts.new) }
+    ensures quiet { OnOk result (A.faults alerts.new ≡ A.faults alerts.old) }
     ensures later { A.faults alerts.old ≤ A.faults alerts.new }
 {
     let items = sum(events.tally.items, found.items)?;

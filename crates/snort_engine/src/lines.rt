@@ -43,6 +43,7 @@ pub(crate) fn offer<A: Sink>(block: &mut Vec<u8>, alerts: &mut A) -> Result<(), 
     ensures stopped { OnErr result (WritesPart (A.written alerts.old) block.old.items (A.written alerts.new)) }
     ensures kind { IfErr result IsWriteStop }
     ensures fault { IsErrOf result Stop.CannotWrite → Rose (A.faults alerts.old) (A.faults alerts.new) }
+    ensures quiet { OnOk result (A.faults alerts.new ≡ A.faults alerts.old) }
     ensures later { A.faults alerts.old ≤ A.faults alerts.new }
 {
     match write_all(alerts, block) {
@@ -62,6 +63,7 @@ fn offer_full<A: Sink>(block: &mut Vec<u8>, alerts: &mut A) -> Result<(), Stop>
     ensures stopped { OnErr result (WritesPart (A.written alerts.old) block.old.items (A.written alerts.new)) }
     ensures kind { IfErr result IsWriteStop }
     ensures fault { IsErrOf result Stop.CannotWrite → Rose (A.faults alerts.old) (A.faults alerts.new) }
+    ensures quiet { OnOk result (A.faults alerts.new ≡ A.faults alerts.old) }
     ensures later { A.faults alerts.old ≤ A.faults alerts.new }
 {
     if block.len() < BLOCK {
@@ -107,6 +109,7 @@ fn show_line<A: Sink>(
         (beside subject.now.origin.now (event_of subject.now.head.now rule.now))) (A.written alerts.new)) }
     ensures kind { IfErr result IsShowStop }
     ensures fault { IsErrOf result Stop.CannotWrite → Rose (A.faults alerts.old) (A.faults alerts.new) }
+    ensures quiet { OnOk result (A.faults alerts.new ≡ A.faults alerts.old) }
     ensures later { A.faults alerts.old ≤ A.faults alerts.new }
 {
     push_alert(subject, before, rule, block)?;
@@ -131,6 +134,7 @@ fn show_place<A: Sink>(
         (block.old.items ++ places_lines (subject_of subject.now) before (place ∷ [])) (A.written alerts.new)) }
     ensures kind { IfErr result IsShowStop }
     ensures fault { IsErrOf result Stop.CannotWrite → Rose (A.faults alerts.old) (A.faults alerts.new) }
+    ensures quiet { OnOk result (A.faults alerts.new ≡ A.faults alerts.old) }
     ensures later { A.faults alerts.old ≤ A.faults alerts.new }
 {
     let Some(rule) = subject.rules.get(place as usize) else {
@@ -158,6 +162,7 @@ pub(crate) fn show_places<A: Sink>(
         (block.old.items ++ places_lines (subject_of subject.now) before places.now) (A.written alerts.new)) }
     ensures kind { IfErr result IsShowStop }
     ensures fault { IsErrOf result Stop.CannotWrite → Rose (A.faults alerts.old) (A.faults alerts.new) }
+    ensures quiet { OnOk result (A.faults alerts.new ≡ A.faults alerts.old) }
     ensures later { A.faults alerts.old ≤ A.faults alerts.new }
 {
     let mut count = 0;

@@ -5,6 +5,7 @@ ghost use Rattle.edge_io.specs.Told.{Rose};
 ghost use Rattle.snort_engine.specs.Messages.{too_large_text};
 ghost use Rattle.edge_io.specs.Frames.{OnlyLoaded};
 ghost use Rattle.snort_engine.specs.Steps.Preparing.{HasCause, ListsBytes, ListsFile, StopsAtFile};
+ghost use Rattle.snort_engine.specs.Steps.Stop.{ReadsQuietly};
 ghost use Rattle.snort_engine.specs.RecordLines.{counted_line, end_text, entry_line, entry_lines, event_front};
 ghost use Rattle.snort_engine.specs.RecordLines.{event_line, micro_text};
 
@@ -169,6 +170,7 @@ pub(crate) fn list_records<H: Host>(alloc: Global, name: &str, host: &mut H) -> 
     ensures lists { (files : Files) → H.agrees host.new files
         → ListsFile name.now files (Rose (H.faults host.old) (H.faults host.new)) result }
     ensures cause { IfErr result (HasCause (Rose (H.faults host.old) (H.faults host.new)) (H.contents host.old)) }
+    ensures quiet { ReadsQuietly result (H.faults host.old) (H.faults host.new) }
     ensures host { OnlyLoaded H.Host host.old host.new }
 {
     let mut bytes = Vec::new(alloc);

@@ -17,6 +17,7 @@ ghost use Rattle.snort_setup.specs.Whole.{ready_of};
 ghost use Rattle.snort_engine.specs.Course.{IsFileless, IsForMade, setup_words, checks_of, form_of, way_of};
 ghost use Rattle.snort_engine.specs.Steps.Preparing.{IsPrepared, IsSetUp, KeepsSetup, HasCause, IsForFaultyWords, StopsFileless};
 ghost use Rattle.snort_engine.specs.Steps.Preparing.{OfWatch, task_way, way_for, told_of, way_by};
+ghost use Rattle.snort_engine.specs.Steps.Stop.{ReadsQuietly};
 ghost use Rattle.edge_io.specs.Frames.{OnlyLoaded};
 ghost use Rattle.snort_engine.specs.Steps.Sources.{IsMade, IsSourceFor};
 ghost use Rattle.snort_engine.specs.Steps.Detecting.{IsRanged};
@@ -141,6 +142,7 @@ fn set_up<H: Host, M: PatternMaker>(
     ensures rules { IfOk result (λ setup. All (IsSound setup.config.classes) setup.set.rules) }
     ensures few { IfOk result (λ setup. length setup.set.rules ≤ most_rules) }
     ensures meant { IfOk result (λ setup. FindWhatIsMeant M.Made.finds (M.means maker.old) setup.set) }
+    ensures quiet { setup_specs.OnReadyOrRefused (H.faults host.new ≡ H.faults host.old) result }
     ensures host { OnlyLoaded H.Host host.old host.new }
     ensures grows { Grows (M.refusals maker.old) (M.refusals maker.new) }
     ensures same_meaning { SameMeaning (M.means maker.old) (M.means maker.new) }
@@ -214,6 +216,7 @@ fn prepare_run<'a, H: Host, M: PatternMaker>(
     ensures few { IfOk result (λ ready. length ready.setup.set.rules ≤ most_rules) }
     ensures ranges { IfOk result (λ ready. IsRanged ready.lanes ready.flush) }
     ensures meant { IfOk result (λ ready. FindWhatIsMeant M.Made.finds (M.means maker.old) ready.setup.set) }
+    ensures quiet { ReadsQuietly result (H.faults host.old) (H.faults host.new) }
     ensures host { OnlyLoaded H.Host host.old host.new }
     ensures grows { Grows (M.refusals maker.old) (M.refusals maker.new) }
     ensures same_meaning { SameMeaning (M.means maker.old) (M.means maker.new) }
@@ -253,7 +256,8 @@ pub(crate) fn prepare<'a, H: Host, M: PatternMaker>(
     ensures ranges { IfOk result (OfWatch (λ ready. IsRanged ready.lanes ready.flush)) }
     ensures meant { IfOk result (OfWatch (λ ready. FindWhatIsMeant M.Made.finds (M.means maker.old) ready.setup.set)) }
 
-    // The host is as before, but for its count, and the maker but for what it refused.
+    // The host is as before, but for its count, where it failed at a file, and the maker but for what it refused.
+    ensures quiet { ReadsQuietly result (H.faults host.old) (H.faults host.new) }
     ensures host { OnlyLoaded H.Host host.old host.new }
     ensures grows { Grows (M.refusals maker.old) (M.refusals maker.new) }
     ensures same_meaning { SameMeaning (M.means maker.old) (M.means maker.new) }

@@ -80,6 +80,7 @@ impl RecordReader {
         ensures fresh { IfOk result (λ reader. IsFresh reader × (number_of reader ≡ 0)) }
         ensures failed { IsErrOf result ReadFault.Failed
             → Rose (H.faults host.old) (H.faults host.new) ⊎ Lacks (H.contents host.old) name.now }
+        ensures quiet { (IsErrOf result ReadFault.Failed → ⊥) → H.faults host.new ≡ H.faults host.old }
         ensures opened { (seen : Option Files) → MaySee (H.contents host.new) (H.agrees host.new) seen
             → OpensSo seen name.now (Rose (H.faults host.old) (H.faults host.new)) (H.opens host.old) (H.opens host.new) }
         ensures same_contents { H.contents host.new ≡ H.contents host.old }
@@ -109,6 +110,7 @@ impl RecordReader {
             → Gives self.old self.new result (left_by (H.left_of host.old) seen) (left_by (H.left_of host.new) seen) }
         ensures refused { IfErr result (λ why. refusal_of self.new ≡ Some why) }
         ensures failed { IsErrOf result ReadFault.Failed → Rose (H.faults host.old) (H.faults host.new) }
+        ensures quiet { (IsErrOf result ReadFault.Failed → ⊥) → H.faults host.new ≡ H.faults host.old }
         ensures host { OnlyRead H.Host host.old host.new }
     {
         match self {
@@ -158,6 +160,7 @@ fn next_of_savefile<H: Host>(
         (left_by (H.left_of host.old) seen) (left_by (H.left_of host.new) seen) }
     ensures refused { IfErr result (λ why. refusal_of (Savefile reader.new) ≡ Some why) }
     ensures failed { IsErrOf result ReadFault.Failed → Rose (H.faults host.old) (H.faults host.new) }
+    ensures quiet { (IsErrOf result ReadFault.Failed → ⊥) → H.faults host.new ≡ H.faults host.old }
     ensures host { OnlyRead H.Host host.old host.new }
 {
     let link = reader.head().link;
@@ -180,6 +183,7 @@ fn next_of_blocks<H: Host>(
         (left_by (H.left_of host.old) seen) (left_by (H.left_of host.new) seen) }
     ensures refused { IfErr result (λ why. refusal_of (Blocks reader.new) ≡ Some why) }
     ensures failed { IsErrOf result ReadFault.Failed → Rose (H.faults host.old) (H.faults host.new) }
+    ensures quiet { (IsErrOf result ReadFault.Failed → ⊥) → H.faults host.new ≡ H.faults host.old }
     ensures host { OnlyRead H.Host host.old host.new }
 {
     match reader.next(alloc, host) {

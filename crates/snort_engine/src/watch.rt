@@ -9,7 +9,7 @@ ghost use Rattle.snort_engine.specs.Steps.Sources.{source_name};
 ghost use Rattle.edge_io.specs.Frames.{OnlyRead};
 ghost use Rattle.snort_engine.specs.Outside.{by, work};
 ghost use Rattle.snort_engine.specs.Ending.{Ends};
-ghost use Rattle.snort_engine.specs.Steps.Stop.{outcome_status};
+ghost use Rattle.snort_engine.specs.Steps.Stop.{outcome_status, is_uncut, is_written, ReadsQuietly, WritesQuietly};
 ghost use Rattle.snort_engine.specs.Steps.Reporting.{outcome_said};
 ghost use Rattle.snort_engine.specs.Counts.{no_counts};
 ghost use Rattle.snort_engine.specs.Steps.Detecting.{IsSoundPlan, Knows, DetectorStands, ShowsRecordsPart};
@@ -73,6 +73,8 @@ fn watch_batch<H: Host, P: Pattern, G: Gate, A: Sink, R: Threads + Sync>(
     ensures closable { MayClose context.now.plan.now detector.new result }
     ensures write_fault { IsErrOf result Stop.CannotWrite → Rose (A.faults alerts.old) (A.faults alerts.new) }
     ensures read_fault { outcome_status result ≡ Status.HostFault → Rose (H.faults host.old) (H.faults host.new) }
+    ensures quiet { ReadsQuietly result (H.faults host.old) (H.faults host.new) }
+    ensures quiet_alerts { WritesQuietly result (A.faults alerts.old) (A.faults alerts.new) }
     ensures host { OnlyRead H.Host host.old host.new }
     ensures later_alerts { A.faults alerts.old ≤ A.faults alerts.new }
 {
@@ -112,6 +114,8 @@ fn watch_batches<H: Host, P: Pattern, G: Gate, A: Sink, R: Threads + Sync>(
     ensures closable { MayClose context.now.plan.now detector.new result }
     ensures write_fault { IsErrOf result Stop.CannotWrite → Rose (A.faults alerts.old) (A.faults alerts.new) }
     ensures read_fault { outcome_status result ≡ Status.HostFault → Rose (H.faults host.old) (H.faults host.new) }
+    ensures quiet { ReadsQuietly result (H.faults host.old) (H.faults host.new) }
+    ensures quiet_alerts { WritesQuietly result (A.faults alerts.old) (A.faults alerts.new) }
     ensures host { OnlyRead H.Host host.old host.new }
     ensures later_alerts { A.faults alerts.old ≤ A.faults alerts.new }
 {
@@ -146,6 +150,9 @@ fn close_watched<P: Pattern, G: Gate, A: Sink, R: Threads + Sync>(
     ensures write_fault { IsErrOf result Stop.CannotWrite
         → IsErrOf watched Stop.CannotWrite ⊎ Rose (A.faults alerts.old) (A.faults alerts.new) }
     ensures read_fault { outcome_status result ≡ Status.HostFault → outcome_status watched ≡ Status.HostFault }
+    ensures uncut_watched { is_uncut (outcome_status result) ≡ true → is_uncut (outcome_status watched) ≡ true }
+    ensures written_watched { is_written (outcome_status result) ≡ true → is_written (outcome_status watched) ≡ true }
+    ensures quiet_alerts { WritesQuietly result (A.faults alerts.old) (A.faults alerts.new) }
     ensures later_alerts { A.faults alerts.old ≤ A.faults alerts.new }
 {
     if !is_whole(&watched) {
@@ -179,6 +186,8 @@ pub(crate) fn watch_records<H: Host, P: Pattern, G: Gate, A: Sink, R: Threads + 
         (Rose (H.faults host.old) (H.faults host.new)) result }
     ensures write_fault { IsErrOf result Stop.CannotWrite → Rose (A.faults alerts.old) (A.faults alerts.new) }
     ensures read_fault { outcome_status result ≡ Status.HostFault → Rose (H.faults host.old) (H.faults host.new) }
+    ensures quiet { ReadsQuietly result (H.faults host.old) (H.faults host.new) }
+    ensures quiet_alerts { WritesQuietly result (A.faults alerts.old) (A.faults alerts.new) }
     ensures host { OnlyRead H.Host host.old host.new }
     ensures later_alerts { A.faults alerts.old ≤ A.faults alerts.new }
 {
@@ -215,6 +224,8 @@ pub(crate) fn watch_file<H: Host, P: Pattern, G: Gate, A: Sink, R: Threads + Syn
     ensures same_contents { H.contents host.new ≡ H.contents host.old }
     ensures earlier { (seen : Option Files) → MaySee (H.contents host.new) (H.agrees host.new) seen
         → MaySee (H.contents host.old) (H.agrees host.old) seen }
+    ensures quiet { ReadsQuietly result (H.faults host.old) (H.faults host.new) }
+    ensures quiet_alerts { WritesQuietly result (A.faults alerts.old) (A.faults alerts.new) }
     ensures later { H.faults host.old ≤ H.faults host.new }
     ensures later_alerts { A.faults alerts.old ≤ A.faults alerts.new }
 {

@@ -2,7 +2,7 @@
 --
 -- To try it on: a capture that is neither a savefile nor blocks ends a run as BadCapture, with
 -- `ERROR: capture is not a pcap file`.
-use Rattle.std.specs.Prelude.{ℕ, Bool, true, false, List, [], Result, Ok, Err}
+use Rattle.std.specs.Prelude.{◌≡◌, ℕ, Bool, true, false, List, [], Result, Ok, Err}
 use Rattle.snort_setup.specs.declared.stop.SetupStop.{SetupStop}
 use Rattle.snort_setup.specs.declared.stop.SetupStop.TheVariants as setup
 use Rattle.snort_engine.specs.declared.fault.ReadFault.{ReadFault}
@@ -83,6 +83,29 @@ is_whole (Err why) = true
 abbrev pub outcome_status : {A : Type 0} → Result A Stop → Status
 outcome_status (Ok done) = status.Done
 outcome_status (Err why) = stop_status why
+
+-- the status of a run that nothing outside cut short, nor want of memory
+abbrev pub is_uncut : Status → Bool
+is_uncut status.Done = true
+is_uncut status.Refused = true
+is_uncut status.BadCapture = true
+is_uncut ended = false
+
+-- the status of a run that wrote all that it had to write: neither the alert sink failed nor memory was lacking
+abbrev pub is_written : Status → Bool
+is_written status.WriteFault = false
+is_written status.NoMemory = false
+is_written ended = true
+
+-- the host's count of faults stays where the work was not cut short. Behind a fault of reading, writing the lines of
+-- what was read may fail, or lack memory, and then that is told
+abbrev pub ReadsQuietly : {A : Type 0} → Result A Stop → ℕ → ℕ → Type 0
+ReadsQuietly outcome old new = is_uncut (outcome_status outcome) ≡ true → new ≡ old
+
+-- the alert sink's count stays where all was written. Where memory is lacking for reading, a fault of writing the lines
+-- of what was read isn't told
+abbrev pub WritesQuietly : {A : Type 0} → Result A Stop → ℕ → ℕ → Type 0
+WritesQuietly outcome old new = is_written (outcome_status outcome) ≡ true → new ≡ old
 
 -- and its message, if it has one
 abbrev pub outcome_text : {A : Type 0} → List ℕ → Result A Stop → List ℕ

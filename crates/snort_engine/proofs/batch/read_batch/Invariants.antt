@@ -16,6 +16,7 @@ invariant-batch g l = record {
   few : vec_len l.records ≤ l.most;
   number : number_of l.reader ≡ number_of l.fn.reader + vec_len l.records;
   within : 0 < vec_len l.records → number_of l.reader ≤ most_records;
+  same : g.H.Host.faults l.host ≡ g.H.Host.faults l.fn.host;
   host : OnlyRead g.H.Host l.fn.host l.host;
 }
 

@@ -5,6 +5,7 @@ use Rattle.edge_io.proofs.Seeing.{seen_left}
 use Rattle.snort_engine.specs.Steps.Preparing.{task_way}
 use Rattle.snort_engine.specs.declared.prepare.Task.TheVariants.{Watch, Tell}
 use Rattle.snort_engine.proofs.FileWays.{listed_ends, no_host_stop, write_stop}
+use Rattle.snort_engine.proofs.Quiet.{written_quiet}
 use Rattle.snort_engine.proofs.Runs.{headline, stopped_run, watched_run, opens_made}
 use Rattle.snort_engine.proofs.Seeing.{seen_agree, seen_ends, capture_cause_by, stop_cause_by, told_headline}
 use Rattle.snort_engine.proofs.detector.run.Goals as goal
@@ -46,6 +47,8 @@ returns-in-Ok-Watch-clause-headline g c = λ seen may.
       read_fault = λ matches failed.
           capture_cause_by g.H.Host first last (task_way {P = g.row.M-Made.Denot} matches (Watch c.in-Ok-Watch.plan)) (Rose (g.H.Host.faults first) (g.H.Host.faults last)) seen law
           c.watch_capture-outcome.ensures.same_contents may (c.watch_capture-outcome.ensures.read_fault matches failed);
+      quiet = λ uncut. c.watch_capture-outcome.ensures.quiet uncut ∙ c.in-Ok-Watch.ensures.quiet refl;
+      quiet_alerts = c.watch_capture-outcome.ensures.quiet_alerts;
       opened = λ matches.
           rw c.prepare-prepared.ensures.host.opens at (c.watch_capture-outcome.ensures.opened matches seen may);
       made_unopened = λ for_made.
@@ -92,6 +95,8 @@ returns-in-Ok-Tell-clause-headline g c = λ seen may.
           (rw c.into_vec-block.ensures at c.offer-outcome.ensures.offered) (rw c.into_vec-block.ensures at c.offer-outcome.ensures.stopped) c.offer-outcome.ensures.kind;
       write_fault = λ failed. write_stop c.offer-outcome.result c.offer-outcome.ensures.kind c.offer-outcome.ensures.fault failed;
       read_fault = λ matches failed. absurd (no_host_stop c.offer-outcome.result c.offer-outcome.ensures.kind failed);
+      quiet = λ uncut. c.in-Ok-Tell.ensures.quiet refl;
+      quiet_alerts = written_quiet c.offer-outcome.result _ _ c.offer-outcome.ensures.kind c.offer-outcome.ensures.quiet;
       opened = λ matches. c.prepare-prepared.ensures.host.opens;
       made_unopened = λ for_made. (c.prepare-prepared.ensures.host.opens, still);
       same_files = refl;
@@ -124,6 +129,8 @@ returns-clause-headline g c = λ seen may.
       faulty_words = λ none. c.in-Err.ensures.faulty_words none;
       fileless = c.in-Err.ensures.fileless;
       unopened = record { left = still; opens = c.prepare-prepared.ensures.host.opens; alerts = refl };
+      quiet = c.in-Err.ensures.quiet;
+      quiet_alerts = refl;
       same_files = refl;
       counts = record { host = c.prepare-prepared.ensures.host.later; alerts = omega arith; errors = omega (arith, c.tell_all-well.ensures.later, c.report-in-Err.ensures.later) };
     })

@@ -10,5 +10,6 @@ invariant-loop-job g l = record {
   came : Shows l.form l.config l.rules (sourced_items (by_place (source_by l.sources) 0 (take l.job-index l.jobs)))
       (record { events = l.fn.events; written = g.A.Sink.written l.fn.alerts }) (record { events = l.events; written = g.A.Sink.written l.alerts });
   at : l.place ≡ l.job-index;
+  same : g.A.Sink.faults l.alerts ≡ g.A.Sink.faults l.fn.alerts;
   later : g.A.Sink.faults l.fn.alerts ≤ g.A.Sink.faults l.alerts;
 }

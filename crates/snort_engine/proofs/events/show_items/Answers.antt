@@ -1,11 +1,11 @@
-use Rattle.std.proofs.Common.{◌≡◌, take, arith}
+use Rattle.std.proofs.Common.{◌≡◌, refl, ◌∙◌, take, arith}
 use Rattle.std.proofs.lemmas.List.{take_all}
 use Rattle.std.proofs.lemmas.Result.{err_from_is_err_and}
 use Rattle.snort_engine.proofs.Showing.{shows_none, items_step, items_part}
 use Rattle.snort_engine.proofs.events.show_items.Goals as goal
 
 pub loop-hits-init : goal.loop-hits-init
-loop-hits-init g c = record { came = shows_none c.args.form c.args.config.now c.args.rules.now _; later = omega arith }
+loop-hits-init g c = record { came = shows_none c.args.form c.args.config.now c.args.rules.now _; same = refl; later = omega arith }
 
 pub returns-in_err-show_item-clause-stopped : goal.returns-in_err-show_item-clause-stopped
 returns-in_err-show_item-clause-stopped g c =
@@ -15,6 +15,7 @@ returns-in_err-show_item-clause-stopped g c =
 pub loop-hits-preserved : goal.loop-hits-preserved
 loop-hits-preserved g c = record {
   came = items_step c.args.form c.args.config.now c.args.rules.now c.args.origin.now c.args.items.now c.loop-hits.hits-index c.hits-item.result _ _ _ c.loop-hits-test.true c.hits-item.is c.loop-hits.invariant.came c.in_ok-show_item.ensures.shown;
+  same = c.in_ok-show_item.ensures.quiet ∙ c.loop-hits.invariant.same;
   later = omega (arith, c.in_ok-show_item.ensures.later, c.loop-hits.invariant.later);
 }
 

@@ -1,11 +1,11 @@
-use Rattle.std.proofs.Common.{arith}
+use Rattle.std.proofs.Common.{refl, ◌∙◌, arith}
 use Rattle.std.proofs.lemmas.Result.{err_from_is_err_and}
 use Rattle.snort_engine.specs.Steps.Showing.{subject_of}
 use Rattle.snort_engine.proofs.Showing.{places_none, places_nothing, places_step, places_part}
 use Rattle.snort_engine.proofs.lines.show_places.Goals as goal
 
 pub loop-place-init : goal.loop-place-init
-loop-place-init g c = record { came = places_none (subject_of c.args.subject.now) c.args.before _; few = omega arith; later = omega arith }
+loop-place-init g c = record { came = places_none (subject_of c.args.subject.now) c.args.before _; few = omega arith; same = refl; later = omega arith }
 
 pub returns-in_err-number-clause-stopped : goal.returns-in_err-number-clause-stopped
 returns-in_err-number-clause-stopped g c =
@@ -21,5 +21,6 @@ pub loop-place-preserved : goal.loop-place-preserved
 loop-place-preserved g c = record {
   came = places_step (subject_of c.args.subject.now) c.args.before c.args.places.now c.loop-place.place-index c.loop-place.count c.in_ok-count.field-0 c.in_ok-number.number _ _ _ c.loop-place-test.true c.in_ok-number.ensures c.loop-place.invariant.came c.in_ok-count.ensures.shown;
   few = omega (arith, c.in_ok-count.ensures.few, c.loop-place.invariant.few);
+  same = c.in_ok-count.ensures.quiet ∙ c.loop-place.invariant.same;
   later = omega (arith, c.in_ok-count.ensures.later, c.loop-place.invariant.later);
 }

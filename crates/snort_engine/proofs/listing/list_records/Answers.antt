@@ -3,6 +3,7 @@ use Rattle.edge_io.specs.Told.{Rose}
 use Rattle.edge_io.specs.declared.host.LoadFault.{LoadFault}
 use Rattle.snort_engine.specs.Steps.Preparing.{StopsAtFile}
 use Rattle.snort_engine.proofs.Loaded.{file_listed, file_unloaded}
+use Rattle.snort_engine.proofs.Quiet.{file_uncut}
 use Rattle.snort_engine.proofs.Seeing.{cause_by, loaded_only}
 use Rattle.snort_engine.proofs.listing.list_records.Goals as goal
 
@@ -31,3 +32,9 @@ returns-in-Ok-clause-host g c =
 pub returns-clause-host : goal.returns-clause-host
 returns-clause-host g c =
     loaded_only g.H.Host c.args.host.now c.load.new.self c.in-Err.ensures.same_contents c.in-Err.ensures.earlier c.in-Err.ensures.same_left c.in-Err.ensures.same_left_of c.in-Err.ensures.same_opens c.in-Err.ensures.later
+
+pub returns-in-Ok-clause-quiet : goal.returns-in-Ok-clause-quiet
+returns-in-Ok-clause-quiet g c = λ uncut. c.in-Ok.ensures.unfailed (λ failed. cc)
+
+pub returns-clause-quiet : goal.returns-clause-quiet
+returns-clause-quiet g c = λ uncut. c.in-Err.ensures.unfailed (file_uncut _ _ c.in-Err.fault c.file_stop.result c.file_stop.ensures uncut)

@@ -1,4 +1,5 @@
 use Rattle.std.specs.Prelude.{map, string_bytes}
+use Rattle.std.proofs.Common.{refl}
 use Rattle.std.proofs.lemmas.Result.{err_from_is_err_and}
 use Rattle.edge_io.specs.Told.{Rose}
 use Rattle.command_words.specs.CommandLine.{command_line}
@@ -78,3 +79,20 @@ returns-in_err-prepare_run-in-Ok-Run-clause-prepared g c = λ files agree.
     let p = err_from_is_err_and c.from_residual-in_err-prepare_run-in-Ok-Run.result c.from_residual-in_err-prepare_run-in-Ok-Run.ensures.1 in
     rw (p.1, p.2, asked) (task_stopped (way_for {P = g.row.M-Made.Denot}) (task_way {P = g.row.M-Made.Denot}) _ files _ _ c.in_err-prepare_run-in-Ok-Run.field-0.0 _
     (c.in_err-prepare_run-in-Ok-Run.ensures.prepared files agree))
+
+-- the host didn't fail at a file, or that stopped it
+pub returns-in_ok-list_records-in-Ok-ReadUnified2-clause-quiet : goal.returns-in_ok-list_records-in-Ok-ReadUnified2-clause-quiet
+returns-in_ok-list_records-in-Ok-ReadUnified2-clause-quiet g c = λ uncut. c.in_ok-list_records-in-Ok-ReadUnified2.ensures.quiet refl
+
+pub returns-in_err-list_records-in-Ok-ReadUnified2-clause-quiet : goal.returns-in_err-list_records-in-Ok-ReadUnified2-clause-quiet
+returns-in_err-list_records-in-Ok-ReadUnified2-clause-quiet g c =
+    let p = err_from_is_err_and c.from_residual.result c.from_residual.ensures.1 in
+    rw (p.1, p.2) c.in_err-list_records-in-Ok-ReadUnified2.ensures.quiet
+
+pub returns-in_ok-prepare_run-in-Ok-Run-clause-quiet : goal.returns-in_ok-prepare_run-in-Ok-Run-clause-quiet
+returns-in_ok-prepare_run-in-Ok-Run-clause-quiet g c = λ uncut. c.in_ok-prepare_run-in-Ok-Run.ensures.quiet refl
+
+pub returns-in_err-prepare_run-in-Ok-Run-clause-quiet : goal.returns-in_err-prepare_run-in-Ok-Run-clause-quiet
+returns-in_err-prepare_run-in-Ok-Run-clause-quiet g c =
+    let p = err_from_is_err_and c.from_residual-in_err-prepare_run-in-Ok-Run.result c.from_residual-in_err-prepare_run-in-Ok-Run.ensures.1 in
+    rw (p.1, p.2) c.in_err-prepare_run-in-Ok-Run.ensures.quiet

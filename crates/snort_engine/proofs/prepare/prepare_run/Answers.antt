@@ -1,8 +1,10 @@
 use Rattle.std.proofs.lemmas.Result.{err_from_is_err_and}
 use Rattle.command_words.specs.Told.{run_of}
+use Rattle.snort_setup.specs.declared.setup.Setup.{Setup}
 use Rattle.snort_setup.specs.Whole.{ready_of}
 use Rattle.snort_engine.specs.Steps.Preparing.{way_for}
 use Rattle.snort_engine.proofs.Prepared.{setup_stopped, setup_ready, setup_cause, kept_cause, kept_config, kept_ranges, kept_rules, kept_few, kept_meant}
+use Rattle.snort_engine.proofs.Quiet.{setup_uncut}
 use Rattle.snort_engine.proofs.prepare.prepare_run.Goals as goal
 
 pub returns-in_err-setup-clause-prepared : goal.returns-in_err-setup-clause-prepared
@@ -36,3 +38,11 @@ returns-clause-config g c = kept_config c.in_ok-setup.setup c.ready.result c.rea
 
 pub returns-clause-ranges : goal.returns-clause-ranges
 returns-clause-ranges g c = kept_ranges c.ready.result c.args.wanted.now.lanes c.args.wanted.now.flush_point c.ready.ensures.ranges c.requires.ranged
+
+pub returns-in_err-setup-clause-quiet : goal.returns-in_err-setup-clause-quiet
+returns-in_err-setup-clause-quiet g c =
+    let p = err_from_is_err_and c.from_residual.result c.from_residual.ensures.1 in
+    rw (p.1, p.2) (setup_uncut (Setup g.row.M-Made.Denot) _ c.in_err-setup.field-0.0 c.in_err-setup.ensures.quiet)
+
+pub returns-clause-quiet : goal.returns-clause-quiet
+returns-clause-quiet g c = λ uncut. c.in_ok-setup.ensures.quiet

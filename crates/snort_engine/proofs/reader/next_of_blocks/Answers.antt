@@ -1,5 +1,6 @@
 -- What stands next, by the answer of the reader of blocks.
 use Rattle.snort_engine.proofs.Reading.{blocks_give, blocks_ended, blocks_stop}
+use Rattle.snort_engine.proofs.Quiet.{blocks_unfailed}
 use Rattle.snort_engine.proofs.Stops.{blocks_keep}
 use Rattle.snort_engine.proofs.reader.next_of_blocks.Goals as goal
 
@@ -20,3 +21,6 @@ returns-in-Err-clause-gives g c = λ seen may.
 
 pub returns-in-Err-clause-refused : goal.returns-in-Err-clause-refused
 returns-in-Err-clause-refused g c = blocks_keep c.next.new.self c.in-Err.why c.from.result c.from.ensures c.in-Err.ensures.refused
+
+pub returns-in-Err-clause-quiet : goal.returns-in-Err-clause-quiet
+returns-in-Err-clause-quiet g c = λ unfailed. c.in-Err.ensures.quiet (blocks_unfailed _ _ c.in-Err.why c.from.result c.from.ensures unfailed)

@@ -1,5 +1,6 @@
 -- What stands next, by the answer of the savefile's reader.
 use Rattle.snort_engine.proofs.Reading.{savefile_gives, savefile_ended, savefile_stops}
+use Rattle.snort_engine.proofs.Quiet.{savefile_unfailed}
 use Rattle.snort_engine.proofs.Stops.{savefile_keeps}
 use Rattle.snort_engine.proofs.reader.next_of_savefile.Goals as goal
 
@@ -21,3 +22,6 @@ returns-in-Err-clause-gives g c = λ seen may.
 
 pub returns-in-Err-clause-refused : goal.returns-in-Err-clause-refused
 returns-in-Err-clause-refused g c = savefile_keeps c.args.reader.now c.next.new.self c.in-Err.why c.from.result c.from.ensures c.in-Err.ensures.refused
+
+pub returns-in-Err-clause-quiet : goal.returns-in-Err-clause-quiet
+returns-in-Err-clause-quiet g c = λ unfailed. c.in-Err.ensures.quiet (savefile_unfailed _ _ c.in-Err.why c.from.result c.from.ensures unfailed)

@@ -1,6 +1,7 @@
 use Rattle.std.proofs.Common.{Err, refl, sym, ap, ◌∙◌, inl, inr, arith}
 use Rattle.std.proofs.lemmas.Result.{err_from_is_err_and}
 use Rattle.snort_engine.specs.Steps.Watching.{ClosesWatched}
+use Rattle.snort_engine.proofs.Quiet.{showing_uncut, showing_written}
 use Rattle.snort_engine.proofs.watch.close_watched.Goals as goal
 
 pub returns-then-not-is_whole-clause-closes : goal.returns-then-not-is_whole-clause-closes
@@ -24,3 +25,19 @@ returns-in_err-counts-clause-closes g c = λ matches test.
 pub returns-clause-closes : goal.returns-clause-closes
 unfolding ClosesWatched
 returns-clause-closes g c = λ matches test. inr (inl (sym c.is_whole.ensures ∙ c.if-not-is_whole.false, refl, c.in_ok-counts.ensures.shown matches test))
+
+-- what stopped the closing is a fault of writing, or want of memory
+pub returns-in_err-counts-clause-uncut_watched : goal.returns-in_err-counts-clause-uncut_watched
+returns-in_err-counts-clause-uncut_watched g c =
+    let p = err_from_is_err_and c.from_residual.result c.from_residual.ensures.1 in
+    rw (p.1, p.2) (λ uncut. absurd (showing_uncut c.in_err-counts.field-0.0 c.in_err-counts.ensures.kind uncut))
+
+pub returns-in_err-counts-clause-written_watched : goal.returns-in_err-counts-clause-written_watched
+returns-in_err-counts-clause-written_watched g c =
+    let p = err_from_is_err_and c.from_residual.result c.from_residual.ensures.1 in
+    rw (p.1, p.2) (λ written. absurd (showing_written c.in_err-counts.field-0.0 c.in_err-counts.ensures.kind written))
+
+pub returns-in_err-counts-clause-quiet_alerts : goal.returns-in_err-counts-clause-quiet_alerts
+returns-in_err-counts-clause-quiet_alerts g c =
+    let p = err_from_is_err_and c.from_residual.result c.from_residual.ensures.1 in
+    rw (p.1, p.2) (λ written. absurd (showing_written c.in_err-counts.field-0.0 c.in_err-counts.ensures.kind written))

@@ -5,8 +5,10 @@ use Rattle.edge_io.specs.Told.{Rose}
 use Rattle.pcap_input.specs.Savefile.{most_records}
 use Rattle.snort_engine.specs.declared.reader.RecordReader.{RecordReader}
 use Rattle.snort_engine.specs.Steps.Reader.{number_of}
+use Rattle.snort_engine.specs.Steps.Stop.{outcome_status, is_uncut}
 use Rattle.snort_engine.specs.Steps.Watching.{plan_of, most_at, room_behind, MayGoOn, Standing}
 use Rattle.snort_engine.proofs.Batches.{more_reached, showing_cuts, within_batch}
+use Rattle.snort_engine.proofs.Quiet.{reached_uncut, showing_uncut, showing_written}
 use Rattle.snort_engine.proofs.Watched.{nothing_left, batch_lacks, batch_shown, batch_stops}
 use Rattle.snort_engine.proofs.watch.watch_batch.Goals as goal
 
@@ -130,3 +132,18 @@ returns-clause-closable g c = λ whole.
       known = c.in_ok-show_records.ensures.known;
       few = omega (arith, few, c.in_ok-show_records.ensures.records, c.read_batch-reached.new.records.ok.0);
     }
+
+-- a fault is told, or one of writing, or want of memory in its place
+pub returns-in_err-show_records-clause-quiet : goal.returns-in_err-show_records-clause-quiet
+returns-in_err-show_records-clause-quiet g c =
+    let p = err_from_is_err_and c.from_residual.result c.from_residual.ensures.1 in
+    rw (p.1, p.2) (λ uncut. absurd (showing_uncut c.in_err-show_records.field-0.0 c.in_err-show_records.ensures.kind uncut))
+
+pub returns-in_err-show_records-clause-quiet_alerts : goal.returns-in_err-show_records-clause-quiet_alerts
+returns-in_err-show_records-clause-quiet_alerts g c =
+    let p = err_from_is_err_and c.from_residual.result c.from_residual.ensures.1 in
+    rw (p.1, p.2) (λ written. absurd (showing_written c.in_err-show_records.field-0.0 c.in_err-show_records.ensures.kind written))
+
+pub returns-clause-quiet : goal.returns-clause-quiet
+returns-clause-quiet g c =
+    rw c.more.ensures (λ uncut. c.read_batch-reached.ensures.quiet (reached_uncut c.read_batch-reached.result uncut))

@@ -1,4 +1,4 @@
-use Rattle.std.proofs.Common.{Ok, Err, refl, ap, arith}
+use Rattle.std.proofs.Common.{Ok, Err, refl, ap, ◌∙◌, arith}
 use Rattle.std.proofs.lemmas.Result.{err_from_is_err_and}
 use Rattle.edge_io.specs.Told.{Rose}
 use Rattle.snort_engine.specs.Steps.Watching.{plan_of}
@@ -11,6 +11,8 @@ batches-init g c = record {
   going = λ matches test stands seen may. under_way-start (plan_of matches c.args.context.now.plan.now) _ _ _ _ c.requires.ready.readable.fresh refl stands;
   ready = c.requires.ready;
   shown = c.new-records.ensures.items;
+  quiet = refl;
+  quiet_alerts = refl;
   host = read_not g.H.Host c.args.host.now;
   later_alerts = omega arith;
 }
@@ -37,6 +39,8 @@ batches-preserved g c =
           on _ _ (c.batches.invariant.going matches test stands seen (c.in_ok-watch_batch.ensures.host.earlier seen may));
       ready = c.in_ok-watch_batch.ensures.ready (ap Ok c.if-branch.true);
       shown = c.in_ok-watch_batch.ensures.shown;
+      quiet = c.in_ok-watch_batch.ensures.quiet refl ∙ c.batches.invariant.quiet;
+      quiet_alerts = c.in_ok-watch_batch.ensures.quiet_alerts refl ∙ c.batches.invariant.quiet_alerts;
       host = read_on g.H.Host _ _ _ c.batches.invariant.host c.in_ok-watch_batch.ensures.host;
       later_alerts = omega (arith, c.in_ok-watch_batch.ensures.later_alerts, c.batches.invariant.later_alerts);
     }
@@ -46,3 +50,19 @@ batches-smaller g c =
     let further = c.in_ok-watch_batch.ensures.further (ap Ok c.if-branch.true) in
     let within = (c.in_ok-watch_batch.ensures.ready (ap Ok c.if-branch.true)).readable.within in
     omega (arith, further, within)
+
+pub returns-in_err-watch_batch-clause-quiet : goal.returns-in_err-watch_batch-clause-quiet
+returns-in_err-watch_batch-clause-quiet g c =
+    let p = err_from_is_err_and c.from_residual.result c.from_residual.ensures.1 in
+    rw (p.1, p.2) (λ uncut. c.in_err-watch_batch.ensures.quiet uncut ∙ c.batches.invariant.quiet)
+
+pub returns-in_err-watch_batch-clause-quiet_alerts : goal.returns-in_err-watch_batch-clause-quiet_alerts
+returns-in_err-watch_batch-clause-quiet_alerts g c =
+    let p = err_from_is_err_and c.from_residual.result c.from_residual.ensures.1 in
+    rw (p.1, p.2) (λ written. c.in_err-watch_batch.ensures.quiet_alerts written ∙ c.batches.invariant.quiet_alerts)
+
+pub returns-clause-quiet : goal.returns-clause-quiet
+returns-clause-quiet g c = λ uncut. c.in_ok-watch_batch.ensures.quiet refl ∙ c.batches.invariant.quiet
+
+pub returns-clause-quiet_alerts : goal.returns-clause-quiet_alerts
+returns-clause-quiet_alerts g c = λ written. c.in_ok-watch_batch.ensures.quiet_alerts refl ∙ c.batches.invariant.quiet_alerts

@@ -1,4 +1,4 @@
--- The work is under way, a batch may come, no record waits, and no count fell.
+-- The work is under way, a batch may come, no record waits, and no count rose or fell.
 use Rattle.std.proofs.Common.{◌≡◌, ◌≤◌, ◌-◌, [], Option}
 use Rattle.edge_io.specs.Files.{Files, MaySee, left_by}
 use Rattle.rule_eval.specs.Hits.{Test}
@@ -16,6 +16,8 @@ invariant-batches g l = record {
       (record { reader = l.reader; room = l.room; detector = l.detector; streams = record { left = left_by (g.H.Host.left_of l.host) seen; written = g.A.Sink.written l.alerts } });
   ready : MayGoOn l.context.plan.now l.reader l.detector;
   shown : l.records.items ≡ [];
+  quiet : g.H.Host.faults l.host ≡ g.H.Host.faults l.fn.host;
+  quiet_alerts : g.A.Sink.faults l.alerts ≡ g.A.Sink.faults l.fn.alerts;
   host : OnlyRead g.H.Host l.fn.host l.host;
   later_alerts : g.A.Sink.faults l.fn.alerts ≤ g.A.Sink.faults l.alerts;
 }

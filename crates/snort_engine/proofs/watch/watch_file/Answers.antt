@@ -5,6 +5,7 @@ use Rattle.snort_engine.specs.Steps.Watching.{plan_of}
 use Rattle.snort_engine.proofs.Prefixes.{rose_since}
 use Rattle.snort_engine.proofs.Captures.{open_stops, capture_ends}
 use Rattle.snort_engine.proofs.Opening.{opens_later}
+use Rattle.snort_engine.proofs.Quiet.{capture_uncut}
 use Rattle.snort_engine.proofs.Seeing.{cause_by}
 use Rattle.snort_engine.proofs.watch.watch_file.Goals as goal
 
@@ -44,3 +45,11 @@ returns-clause-same_contents g c = c.watch_records.ensures.host.files ∙ c.in_o
 
 pub returns-clause-later : goal.returns-clause-later
 returns-clause-later g c = let more = c.watch_records.ensures.host.later in omega (arith, c.in_ok-reader.ensures.later, more)
+
+pub returns-in_err-reader-clause-quiet : goal.returns-in_err-reader-clause-quiet
+returns-in_err-reader-clause-quiet g c =
+    let p = err_from_is_err_and c.from_residual.result c.from_residual.ensures.1 in
+    rw (p.1, p.2) (λ uncut. c.in_err-reader.ensures.quiet (capture_uncut _ c.in_err-reader.field-0.0 uncut))
+
+pub returns-clause-quiet : goal.returns-clause-quiet
+returns-clause-quiet g c = λ uncut. c.watch_records.ensures.quiet uncut ∙ c.in_ok-reader.ensures.quiet (λ failed. cc)

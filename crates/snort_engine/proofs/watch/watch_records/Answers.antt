@@ -1,4 +1,4 @@
-use Rattle.std.proofs.Common.{arith}
+use Rattle.std.proofs.Common.{◌∙◌, arith}
 use Rattle.std.proofs.lemmas.Result.{err_from_is_err_and}
 use Rattle.snort_engine.specs.Steps.Watching.{plan_of}
 use Rattle.snort_engine.proofs.Prefixes.{WritesPart-none}
@@ -31,3 +31,10 @@ pub returns-clause-close : goal.returns-clause-close
 returns-clause-close g c = λ matches test seen may.
     closed_behind (plan_of matches c.args.context.now.plan.now) c.args.reader.now _ _ c.watch_batches-watched.new.detector _ _ _ c.watch_batches-watched.result c.close_watched.result
     (c.watch_batches-watched.ensures.comes matches test (c.in_ok-detector.ensures.stands matches) seen may) (c.close_watched.ensures.closes matches test)
+
+pub returns-clause-quiet : goal.returns-clause-quiet
+returns-clause-quiet g c = λ uncut. c.watch_batches-watched.ensures.quiet (c.close_watched.ensures.uncut_watched uncut)
+
+pub returns-clause-quiet_alerts : goal.returns-clause-quiet_alerts
+returns-clause-quiet_alerts g c = λ written.
+    c.close_watched.ensures.quiet_alerts written ∙ c.watch_batches-watched.ensures.quiet_alerts (c.close_watched.ensures.written_watched written)

@@ -1,9 +1,10 @@
 -- What was opened, by the answers of both readers.
-use Rattle.std.proofs.Common.{Some, Err, ap, ⊎_elim}
+use Rattle.std.proofs.Common.{Some, Err, ap, ◌∙◌, ⊎_elim}
 use Rattle.std.proofs.lemmas.Result.{err_from_is_err_and}
 use Rattle.edge_io.specs.Files.{left_by}
 use Rattle.edge_io.specs.Told.{Rose}
 use Rattle.snort_engine.proofs.Opening.{savefile_opens, blocks_open, blocks_refused, savefile_refused, blocks_number, once_opened, once_refused, opened_again}
+use Rattle.snort_engine.proofs.Quiet.{savefile_unfailed, blocks_unfailed, otherwise_unfailed}
 use Rattle.snort_engine.proofs.Seeing.{cause_by}
 use Rattle.snort_engine.proofs.reader.RecordReader.open.Goals as goal
 
@@ -60,3 +61,19 @@ returns-clause-opened g c = λ seen may.
     let first = c.in_ok-reader.ensures.earlier seen may in
     opened_again seen c.args.name.now c.in-Err.why (left_by (g.H.Host.left_of c.open.new.host) seen) _ (g.H.Host.opens c.args.host.now) (g.H.Host.opens c.open.new.host) _ c.in-Err.ensures.counted c.in_ok-reader.ensures.counted
     (c.begins_otherwise.ensures.otherwise c.if-not-begins_otherwise.false) (c.in-Err.ensures.seen_gives seen first) (c.in-Err.ensures.seen_takes seen first)
+
+-- where it didn't fail, the host counted nothing
+pub returns-then-not-begins_otherwise-clause-quiet : goal.returns-then-not-begins_otherwise-clause-quiet
+returns-then-not-begins_otherwise-clause-quiet g c = λ unfailed. c.in-Err.ensures.quiet (savefile_unfailed _ _ c.in-Err.why c.from.result c.from.ensures unfailed)
+
+pub returns-in_err-reader-clause-quiet : goal.returns-in_err-reader-clause-quiet
+returns-in_err-reader-clause-quiet g c =
+    let p = err_from_is_err_and c.from_residual.result c.from_residual.ensures.1 in
+    rw p.1 (λ unfailed.
+    c.in_err-reader.ensures.quiet (blocks_unfailed _ _ c.in_err-reader.field-0.0 p.0 p.2 unfailed)
+    ∙ c.in-Err.ensures.quiet (otherwise_unfailed _ c.in-Err.why (c.begins_otherwise.ensures.otherwise c.if-not-begins_otherwise.false)))
+
+pub returns-clause-quiet : goal.returns-clause-quiet
+returns-clause-quiet g c = λ unfailed.
+    c.in_ok-reader.ensures.quiet (λ failed. cc)
+    ∙ c.in-Err.ensures.quiet (otherwise_unfailed _ c.in-Err.why (c.begins_otherwise.ensures.otherwise c.if-not-begins_otherwise.false))
