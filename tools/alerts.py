@@ -10,7 +10,7 @@ docs/manual/unified2.md: an event, of kind 7 or 72, and the packet behind it, of
 import argparse, calendar, contextlib, datetime, functools, os, re, socket, struct, sys
 from collections import namedtuple
 
-import capture_records, packet_heads, rule_texts
+import capture_records, captures, packet_heads, rule_texts
 from rule_texts import text_of
 
 # The moment is in microseconds since 1970; `place` is that of the class among the configuration's, from 1 on, and 0 where
@@ -307,7 +307,7 @@ def first_date(name):
         return (datetime.datetime(1970, 1, 1) + datetime.timedelta(seconds=second)).date()
     except OSError as fault:
         sys.exit(f"cannot read {name}: {fault.strerror}")
-    except (capture_records.Wrong, OverflowError) as fault:
+    except (capture_records.Wrong, captures.Fault, OverflowError) as fault:
         sys.exit(f"{name} tells no year: {fault}")
 
 class Input:

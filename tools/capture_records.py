@@ -1,11 +1,11 @@
-"""The records of a capture, as the program reads them: classic pcap files and pcapng. Used by alerts and carve.
+"""The records of a capture, as the program reads them: classic pcap files and pcapng, packed or not. Used by alerts and carve.
 
 What is read, and the messages of what isn't, are those of docs/manual/captures.md and docs/manual/pcapng.md.
 """
-import os, shutil, struct, tempfile
+import contextlib, os, shutil, struct, tempfile
 from collections import namedtuple
 
-import packet_heads
+import captures, packet_heads
 
 # The number counts from 1, as Wireshark's does; the moment is in nanoseconds since 1970.
 Record = namedtuple("Record", "number moment link data")
@@ -21,14 +21,19 @@ MOST_INTERFACES, MOST_BYTES, LONGEST_HELD, LAST_MOMENT = 4096, 262144, 1048576, 
 class Wrong(Exception):
     """A file that is no capture, or that ends being one, with the program's words for it."""
 
-def opened(name):
-    """The file of this name; one that can't be read twice, as a pipe, is copied to a file of no name."""
-    file = open(name, "rb")
-    if file.seekable() and os.path.isfile(name):
+def opened(name, tell=lambda fault: None):
+    """The file of this name; one that is packed, or can't be read twice, as a pipe, is copied to a file of no name.
+
+    Where packed bytes are damaged, `tell` hears of it, and what could be unpacked is read. captures.Fault: none could be.
+    """
+    file, is_file = open(name, "rb"), os.path.isfile(name)
+    if is_file and file.seekable() and not captures.packer_of(file.peek(8)[:8]):
         return file
-    with file:
-        copy = tempfile.TemporaryFile()
-        shutil.copyfileobj(file, copy)
+    copy = tempfile.TemporaryFile()
+    with file, captures.Opened(name) if is_file else contextlib.nullcontext() as unpacked:
+        shutil.copyfileobj(unpacked.file if unpacked else file, copy)
+        if unpacked and (damage := unpacked.damage()):
+            tell(f"{captures.shown(name)} {damage}")
     copy.seek(0)
     return copy
 
@@ -188,7 +193,7 @@ class Sections:
         return 10**value[0] if value[0] < 128 else 2**(value[0] - 128)
 
 def first_moment(name):
-    """The moment of the first record of a capture; OSError or Wrong where there is none."""
+    """The moment of the first record of a capture; OSError, captures.Fault or Wrong where there is none."""
     with opened(name) as file:
         record = next((it.record for it in pieces(file) if it.record), None)
     if record is None:

@@ -1,4 +1,4 @@
-"""Captures as files: which form one has, packed or not, and its bytes unpacked. Used by runs, join and inspect.
+"""Captures as files: which form one has, packed or not, and its bytes unpacked. Used by runs, join, inspect and capture_records.
 
 A packed file is known by its first bytes, whatever its name, and unpacked by the program that the system has for it.
 """
