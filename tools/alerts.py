@@ -10,7 +10,7 @@ docs/manual/unified2.md: an event, of kind 7 or 72, and the packet behind it, of
 import argparse, calendar, contextlib, datetime, functools, os, re, socket, struct, sys
 from collections import namedtuple
 
-import capture_records, captures, packet_heads, rule_texts
+import capture_records, captures, packet_heads, rule_texts, scripts
 from rule_texts import text_of
 
 # The moment is in microseconds since 1970; `place` is that of the class among the configuration's, from 1 on, and 0 where
@@ -271,7 +271,7 @@ class Help(argparse.Action):
 
 def parser_of(text):
     """What reads the words of a command, of which `text` is the help."""
-    parser = Words(usage=text.strip(), add_help=False, allow_abbrev=False)
+    parser = Words(usage=scripts.as_called(text.strip()), add_help=False, allow_abbrev=False)
     parser.add_argument("-h", "--help", nargs=0, action=Help)
     parser.add_argument("files", nargs="*")
     return parser

@@ -1,5 +1,5 @@
 """What scripts have in common: their help, how they end, and the program that they run."""
-import os, signal, sys
+import os, re, signal, sys
 
 TOP = os.path.dirname(os.path.dirname(os.path.realpath(__file__)))
 
@@ -10,10 +10,28 @@ def program():
     """The program: ./snort, or the one that SNORT names."""
     return os.path.abspath(os.environ.get("SNORT") or f"{TOP}/snort")
 
+def as_called(text):
+    """A text with the names by which scripts are called: that of this one, and of the others that stand beside it.
+
+    Where this one is called snort-runs, tools/runs is snort-runs, tools/make_capture is snort-make-capture if that is there, and
+    ./snort is snort.
+    """
+    folder, name = os.path.split(sys.argv[0])
+    own = os.path.basename(os.path.realpath(sys.argv[0]))
+    if name in ("", own):
+        return text
+    front = name[:-len(own)] if name.endswith(own.replace("_", "-")) else None
+    def called(found):
+        if found[1] == own:
+            return name
+        other = None if front is None else front + found[1].replace("_", "-")
+        return other if other and os.path.exists(os.path.join(folder, other)) else found[0]
+    return re.sub(r"\btools/(\w+)(?!\w|\.\w)", called, text).replace("./snort", "snort")
+
 def status_of(main, help_text):
     words = sys.argv[1:]
     if words[:1] == ["--help"]:
-        print(help_text.strip())
+        print(as_called(help_text.strip()))
         return 0
     return main(words)
 
@@ -39,7 +57,7 @@ def run(main, help_text):
     except KeyboardInterrupt:
         status = 130
     except Stop as why:
-        status, told = 2, str(why)
+        status, told = 2, str(why).replace(help_text.strip(), as_called(help_text.strip()))
     except OSError as fault:
         status, told = 2, f"{fault.filename or 'standard output'}: {fault.strerror}"
     if told:
