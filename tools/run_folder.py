@@ -12,6 +12,9 @@ from captures import shown
 THOUSAND = 1000
 DONE = re.compile(rb"(\d+)\.(done|failed)\Z")
 COLUMNS = "number status milliseconds machine capture size changed alerts errors".split()
+ROW = re.compile(rb"\d+\t(?P<status>[02])\t\d+\t[^\t\n]*\t(?P<capture>[^\t\n]+)\t(?P<size>[\d,]+)\t(?P<changed>[-\d.,]+)"
+                 rb"\t(?P<alerts>\d+)\t(?P<errors>\d+)\n")
+NEW = re.compile(r"\.new\.(.*)\.(\d+)\Z")  # the machine and the process that write a file
 
 class Wrong(Exception):
     """Why a command ends here: a sentence, and the status."""
@@ -63,9 +66,18 @@ def sync_folder(path):
     finally:
         os.close(at)
 
+def new_name(path):
+    """What a file is called while it is written."""
+    return f"{path}.new.{os.uname().nodename}.{os.getpid()}"
+
+def is_forsaken(name):
+    """Whether a file with this name was being written by a process of this machine that is gone."""
+    found = NEW.search(name)
+    return bool(found) and found[1] == os.uname().nodename and not os.path.exists(f"/proc/{found[2]}")
+
 def put(path, data):
     """A file with these bytes, in its place whole and on the disk, or not at all."""
-    new = f"{path}.{os.getpid()}.new"
+    new = new_name(path)
     try:
         with open(new, "wb") as file:
             file.write(data)
@@ -150,13 +162,15 @@ class Folder:
 # --- Results
 
 def is_current(place, line):
-    """Whether the captures of a line are as they were for their result, or gone."""
+    """Whether a result is of this line, and its captures are as they were for it, or gone."""
     try:
-        size, changed = read(f"{place}.done").rstrip(b"\n").split(b"\t")[5:7]
-    except (FileNotFoundError, ValueError):
+        row = ROW.fullmatch(read(f"{place}.done"))
+    except FileNotFoundError:
+        return False
+    if not row or row["capture"] != line.replace(b"\t", b","):
         return False
     try:
-        return (size, changed) == stamps_text(line)
+        return row.group("size", "changed") == stamps_text(line)
     except OSError:
         return True
 
