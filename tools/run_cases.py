@@ -9,7 +9,7 @@ TOOLS = os.path.dirname(os.path.realpath(__file__))
 TOP = os.path.dirname(TOOLS)
 SNORT = os.path.abspath(os.environ.get("SNORT", f"{TOP}/crates/snort_main/out/snort_main"))
 MICRO, NANO = 0xA1B2C3D4, 0xA1B23C4D
-SECONDS = 240  # after which a test is ended
+SECONDS = 900  # after which a test is ended
 
 def has(program):
     return shutil.which(program) is not None
@@ -38,7 +38,7 @@ def section(*blocks, link=1):
         parts.append(struct.pack("<7I", 6, size, 0, 0, 1, len(data), len(data)) + padded + struct.pack("<I", size))
     return b"".join(parts)
 
-def wait_for(is_there, seconds=60):
+def wait_for(is_there, seconds=120):
     until = time.monotonic() + seconds
     while not is_there():
         if time.monotonic() > until:
