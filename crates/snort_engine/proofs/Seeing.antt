@@ -1,5 +1,5 @@
 -- What is told of a host is among what may be seen of it, and a cause by what is seen.
-use Rattle.std.proofs.Common.{◌≡◌, ℕ, ◌≤◌, List, Option, Some, None, sym, subst, inl, inr}
+use Rattle.std.proofs.Common.{◌≡◌, ℕ, ◌≤◌, List, Option, Some, sym, subst, inl, inr}
 use Rattle.std.specs.Prelude.{◌⊎◌}
 use Rattle.edge_io.specs.Files.{Files, Lacks, AsTold, MaySee}
 use Rattle.edge_io.specs.Frames.{OnlyLoaded}
