@@ -6,14 +6,14 @@ ghost use Rattle.edge_io.specs.Told.{Rose};
 ghost use Rattle.rule_eval.specs.Hits.{Test};
 ghost use Rattle.snort_engine.specs.Course.{Course, Makes};
 ghost use Rattle.snort_engine.specs.Steps.Preparing.{way_for};
-ghost use Rattle.snort_engine.specs.Steps.Sources.{IsMade, LacksCapture, OpensOn, source_name};
+ghost use Rattle.snort_engine.specs.Steps.Sources.{IsMade, LacksCapture, OpensOn, source_name, way_from};
 ghost use Rattle.snort_engine.specs.Outside.{Work, by, work};
 ghost use Rattle.snort_engine.specs.Ending.{Ends};
 ghost use Rattle.snort_engine.specs.Steps.Stop.{outcome_status, ReadsQuietly, WritesQuietly};
 ghost use Rattle.snort_engine.specs.Steps.Reporting.{outcome_said};
 ghost use Rattle.snort_engine.specs.Counts.{no_counts};
 ghost use Rattle.snort_engine.specs.Steps.Detecting.{IsSoundPlan};
-ghost use Rattle.snort_engine.specs.Steps.Watching.{plan_of, IsTest};
+ghost use Rattle.snort_engine.specs.Steps.Watching.{OfTest};
 
 use crate::Status;
 use crate::context::Context;
@@ -38,13 +38,13 @@ fn watch_made<P: Pattern, G: Gate, A: Sink, R: Threads + Sync>(
 ) -> Result<(), Stop>
     requires { IsSoundPlan context.now.plan.now }
     // Whatever is seen of the host stays as it is.
-    ensures ends { (matches : Test) → IsTest P.finds context.now.plan.now.setup.set matches
-        → (files : Files) (course : Course) (before : Work) → before.alerts ≡ A.written alerts.old
-        → course.way ≡ Makes (plan_of matches context.now.plan.now) seed count
+    ensures ends { OfTest P.finds context.now.plan.now (λ plan.
+        (files : Files) (course : Course) (before : Work) → before.alerts ≡ A.written alerts.old
+        → course.way ≡ Makes plan seed count
         → Ends files course before (record before { alerts = A.written alerts.new })
         (outcome_status result)
         (concat course.warnings ++ outcome_said (source_name context.now.plan.now.source)
-        context.now.plan.now.counted result counts.new) }
+        context.now.plan.now.counted result counts.new)) }
     ensures write_fault { outcome_status result ≡ Status.WriteFault → Rose (A.faults alerts.old) (A.faults alerts.new) }
     ensures no_read_fault { ¬ (outcome_status result ≡ Status.HostFault) }
     ensures quiet_alerts { WritesQuietly result (A.faults alerts.old) (A.faults alerts.new) }
@@ -67,14 +67,14 @@ pub(crate) fn watch_capture<H: Host, P: Pattern, G: Gate, A: Sink, R: Threads + 
 ) -> Result<(), Stop>
     requires plan { IsSoundPlan context.now.plan.now }
     requires none { counts.old ≡ no_counts }
-    ensures ends { (matches : Test) → IsTest P.finds context.now.plan.now.setup.set matches
-        → (files : Files) (course : Course) → H.agrees host.new files
-        → course.way ≡ way_for matches context.now.plan.now
+    ensures ends { OfTest P.finds context.now.plan.now (λ plan.
+        (files : Files) (course : Course) → H.agrees host.new files
+        → course.way ≡ way_from context.now.plan.now.source plan
         → Ends files course
         (work (by (Some files) H.Host) A.Sink host.old alerts.old) (work (by (Some files) H.Host) A.Sink host.new alerts.new)
         (outcome_status result)
         (concat course.warnings ++ outcome_said (source_name context.now.plan.now.source)
-        context.now.plan.now.counted result counts.new) }
+        context.now.plan.now.counted result counts.new)) }
     ensures write_fault { outcome_status result ≡ Status.WriteFault → Rose (A.faults alerts.old) (A.faults alerts.new) }
     ensures read_fault { (matches : Test) → outcome_status result ≡ Status.HostFault
         → Rose (H.faults host.old) (H.faults host.new)

@@ -10,7 +10,7 @@ ghost use Rattle.record_jobs.specs.Ready.{AreReady};
 ghost use Rattle.record_jobs.specs.Fronts.{GivesFinishes};
 ghost use Rattle.snort_engine.specs.Beside.{by_place, source_in};
 ghost use Rattle.snort_engine.specs.Steps.Sourcing.{PlacesJobs};
-ghost use Rattle.snort_engine.specs.Steps.Watching.{plan_of, IsTest, IsShowStop};
+ghost use Rattle.snort_engine.specs.Steps.Watching.{plan_of, OfTest, IsShowStop};
 ghost use Rattle.snort_engine.specs.Steps.Detecting.{IsSoundPlan, IsNewInspection, counted, MakesJobs, Runs, RunsPart};
 ghost use Rattle.snort_engine.specs.Steps.Detecting.{Knows, DetectorStands, ShowsRecords, ShowsRecordsPart, Closes, ClosesPart};
 
@@ -133,15 +133,13 @@ fn run_jobs<P: Pattern, G: Gate, A: Sink, R: Threads + Sync>(
     requires plan { IsSoundPlan context.now.plan.now }
     requires ready { AreReady (length context.now.plan.now.setup.config.stream.engines) inspection.old.lanes jobs.now }
     requires groups { StandFor inspection.old.groups context.now.plan.now.setup.set.rules }
-    ensures shown { (matches : Test) → IsTest P.finds context.now.plan.now.setup.set matches
-        → OnOk result (Runs (plan_of matches context.now.plan.now)
+    ensures shown { OfTest P.finds context.now.plan.now (λ plan. OnOk result (Runs plan
         (by_place (source_in records.now inspection.old.last places.now) 0 jobs.now)
         (record { inspection = inspection.old; written = A.written alerts.old })
-        (record { inspection = inspection.new; written = A.written alerts.new })) }
-    ensures stopped { (matches : Test) → IsTest P.finds context.now.plan.now.setup.set matches
-        → OnErr result (RunsPart (plan_of matches context.now.plan.now)
+        (record { inspection = inspection.new; written = A.written alerts.new }))) }
+    ensures stopped { OfTest P.finds context.now.plan.now (λ plan. OnErr result (RunsPart plan
         (by_place (source_in records.now inspection.old.last places.now) 0 jobs.now)
-        (record { inspection = inspection.old; written = A.written alerts.old }) (A.written alerts.new)) }
+        (record { inspection = inspection.old; written = A.written alerts.old }) (A.written alerts.new))) }
     ensures learns { OnOk result (LearnsBatch inspection.old.lanes jobs.now inspection.new.lanes) }
     ensures groups_stay { OnOk result (inspection.new.groups ≡ inspection.old.groups) }
     ensures last_stays { OnOk result (inspection.new.last ≡ inspection.old.last) }
@@ -191,13 +189,11 @@ pub(crate) fn show_records<P: Pattern, G: Gate, A: Sink, R: Threads + Sync>(
     requires plan { IsSoundPlan context.now.plan.now }
     requires known { Knows context.now.plan.now detector.old }
     requires few { detector.old.front.counts.records + length records.old.items ≤ 2 ^ 32 }
-    ensures shown { (matches : Test) → IsTest P.finds context.now.plan.now.setup.set matches
-        → OnOk result (ShowsRecords (plan_of matches context.now.plan.now) records.old.items
+    ensures shown { OfTest P.finds context.now.plan.now (λ plan. OnOk result (ShowsRecords plan records.old.items
         (record { detector = detector.old; written = A.written alerts.old })
-        (record { detector = detector.new; written = A.written alerts.new })) }
-    ensures stopped { (matches : Test) → IsTest P.finds context.now.plan.now.setup.set matches
-        → OnErr result (ShowsRecordsPart (plan_of matches context.now.plan.now) records.old.items
-        (record { detector = detector.old; written = A.written alerts.old }) (A.written alerts.new)) }
+        (record { detector = detector.new; written = A.written alerts.new }))) }
+    ensures stopped { OfTest P.finds context.now.plan.now (λ plan. OnErr result (ShowsRecordsPart plan records.old.items
+        (record { detector = detector.old; written = A.written alerts.old }) (A.written alerts.new))) }
     ensures known { OnOk result (Knows context.now.plan.now detector.new) }
     ensures records { OnOk result (detector.new.front.counts.records
         ≡ detector.old.front.counts.records + length records.old.items) }
@@ -243,12 +239,10 @@ pub(crate) fn close<P: Pattern, G: Gate, A: Sink, R: Threads + Sync>(
     requires plan { IsSoundPlan context.now.plan.now }
     requires known { Knows context.now.plan.now detector }
     requires few { detector.front.counts.records ≤ 2 ^ 32 }
-    ensures shown { (matches : Test) → IsTest P.finds context.now.plan.now.setup.set matches
-        → IfOk result (λ counts. Closes (plan_of matches context.now.plan.now)
-        (record { detector = detector; written = A.written alerts.old }) (A.written alerts.new) counts) }
-    ensures stopped { (matches : Test) → IsTest P.finds context.now.plan.now.setup.set matches
-        → OnErr result (ClosesPart (plan_of matches context.now.plan.now)
-        (record { detector = detector; written = A.written alerts.old }) (A.written alerts.new)) }
+    ensures shown { OfTest P.finds context.now.plan.now (λ plan. IfOk result (λ counts. Closes plan
+        (record { detector = detector; written = A.written alerts.old }) (A.written alerts.new) counts)) }
+    ensures stopped { OfTest P.finds context.now.plan.now (λ plan. OnErr result (ClosesPart plan
+        (record { detector = detector; written = A.written alerts.old }) (A.written alerts.new))) }
     ensures kind { IfErr result IsShowStop }
     ensures fault { IsErrOf result Stop.CannotWrite → Rose (A.faults alerts.old) (A.faults alerts.new) }
     ensures quiet { OnOk result (A.faults alerts.new ≡ A.faults alerts.old) }

@@ -2,7 +2,6 @@ ghost use Rattle.std.specs.Prelude.{◌≡◌, ◌+◌, ◌^◌, ◌<◌, ◌≤
 ghost use Rattle.std.specs.List.{concat};
 ghost use Rattle.edge_io.specs.Files.{Files, Lacks, MaySee};
 ghost use Rattle.edge_io.specs.Told.{Rose};
-ghost use Rattle.rule_eval.specs.Hits.{Test};
 ghost use Rattle.snort_engine.specs.Course.{Course, Goes};
 ghost use Rattle.snort_engine.specs.Steps.Reader.{IsReadable, number_of, OpensSo};
 ghost use Rattle.snort_engine.specs.Steps.Sources.{source_name};
@@ -13,7 +12,7 @@ ghost use Rattle.snort_engine.specs.Steps.Stop.{outcome_status, is_uncut, is_wri
 ghost use Rattle.snort_engine.specs.Steps.Reporting.{outcome_said};
 ghost use Rattle.snort_engine.specs.Counts.{no_counts};
 ghost use Rattle.snort_engine.specs.Steps.Detecting.{IsSoundPlan, Knows, DetectorStands, ShowsRecordsPart};
-ghost use Rattle.snort_engine.specs.Steps.Watching.{plan_of, standing, streams, IsTest, Watches, ComesOver, IsCloseBehind};
+ghost use Rattle.snort_engine.specs.Steps.Watching.{standing, streams, OfTest, Watches, ComesOver, IsCloseBehind};
 ghost use Rattle.snort_engine.specs.Steps.Watching.{WatchesOn, MayGoOn, MayClose, ClosesWatched};
 
 use crate::Status;
@@ -37,9 +36,8 @@ fn show_some<P: Pattern, G: Gate, A: Sink, R: Threads + Sync>(
     requires plan { IsSoundPlan context.now.plan.now }
     requires known { Knows context.now.plan.now detector.old }
     requires few { detector.old.front.counts.records + length records.old.items ≤ 2 ^ 32 }
-    ensures part { (matches : Test) → IsTest P.finds context.now.plan.now.setup.set matches
-        → ShowsRecordsPart (plan_of matches context.now.plan.now) records.old.items
-        (record { detector = detector.old; written = A.written alerts.old }) (A.written alerts.new) }
+    ensures part { OfTest P.finds context.now.plan.now (λ plan. ShowsRecordsPart plan records.old.items
+        (record { detector = detector.old; written = A.written alerts.old }) (A.written alerts.new)) }
     ensures later { A.faults alerts.old ≤ A.faults alerts.new }
 {
     let _shown = show_records(context, records, detector, alerts);
@@ -61,12 +59,12 @@ fn watch_batch<H: Host, P: Pattern, G: Gate, A: Sink, R: Threads + Sync>(
     requires plan { IsSoundPlan context.now.plan.now }
     requires ready { MayGoOn context.now.plan.now reader.old detector.old }
     requires no_records { records.old.items ≡ [] }
-    ensures goes_on { (matches : Test) → IsTest P.finds context.now.plan.now.setup.set matches
-        → (seen : Option Files) → MaySee (H.contents host.new) (H.agrees host.new) seen
-        → WatchesOn (plan_of matches context.now.plan.now)
+    ensures goes_on { OfTest P.finds context.now.plan.now (λ plan.
+        (seen : Option Files) → MaySee (H.contents host.new) (H.agrees host.new) seen
+        → WatchesOn plan
         (standing (by seen H.Host) A.Sink reader.old room.old detector.old host.old alerts.old)
         (standing (by seen H.Host) A.Sink reader.new room.new detector.new host.new alerts.new)
-        (Rose (H.faults host.old) (H.faults host.new)) result }
+        (Rose (H.faults host.old) (H.faults host.new)) result) }
     ensures further { result ≡ Ok true → number_of reader.old < number_of reader.new }
     ensures ready { result ≡ Ok true → MayGoOn context.now.plan.now reader.new detector.new }
     ensures shown { OnOk result (records.new.items ≡ []) }
@@ -105,12 +103,12 @@ fn watch_batches<H: Host, P: Pattern, G: Gate, A: Sink, R: Threads + Sync>(
 ) -> Result<(), Stop>
     requires plan { IsSoundPlan context.now.plan.now }
     requires ready { MayGoOn context.now.plan.now reader.old detector.old }
-    ensures comes { (matches : Test) → IsTest P.finds context.now.plan.now.setup.set matches
-        → DetectorStands (plan_of matches context.now.plan.now) [] detector.old
+    ensures comes { OfTest P.finds context.now.plan.now (λ plan.
+        DetectorStands plan [] detector.old
         → (seen : Option Files) → MaySee (H.contents host.new) (H.agrees host.new) seen
-        → ComesOver (plan_of matches context.now.plan.now) reader.old
+        → ComesOver plan reader.old
         (streams (by seen H.Host) A.Sink host.old alerts.old) (streams (by seen H.Host) A.Sink host.new alerts.new)
-        (Rose (H.faults host.old) (H.faults host.new)) detector.new result }
+        (Rose (H.faults host.old) (H.faults host.new)) detector.new result) }
     ensures closable { MayClose context.now.plan.now detector.new result }
     ensures write_fault { IsErrOf result Stop.CannotWrite → Rose (A.faults alerts.old) (A.faults alerts.new) }
     ensures read_fault { outcome_status result ≡ Status.HostFault → Rose (H.faults host.old) (H.faults host.new) }
@@ -144,9 +142,8 @@ fn close_watched<P: Pattern, G: Gate, A: Sink, R: Threads + Sync>(
 ) -> Result<(), Stop>
     requires plan { IsSoundPlan context.now.plan.now }
     requires closable { MayClose context.now.plan.now detector watched }
-    ensures closes { (matches : Test) → IsTest P.finds context.now.plan.now.setup.set matches
-        → ClosesWatched (plan_of matches context.now.plan.now) detector watched
-        (A.written alerts.old) (A.written alerts.new) counts.new result }
+    ensures closes { OfTest P.finds context.now.plan.now (λ plan. ClosesWatched plan detector watched
+        (A.written alerts.old) (A.written alerts.new) counts.new result) }
     ensures write_fault { IsErrOf result Stop.CannotWrite
         → IsErrOf watched Stop.CannotWrite ⊎ Rose (A.faults alerts.old) (A.faults alerts.new) }
     ensures read_fault { outcome_status result ≡ Status.HostFault → outcome_status watched ≡ Status.HostFault }
@@ -174,16 +171,16 @@ pub(crate) fn watch_records<H: Host, P: Pattern, G: Gate, A: Sink, R: Threads + 
 ) -> Result<(), Stop>
     requires plan { IsSoundPlan context.now.plan.now }
     requires readable { IsReadable reader.old }
-    ensures watches { (matches : Test) → IsTest P.finds context.now.plan.now.setup.set matches
-        → (seen : Option Files) → MaySee (H.contents host.new) (H.agrees host.new) seen
-        → Watches (plan_of matches context.now.plan.now) reader.old
+    ensures watches { OfTest P.finds context.now.plan.now (λ plan.
+        (seen : Option Files) → MaySee (H.contents host.new) (H.agrees host.new) seen
+        → Watches plan reader.old
         (streams (by seen H.Host) A.Sink host.old alerts.old) (streams (by seen H.Host) A.Sink host.new alerts.new)
-        counts.new result }
-    ensures close { (matches : Test) → IsTest P.finds context.now.plan.now.setup.set matches
-        → (seen : Option Files) → MaySee (H.contents host.new) (H.agrees host.new) seen
-        → IsCloseBehind (plan_of matches context.now.plan.now) reader.old
+        counts.new result) }
+    ensures close { OfTest P.finds context.now.plan.now (λ plan.
+        (seen : Option Files) → MaySee (H.contents host.new) (H.agrees host.new) seen
+        → IsCloseBehind plan reader.old
         (streams (by seen H.Host) A.Sink host.old alerts.old) (streams (by seen H.Host) A.Sink host.new alerts.new)
-        (Rose (H.faults host.old) (H.faults host.new)) result }
+        (Rose (H.faults host.old) (H.faults host.new)) result) }
     ensures write_fault { IsErrOf result Stop.CannotWrite → Rose (A.faults alerts.old) (A.faults alerts.new) }
     ensures read_fault { outcome_status result ≡ Status.HostFault → Rose (H.faults host.old) (H.faults host.new) }
     ensures quiet { ReadsQuietly result (H.faults host.old) (H.faults host.new) }
@@ -209,13 +206,13 @@ pub(crate) fn watch_file<H: Host, P: Pattern, G: Gate, A: Sink, R: Threads + Syn
     requires plan { IsSoundPlan context.now.plan.now }
     requires named { source_name context.now.plan.now.source ≡ name.now }
     requires none { counts.old ≡ no_counts }
-    ensures ends { (matches : Test) → IsTest P.finds context.now.plan.now.setup.set matches
-        → (files : Files) (course : Course) → H.agrees host.new files
-        → course.way ≡ Goes (plan_of matches context.now.plan.now)
+    ensures ends { OfTest P.finds context.now.plan.now (λ plan.
+        (files : Files) (course : Course) → H.agrees host.new files
+        → course.way ≡ Goes plan
         → Ends files course
         (work (by (Some files) H.Host) A.Sink host.old alerts.old) (work (by (Some files) H.Host) A.Sink host.new alerts.new)
         (outcome_status result)
-        (concat course.warnings ++ outcome_said name.now context.now.plan.now.counted result counts.new) }
+        (concat course.warnings ++ outcome_said name.now context.now.plan.now.counted result counts.new)) }
     ensures write_fault { outcome_status result ≡ Status.WriteFault → Rose (A.faults alerts.old) (A.faults alerts.new) }
     ensures read_fault { outcome_status result ≡ Status.HostFault
         → Rose (H.faults host.old) (H.faults host.new) ⊎ Lacks (H.contents host.old) name.now }

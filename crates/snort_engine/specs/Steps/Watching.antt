@@ -53,6 +53,10 @@ plan_of matches plan = record {
   counted = plan.counted;
 }
 
+-- whatever test says which rules match, this holds of the plan that it makes
+abbrev pub OfTest : {P : Type 0} → (P → List ℕ → Option Span) → code.Plan P → (Plan → Type 0) → Type 0
+OfTest finds plan Holds = (matches : Test) → IsTest finds plan.setup.set matches → Holds (plan_of matches plan)
+
 -- what may stop the showing of lines
 abbrev pub IsShowStop : Stop → Type 0
 IsShowStop stop.CannotWrite = ⊤
