@@ -1,5 +1,5 @@
 -- Runs that the headline refuses: one line short, one record too far ahead, one after a write fault, one behind the
--- limit, one opening too many.
+-- limit, flows ended after a read fault, one opening too many.
 --
 -- The first and the last ones speak of any capture, the second of one whose first batch has a line, and behind
 -- which a record was taken. They show that the relations say something of such runs by themselves,
@@ -23,7 +23,7 @@ use Rattle.snort_engine.specs.Lines.{lines}
 use Rattle.snort_engine.specs.Answer.{answer_of}
 use Rattle.snort_engine.specs.Outside.{Outside, Work}
 use Rattle.snort_engine.specs.ReadAhead.{batch, before_last_batch, earlier_batches, lines_due, IsReadInBatches, IsUntouched, IsShut, IsReadAhead, ReadsAhead, ReadsAheadOn}
-use Rattle.snort_engine.specs.Ending.{Ends}
+use Rattle.snort_engine.specs.Ending.{Ends, IsAnswered, IsCutShort, IsTakenOf, lines_within}
 use Rattle.snort_engine.specs.Headline.{HasOther, Headline}
 use Rattle.snort_engine.proofs.LinesLaws.{lines_join}
 
@@ -176,6 +176,26 @@ one_record_past_the_limit files course plan before after message taken rest limi
     absurd (omega (arith, few, more)))
     (λ cut. ⊎_elim (λ is. absurd cc) (λ is. absurd cc) cut.0)
     (subst (λ (way : Way). ReadsAheadOn files way before after status.Done) goes ends.read_ahead)
+
+-- behind the lines of the records that are whole within the bytes taken, more was written, as by flows that were ended: no
+-- run of a capture that is there ends so as a host fault
+pub flows_ended_after_a_read_fault : (files : Files) (course : Course) (plan : Plan) (before after : Work) (message old taken rest : List ℕ) (byte : ℕ) (more : List ℕ)
+    → course.way ≡ Goes plan → get files plan.source ≡ Some (taken ++ rest) → after.left ≡ Some rest
+    → before.alerts ≡ Some old → after.alerts ≡ behind (Some old) (lines_within plan taken ++ byte ∷ more)
+    → ((answer_of files course).status ≡ status.HostFault → ⊥) → Ends files course before after status.HostFault message → ⊥
+flows_ended_after_a_read_fault files course plan before after message old taken rest byte more goes held left told wrote there ends =
+    ⊎_elim
+    (λ (answered : IsAnswered (answer_of files course) status.HostFault ends.alerts message). there (sym answered.status))
+    (λ (cut : IsCutShort files course before after message).
+    let goes_on : course.way ≡ Goes cut.plan = cut.goes in
+    let plans : cut.plan ≡ plan = cc in
+    let of : get files cut.plan.source ≡ Some (cut.taken ++ rest) = subst (IsTakenOf (get files cut.plan.source) cut.taken) left cut.of in
+    let wholes : cut.taken ++ rest ≡ taken ++ rest = cc in
+    let takens : cut.taken ≡ taken = same_front cut.taken taken rest rest refl wholes in
+    let text : lines_within cut.plan cut.taken ≡ lines_within plan taken = ap (λ (p : Plan). lines_within p cut.taken) plans ∙ ap (lines_within plan) takens in
+    behind_apart old (lines_within plan taken) byte more
+    (sym (ap (behind (Some old)) text) ∙ sym (ap (λ (b : Option (List ℕ)). behind b (lines_within cut.plan cut.taken)) told) ∙ sym cut.wrote ∙ wrote))
+    (ends.read_fault refl)
 
 -- a capture that was opened a third time
 pub opened_thrice : (words : List (List ℕ)) (means : Means) (before after : Outside) → before.opens + 3 ≤ after.opens → Headline words means before after status.Done → ⊥
