@@ -17,3 +17,5 @@ pub mod Beginnings
 pub mod Endings
 pub mod Calls
 pub mod Held
+pub mod Savefiles
+pub mod Twins

@@ -5,3 +5,4 @@ pub mod Steps
 pub mod Reader
 pub mod Calls
 pub mod Whole
+pub mod Twins

@@ -22,6 +22,6 @@ mod walk;
 mod whole;
 
 pub use capture::{NgFault, NgRecord};
-pub use laws::calls_give_the_records;
+pub use laws::{calls_give_the_records, savefile_and_pcapng_are_twins};
 pub use reader::NgReader;
 pub use whole::{Found, read_up_to};
