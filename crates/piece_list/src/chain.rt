@@ -51,9 +51,9 @@ impl<T> Chain<T> {
         let head = Room::take(alloc)?;
         match Room::take(alloc) {
             Ok(tail) => Ok(Chain::new(head, tail)),
-            Err(_) => {
+            Err(error) => {
                 head.free(alloc);
-                Err(NoMemory)
+                Err(error.into())
             }
         }
     }
