@@ -141,9 +141,9 @@ impl Lives {
         };
         match self.cache.push(entry, next) {
             Ok(evicted) => Ok(forget(&mut self.numbers, evicted)),
-            Err(_) => {
+            Err(error) => {
                 self.numbers.remove(key);
-                Err(NoMemory)
+                Err(error.into())
             }
         }
     }
