@@ -50,9 +50,9 @@ fn push_colons(address: u128, out: &mut Vec<u8>) -> Result<(), NoMemory>
     let segments = Ipv6Addr::from_bits(address).segments();
     match push_segments(&segments, out) {
         Ok(()) => Ok(()),
-        Err(NoMemory) => {
+        Err(error) => {
             out.truncate(length);
-            Err(NoMemory)
+            Err(error)
         }
     }
 }
@@ -103,9 +103,9 @@ fn push_later_groups(groups: &[u16], out: &mut Vec<u8>) -> Result<(), NoMemory>
     for group in groups {
         match push_pieces(out, &[Bytes(b":"), Hex(*group)]) {
             Ok(()) => {}
-            Err(NoMemory) => {
+            Err(error) => {
                 out.truncate(length);
-                return Err(NoMemory);
+                return Err(error);
             }
         }
     }

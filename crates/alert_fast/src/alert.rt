@@ -35,9 +35,9 @@ pub fn line(
     let length = out.len();
     match push_parts(head, rule, classes, out) {
         Ok(()) => Ok(()),
-        Err(NoMemory) => {
+        Err(error) => {
             out.truncate(length);
-            Err(NoMemory)
+            Err(error)
         }
     }
 }

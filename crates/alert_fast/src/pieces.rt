@@ -26,9 +26,9 @@ pub fn push_pieces(out: &mut Vec<u8>, pieces: &[Piece<'_>]) -> Result<(), NoMemo
     for piece in pieces {
         match push_piece(out, *piece) {
             Ok(()) => {}
-            Err(AllocError) => {
+            Err(error) => {
                 out.truncate(length);
-                return Err(NoMemory);
+                return Err(error.into());
             }
         }
     }
