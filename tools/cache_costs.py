@@ -3,7 +3,7 @@ import re
 from collections import namedtuple
 
 # One first cache of code and one of data, and a last one so large that it misses first touches alone: the same on every machine.
-CACHES = ["--cache-sim=yes", "--branch-sim=yes", "--I1=32768,8,64", "--D1=49152,12,64", "--LL=67108864,16,64"]
+CACHES = ["--cache-sim=yes", "--branch-sim=yes", "--I1=32768,8,64", "--D1=32768,8,64", "--LL=67108864,16,64"]
 # What an event is made of, by callgrind's names.
 EVENTS = {"instructions": ["Ir"], "code": ["I1mr"], "data": ["D1mr", "D1mw"], "guesses": ["Bcm", "Bim"], "last": ["ILmr", "DLmr", "DLmw"]}
 
