@@ -48,3 +48,8 @@ with_held opts (Some held) = insert opts held.place (opt.Content held.content)
 -- all options that stand, in their order
 unfoldable pub settled : Draft → List Opt
 settled draft = with_held draft.opts draft.held
+
+-- the answer of a step that changes a draft in its place, with the draft behind it
+abbrev pub with_new : {A X E : Type 0} → Result A E → X → Result X E
+with_new (Ok done) new = Ok new
+with_new (Err why) new = Err why

@@ -65,6 +65,13 @@ abbrev pub class_priority : List Class → Option ℕ → ℕ
 class_priority classes None = 0
 class_priority classes (Some place) = unwrap_or (option_map (λ class. class.priority) (slice_get classes place)) 0
 
+-- the number of a rule whose options are read, and its class, if it names one
+abbrev pub told : Draft → Result (ℕ × Option ℕ) Fault
+told draft = do
+  sid ← or_kind MissingSid draft.sid
+  place ← class_of draft.class
+  Ok (sid, place)
+
 -- a rule of this header whose options are read
 unfoldable pub finished : List Class → Header → Draft → Result Rule Fault
 finished classes header draft = do

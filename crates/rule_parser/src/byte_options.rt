@@ -6,6 +6,8 @@ ghost use Rattle.net_lists.specs.Stops.{Gives};
 ghost use Rattle.net_lists.specs.Variables.{is_name};
 ghost use Rattle.rule_parser.specs.Names.{place_among, signed_or_named};
 ghost use Rattle.rule_parser.specs.ByteOptions.{seen, first_part, next_part, words_of, operator_of, seen_comparison, comparison_of, byte_test, byte_test_option, byte_jump, byte_jump_option, seen_extraction, byte_extract, with_extraction, byte_extract_option, with_name, data_word, data_words, parts_behind, isdataat, isdataat_option};
+ghost use Rattle.rule_parser.specs.Drafts.{with_new};
+ghost use Rattle.rule_parser.specs.Bits.{GivesNumber};
 
 use crate::byte_words::{Which, Words};
 use crate::contents::negation;
@@ -14,6 +16,7 @@ use crate::extracted::Extracted;
 use crate::fault::Fault;
 use crate::fields::place_of;
 use crate::number::{number_or_named, place_among, signed_or_named};
+use crate::word::is;
 use crate::{Cmp, Fetch, Num, Opt};
 use edge_io::Text;
 use net_lists::{Parts, Stop, is_name, number_in, trimmed};
@@ -110,19 +113,19 @@ fn jump_words(behind: Option<&[u8]>) -> Result<Words, Fault>
 fn operator_of(negated: bool, text: &[u8]) -> Result<Cmp, Fault>
     ensures { result ≡ operator_of negated text.now }
 {
-    if text == b"<".as_slice() {
+    if is(text, b"<") {
         Ok(Cmp::Lt)
-    } else if text == b">".as_slice() {
+    } else if is(text, b">") {
         Ok(Cmp::Gt)
-    } else if text == b"=".as_slice() {
+    } else if is(text, b"=") {
         Ok(Cmp::Eq)
-    } else if text == b"<=".as_slice() {
+    } else if is(text, b"<=") {
         Ok(Cmp::Le)
-    } else if text == b">=".as_slice() {
+    } else if is(text, b">=") {
         Ok(Cmp::Ge)
-    } else if text == b"&".as_slice() {
+    } else if is(text, b"&") {
         Ok(Cmp::And)
-    } else if text == b"^".as_slice() {
+    } else if is(text, b"^") {
         Err(Fault::OutsideProfile)
     } else if negated && text.is_empty() {
         Ok(Cmp::Eq)
@@ -154,14 +157,14 @@ fn byte_jump(names: &Extracted, left: usize, value: &[u8]) -> Result<Opt, Fault>
 
 #[tactic(auto, unfolding(crate::specs::ByteOptions::byte_jump_option))]
 pub(crate) fn byte_jump_option(
-    draft: Draft,
+    draft: &mut Draft,
     left: usize,
     value: &[u8],
-) -> Result<Draft, Stop<Fault>>
-    ensures { Gives result (byte_jump_option draft left value.now) }
+) -> Result<(), Stop<Fault>>
+    ensures { Gives (with_new result draft.new) (byte_jump_option draft.old left value.now) }
 {
     let option = byte_jump(&draft.names, left, value)?;
-    draft.kept(option)
+    draft.keep(option)
 }
 
 /// What byte_test compares with, and how.
@@ -215,23 +218,23 @@ fn byte_test(names: &Extracted, left: usize, value: &[u8]) -> Result<Opt, Fault>
 
 #[tactic(auto, unfolding(crate::specs::ByteOptions::byte_test_option))]
 pub(crate) fn byte_test_option(
-    draft: Draft,
+    draft: &mut Draft,
     left: usize,
     value: &[u8],
-) -> Result<Draft, Stop<Fault>>
-    ensures { Gives result (byte_test_option draft left value.now) }
+) -> Result<(), Stop<Fault>>
+    ensures { Gives (with_new result draft.new) (byte_test_option draft.old left value.now) }
 {
     let option = byte_test(&draft.names, left, value)?;
-    draft.kept(option)
+    draft.keep(option)
 }
 
 /// Whether the one word that follows is `relative`.
 fn data_word(word: &[u8]) -> Result<bool, Fault>
     ensures { result ≡ data_word word.now }
 {
-    if word == b"relative".as_slice() {
+    if is(word, b"relative") {
         Ok(true)
-    } else if word == b"rawbytes".as_slice() {
+    } else if is(word, b"rawbytes") {
         Ok(false)
     } else {
         Err(Fault::OptionValue)
@@ -256,7 +259,7 @@ fn data_words(behind: Option<&[u8]>) -> Result<bool, Fault>
     if parts.next().is_some() {
         return Err(Fault::OptionValue);
     }
-    if first == b"relative".as_slice() && second == b"rawbytes".as_slice() {
+    if is(first, b"relative") && is(second, b"rawbytes") {
         return Ok(true);
     }
     Err(Fault::OptionValue)
@@ -280,24 +283,28 @@ fn isdataat(names: &Extracted, left: usize, value: &[u8]) -> Result<Opt, Fault>
 }
 
 #[tactic(auto, unfolding(crate::specs::ByteOptions::isdataat_option))]
-pub(crate) fn isdataat_option(draft: Draft, left: usize, value: &[u8]) -> Result<Draft, Stop<Fault>>
-    ensures { Gives result (isdataat_option draft left value.now) }
+pub(crate) fn isdataat_option(
+    draft: &mut Draft,
+    left: usize,
+    value: &[u8],
+) -> Result<(), Stop<Fault>>
+    ensures { Gives (with_new result draft.new) (isdataat_option draft.old left value.now) }
 {
     let option = isdataat(&draft.names, left, value)?;
-    draft.kept(option)
+    draft.keep(option)
 }
 
-/// The names with this one, and its place: a name that is there keeps its place.
-fn with_name(alloc: Global, names: Extracted, name: &[u8]) -> Result<(Extracted, u8), Stop<Fault>>
-    ensures { Gives result (with_name names name.now (place_among name.now names)) }
+/// The place of a name among the others; one that is not there yet goes behind them.
+fn placed(alloc: Global, names: &mut Extracted, name: &[u8]) -> Result<u8, Stop<Fault>>
+    ensures { GivesNumber result names.new (with_name names.old name.now (place_among name.now names.old)) }
 {
     if let Some(place) = place_among(name, names.as_slice()) {
-        return Ok((names, place as u8));
+        return Ok(place as u8);
     }
     let count = names.as_slice().len();
     let name = Text::copy(alloc, name)?;
-    let names = names.with(name)?;
-    Ok((names, count as u8))
+    names.push(name)?;
+    Ok(count as u8)
 }
 
 /// The words of a byte_extract, where its name has the form of one.
@@ -346,23 +353,23 @@ fn byte_extract<'a>(
 #[tactic(auto, unfolding(crate::specs::ByteOptions::with_extraction))]
 fn with_extraction(
     alloc: Global,
-    draft: Draft,
+    draft: &mut Draft,
     found: LentExtraction<'_>,
-) -> Result<Draft, Stop<Fault>>
-    ensures { Gives result (with_extraction draft (seen_extraction found.entry)) }
+) -> Result<(), Stop<Fault>>
+    ensures { Gives (with_new result draft.new) (with_extraction draft.old (seen_extraction found.entry)) }
 {
-    let (names, number) = with_name(alloc, draft.names, found.name)?;
-    Draft { names, ..draft }.kept(found.words.extract_option(found.fetch, number))
+    let number = placed(alloc, &mut draft.names, found.name)?;
+    draft.keep(found.words.extract_option(found.fetch, number))
 }
 
 #[tactic(auto, unfolding(crate::specs::ByteOptions::byte_extract_option))]
 pub(crate) fn byte_extract_option(
     alloc: Global,
-    draft: Draft,
+    draft: &mut Draft,
     left: usize,
     value: &[u8],
-) -> Result<Draft, Stop<Fault>>
-    ensures { Gives result (byte_extract_option draft left value.now) }
+) -> Result<(), Stop<Fault>>
+    ensures { Gives (with_new result draft.new) (byte_extract_option draft.old left value.now) }
 {
     let found = byte_extract(&draft.names, left, value)?;
     with_extraction(alloc, draft, found)

@@ -3,6 +3,7 @@ ghost use Rattle.std.specs.Prelude.{◌≡◌};
 ghost use Rattle.rule_parser.specs.ByteOptions.{no_words, once_only, with_times, with_post, with_multiple, shared_word, jump_word, extract_word, word_of, base_of, lacks_string, fetch_of, jump_of, extract_of};
 
 use crate::fault::Fault;
+use crate::word::is;
 use crate::{Base, Fetch, Num, Opt};
 use net_lists::{PartStep, first_word, number_in, signed_in};
 
@@ -88,13 +89,13 @@ impl Words {
     fn with_multiple(self, number: &[u8]) -> Result<Words, Fault>
         ensures { result ≡ with_multiple self number.now }
     {
-        if number == b"2".as_slice() {
+        if is(number, b"2") {
             Words {
                 align: Some(2),
                 ..self
             }
             .unless(self.align.is_some())
-        } else if number == b"4".as_slice() {
+        } else if is(number, b"4") {
             Words {
                 align: Some(4),
                 ..self
@@ -110,45 +111,45 @@ impl Words {
     fn shared(self, part: &[u8]) -> Result<Words, Fault>
         ensures { result ≡ shared_word self part.now }
     {
-        if part == b"relative".as_slice() {
+        if is(part, b"relative") {
             Words {
                 relative: true,
                 ..self
             }
             .unless(self.relative)
-        } else if part == b"big".as_slice() {
+        } else if is(part, b"big") {
             Words { big: true, ..self }.unless(self.big)
-        } else if part == b"little".as_slice() {
+        } else if is(part, b"little") {
             Words {
                 little: true,
                 ..self
             }
             .unless(self.little)
-        } else if part == b"string".as_slice() {
+        } else if is(part, b"string") {
             Words {
                 string: true,
                 ..self
             }
             .unless(self.string)
-        } else if part == b"dec".as_slice() {
+        } else if is(part, b"dec") {
             Words {
                 base: Some(Base::Dec),
                 ..self
             }
             .unless(self.base.is_some())
-        } else if part == b"hex".as_slice() {
+        } else if is(part, b"hex") {
             Words {
                 base: Some(Base::Hex),
                 ..self
             }
             .unless(self.base.is_some())
-        } else if part == b"oct".as_slice() {
+        } else if is(part, b"oct") {
             Words {
                 base: Some(Base::Oct),
                 ..self
             }
             .unless(self.base.is_some())
-        } else if part == b"dce".as_slice() {
+        } else if is(part, b"dce") {
             Err(Fault::OutsideProfile)
         } else {
             Err(Fault::OptionValue)
@@ -161,17 +162,17 @@ impl Words {
         ensures { result ≡ jump_word self part.now }
     {
         let (word, number) = first_word(part);
-        if word == b"multiplier".as_slice() {
+        if is(word, b"multiplier") {
             self.with_times(number)
-        } else if word == b"post_offset".as_slice() {
+        } else if is(word, b"post_offset") {
             self.with_post(number)
-        } else if part == b"align".as_slice() {
+        } else if is(part, b"align") {
             Words {
                 align: Some(4),
                 ..self
             }
             .unless(self.align.is_some())
-        } else if part == b"from_beginning".as_slice() {
+        } else if is(part, b"from_beginning") {
             Words {
                 beginning: true,
                 ..self
@@ -188,9 +189,9 @@ impl Words {
         ensures { result ≡ extract_word self part.now }
     {
         let (word, number) = first_word(part);
-        if word == b"multiplier".as_slice() {
+        if is(word, b"multiplier") {
             self.with_times(number)
-        } else if word == b"align".as_slice() {
+        } else if is(word, b"align") {
             self.with_multiple(number)
         } else {
             self.shared(part)

@@ -1,9 +1,10 @@
 //! Contents and their modifiers.
-ghost use Rattle.std.specs.Prelude.{◌≡◌, ◌<◌, ◌≤◌, length, take, IfOk, MatchResult, Ok, Err, option_copied, if◌then◌else◌};
+ghost use Rattle.std.specs.Prelude.{◌≡◌, ◌||◌, ◌<◌, ◌≤◌, length, take, OnOk, MatchResult, Ok, Err, option_copied, if◌then◌else◌};
 ghost use Rattle.net_lists.specs.Cutting.{comma_parts};
 ghost use Rattle.net_lists.specs.Numbers.{number_in};
 ghost use Rattle.net_lists.specs.Stops.{Gives, or_kind};
 ghost use Rattle.rule_parser.specs.Contents.{negation, plain_content, with_content, with_bytes, content_option, apart, with_last, nocase, nocase_option, rawbytes, rawbytes_option, is_placed, bars_from, bars_room, place_text, with_from, from_option, room_of, with_room, room_option, fast_part, fast_mode, is_only, fast_on, bars_fast, fast_pattern_option};
+ghost use Rattle.rule_parser.specs.Drafts.{with_new};
 
 use crate::draft::{Draft, Held};
 use crate::extracted::Extracted;
@@ -11,6 +12,7 @@ use crate::fault::Fault;
 use crate::number::{named, signed_or_named};
 use crate::quoted::{Style, meaning};
 use crate::texts::quoted_whole;
+use crate::word::is;
 use crate::{Content, FastMode, Num};
 use edge_io::{NoMemory, Text};
 use net_lists::{Parts, Stop, number_in};
@@ -76,28 +78,31 @@ fn bars_room(relative: bool, content: &Content) -> bool
         }
 }
 
-/// The draft with this content apart and the one before in its place.
-fn with_content(draft: Draft, content: Content) -> Result<Draft, NoMemory>
-    ensures { IfOk result (λ next. next ≡ with_content draft content) }
+/// Holds this content apart, the one before in its place.
+fn hold(alloc: Global, draft: &mut Draft, content: Content) -> Result<(), NoMemory>
+    ensures { OnOk result (draft.new ≡ with_content draft.old content) }
 {
+    draft.settle(alloc)?;
     let known = draft.names.as_slice().len();
-    let draft = draft.settled()?;
     let place = draft.opts.as_slice().len();
-    Ok(Draft {
-        held: Some(Held {
-            content,
-            place,
-            known,
-            raw: false,
-            placeless: false,
-        }),
-        ..draft
-    })
+    draft.held = Some(Held {
+        content,
+        place,
+        known,
+        raw: false,
+        placeless: false,
+    });
+    Ok(())
 }
 
-/// The draft with a content of these bytes, where there are some, not too many, and there is room.
-fn with_bytes(draft: Draft, negated: bool, bytes: Text) -> Result<Draft, Stop<Fault>>
-    ensures { Gives result (with_bytes draft negated bytes) }
+/// Holds a content of these bytes, where there are some, not too many, and there is room.
+fn hold_bytes(
+    alloc: Global,
+    draft: &mut Draft,
+    negated: bool,
+    bytes: Text,
+) -> Result<(), Stop<Fault>>
+    ensures { Gives (with_new result draft.new) (with_bytes draft.old negated bytes) }
 {
     if bytes.bytes().is_empty() {
         return Err(Stop::Wrong(Fault::OptionValue));
@@ -105,52 +110,27 @@ fn with_bytes(draft: Draft, negated: bool, bytes: Text) -> Result<Draft, Stop<Fa
     if bytes.bytes().len() > MOST_BYTES || draft.is_full() {
         return Err(Stop::Wrong(Fault::Limit));
     }
-    Ok(with_content(draft, plain_content(negated, bytes))?)
+    Ok(hold(alloc, draft, plain_content(negated, bytes))?)
 }
 
 #[tactic(auto, unfolding(crate::specs::Contents::content_option))]
 pub(crate) fn content_option(
     alloc: Global,
-    draft: Draft,
+    draft: &mut Draft,
     value: &[u8],
-) -> Result<Draft, Stop<Fault>>
-    ensures { Gives result (content_option draft value.now) }
+) -> Result<(), Stop<Fault>>
+    ensures { Gives (with_new result draft.new) (content_option draft.old value.now) }
 {
     let (negated, text) = negation(value);
     let inside = quoted_whole(text)?;
     let bytes = meaning(alloc, Style::Bytes, inside)?;
-    with_bytes(draft, negated, bytes)
-}
-
-/// The last content, where one stands, and the rule without it.
-#[tactic(auto, unfolding(crate::specs::Contents::apart))]
-fn apart(draft: Draft) -> Result<(Held, Draft), Fault>
-    ensures { result ≡ apart draft }
-{
-    let held = draft.held.ok_or(Fault::Misplaced)?;
-    Ok((
-        held,
-        Draft {
-            held: None,
-            ..draft
-        },
-    ))
-}
-
-/// The rule with this last content.
-fn with_last(draft: Draft, held: Held) -> Draft
-    ensures { result ≡ with_last draft held }
-{
-    Draft {
-        held: Some(held),
-        ..draft
-    }
+    hold_bytes(alloc, draft, negated, bytes)
 }
 
 /// What `nocase` makes of the last content.
 #[tactic(auto, unfolding(crate::specs::Contents::nocase))]
-fn nocase(held: Held, value: Option<&[u8]>) -> Result<Held, Fault>
-    ensures { result ≡ nocase held (option_copied value.entry) }
+fn nocase(held: &mut Held, value: Option<&[u8]>) -> Result<(), Fault>
+    ensures { with_new result held.new ≡ nocase held.old (option_copied value.entry) }
 {
     if held.content.nocase {
         return Err(Fault::Misplaced);
@@ -158,26 +138,24 @@ fn nocase(held: Held, value: Option<&[u8]>) -> Result<Held, Fault>
     if value.is_some() {
         return Err(Fault::OptionValue);
     }
-    let content = Content {
-        nocase: true,
-        ..held.content
-    };
-    Ok(Held { content, ..held })
+    held.content.nocase = true;
+    Ok(())
 }
 
-#[tactic(auto, unfolding(crate::specs::Contents::nocase_option))]
-pub(crate) fn nocase_option(draft: Draft, value: Option<&[u8]>) -> Result<Draft, Fault>
-    ensures { result ≡ nocase_option draft (option_copied value.entry) }
+#[tactic(auto, unfolding(crate::specs::Contents::nocase_option, crate::specs::Contents::apart))]
+pub(crate) fn nocase_option(draft: &mut Draft, value: Option<&[u8]>) -> Result<(), Fault>
+    ensures { with_new result draft.new ≡ nocase_option draft.old (option_copied value.entry) }
 {
-    let (held, draft) = apart(draft)?;
-    let held = nocase(held, value)?;
-    Ok(with_last(draft, held))
+    let Some(held) = &mut draft.held else {
+        return Err(Fault::Misplaced);
+    };
+    nocase(held, value)
 }
 
 /// What `rawbytes` makes of the last content.
 #[tactic(auto, unfolding(crate::specs::Contents::rawbytes))]
-fn rawbytes(held: Held, value: Option<&[u8]>) -> Result<Held, Fault>
-    ensures { result ≡ rawbytes held (option_copied value.entry) }
+fn rawbytes(held: &mut Held, value: Option<&[u8]>) -> Result<(), Fault>
+    ensures { with_new result held.new ≡ rawbytes held.old (option_copied value.entry) }
 {
     if held.raw {
         return Err(Fault::Misplaced);
@@ -185,16 +163,18 @@ fn rawbytes(held: Held, value: Option<&[u8]>) -> Result<Held, Fault>
     if value.is_some() {
         return Err(Fault::OptionValue);
     }
-    Ok(Held { raw: true, ..held })
+    held.raw = true;
+    Ok(())
 }
 
-#[tactic(auto, unfolding(crate::specs::Contents::rawbytes_option))]
-pub(crate) fn rawbytes_option(draft: Draft, value: Option<&[u8]>) -> Result<Draft, Fault>
-    ensures { result ≡ rawbytes_option draft (option_copied value.entry) }
+#[tactic(auto, unfolding(crate::specs::Contents::rawbytes_option, crate::specs::Contents::apart))]
+pub(crate) fn rawbytes_option(draft: &mut Draft, value: Option<&[u8]>) -> Result<(), Fault>
+    ensures { with_new result draft.new ≡ rawbytes_option draft.old (option_copied value.entry) }
 {
-    let (held, draft) = apart(draft)?;
-    let held = rawbytes(held, value)?;
-    Ok(with_last(draft, held))
+    let Some(held) = &mut draft.held else {
+        return Err(Fault::Misplaced);
+    };
+    rawbytes(held, value)
 }
 
 /// The value of a modifier that tells a place or a room, where it may stand.
@@ -227,36 +207,34 @@ fn first_names(names: &[Text], count: usize) -> &[Text]
 #[tactic(auto, unfolding(crate::specs::Contents::with_from))]
 fn with_from(
     relative: bool,
-    held: Held,
+    held: &mut Held,
     names: &Extracted,
     left: usize,
     value: Option<&[u8]>,
-) -> Result<Held, Fault>
-    ensures { result ≡ with_from relative held names.now left (option_copied value.entry) }
+) -> Result<(), Fault>
+    ensures { with_new result held.new ≡ with_from relative held.old names.now left (option_copied value.entry) }
 {
     let text = place_text(bars_from(relative, &held.content), held.placeless, value)?;
     let known = first_names(names.as_slice(), held.known);
     let from = signed_or_named(-65535, 65535, known, left, text)?;
-    let content = Content {
-        relative,
-        from: Some(from),
-        ..held.content
-    };
-    Ok(Held { content, ..held })
+    held.content.relative = relative;
+    held.content.from = Some(from);
+    Ok(())
 }
 
-#[tactic(auto, unfolding(crate::specs::Contents::from_option))]
+#[tactic(auto, unfolding(crate::specs::Contents::from_option, crate::specs::Contents::apart))]
 pub(crate) fn from_option(
     relative: bool,
-    draft: Draft,
+    draft: &mut Draft,
     left: usize,
     value: Option<&[u8]>,
-) -> Result<Draft, Fault>
-    ensures { result ≡ from_option relative draft left (option_copied value.entry) }
+) -> Result<(), Fault>
+    ensures { with_new result draft.new ≡ from_option relative draft.old left (option_copied value.entry) }
 {
-    let (held, draft) = apart(draft)?;
-    let held = with_from(relative, held, &draft.names, left, value)?;
-    Ok(with_last(draft, held))
+    let Some(held) = &mut draft.held else {
+        return Err(Fault::Misplaced);
+    };
+    with_from(relative, held, &draft.names, left, value)
 }
 
 /// How far a content of so many bytes may go.
@@ -279,36 +257,34 @@ fn room_of(size: usize, known: &[Text], left: usize, text: &[u8]) -> Result<Num,
 #[tactic(auto, unfolding(crate::specs::Contents::with_room))]
 fn with_room(
     relative: bool,
-    held: Held,
+    held: &mut Held,
     names: &Extracted,
     left: usize,
     value: Option<&[u8]>,
-) -> Result<Held, Fault>
-    ensures { result ≡ with_room relative held names.now left (option_copied value.entry) }
+) -> Result<(), Fault>
+    ensures { with_new result held.new ≡ with_room relative held.old names.now left (option_copied value.entry) }
 {
     let text = place_text(bars_room(relative, &held.content), held.placeless, value)?;
     let known = first_names(names.as_slice(), held.known);
     let room = room_of(held.content.bytes.bytes().len(), known, left, text)?;
-    let content = Content {
-        relative,
-        room: Some(room),
-        ..held.content
-    };
-    Ok(Held { content, ..held })
+    held.content.relative = relative;
+    held.content.room = Some(room);
+    Ok(())
 }
 
-#[tactic(auto, unfolding(crate::specs::Contents::room_option))]
+#[tactic(auto, unfolding(crate::specs::Contents::room_option, crate::specs::Contents::apart))]
 pub(crate) fn room_option(
     relative: bool,
-    draft: Draft,
+    draft: &mut Draft,
     left: usize,
     value: Option<&[u8]>,
-) -> Result<Draft, Fault>
-    ensures { result ≡ room_option relative draft left (option_copied value.entry) }
+) -> Result<(), Fault>
+    ensures { with_new result draft.new ≡ room_option relative draft.old left (option_copied value.entry) }
 {
-    let (held, draft) = apart(draft)?;
-    let held = with_room(relative, held, &draft.names, left, value)?;
-    Ok(with_last(draft, held))
+    let Some(held) = &mut draft.held else {
+        return Err(Fault::Misplaced);
+    };
+    with_room(relative, held, &draft.names, left, value)
 }
 
 /// A part of a content of so many bytes.
@@ -336,7 +312,7 @@ fn fast_mode(size: usize, value: Option<&[u8]>) -> Result<FastMode, Fault>
     let Some(value) = value else {
         return Ok(FastMode::Yes);
     };
-    if value == b"only".as_slice() {
+    if is(value, b"only") {
         return Ok(FastMode::Only);
     }
     fast_part(size, value)
@@ -358,14 +334,6 @@ fn fast_on(negated: bool, mode: FastMode) -> FastMode
     if negated { FastMode::No } else { mode }
 }
 
-/// Whether a `fast_pattern` of this form may not stand on the content.
-fn bars_fast(mode: FastMode, content: &Content) -> bool
-    ensures { result ≡ bars_fast mode content.now }
-{
-    let has_room = content.from.is_some() || content.room.is_some();
-    (is_only(mode) && content.negated) || ((is_only(mode) || content.negated) && has_room)
-}
-
 /// The last content, where no `fast_pattern` stands yet.
 fn held_for_fast(stands: bool, held: Option<Held>) -> Result<Held, Fault>
     ensures { result ≡ (if stands then Err Fault.Misplaced else or_kind Fault.Misplaced held) }
@@ -376,28 +344,43 @@ fn held_for_fast(stands: bool, held: Option<Held>) -> Result<Held, Fault>
     held.ok_or(Fault::Misplaced)
 }
 
-#[tactic(auto, unfolding(crate::specs::Contents::fast_pattern_option))]
-pub(crate) fn fast_pattern_option(draft: Draft, value: Option<&[u8]>) -> Result<Draft, Fault>
-    ensures { result ≡ fast_pattern_option draft (option_copied value.entry) }
+/// Whether no place or room may be told behind a `fast_pattern` of this form.
+fn bars_places(mode: FastMode, negated: bool) -> bool
+    ensures { result ≡ (is_only mode || negated) }
 {
-    let held = held_for_fast(draft.fast, draft.held)?;
+    is_only(mode) || negated
+}
+
+/// Puts a `fast_pattern` of this form on a content.
+fn put_fast(held: &mut Held, mode: FastMode)
+    ensures { held.new ≡ record held.old {
+      placeless = is_only mode || held.old.content.negated;
+      content = record held.old.content { fast = fast_on held.old.content.negated mode };
+    } }
+{
+    held.placeless = bars_places(mode, held.content.negated);
+    held.content.fast = fast_on(held.content.negated, mode);
+}
+
+/// Whether a `fast_pattern` of this form may not stand on the content.
+fn bars_fast(mode: FastMode, content: &Content) -> bool
+    ensures { result ≡ bars_fast mode content.now }
+{
+    let has_room = content.from.is_some() || content.room.is_some();
+    (is_only(mode) && content.negated) || ((is_only(mode) || content.negated) && has_room)
+}
+
+#[tactic(auto, unfolding(crate::specs::Contents::fast_pattern_option))]
+pub(crate) fn fast_pattern_option(draft: &mut Draft, value: Option<&[u8]>) -> Result<(), Fault>
+    ensures { with_new result draft.new ≡ fast_pattern_option draft.old (option_copied value.entry) }
+{
+    let mut held = held_for_fast(draft.fast, draft.held.take())?;
     let mode = fast_mode(held.content.bytes.bytes().len(), value)?;
     if bars_fast(mode, &held.content) {
         return Err(Fault::OptionValue);
     }
-    let placeless = is_only(mode) || held.content.negated;
-    let fast = fast_on(held.content.negated, mode);
-    let content = Content {
-        fast,
-        ..held.content
-    };
-    Ok(Draft {
-        fast: true,
-        held: Some(Held {
-            content,
-            placeless,
-            ..held
-        }),
-        ..draft
-    })
+    put_fast(&mut held, mode);
+    draft.held = Some(held);
+    draft.fast = true;
+    Ok(())
 }

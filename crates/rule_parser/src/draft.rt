@@ -1,7 +1,7 @@
 //! What stands of a rule while its options are read from left to right.
-ghost use Rattle.std.specs.Prelude.{◌≡◌, nat_le, IfOk, None};
+ghost use Rattle.std.specs.Prelude.{◌≡◌, nat_le, OnOk, IfOk, None};
 ghost use Rattle.net_lists.specs.Stops.{Gives};
-ghost use Rattle.rule_parser.specs.Drafts.{empty_draft, kept_count, kept, settled, with_held};
+ghost use Rattle.rule_parser.specs.Drafts.{empty_draft, kept_count, kept, settled, with_held, with_new};
 
 use crate::extracted::Extracted;
 use crate::fault::Fault;
@@ -90,30 +90,26 @@ impl Draft {
         self.opts.as_slice().len() + held >= MOST_OPTIONS
     }
 
-    /// The rule with one more option behind those that it has.
+    /// Keeps one more option, behind those that stand.
     #[tactic(auto, unfolding(crate::specs::Drafts::kept))]
-    pub(crate) fn kept(self, opt: Opt) -> Result<Draft, Stop<Fault>>
-        ensures { Gives result (kept self opt) }
+    pub(crate) fn keep(&mut self, opt: Opt) -> Result<(), Stop<Fault>>
+        ensures { Gives (with_new result self.new) (kept self.old opt) }
     {
         if self.is_full() {
             return Err(Stop::Wrong(Fault::Limit));
         }
-        let mut opts = self.opts;
-        opts.push(opt)?;
-        Ok(Draft { opts, ..self })
+        self.opts.push(opt)?;
+        Ok(())
     }
 
-    /// The rule with its last content in its place.
+    /// Puts the last content in its place.
     #[tactic(auto, unfolding(crate::specs::Drafts::settled))]
-    pub(crate) fn settled(self) -> Result<Draft, NoMemory>
-        ensures { IfOk result (λ next. next ≡ record self { opts = settled self; held = None }) }
+    pub(crate) fn settle(&mut self, alloc: Global) -> Result<(), NoMemory>
+        ensures { OnOk result (self.new ≡ record self.old { opts = settled self.old; held = None }) }
     {
-        let opts = with_held(self.opts, self.held)?;
-        Ok(Draft {
-            opts,
-            held: None,
-            ..self
-        })
+        let opts = std::mem::replace(&mut self.opts, Items::new(alloc));
+        self.opts = with_held(opts, self.held.take())?;
+        Ok(())
     }
 }
 

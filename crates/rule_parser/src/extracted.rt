@@ -1,5 +1,5 @@
 //! The names that byte_extract gives in a rule.
-ghost use Rattle.std.specs.Prelude.{◌≡◌, ◌≤◌, ◌<◌, ◌↔◌, [], ◌∷◌, ◌++◌, length, IfOk, IfErr, IsOk};
+ghost use Rattle.std.specs.Prelude.{◌≡◌, ◌≤◌, ◌<◌, ◌↔◌, [], ◌∷◌, ◌++◌, length, OnOk, IfErr, IsOk};
 ghost use Rattle.rule_parser.specs.declared.fault.Fault.TheVariants.{Limit as limit};
 
 use crate::fault::Fault;
@@ -39,15 +39,14 @@ impl Extracted {
         self.names.as_slice()
     }
 
-    /// With one name more, where there is room.
-    pub(crate) fn with(self, name: Text) -> Result<Extracted, Fault>
-        ensures more { IfOk result (λ all. all ≡ self ++ name ∷ []) }
-        ensures room { IsOk result ↔ (length self < 2) }
+    /// Adds a name behind the last, where there is room.
+    pub(crate) fn push(&mut self, name: Text) -> Result<(), Fault>
+        ensures more { OnOk result (self.new ≡ self.old ++ name ∷ []) }
+        ensures room { IsOk result ↔ (length self.old < 2) }
         ensures full { IfErr result (λ fault. fault ≡ limit) }
     {
-        let Extracted { mut names } = self;
-        match names.try_push(name) {
-            Ok(()) => Ok(Extracted { names }),
+        match self.names.try_push(name) {
+            Ok(()) => Ok(()),
             Err(_) => Err(Fault::Limit),
         }
     }

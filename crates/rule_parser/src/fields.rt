@@ -3,9 +3,11 @@ ghost use Rattle.std.specs.Prelude.{◌≡◌, ◌<◌, length, option_copied, I
 ghost use Rattle.net_lists.specs.Stops.{Gives};
 ghost use Rattle.rule_parser.specs.Fields.{sign_of, cmp_of, is_plain, is_not, is_strict, allows, against, signed_compare, end_of, ttl_range, dsize_range, place_of, behind_above, protocol_of, compare_of, ttl_to, dsize_at, protocol_to, field_option, dsize_option, sameip_option};
 ghost use Rattle.rule_types.specs.Sound.{most_of};
+ghost use Rattle.rule_parser.specs.Drafts.{with_new};
 
 use crate::draft::Draft;
 use crate::fault::Fault;
+use crate::word::is;
 use crate::{Cmp, Field, Opt};
 use net_lists::{Stop, number_in};
 
@@ -205,13 +207,13 @@ fn dsize_of(text: &[u8]) -> Result<Opt, Fault>
 fn protocol_of(name: &[u8]) -> Option<u32>
     ensures { result ≡ protocol_of name.now }
 {
-    if name == b"icmp".as_slice() {
+    if is(name, b"icmp") {
         Some(1)
-    } else if name == b"igmp".as_slice() {
+    } else if is(name, b"igmp") {
         Some(2)
-    } else if name == b"tcp".as_slice() {
+    } else if is(name, b"tcp") {
         Some(6)
-    } else if name == b"udp".as_slice() {
+    } else if is(name, b"udp") {
         Some(17)
     } else {
         None
@@ -242,34 +244,31 @@ fn compare_of(field: Field, text: &[u8]) -> Result<Opt, Fault>
 
 /// An option of one number, `dsize` apart.
 #[tactic(auto, unfolding(crate::specs::Fields::field_option))]
-pub(crate) fn field_option(field: Field, draft: Draft, value: &[u8]) -> Result<Draft, Stop<Fault>>
-    ensures { Gives result (field_option field draft value.now) }
+pub(crate) fn field_option(field: Field, draft: &mut Draft, value: &[u8]) -> Result<(), Stop<Fault>>
+    ensures { Gives (with_new result draft.new) (field_option field draft.old value.now) }
 {
     let option = compare_of(field, value)?;
-    draft.kept(option)
+    draft.keep(option)
 }
 
 #[tactic(auto, unfolding(crate::specs::Fields::dsize_option))]
-pub(crate) fn dsize_option(draft: Draft, value: &[u8]) -> Result<Draft, Stop<Fault>>
-    ensures { Gives result (dsize_option draft value.now) }
+pub(crate) fn dsize_option(draft: &mut Draft, value: &[u8]) -> Result<(), Stop<Fault>>
+    ensures { Gives (with_new result draft.new) (dsize_option draft.old value.now) }
 {
     let option = compare_of(Field::Dsize, value)?;
     if draft.dsize {
         return Err(Stop::Wrong(Fault::OptionValue));
     }
-    Draft {
-        dsize: true,
-        ..draft
-    }
-    .kept(option)
+    draft.dsize = true;
+    draft.keep(option)
 }
 
 #[tactic(auto, unfolding(crate::specs::Fields::sameip_option))]
-pub(crate) fn sameip_option(draft: Draft, value: Option<&[u8]>) -> Result<Draft, Stop<Fault>>
-    ensures { Gives result (sameip_option draft (option_copied value.entry)) }
+pub(crate) fn sameip_option(draft: &mut Draft, value: Option<&[u8]>) -> Result<(), Stop<Fault>>
+    ensures { Gives (with_new result draft.new) (sameip_option draft.old (option_copied value.entry)) }
 {
     if value.is_some() {
         return Err(Stop::Wrong(Fault::OptionValue));
     }
-    draft.kept(Opt::SameIp)
+    draft.keep(Opt::SameIp)
 }

@@ -4,9 +4,11 @@ ghost use Rattle.net_lists.specs.Cutting.{comma_parts};
 ghost use Rattle.net_lists.specs.Folds.{draft_behind};
 ghost use Rattle.net_lists.specs.Stops.{Gives};
 ghost use Rattle.rule_parser.specs.Flags.{no_flow, first_of_group, session_word, item_word, flow_word, flow_option, no_letters, mode_of, flag_bit, frag_bit, with_bit, with_mode, if_any, flag_step, frag_step, flag_letters, frag_letters, frag_signed, mask_of, flags_parts, flags_of, flags_option, fragbits_option};
+ghost use Rattle.rule_parser.specs.Drafts.{with_new};
 
 use crate::draft::Draft;
 use crate::fault::Fault;
+use crate::word::is;
 use crate::{FlowOpt, Mode, Opt};
 use net_lists::{PartStep, Parts, Stop};
 
@@ -40,7 +42,7 @@ fn session_word(flow: FlowOpt, word: &[u8]) -> Result<FlowOpt, Fault>
     ensures { result ≡ session_word flow word.now }
 {
     let stands = flow.established.is_some() || flow.stateless;
-    if word == b"established".as_slice() {
+    if is(word, b"established") {
         first_of_group(
             stands,
             FlowOpt {
@@ -48,7 +50,7 @@ fn session_word(flow: FlowOpt, word: &[u8]) -> Result<FlowOpt, Fault>
                 ..flow
             },
         )
-    } else if word == b"not_established".as_slice() {
+    } else if is(word, b"not_established") {
         first_of_group(
             stands,
             FlowOpt {
@@ -56,7 +58,7 @@ fn session_word(flow: FlowOpt, word: &[u8]) -> Result<FlowOpt, Fault>
                 ..flow
             },
         )
-    } else if word == b"stateless".as_slice() {
+    } else if is(word, b"stateless") {
         first_of_group(
             stands,
             FlowOpt {
@@ -74,7 +76,7 @@ fn session_word(flow: FlowOpt, word: &[u8]) -> Result<FlowOpt, Fault>
 fn item_word(flow: FlowOpt, word: &[u8]) -> Result<FlowOpt, Fault>
     ensures { result ≡ item_word flow word.now }
 {
-    if word == b"only_stream".as_slice() {
+    if is(word, b"only_stream") {
         first_of_group(
             flow.stream.is_some(),
             FlowOpt {
@@ -82,7 +84,7 @@ fn item_word(flow: FlowOpt, word: &[u8]) -> Result<FlowOpt, Fault>
                 ..flow
             },
         )
-    } else if word == b"no_stream".as_slice() {
+    } else if is(word, b"no_stream") {
         first_of_group(
             flow.stream.is_some(),
             FlowOpt {
@@ -90,7 +92,7 @@ fn item_word(flow: FlowOpt, word: &[u8]) -> Result<FlowOpt, Fault>
                 ..flow
             },
         )
-    } else if word == b"only_frag".as_slice() {
+    } else if is(word, b"only_frag") {
         first_of_group(
             flow.frag.is_some(),
             FlowOpt {
@@ -98,7 +100,7 @@ fn item_word(flow: FlowOpt, word: &[u8]) -> Result<FlowOpt, Fault>
                 ..flow
             },
         )
-    } else if word == b"no_frag".as_slice() {
+    } else if is(word, b"no_frag") {
         first_of_group(
             flow.frag.is_some(),
             FlowOpt {
@@ -116,7 +118,7 @@ fn item_word(flow: FlowOpt, word: &[u8]) -> Result<FlowOpt, Fault>
 fn flow_word(flow: FlowOpt, word: &[u8]) -> Result<FlowOpt, Fault>
     ensures { result ≡ flow_word flow word.now }
 {
-    if word == b"to_server".as_slice() || word == b"from_client".as_slice() {
+    if is(word, b"to_server") || is(word, b"from_client") {
         first_of_group(
             flow.from_client.is_some(),
             FlowOpt {
@@ -124,7 +126,7 @@ fn flow_word(flow: FlowOpt, word: &[u8]) -> Result<FlowOpt, Fault>
                 ..flow
             },
         )
-    } else if word == b"to_client".as_slice() || word == b"from_server".as_slice() {
+    } else if is(word, b"to_client") || is(word, b"from_server") {
         first_of_group(
             flow.from_client.is_some(),
             FlowOpt {
@@ -156,18 +158,15 @@ fn flow_words(value: &[u8]) -> Result<FlowOpt, Fault>
 }
 
 #[tactic(auto, unfolding(crate::specs::Flags::flow_option))]
-pub(crate) fn flow_option(draft: Draft, value: &[u8]) -> Result<Draft, Stop<Fault>>
-    ensures { Gives result (flow_option draft value.now) }
+pub(crate) fn flow_option(draft: &mut Draft, value: &[u8]) -> Result<(), Stop<Fault>>
+    ensures { Gives (with_new result draft.new) (flow_option draft.old value.now) }
 {
     let flow = flow_words(value)?;
     if draft.flow {
         return Err(Stop::Wrong(Fault::OptionValue));
     }
-    Draft {
-        flow: true,
-        ..draft
-    }
-    .kept(Opt::Flow(flow))
+    draft.flow = true;
+    draft.keep(Opt::Flow(flow))
 }
 
 /// The letters of `flags` or `fragbits` so far.
@@ -359,19 +358,19 @@ fn flags_of(value: &[u8]) -> Result<Opt, Fault>
 }
 
 #[tactic(auto, unfolding(crate::specs::Flags::flags_option))]
-pub(crate) fn flags_option(draft: Draft, value: &[u8]) -> Result<Draft, Stop<Fault>>
-    ensures { Gives result (flags_option draft value.now) }
+pub(crate) fn flags_option(draft: &mut Draft, value: &[u8]) -> Result<(), Stop<Fault>>
+    ensures { Gives (with_new result draft.new) (flags_option draft.old value.now) }
 {
     let option = flags_of(value)?;
-    draft.kept(option)
+    draft.keep(option)
 }
 
 #[tactic(auto, unfolding(crate::specs::Flags::fragbits_option))]
-pub(crate) fn fragbits_option(draft: Draft, value: &[u8]) -> Result<Draft, Stop<Fault>>
-    ensures { Gives result (fragbits_option draft value.now) }
+pub(crate) fn fragbits_option(draft: &mut Draft, value: &[u8]) -> Result<(), Stop<Fault>>
+    ensures { Gives (with_new result draft.new) (fragbits_option draft.old value.now) }
 {
     let letters = frag_signed(value).ok_or(Fault::OptionValue)?;
-    draft.kept(Opt::FragBits {
+    draft.keep(Opt::FragBits {
         mode: letters.mode.unwrap_or(Mode::Exact),
         bits: letters.bits,
     })

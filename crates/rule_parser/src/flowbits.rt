@@ -5,12 +5,14 @@ ghost use Rattle.rule_parser.specs.Bits.{GivesWith, GivesNumber, Begins};
 ghost use Rattle.rule_parser.specs.Flowbits.{is_bit_byte, is_joining, bit_name, bit_option, bit_word, numbered, last_name, bit_parts, noalert, flowbits_option};
 ghost use Rattle.rule_parser.specs.ByteOptions.{seen};
 ghost use Rattle.rule_parser.specs.Names.{place_among};
+ghost use Rattle.rule_parser.specs.Drafts.{with_new};
 
 use crate::bits::{BitNames, MOST_BITS};
 use crate::byte_options::{LentPart, first_part, next_part};
 use crate::draft::Draft;
 use crate::fault::Fault;
 use crate::number::place_among;
+use crate::word::is;
 use crate::{BitChange, Opt};
 use edge_io::Text;
 use net_lists::Stop;
@@ -70,17 +72,17 @@ impl BitWord {
     fn read(text: &[u8]) -> Result<BitWord, Fault>
         ensures { result ≡ bit_word text.now }
     {
-        if text == b"set".as_slice() {
+        if is(text, b"set") {
             Ok(BitWord::Set)
-        } else if text == b"unset".as_slice() {
+        } else if is(text, b"unset") {
             Ok(BitWord::Unset)
-        } else if text == b"toggle".as_slice() {
+        } else if is(text, b"toggle") {
             Ok(BitWord::Toggle)
-        } else if text == b"isset".as_slice() {
+        } else if is(text, b"isset") {
             Ok(BitWord::IsSet)
-        } else if text == b"isnotset".as_slice() {
+        } else if is(text, b"isnotset") {
             Ok(BitWord::IsNotSet)
-        } else if text == b"setx".as_slice() || text == b"reset".as_slice() {
+        } else if is(text, b"setx") || is(text, b"reset") {
             Err(Fault::OutsideProfile)
         } else {
             Err(Fault::OptionValue)
@@ -143,44 +145,42 @@ fn last_name<'a>(part: &LentPart<'a>) -> Result<&'a [u8], Fault>
 fn bit_parts(
     alloc: Global,
     bits: &mut BitNames,
-    draft: Draft,
+    draft: &mut Draft,
     first: &LentPart,
     word: BitWord,
-) -> Result<Draft, Stop<Fault>>
-    ensures gives { GivesWith result bits.new (bit_parts bits.old draft (seen first.now) word) }
+) -> Result<(), Stop<Fault>>
+    ensures gives { GivesWith (with_new result draft.new) bits.new (bit_parts bits.old draft.old (seen first.now) word) }
     ensures begins { Begins bits.old bits.new }
 {
     let part = next_part(first)?;
     let name = last_name(&part)?;
     let bit = numbered(alloc, bits, name)?;
-    draft.kept(word.option(bit))
+    draft.keep(word.option(bit))
 }
 
 /// `noalert` behind which nothing stands.
-fn noalert(draft: Draft, first: &LentPart) -> Result<Draft, Fault>
-    ensures { result ≡ noalert draft (seen first.now) }
+fn noalert(draft: &mut Draft, first: &LentPart) -> Result<(), Fault>
+    ensures { with_new result draft.new ≡ noalert draft.old (seen first.now) }
 {
     if first.behind.is_some() {
         return Err(Fault::OptionValue);
     }
-    Ok(Draft {
-        noalert: true,
-        ..draft
-    })
+    draft.noalert = true;
+    Ok(())
 }
 
 #[tactic(auto, unfolding(crate::specs::Flowbits::flowbits_option, crate::specs::Flowbits::flowbits_parts))]
 pub(crate) fn flowbits_option(
     alloc: Global,
     bits: &mut BitNames,
-    draft: Draft,
+    draft: &mut Draft,
     value: &[u8],
-) -> Result<Draft, Stop<Fault>>
-    ensures gives { GivesWith result bits.new (flowbits_option bits.old draft value.now) }
+) -> Result<(), Stop<Fault>>
+    ensures gives { GivesWith (with_new result draft.new) bits.new (flowbits_option bits.old draft.old value.now) }
     ensures begins { Begins bits.old bits.new }
 {
     let first = first_part(0, value);
-    if first.text == b"noalert".as_slice() {
+    if is(first.text, b"noalert") {
         return Ok(noalert(draft, &first)?);
     }
     let word = BitWord::read(first.text)?;

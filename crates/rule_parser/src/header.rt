@@ -8,6 +8,7 @@ ghost use Rattle.rule_parser.specs.Headers.{action_of, proto_of, direction_of, e
 ghost use Rattle.rule_parser.specs.HeaderTexts.{AreTexts, AreWords, BeginsFilled, words_text, AreCutInto};
 
 use crate::fault::Fault;
+use crate::word::is;
 use crate::{Action, Proto};
 use edge_io::Text;
 use net_lists::{AddrList, ExpandFault, ListFault, PortList, Stop, Vars, first_word};
@@ -30,21 +31,21 @@ pub(crate) struct Header {
 fn action_of(word: &[u8]) -> Result<Action, Fault>
     ensures { result ≡ action_of word.now }
 {
-    if word == b"alert".as_slice() {
+    if is(word, b"alert") {
         Ok(Action::Alert)
-    } else if word == b"pass".as_slice() {
+    } else if is(word, b"pass") {
         Ok(Action::Pass)
-    } else if word == b"log".as_slice() {
+    } else if is(word, b"log") {
         Err(Fault::OutsideProfile)
-    } else if word == b"activate".as_slice() {
+    } else if is(word, b"activate") {
         Err(Fault::OutsideProfile)
-    } else if word == b"dynamic".as_slice() {
+    } else if is(word, b"dynamic") {
         Err(Fault::OutsideProfile)
-    } else if word == b"drop".as_slice() {
+    } else if is(word, b"drop") {
         Err(Fault::OutsideProfile)
-    } else if word == b"reject".as_slice() {
+    } else if is(word, b"reject") {
         Err(Fault::OutsideProfile)
-    } else if word == b"sdrop".as_slice() {
+    } else if is(word, b"sdrop") {
         Err(Fault::OutsideProfile)
     } else {
         Err(Fault::Action)
@@ -55,13 +56,13 @@ fn action_of(word: &[u8]) -> Result<Action, Fault>
 fn proto_of(word: &[u8]) -> Result<Proto, Fault>
     ensures { result ≡ proto_of word.now }
 {
-    if word == b"tcp".as_slice() {
+    if is(word, b"tcp") {
         Ok(Proto::Tcp)
-    } else if word == b"udp".as_slice() {
+    } else if is(word, b"udp") {
         Ok(Proto::Udp)
-    } else if word == b"icmp".as_slice() {
+    } else if is(word, b"icmp") {
         Ok(Proto::Icmp)
-    } else if word == b"ip".as_slice() {
+    } else if is(word, b"ip") {
         Ok(Proto::Ip)
     } else {
         Err(Fault::Protocol)
@@ -73,9 +74,9 @@ fn proto_of(word: &[u8]) -> Result<Proto, Fault>
 fn direction_of(word: &[u8]) -> Result<bool, Fault>
     ensures { result ≡ direction_of word.now }
 {
-    if word == b"->".as_slice() {
+    if is(word, b"->") {
         Ok(false)
-    } else if word == b"<>".as_slice() {
+    } else if is(word, b"<>") {
         Ok(true)
     } else {
         Err(Fault::Direction)

@@ -25,6 +25,7 @@ mod periods;
 mod quoted;
 mod steering;
 mod texts;
+mod word;
 mod written;
 
 pub use bits::BitNames;

@@ -1,10 +1,11 @@
 //! Reading one rule line.
-ghost use Rattle.std.specs.Prelude.{◌≡◌, ◌+◌, ◌<◌, ◌≤◌, ◌++◌, ◌∷◌, [], List, ℕ, Result, length, option_copied, OnErr, IfOk, IfSome};
+ghost use Rattle.std.specs.Prelude.{◌≡◌, ◌+◌, ◌<◌, ◌≤◌, ◌++◌, ◌∷◌, [], List, ℕ, Result, None, length, option_copied, OnOk, OnErr, IfOk, IfSome};
 ghost use Rattle.net_lists.specs.Stops.{Gives};
+ghost use Rattle.rule_parser.specs.Drafts.{settled};
 ghost use Rattle.rule_parser.specs.declared.fault.Fault.{Fault};
 ghost use Rattle.rule_types.specs.declared.rule.Rule.{Rule};
 ghost use Rattle.rule_parser.specs.Bits.{GivesWith, IsGivenWith, Begins};
-ghost use Rattle.rule_parser.specs.RuleLine.{in_parentheses, options_of, IsClassOf, class_of, class_priority, finished, rule_body, IsRuleLine, IsAnswered, AnswersAs};
+ghost use Rattle.rule_parser.specs.RuleLine.{in_parentheses, options_of, IsClassOf, class_of, class_priority, told, finished, rule_body, IsRuleLine, IsAnswered, AnswersAs};
 ghost use Rattle.rule_types.specs.Sound.{IsSound};
 ghost use Rattle.rule_parser.specs.Written.{outside, option_texts, AreOptionTexts, IsOptionText, options_text};
 
@@ -53,7 +54,7 @@ fn read_options(
     let mut draft = Draft::new(alloc);
     let mut rest = inside;
     while let Some((text, behind)) = first_option(rest) {
-        draft = rule_option(alloc, classes, bits, draft, left_from(rest), text)?;
+        rule_option(alloc, classes, bits, &mut draft, left_from(rest), text)?;
         rest = behind;
     }
     if !are_blank(rest) {
@@ -102,31 +103,40 @@ fn class_priority(classes: &Classes, class: Option<u32>) -> u32
     }
 }
 
+/// The number and the class of a rule whose options are read; its last content comes in its place.
+fn told(alloc: Global, draft: &mut Draft) -> Result<(u32, Option<u32>), Stop<Fault>>
+    ensures gives { Gives result (told draft.old) }
+    ensures settles { OnOk result (draft.new ≡ record draft.old { opts = settled draft.old; held = None }) }
+{
+    let sid = draft.sid.ok_or(Fault::MissingSid)?;
+    let class = class_of(draft.class)?;
+    draft.settle(alloc)?;
+    Ok((sid, class))
+}
+
 /// A rule of this header whose options are read.
-#[tactic(auto, using(crate::proofs::Classing::class_there), unfolding(crate::specs::RuleLine::finished))]
+#[tactic(auto, unfolding(crate::specs::RuleLine::finished))]
 fn finished(
     alloc: Global,
     classes: &Classes,
     header: Header,
-    draft: Draft,
+    mut draft: Draft,
 ) -> Result<Rule, Stop<Fault>>
     requires { IsClassOf (length classes.now) draft.class }
     ensures { Gives result (finished classes.now header draft) }
 {
-    let sid = draft.sid.ok_or(Fault::MissingSid)?;
+    let (sid, class) = told(alloc, &mut draft)?;
+    let class_priority = class_priority(classes, class);
     let Draft {
         opts,
         msg,
         gid,
         rev,
-        class,
         priority,
         noalert,
         period,
         ..
-    } = draft.settled()?;
-    let class = class_of(class)?;
-    let class_priority = class_priority(classes, class);
+    } = draft;
     let Header {
         action,
         proto,

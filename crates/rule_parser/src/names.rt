@@ -4,6 +4,7 @@ ghost use Rattle.rule_parser.specs.OptionNames.{text_name, modifier_name, payloa
 ghost use Rattle.rule_parser.specs.RuleOption.{option_name};
 
 use crate::Field;
+use crate::word::is;
 
 /// The name of an option.
 #[derive(Clone, Copy)]
@@ -34,19 +35,19 @@ impl TextName {
     fn read(name: &[u8]) -> Option<TextName>
         ensures { result ≡ text_name name.now }
     {
-        if name == b"msg".as_slice() {
+        if is(name, b"msg") {
             Some(TextName::Msg)
-        } else if name == b"gid".as_slice() {
+        } else if is(name, b"gid") {
             Some(TextName::Gid)
-        } else if name == b"sid".as_slice() {
+        } else if is(name, b"sid") {
             Some(TextName::Sid)
-        } else if name == b"rev".as_slice() {
+        } else if is(name, b"rev") {
             Some(TextName::Rev)
-        } else if name == b"priority".as_slice() {
+        } else if is(name, b"priority") {
             Some(TextName::Priority)
-        } else if name == b"classtype".as_slice() {
+        } else if is(name, b"classtype") {
             Some(TextName::Classtype)
-        } else if name == b"reference".as_slice() || name == b"metadata".as_slice() {
+        } else if is(name, b"reference") || is(name, b"metadata") {
             Some(TextName::Ignored)
         } else {
             None
@@ -71,19 +72,19 @@ impl Modifier {
     fn read(name: &[u8]) -> Option<Modifier>
         ensures { result ≡ modifier_name name.now }
     {
-        if name == b"nocase".as_slice() {
+        if is(name, b"nocase") {
             Some(Modifier::Nocase)
-        } else if name == b"rawbytes".as_slice() {
+        } else if is(name, b"rawbytes") {
             Some(Modifier::Rawbytes)
-        } else if name == b"offset".as_slice() {
+        } else if is(name, b"offset") {
             Some(Modifier::Offset)
-        } else if name == b"depth".as_slice() {
+        } else if is(name, b"depth") {
             Some(Modifier::Depth)
-        } else if name == b"distance".as_slice() {
+        } else if is(name, b"distance") {
             Some(Modifier::Distance)
-        } else if name == b"within".as_slice() {
+        } else if is(name, b"within") {
             Some(Modifier::Within)
-        } else if name == b"fast_pattern".as_slice() {
+        } else if is(name, b"fast_pattern") {
             Some(Modifier::FastPattern)
         } else {
             None
@@ -107,17 +108,17 @@ impl PayloadName {
     fn read(name: &[u8]) -> Option<PayloadName>
         ensures { result ≡ payload_name name.now }
     {
-        if name == b"content".as_slice() {
+        if is(name, b"content") {
             Some(PayloadName::Content)
-        } else if name == b"pcre".as_slice() {
+        } else if is(name, b"pcre") {
             Some(PayloadName::Pcre)
-        } else if name == b"byte_test".as_slice() {
+        } else if is(name, b"byte_test") {
             Some(PayloadName::ByteTest)
-        } else if name == b"byte_jump".as_slice() {
+        } else if is(name, b"byte_jump") {
             Some(PayloadName::ByteJump)
-        } else if name == b"byte_extract".as_slice() {
+        } else if is(name, b"byte_extract") {
             Some(PayloadName::ByteExtract)
-        } else if name == b"isdataat".as_slice() {
+        } else if is(name, b"isdataat") {
             Some(PayloadName::IsDataAt)
         } else {
             None
@@ -143,21 +144,21 @@ impl SessionName {
     fn read(name: &[u8]) -> Option<SessionName>
         ensures { result ≡ session_name name.now }
     {
-        if name == b"flow".as_slice() {
+        if is(name, b"flow") {
             Some(SessionName::Flow)
-        } else if name == b"flags".as_slice() {
+        } else if is(name, b"flags") {
             Some(SessionName::Flags)
-        } else if name == b"fragbits".as_slice() {
+        } else if is(name, b"fragbits") {
             Some(SessionName::FragBits)
-        } else if name == b"detection_filter".as_slice() {
+        } else if is(name, b"detection_filter") {
             Some(SessionName::DetectionFilter)
-        } else if name == b"dsize".as_slice() {
+        } else if is(name, b"dsize") {
             Some(SessionName::Dsize)
-        } else if name == b"sameip".as_slice() {
+        } else if is(name, b"sameip") {
             Some(SessionName::SameIp)
-        } else if name == b"stream_size".as_slice() {
+        } else if is(name, b"stream_size") {
             Some(SessionName::StreamSize)
-        } else if name == b"stream_reassemble".as_slice() {
+        } else if is(name, b"stream_reassemble") {
             Some(SessionName::StreamReassemble)
         } else {
             None
@@ -170,15 +171,15 @@ impl SessionName {
 fn ip_field(name: &[u8]) -> Option<Field>
     ensures { result ≡ ip_field name.now }
 {
-    if name == b"ttl".as_slice() {
+    if is(name, b"ttl") {
         Some(Field::Ttl)
-    } else if name == b"tos".as_slice() {
+    } else if is(name, b"tos") {
         Some(Field::Tos)
-    } else if name == b"id".as_slice() {
+    } else if is(name, b"id") {
         Some(Field::Id)
-    } else if name == b"fragoffset".as_slice() {
+    } else if is(name, b"fragoffset") {
         Some(Field::FragOffset)
-    } else if name == b"ip_proto".as_slice() {
+    } else if is(name, b"ip_proto") {
         Some(Field::IpProto)
     } else {
         None
@@ -190,19 +191,19 @@ fn ip_field(name: &[u8]) -> Option<Field>
 fn body_field(name: &[u8]) -> Option<Field>
     ensures { result ≡ body_field name.now }
 {
-    if name == b"seq".as_slice() {
+    if is(name, b"seq") {
         Some(Field::Seq)
-    } else if name == b"ack".as_slice() {
+    } else if is(name, b"ack") {
         Some(Field::Ack)
-    } else if name == b"window".as_slice() {
+    } else if is(name, b"window") {
         Some(Field::Window)
-    } else if name == b"itype".as_slice() {
+    } else if is(name, b"itype") {
         Some(Field::Itype)
-    } else if name == b"icode".as_slice() {
+    } else if is(name, b"icode") {
         Some(Field::Icode)
-    } else if name == b"icmp_id".as_slice() {
+    } else if is(name, b"icmp_id") {
         Some(Field::IcmpId)
-    } else if name == b"icmp_seq".as_slice() {
+    } else if is(name, b"icmp_seq") {
         Some(Field::IcmpSeq)
     } else {
         None
@@ -229,18 +230,18 @@ fn has_outside_front(name: &[u8]) -> bool
 fn is_outside_payload(name: &[u8]) -> bool
     ensures { result ≡ is_outside_payload name.now }
 {
-    name == b"uricontent".as_slice()
-        || name == b"urilen".as_slice()
-        || name == b"file_data".as_slice()
-        || name == b"pkt_data".as_slice()
-        || name == b"base64_decode".as_slice()
-        || name == b"base64_data".as_slice()
-        || name == b"ftpbounce".as_slice()
-        || name == b"asn1".as_slice()
-        || name == b"cvs".as_slice()
-        || name == b"rpc".as_slice()
-        || name == b"ipopts".as_slice()
-        || name == b"byte_math".as_slice()
+    is(name, b"uricontent")
+        || is(name, b"urilen")
+        || is(name, b"file_data")
+        || is(name, b"pkt_data")
+        || is(name, b"base64_decode")
+        || is(name, b"base64_data")
+        || is(name, b"ftpbounce")
+        || is(name, b"asn1")
+        || is(name, b"cvs")
+        || is(name, b"rpc")
+        || is(name, b"ipopts")
+        || is(name, b"byte_math")
 }
 
 /// What follows an alert, outside the profile.
@@ -248,16 +249,16 @@ fn is_outside_payload(name: &[u8]) -> bool
 fn is_outside_action(name: &[u8]) -> bool
     ensures { result ≡ is_outside_action name.now }
 {
-    name == b"logto".as_slice()
-        || name == b"session".as_slice()
-        || name == b"resp".as_slice()
-        || name == b"react".as_slice()
-        || name == b"tag".as_slice()
-        || name == b"replace".as_slice()
-        || name == b"activates".as_slice()
-        || name == b"activated_by".as_slice()
-        || name == b"count".as_slice()
-        || name == b"threshold".as_slice()
+    is(name, b"logto")
+        || is(name, b"session")
+        || is(name, b"resp")
+        || is(name, b"react")
+        || is(name, b"tag")
+        || is(name, b"replace")
+        || is(name, b"activates")
+        || is(name, b"activated_by")
+        || is(name, b"count")
+        || is(name, b"threshold")
 }
 
 /// Other names outside the profile.
@@ -265,13 +266,13 @@ fn is_outside_action(name: &[u8]) -> bool
 fn is_outside_other(name: &[u8]) -> bool
     ensures { result ≡ is_outside_other name.now }
 {
-    name == b"protected_content".as_slice()
-        || name == b"hash".as_slice()
-        || name == b"length".as_slice()
-        || name == b"appid".as_slice()
-        || name == b"sd_pattern".as_slice()
-        || name == b"file_type".as_slice()
-        || name == b"file_group".as_slice()
+    is(name, b"protected_content")
+        || is(name, b"hash")
+        || is(name, b"length")
+        || is(name, b"appid")
+        || is(name, b"sd_pattern")
+        || is(name, b"file_type")
+        || is(name, b"file_group")
 }
 
 /// Whether a name is outside the profile.
@@ -291,7 +292,7 @@ impl Name {
     pub(crate) fn read(word: &[u8]) -> Option<Name>
         ensures { result ≡ option_name word.now }
     {
-        if word == b"flowbits".as_slice() {
+        if is(word, b"flowbits") {
             return Some(Name::Flowbits);
         }
         if let Some(name) = TextName::read(word) {

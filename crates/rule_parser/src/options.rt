@@ -3,6 +3,7 @@ ghost use Rattle.std.specs.Prelude.{◌≡◌, option_copied};
 ghost use Rattle.net_lists.specs.Stops.{Gives};
 ghost use Rattle.rule_parser.specs.Bits.{GivesWith, Begins};
 ghost use Rattle.rule_parser.specs.RuleOption.{text_option, modifier_option, payload_option, session_option, no_name, named_option, rule_option};
+ghost use Rattle.rule_parser.specs.Drafts.{with_new};
 
 use crate::bits::BitNames;
 use crate::byte_options::{
@@ -33,14 +34,14 @@ use std::alloc::Global;
 pub(crate) fn text_option(
     alloc: Global,
     classes: &Classes,
-    draft: Draft,
+    draft: &mut Draft,
     name: TextName,
     value: Option<&[u8]>,
-) -> Result<Draft, Stop<Fault>>
-    ensures { Gives result (text_option classes.now draft name (option_copied value.entry)) }
+) -> Result<(), Stop<Fault>>
+    ensures { Gives (with_new result draft.new) (text_option classes.now draft.old name (option_copied value.entry)) }
 {
     if name == TextName::Ignored {
-        return Ok(draft);
+        return Ok(());
     }
     let value = value.ok_or(Fault::OptionValue)?;
     match name {
@@ -50,19 +51,19 @@ pub(crate) fn text_option(
         TextName::Rev => Ok(rev_option(draft, value)?),
         TextName::Priority => Ok(priority_option(draft, value)?),
         TextName::Classtype => Ok(classtype_option(classes, draft, value)?),
-        TextName::Ignored => Ok(draft),
+        TextName::Ignored => Ok(()),
     }
 }
 
 /// Modifiers of the last content.
 #[tactic(auto, unfolding(crate::specs::RuleOption::modifier_option))]
 pub(crate) fn modifier_option(
-    draft: Draft,
+    draft: &mut Draft,
     name: Modifier,
     left: usize,
     value: Option<&[u8]>,
-) -> Result<Draft, Fault>
-    ensures { result ≡ modifier_option draft name left (option_copied value.entry) }
+) -> Result<(), Fault>
+    ensures { with_new result draft.new ≡ modifier_option draft.old name left (option_copied value.entry) }
 {
     match name {
         Modifier::Nocase => nocase_option(draft, value),
@@ -79,12 +80,12 @@ pub(crate) fn modifier_option(
 #[tactic(auto, unfolding(crate::specs::RuleOption::payload_option))]
 pub(crate) fn payload_option(
     alloc: Global,
-    draft: Draft,
+    draft: &mut Draft,
     name: PayloadName,
     left: usize,
     value: &[u8],
-) -> Result<Draft, Stop<Fault>>
-    ensures { Gives result (payload_option draft name left value.now) }
+) -> Result<(), Stop<Fault>>
+    ensures { Gives (with_new result draft.new) (payload_option draft.old name left value.now) }
 {
     match name {
         PayloadName::Content => content_option(alloc, draft, value),
@@ -99,11 +100,11 @@ pub(crate) fn payload_option(
 /// Tests of a session, and of a packet as a whole.
 #[tactic(auto, unfolding(crate::specs::RuleOption::session_option))]
 pub(crate) fn session_option(
-    draft: Draft,
+    draft: &mut Draft,
     name: SessionName,
     value: Option<&[u8]>,
-) -> Result<Draft, Stop<Fault>>
-    ensures { Gives result (session_option draft name (option_copied value.entry)) }
+) -> Result<(), Stop<Fault>>
+    ensures { Gives (with_new result draft.new) (session_option draft.old name (option_copied value.entry)) }
 {
     if name == SessionName::SameIp {
         return sameip_option(draft, value);
@@ -115,7 +116,7 @@ pub(crate) fn session_option(
         SessionName::FragBits => fragbits_option(draft, value),
         SessionName::DetectionFilter => Ok(detection_filter_option(draft, value)?),
         SessionName::Dsize => dsize_option(draft, value),
-        SessionName::SameIp => Ok(draft),
+        SessionName::SameIp => Ok(()),
         SessionName::StreamSize => stream_size_option(draft, value),
         SessionName::StreamReassemble => stream_reassemble_option(draft, value),
     }
@@ -140,12 +141,12 @@ fn named_option(
     alloc: Global,
     classes: &Classes,
     bits: &mut BitNames,
-    draft: Draft,
+    draft: &mut Draft,
     name: Name,
     left: usize,
     value: Option<&[u8]>,
-) -> Result<Draft, Stop<Fault>>
-    ensures gives { GivesWith result bits.new (named_option classes.now bits.old draft left (option_copied value.entry) name) }
+) -> Result<(), Stop<Fault>>
+    ensures gives { GivesWith (with_new result draft.new) bits.new (named_option classes.now bits.old draft.old left (option_copied value.entry) name) }
     ensures begins { Begins bits.old bits.new }
 {
     match name {
@@ -173,11 +174,11 @@ pub(crate) fn rule_option(
     alloc: Global,
     classes: &Classes,
     bits: &mut BitNames,
-    draft: Draft,
+    draft: &mut Draft,
     left: usize,
     text: &[u8],
-) -> Result<Draft, Stop<Fault>>
-    ensures gives { GivesWith result bits.new (rule_option classes.now bits.old draft left text.now) }
+) -> Result<(), Stop<Fault>>
+    ensures gives { GivesWith (with_new result draft.new) bits.new (rule_option classes.now bits.old draft.old left text.now) }
     ensures begins { Begins bits.old bits.new }
 {
     let option = written(left, text);

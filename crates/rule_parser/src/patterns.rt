@@ -3,6 +3,7 @@ ghost use Rattle.std.specs.Prelude.{◌≡◌, ◌≤◌, ◌+◌, length, optio
 ghost use Rattle.std.specs.List.{list_all, suffix_len};
 ghost use Rattle.net_lists.specs.Stops.{Gives};
 ghost use Rattle.rule_parser.specs.Patterns.{no_flags, no_flag, with_flag, flags_of, pattern_flags, is_no_slash, slashed, is_ascii, expression_of, pcre, pcre_option};
+ghost use Rattle.rule_parser.specs.Drafts.{with_new};
 
 use crate::Opt;
 use crate::contents::negation;
@@ -194,9 +195,9 @@ fn pcre(alloc: Global, value: &[u8]) -> Result<Opt, Stop<Fault>>
 }
 
 #[tactic(auto, unfolding(crate::specs::Patterns::pcre_option))]
-pub(crate) fn pcre_option(alloc: Global, draft: Draft, value: &[u8]) -> Result<Draft, Stop<Fault>>
-    ensures { Gives result (pcre_option draft value.now) }
+pub(crate) fn pcre_option(alloc: Global, draft: &mut Draft, value: &[u8]) -> Result<(), Stop<Fault>>
+    ensures { Gives (with_new result draft.new) (pcre_option draft.old value.now) }
 {
     let option = pcre(alloc, value)?;
-    draft.kept(option)
+    draft.keep(option)
 }

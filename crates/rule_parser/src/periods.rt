@@ -2,10 +2,12 @@
 ghost use Rattle.std.specs.Prelude.{◌≡◌, MatchResult, Ok, Err};
 ghost use Rattle.net_lists.specs.Cutting.{comma_parts};
 ghost use Rattle.rule_parser.specs.Periods.{behind_key, tracked, counted, period_parts, detection_filter_option};
+ghost use Rattle.rule_parser.specs.Drafts.{with_new};
 
 use crate::Period;
 use crate::draft::Draft;
 use crate::fault::Fault;
+use crate::word::is;
 use net_lists::{Parts, first_word, number_in};
 
 /// What stands behind this word in a part.
@@ -27,9 +29,9 @@ fn behind_key<'a>(key: &[u8], part: &'a [u8]) -> Result<&'a [u8], Fault>
 fn tracked(side: &[u8]) -> Result<bool, Fault>
     ensures { result ≡ tracked side.now }
 {
-    if side == b"by_src".as_slice() {
+    if is(side, b"by_src") {
         Ok(true)
-    } else if side == b"by_dst".as_slice() {
+    } else if is(side, b"by_dst") {
         Ok(false)
     } else {
         Err(Fault::OptionValue)
@@ -71,15 +73,13 @@ fn period_of(value: &[u8]) -> Result<Period, Fault>
 }
 
 #[tactic(auto, unfolding(crate::specs::Periods::detection_filter_option))]
-pub(crate) fn detection_filter_option(draft: Draft, value: &[u8]) -> Result<Draft, Fault>
-    ensures { result ≡ detection_filter_option draft value.now }
+pub(crate) fn detection_filter_option(draft: &mut Draft, value: &[u8]) -> Result<(), Fault>
+    ensures { with_new result draft.new ≡ detection_filter_option draft.old value.now }
 {
     let period = period_of(value)?;
     if draft.period.is_some() {
         return Err(Fault::OptionValue);
     }
-    Ok(Draft {
-        period: Some(period),
-        ..draft
-    })
+    draft.period = Some(period);
+    Ok(())
 }

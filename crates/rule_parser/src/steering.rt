@@ -3,9 +3,11 @@ ghost use Rattle.std.specs.Prelude.{◌≡◌};
 ghost use Rattle.net_lists.specs.Cutting.{comma_parts};
 ghost use Rattle.net_lists.specs.Stops.{Gives};
 ghost use Rattle.rule_parser.specs.Steering.{side_of, sized_side, size_cmp, size_parts, stream_size_option, switched, quiet, quiet_end, reassemble_parts, stream_reassemble_option};
+ghost use Rattle.rule_parser.specs.Drafts.{with_new};
 
 use crate::draft::Draft;
 use crate::fault::Fault;
+use crate::word::is;
 use crate::{Cmp, Opt, Side};
 use net_lists::{Parts, Stop, number_in};
 
@@ -14,13 +16,13 @@ use net_lists::{Parts, Stop, number_in};
 fn side_of(text: &[u8]) -> Result<Side, Fault>
     ensures { result ≡ side_of text.now }
 {
-    if text == b"client".as_slice() {
+    if is(text, b"client") {
         Ok(Side::Client)
-    } else if text == b"server".as_slice() {
+    } else if is(text, b"server") {
         Ok(Side::Server)
-    } else if text == b"both".as_slice() {
+    } else if is(text, b"both") {
         Ok(Side::Both)
-    } else if text == b"fastpath".as_slice() {
+    } else if is(text, b"fastpath") {
         Err(Fault::OutsideProfile)
     } else {
         Err(Fault::OptionValue)
@@ -32,9 +34,9 @@ fn side_of(text: &[u8]) -> Result<Side, Fault>
 fn sized_side(text: &[u8]) -> Result<Side, Fault>
     ensures { result ≡ sized_side text.now }
 {
-    if text == b"either".as_slice() {
+    if is(text, b"either") {
         Ok(Side::Either)
-    } else if text == b"fastpath".as_slice() {
+    } else if is(text, b"fastpath") {
         Err(Fault::OptionValue)
     } else {
         side_of(text)
@@ -46,17 +48,17 @@ fn sized_side(text: &[u8]) -> Result<Side, Fault>
 fn size_cmp(text: &[u8]) -> Result<Cmp, Fault>
     ensures { result ≡ size_cmp text.now }
 {
-    if text == b"<".as_slice() {
+    if is(text, b"<") {
         Ok(Cmp::Lt)
-    } else if text == b">".as_slice() {
+    } else if is(text, b">") {
         Ok(Cmp::Gt)
-    } else if text == b"=".as_slice() {
+    } else if is(text, b"=") {
         Ok(Cmp::Eq)
-    } else if text == b"!=".as_slice() {
+    } else if is(text, b"!=") {
         Ok(Cmp::Ne)
-    } else if text == b"<=".as_slice() {
+    } else if is(text, b"<=") {
         Ok(Cmp::Le)
-    } else if text == b">=".as_slice() {
+    } else if is(text, b">=") {
         Ok(Cmp::Ge)
     } else {
         Err(Fault::OptionValue)
@@ -84,11 +86,11 @@ fn stream_size(value: &[u8]) -> Result<Opt, Fault>
 }
 
 #[tactic(auto, unfolding(crate::specs::Steering::stream_size_option))]
-pub(crate) fn stream_size_option(draft: Draft, value: &[u8]) -> Result<Draft, Stop<Fault>>
-    ensures { Gives result (stream_size_option draft value.now) }
+pub(crate) fn stream_size_option(draft: &mut Draft, value: &[u8]) -> Result<(), Stop<Fault>>
+    ensures { Gives (with_new result draft.new) (stream_size_option draft.old value.now) }
 {
     let option = stream_size(value)?;
-    draft.kept(option)
+    draft.keep(option)
 }
 
 /// On or off.
@@ -96,11 +98,11 @@ pub(crate) fn stream_size_option(draft: Draft, value: &[u8]) -> Result<Draft, St
 fn switched(text: &[u8]) -> Result<bool, Fault>
     ensures { result ≡ switched text.now }
 {
-    if text == b"enable".as_slice() {
+    if is(text, b"enable") {
         Ok(true)
-    } else if text == b"disable".as_slice() {
+    } else if is(text, b"disable") {
         Ok(false)
-    } else if text == b"fastpath".as_slice() {
+    } else if is(text, b"fastpath") {
         Err(Fault::OutsideProfile)
     } else {
         Err(Fault::OptionValue)
@@ -115,16 +117,16 @@ fn quiet(mut rest: Parts) -> Result<bool, Fault>
     let Some(first) = rest.next() else {
         return Ok(false);
     };
-    if first == b"fastpath".as_slice() {
+    if is(first, b"fastpath") {
         return Err(Fault::OutsideProfile);
     }
-    if first != b"noalert".as_slice() {
+    if !is(first, b"noalert") {
         return Err(Fault::OptionValue);
     }
     let Some(next) = rest.next() else {
         return Ok(true);
     };
-    if next == b"fastpath".as_slice() {
+    if is(next, b"fastpath") {
         return Err(Fault::OutsideProfile);
     }
     Err(Fault::OptionValue)
@@ -145,13 +147,10 @@ fn stream_reassemble(value: &[u8]) -> Result<(bool, Side, bool), Fault>
 }
 
 #[tactic(auto, unfolding(crate::specs::Steering::stream_reassemble_option))]
-pub(crate) fn stream_reassemble_option(draft: Draft, value: &[u8]) -> Result<Draft, Stop<Fault>>
-    ensures { Gives result (stream_reassemble_option draft value.now) }
+pub(crate) fn stream_reassemble_option(draft: &mut Draft, value: &[u8]) -> Result<(), Stop<Fault>>
+    ensures { Gives (with_new result draft.new) (stream_reassemble_option draft.old value.now) }
 {
     let (on, side, noalert) = stream_reassemble(value)?;
-    Draft {
-        noalert: draft.noalert || noalert,
-        ..draft
-    }
-    .kept(Opt::Reassemble { on, side })
+    draft.noalert = draft.noalert || noalert;
+    draft.keep(Opt::Reassemble { on, side })
 }

@@ -3,6 +3,7 @@ ghost use Rattle.std.specs.Prelude.{◌≡◌, MatchResult, Ok, Err};
 ghost use Rattle.net_lists.specs.Stops.{Gives};
 ghost use Rattle.rule_parser.specs.Texts.{once, gid_option, sid_option, rev_option, priority_option, quoted_whole, message, msg_option, class_named, classtype_option};
 ghost use Rattle.conf_types.specs.Classes.{class_place};
+ghost use Rattle.rule_parser.specs.Drafts.{with_new};
 
 use crate::draft::{ClassName, Draft};
 use crate::fault::Fault;
@@ -28,47 +29,39 @@ fn once(before: Option<u32>, least: u32, value: &[u8]) -> Result<u32, Fault>
 }
 
 #[tactic(auto, unfolding(crate::specs::Texts::gid_option))]
-pub(crate) fn gid_option(draft: Draft, value: &[u8]) -> Result<Draft, Fault>
-    ensures { result ≡ gid_option draft value.now }
+pub(crate) fn gid_option(draft: &mut Draft, value: &[u8]) -> Result<(), Fault>
+    ensures { with_new result draft.new ≡ gid_option draft.old value.now }
 {
     let gid = once(draft.gid, 1, value)?;
-    Ok(Draft {
-        gid: Some(gid),
-        ..draft
-    })
+    draft.gid = Some(gid);
+    Ok(())
 }
 
 #[tactic(auto, unfolding(crate::specs::Texts::sid_option))]
-pub(crate) fn sid_option(draft: Draft, value: &[u8]) -> Result<Draft, Fault>
-    ensures { result ≡ sid_option draft value.now }
+pub(crate) fn sid_option(draft: &mut Draft, value: &[u8]) -> Result<(), Fault>
+    ensures { with_new result draft.new ≡ sid_option draft.old value.now }
 {
     let sid = once(draft.sid, 1, value)?;
-    Ok(Draft {
-        sid: Some(sid),
-        ..draft
-    })
+    draft.sid = Some(sid);
+    Ok(())
 }
 
 #[tactic(auto, unfolding(crate::specs::Texts::rev_option))]
-pub(crate) fn rev_option(draft: Draft, value: &[u8]) -> Result<Draft, Fault>
-    ensures { result ≡ rev_option draft value.now }
+pub(crate) fn rev_option(draft: &mut Draft, value: &[u8]) -> Result<(), Fault>
+    ensures { with_new result draft.new ≡ rev_option draft.old value.now }
 {
     let rev = once(draft.rev, 0, value)?;
-    Ok(Draft {
-        rev: Some(rev),
-        ..draft
-    })
+    draft.rev = Some(rev);
+    Ok(())
 }
 
 #[tactic(auto, unfolding(crate::specs::Texts::priority_option))]
-pub(crate) fn priority_option(draft: Draft, value: &[u8]) -> Result<Draft, Fault>
-    ensures { result ≡ priority_option draft value.now }
+pub(crate) fn priority_option(draft: &mut Draft, value: &[u8]) -> Result<(), Fault>
+    ensures { with_new result draft.new ≡ priority_option draft.old value.now }
 {
     let priority = once(draft.priority, 0, value)?;
-    Ok(Draft {
-        priority: Some(priority),
-        ..draft
-    })
+    draft.priority = Some(priority);
+    Ok(())
 }
 
 /// What stands between quotes behind which nothing stands.
@@ -101,14 +94,12 @@ fn message(alloc: Global, stands: bool, value: &[u8]) -> Result<Text, Stop<Fault
 }
 
 #[tactic(auto, unfolding(crate::specs::Texts::msg_option))]
-pub(crate) fn msg_option(alloc: Global, draft: Draft, value: &[u8]) -> Result<Draft, Stop<Fault>>
-    ensures { Gives result (msg_option draft value.now) }
+pub(crate) fn msg_option(alloc: Global, draft: &mut Draft, value: &[u8]) -> Result<(), Stop<Fault>>
+    ensures { Gives (with_new result draft.new) (msg_option draft.old value.now) }
 {
     let msg = message(alloc, draft.msg.is_some(), value)?;
-    Ok(Draft {
-        msg: Some(msg),
-        ..draft
-    })
+    draft.msg = Some(msg);
+    Ok(())
 }
 
 /// The class of a name among the configuration's.
@@ -124,17 +115,15 @@ fn class_named(place: Option<u32>) -> ClassName
 #[tactic(auto, unfolding(crate::specs::Texts::classtype_option))]
 pub(crate) fn classtype_option(
     classes: &Classes,
-    draft: Draft,
+    draft: &mut Draft,
     value: &[u8],
-) -> Result<Draft, Fault>
-    ensures { result ≡ classtype_option (class_place classes.now) draft value.now }
+) -> Result<(), Fault>
+    ensures { with_new result draft.new ≡ classtype_option (class_place classes.now) draft.old value.now }
 {
     if value.is_empty() || draft.class.is_some() {
         return Err(Fault::OptionValue);
     }
     let class = class_named(classes.find(value));
-    Ok(Draft {
-        class: Some(class),
-        ..draft
-    })
+    draft.class = Some(class);
+    Ok(())
 }
