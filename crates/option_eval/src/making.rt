@@ -9,7 +9,7 @@ use crate::made::Made;
 use edge_io::{MakeFault, NoMemory, PatternFlags, PatternMaker, Text};
 use memchr::memmem::Finder;
 use rule_types::{Content, Opt};
-use std::alloc::Global;
+use std::alloc::{AllocFailed, Global};
 
 /// Why a rule was not pushed.
 #[derive(Clone, Copy, Debug, PartialEq, Eq)]
@@ -18,6 +18,16 @@ pub enum PushFault {
     Refused,
     /// Memory ran out.
     NoMemory,
+}
+
+impl<T: Drop> From<AllocFailed<T>> for PushFault {
+    ghost use Rattle.option_eval.specs.declared.making.PushFault.TheVariants.{NoMemory as out_of_memory};
+
+    ghost from_gives = { λ _ fault. fault ≡ out_of_memory };
+
+    fn from(_error: AllocFailed<T>) -> PushFault {
+        PushFault::NoMemory
+    }
 }
 
 /// A search for the content's bytes.
@@ -44,8 +54,8 @@ fn pattern<M: PatternMaker>(
 {
     match std::str::from_utf8(text.bytes()) {
         Ok(text) => maker.make(alloc, text, flags),
-        // ASCII is UTF-8, so this is never taken.
-        Err(_) => Err(MakeFault::NoMemory),
+        // ASCII is UTF-8.
+        Err(_) => unreachable!(),
     }
 }
 
@@ -95,9 +105,7 @@ pub(crate) fn make_all<M: PatternMaker>(
     let mut made = Vec::new(alloc);
     for option in options {
         let one = make_one(alloc, option, maker)?;
-        if made.push(one).is_err() {
-            return Err(PushFault::NoMemory);
-        }
+        made.push(one)?;
     }
     Ok(made)
 }

@@ -65,14 +65,14 @@ impl<P> RuleSet<P> {
         ensures unchanged { result ≡ Err PushFault.NoMemory → self.new ≡ self.old }
         ensures no_memory { IsOkUnless result PushFault.NoMemory }
     {
-        if self.made.push(made).is_err() {
-            return Err(PushFault::NoMemory);
+        self.made.push(made)?;
+        match self.rules.push(rule) {
+            Ok(()) => Ok(()),
+            Err(error) => {
+                let _ = self.made.pop();
+                Err(error.into())
+            }
         }
-        if self.rules.push(rule).is_err() {
-            let _ = self.made.pop();
-            return Err(PushFault::NoMemory);
-        }
-        Ok(())
     }
 
     /// The rules, in the order in which they were pushed.

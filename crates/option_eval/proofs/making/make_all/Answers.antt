@@ -15,7 +15,7 @@ loop-option-preserved g c =
     let one = c.in_ok-one.one in
     let means = g.M.PatternMaker.means c.args.maker.now in
     let more : take (i + 1) options ≡ take i options ++ o ∷ [] = take_more options i o (omega (arith, c.loop-option-test.true)) ∙ ap (λ (x : Opt). take i options ++ x ∷ []) (sym c.option-item.is) in
-    let pushed : c.push.new.self.items ≡ c.loop-option.made.items ++ one ∷ [] = rw c.if-is_err.ensures.negation at c.push.ensures.items in
+    let pushed : c.push.new.self.items ≡ c.loop-option.made.items ++ one ∷ [] = c.in_ok-push.ensures.items in
     let found = c.in_ok-one.ensures.found in
     record {
       ready = rw (more, pushed) (zip_push (IsReady {P = g.row.M-Made.Denot}) (take i options) c.loop-option.made.items o one old.ready c.in_ok-one.ensures.ready);
