@@ -112,7 +112,7 @@ fn load_stop(name: Text, at: At, output: Output, fault: LoadFault) -> Stopped
         LoadFault::NoMemory => Stopped::NoMemory,
         LoadFault::TooLarge => match too_large(name, at, output) {
             Ok(stopped) => stopped,
-            Err(_) => Stopped::NoMemory,
+            Err(NoMemory) => Stopped::NoMemory,
         },
     }
 }
@@ -380,8 +380,9 @@ pub fn load<H: Host>(
     ensures quiet { UnlessHostFailed (H.faults host.new ≡ H.faults host.old) result }
     ensures later { H.faults host.old ≤ H.faults host.new }
 {
-    let Ok(first) = Text::copy(alloc, name.as_bytes()) else {
-        return Err(LoadStop::NoMemory);
+    let first = match Text::copy(alloc, name.as_bytes()) {
+        Ok(first) => first,
+        Err(NoMemory) => return Err(LoadStop::NoMemory),
     };
     let at = At { file: 0, line: 0 };
     let before = nothing_read(alloc, mem::replace(vars, Vars::new(alloc)));

@@ -8,8 +8,8 @@ use Rattle.conf_parser.proofs.Placing.{stand-in}
 use Rattle.conf_parser.proofs.SoundnessReading.{loading-sound}
 use Rattle.conf_parser.proofs.loading.load.Goals as goal
 
-pub returns-in_default-clause-reading_seen : goal.returns-in_default-clause-reading_seen
-returns-in_default-clause-reading_seen g c = λ seen may. record { seen = seen_by seen; tells = tells-seen_by seen; ends = tt }
+pub returns-in-Err-clause-reading_seen : goal.returns-in-Err-clause-reading_seen
+returns-in-Err-clause-reading_seen g c = λ seen may. record { seen = seen_by seen; tells = tells-seen_by seen; ends = tt }
 
 pub read_file-requires-clause-name : goal.read_file-requires-clause-name
 read_file-requires-clause-name g c =
@@ -29,24 +29,24 @@ returns-in-Ok-read_file-clause-agreed g c = λ files agree.
     (c.in-Ok.ensures ∙ c.as_bytes.ensures.value) (c.nothing_read-before.ensures ∙ ap nothing_read c.replace.ensures.value) (c.in-Ok-read_file.ensures.goes (Some files) agree))
     c.hand_out.ensures.vars c.hand_out.ensures.out
 
-pub returns-in-Err-clause-reading_seen : goal.returns-in-Err-clause-reading_seen
-returns-in-Err-clause-reading_seen g c = λ seen may.
-    loading-stopped (Unit {0}) seen c.args.name.now c.args.vars.now c.in-Err.stopped c.stop_out.result c.replace.new.dest c.stop_out.new.out
-    (first-goes seen c.args.name.now c.in-Ok.first c.args.vars.now c.nothing_read-before.result (stopped_at c.in-Err.stopped)
-    (c.in-Ok.ensures ∙ c.as_bytes.ensures.value) (c.nothing_read-before.ensures ∙ ap nothing_read c.replace.ensures.value) (c.in-Err.ensures.goes seen may))
+pub returns-in-Err-read_file-clause-reading_seen : goal.returns-in-Err-read_file-clause-reading_seen
+returns-in-Err-read_file-clause-reading_seen g c = λ seen may.
+    loading-stopped (Unit {0}) seen c.args.name.now c.args.vars.now c.in-Err-read_file.stopped c.stop_out.result c.replace.new.dest c.stop_out.new.out
+    (first-goes seen c.args.name.now c.in-Ok.first c.args.vars.now c.nothing_read-before.result (stopped_at c.in-Err-read_file.stopped)
+    (c.in-Ok.ensures ∙ c.as_bytes.ensures.value) (c.nothing_read-before.ensures ∙ ap nothing_read c.replace.ensures.value) (c.in-Err-read_file.ensures.goes seen may))
     c.stop_out.ensures
 
-pub returns-in-Err-clause-agreed : goal.returns-in-Err-clause-agreed
-returns-in-Err-clause-agreed g c = λ files agree.
+pub returns-in-Err-read_file-clause-agreed : goal.returns-in-Err-read_file-clause-agreed
+returns-in-Err-read_file-clause-agreed g c = λ files agree.
     let host = c.read_file.new.host in
-    told-stopped (Unit {0}) (Rose (g.H.Host.faults c.args.host.now) (g.H.Host.faults c.read_file.new.host)) (Some files) files c.args.name.now c.args.vars.now c.in-Err.stopped c.stop_out.result c.replace.new.dest c.stop_out.new.out refl
-    (first-goes (Some files) c.args.name.now c.in-Ok.first c.args.vars.now c.nothing_read-before.result (stopped_at c.in-Err.stopped)
-    (c.in-Ok.ensures ∙ c.as_bytes.ensures.value) (c.nothing_read-before.ensures ∙ ap nothing_read c.replace.ensures.value) (c.in-Err.ensures.goes (Some files) agree))
-    (seen_cause _ (g.H.Host.contents c.args.host.now) (g.H.Host.contents host) (g.H.Host.left host) (g.H.Host.agrees host) (g.H.Host.left_of host) c.in-Err.stopped (Some files)
-    (g.met.H.Host.as_told host) c.read_file.ensures.same.0 agree c.in-Err.ensures.cause) c.stop_out.ensures
+    told-stopped (Unit {0}) (Rose (g.H.Host.faults c.args.host.now) (g.H.Host.faults c.read_file.new.host)) (Some files) files c.args.name.now c.args.vars.now c.in-Err-read_file.stopped c.stop_out.result c.replace.new.dest c.stop_out.new.out refl
+    (first-goes (Some files) c.args.name.now c.in-Ok.first c.args.vars.now c.nothing_read-before.result (stopped_at c.in-Err-read_file.stopped)
+    (c.in-Ok.ensures ∙ c.as_bytes.ensures.value) (c.nothing_read-before.ensures ∙ ap nothing_read c.replace.ensures.value) (c.in-Err-read_file.ensures.goes (Some files) agree))
+    (seen_cause _ (g.H.Host.contents c.args.host.now) (g.H.Host.contents host) (g.H.Host.left host) (g.H.Host.agrees host) (g.H.Host.left_of host) c.in-Err-read_file.stopped (Some files)
+    (g.met.H.Host.as_told host) c.read_file.ensures.same.0 agree c.in-Err-read_file.ensures.cause) c.stop_out.ensures
 
-pub returns-in_default-clause-reading : goal.returns-in_default-clause-reading
-returns-in_default-clause-reading g c = record { seen = seen_by (g.H.Host.contents c.args.host.now); tells = tells-seen_by (g.H.Host.contents c.args.host.now); ends = tt }
+pub returns-in-Err-clause-reading : goal.returns-in-Err-clause-reading
+returns-in-Err-clause-reading g c = record { seen = seen_by (g.H.Host.contents c.args.host.now); tells = tells-seen_by (g.H.Host.contents c.args.host.now); ends = tt }
 
 pub returns-in-Ok-read_file-clause-reading : goal.returns-in-Ok-read_file-clause-reading
 returns-in-Ok-read_file-clause-reading g c =
@@ -60,25 +60,25 @@ returns-in-Ok-read_file-clause-told g c = λ files is.
     returns-in-Ok-read_file-clause-agreed g c files
     (rw is at (told_before (g.H.Host.contents c.args.host.now) (g.H.Host.contents host) (g.H.Host.left host) (g.H.Host.agrees host) (g.H.Host.left_of host) (g.met.H.Host.as_told host) c.read_file.ensures.same.0))
 
-pub returns-in-Err-clause-reading : goal.returns-in-Err-clause-reading
-returns-in-Err-clause-reading g c =
+pub returns-in-Err-read_file-clause-reading : goal.returns-in-Err-read_file-clause-reading
+returns-in-Err-read_file-clause-reading g c =
     let host = c.read_file.new.host in
-    returns-in-Err-clause-reading_seen g c (g.H.Host.contents c.args.host.now)
+    returns-in-Err-read_file-clause-reading_seen g c (g.H.Host.contents c.args.host.now)
     (told_before (g.H.Host.contents c.args.host.now) (g.H.Host.contents host) (g.H.Host.left host) (g.H.Host.agrees host) (g.H.Host.left_of host) (g.met.H.Host.as_told host) c.read_file.ensures.same.0)
 
-pub returns-in-Err-clause-told : goal.returns-in-Err-clause-told
-returns-in-Err-clause-told g c = λ files is.
+pub returns-in-Err-read_file-clause-told : goal.returns-in-Err-read_file-clause-told
+returns-in-Err-read_file-clause-told g c = λ files is.
     let host = c.read_file.new.host in
-    returns-in-Err-clause-agreed g c files
+    returns-in-Err-read_file-clause-agreed g c files
     (rw is at (told_before (g.H.Host.contents c.args.host.now) (g.H.Host.contents host) (g.H.Host.left host) (g.H.Host.agrees host) (g.H.Host.left_of host) (g.met.H.Host.as_told host) c.read_file.ensures.same.0))
 
 pub returns-in-Ok-read_file-clause-places : goal.returns-in-Ok-read_file-clause-places
 returns-in-Ok-read_file-clause-places g c =
     stand-in (g.H.Host.contents c.args.host.now) c.args.name.now c.args.vars.now (Ok (tt {0})) c.hand_out.new.vars c.hand_out.new.out (returns-in-Ok-read_file-clause-reading g c)
 
-pub returns-in-Err-clause-places : goal.returns-in-Err-clause-places
-returns-in-Err-clause-places g c =
-    stand-in {A = Unit {0}} (g.H.Host.contents c.args.host.now) c.args.name.now c.args.vars.now (Err c.stop_out.result) c.replace.new.dest c.stop_out.new.out (returns-in-Err-clause-reading g c)
+pub returns-in-Err-read_file-clause-places : goal.returns-in-Err-read_file-clause-places
+returns-in-Err-read_file-clause-places g c =
+    stand-in {A = Unit {0}} (g.H.Host.contents c.args.host.now) c.args.name.now c.args.vars.now (Err c.stop_out.result) c.replace.new.dest c.stop_out.new.out (returns-in-Err-read_file-clause-reading g c)
 
 pub returns-in-Ok-read_file-clause-sound : goal.returns-in-Ok-read_file-clause-sound
 returns-in-Ok-read_file-clause-sound g c =
