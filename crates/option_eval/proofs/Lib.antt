@@ -5,6 +5,7 @@ pub mod Digits
 pub mod Stating
 pub mod Staying
 pub mod Extracting
+pub mod Few
 pub mod Forgetting
 pub mod Knowing
 pub mod Leading
@@ -15,4 +16,6 @@ pub mod Rising
 pub mod Spans
 pub mod Stepping
 pub mod Sweeping
+pub mod Values
+pub mod Visits
 pub mod Walking

@@ -7,6 +7,7 @@ pub mod Sets
 pub mod Kinds
 pub mod Next
 pub mod Walks
+pub mod Values
 pub mod Kept
 pub mod States
 pub mod Absent

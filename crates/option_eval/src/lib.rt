@@ -15,6 +15,7 @@ mod fetch;
 mod kept;
 mod kind;
 mod known;
+mod laws;
 mod leads;
 mod made;
 mod making;
@@ -30,6 +31,7 @@ mod steps;
 mod sweep;
 mod walk;
 
+pub use laws::{extracted_values_are_few, most_visits_are_a_power};
 pub use making::PushFault;
 pub use rule_set::{RuleSet, payload_matches};
 pub use steps::Steps;

@@ -1,10 +1,12 @@
 use Rattle.std.proofs.Common.{◌≡◌, ◌<◌, length, map, arith, get_or, sym, ap, subst}
+use Rattle.std.proofs.lemmas.List.{get_or_default}
 use Rattle.std.proofs.lemmas.Result.{IfOk-weaker}
 use Rattle.std.specs.List.{AllZip}
 use Rattle.option_eval.specs.Ready.{IsReady, pattern_of}
 use Rattle.option_eval.specs.RuleSet.{AreMade, Rules}
 use Rattle.option_eval.proofs.Chosen.{zip_length, zip_at, zip_map_at, same_at, way_start}
 use Rattle.option_eval.proofs.rule_set.payload_matches.Goals as goal
+use Rattle.option_eval.proofs.Visits.{visits_few}
 
 pub index-made-requires : goal.index-made-requires
 index-made-requires g c =
@@ -53,3 +55,10 @@ returns-clause-bounded_in_parts g c = λ means chosen lists finds at each.
     let served = rw (← c.as_slice.ensures, ← c.deref.ensures.value) at made in
     let had = rw (is, ← c.as_slice.ensures) at each in
     rw (is, ← c.as_slice.ensures) (c.is_passed.ensures.bounded_in_parts means lists served had)
+
+pub returns-clause-bounded_by_rule : goal.returns-clause-bounded_by_rule
+returns-clause-bounded_by_rule g c = λ means chosen finds at.
+    visits_few means c.args.payload.now chosen.opts c.args.visits.now c.is_passed.new.visits
+    (λ k d h. omega (arith, c.type_inv.payload k, get_or_default c.args.payload.now k d 0 h))
+    (λ lists listed each few. returns-clause-bounded_by_values g c means chosen lists listed finds at each few)
+    (λ lists each. returns-clause-bounded_in_parts g c means chosen lists finds at each)
