@@ -8,3 +8,4 @@ pub mod Wholes
 pub mod Seeing
 pub mod Few
 pub mod Configuring
+pub mod SkippedLines

@@ -44,7 +44,7 @@ module _ (frame : Frame) (names : List (List ℕ)) (text : List ℕ) where
       ⊎_elim (λ memory. absurd (not_a memory)) (λ (other, same, as_well). cc) (answers-as frame.variables frame.classes names text (Err a) names x (Err why) is)
 
 -- so it gives one verdict
-verdict-one : (frame : Frame) (standing : Standing) (is_refused : Bool) (text : List ℕ) (a b : Verdict) → LineGives frame standing is_refused text a → LineGives frame standing is_refused text b → a ≡ b
+pub verdict-one : (frame : Frame) (standing : Standing) (is_refused : Bool) (text : List ℕ) (a b : Verdict) → LineGives frame standing is_refused text a → LineGives frame standing is_refused text b → a ≡ b
 unfolding LineGives
 verdict-one frame standing is_refused text a b (inl (rule, later, x, same)) (inl (other, behind, y, as_well)) =
     let (rules, names) = rule-one frame standing.names text rule other later behind x y in cc

@@ -9,3 +9,4 @@ pub mod Numbers
 pub mod Steps
 pub mod Lines
 pub mod Whole
+pub mod SkippedLines

@@ -3,6 +3,7 @@
 
 mod accepted;
 mod conf;
+mod laws;
 mod message;
 mod number;
 mod rules;
@@ -11,6 +12,7 @@ mod stop;
 mod table;
 mod words;
 
+pub use laws::skipped_lines_only_warn;
 pub use setup::{Setup, read_setup};
 pub use stop::SetupStop;
 pub use words::SetupWords;
