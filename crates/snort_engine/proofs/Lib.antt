@@ -4,6 +4,10 @@ pub mod Limits
 pub mod LinesLaws
 pub mod Reading
 pub mod Opening
+pub mod CutSavefiles
+pub mod CutBlocks
+pub mod CutCaptures
+pub mod CutAnswers
 pub mod Stops
 pub mod Quiet
 pub mod Texts

@@ -31,6 +31,7 @@ mod plan;
 mod prepare;
 mod reader;
 mod report;
+mod run_laws;
 mod sources;
 mod status;
 mod stop;
@@ -39,4 +40,5 @@ mod watch;
 
 pub use detector::run;
 pub use laws::first_lines_stand;
+pub use run_laws::limits_cut_captures;
 pub use status::Status;

@@ -1,0 +1,92 @@
+-- Where the first records of a savefile end: the shortest beginning of the bytes that holds them.
+use Rattle.std.proofs.Common.{◌≡◌, ℕ, zero, suc, ◌+◌, ◌<◌, ◌≤◌, List, [], ◌∷◌, ◌++◌, length, take, refl, sym, ap, ◌∙◌, append_assoc, length-append, arith}
+use Rattle.pcap_input.specs.declared.capture.CaptureHead.{CaptureHead}
+use Rattle.pcap_input.specs.declared.capture.Record.{Record}
+use Rattle.pcap_input.specs.Savefile.{Ending, Clean, Next, Ends, Stands, next_of, Cut, with_first, place_behind, record_header, records_left}
+use Rattle.pcap_input.proofs.Laws.{next_of_nothing}
+use Rattle.pcap_input.proofs.Records.{records_left-ends, records_left-stands, stands_parts}
+
+-- how many bytes these records take
+abbrev pub size_of : List Record → ℕ
+size_of [] = 0
+size_of (first ∷ later) = (record_header + length first.bytes) + size_of later
+
+-- these records, and a clean ending
+abbrev pub clean_cut : List Record → Cut
+clean_cut records = record { records = records; ending = Clean }
+
+-- the records of what is left
+abbrev pub records_at : CaptureHead → ℕ → ℕ → List ℕ → List Record
+records_at head number place rest = (records_left head number place rest).records
+
+-- the bytes of so many records that stand first, and that no shorter beginning holds as many
+pub record Front (head : CaptureHead) (number place count : ℕ) (rest : List ℕ) : Type 0 where
+  pub own : List ℕ
+  pub left : List ℕ
+  pub joined : rest ≡ own ++ left
+  pub exact : records_left head number place own ≡ clean_cut (take count (records_at head number place rest))
+  pub size : length own ≡ size_of (take count (records_at head number place rest))
+  pub shortest : (xs ys : List ℕ) → rest ≡ xs ++ ys → count ≤ length (records_at head number place xs) → length own ≤ length xs
+
+-- where nothing stands next, there is no record
+none_at : (head : CaptureHead) (number place count : ℕ) (rest : List ℕ) (ending : Ending) → next_of head number place rest ≡ Ends ending
+    → suc count ≤ length (records_at head number place rest) → ⊥
+none_at head number place count rest ending is enough =
+    let none = ap (λ (cut : Cut). length cut.records) (records_left-ends head number place rest ending is) in
+    omega (arith, none, enough)
+
+shortest_by : (head : CaptureHead) (number place count : ℕ) (rest own : List ℕ) (first : Record) (more : List ℕ)
+    → next_of head number place rest ≡ Stands first more → rest ≡ own ++ more → (behind : Front head (number + 1) (place_behind place first) count more)
+    → (xs ys : List ℕ) → rest ≡ xs ++ ys → suc count ≤ length (records_at head number place xs)
+    → (next : Next) → next_of head number place xs ≡ next → length (own ++ behind.own) ≤ length xs
+shortest_by head number place count rest own first more stands joined behind xs ys split enough (Ends ending) is =
+    absurd (none_at head number place count xs ending is enough)
+shortest_by head number place count rest own first more stands joined behind xs ys split enough (Stands other later) is =
+    let parts = stands_parts head number place xs other later is in
+    let whole : rest ≡ parts.own ++ (later ++ ys) = split ∙ ap (λ (zs : List ℕ). zs ++ ys) parts.joined ∙ append_assoc parts.own later ys in
+    let same : Stands first more ≡ Stands other (later ++ ys) = sym stands ∙ ap (next_of head number place) whole ∙ parts.goes (later ++ ys) in
+    let first_is : first ≡ other = cc in
+    let more_is : more ≡ later ++ ys = cc in
+    let counted = ap (λ (cut : Cut). length cut.records) (records_left-stands head number place xs other later is) in
+    let placed = ap (λ (r : Record). length (records_at head (number + 1) (place_behind place r) later)) first_is in
+    let few = behind.shortest later ys more_is (omega (arith, enough, counted, placed)) in
+    let a = ap length joined ∙ length-append own more in
+    let b = ap length whole ∙ length-append parts.own (later ++ ys) in
+    let c = ap length more_is in
+    let d = length-append own behind.own in
+    let e = ap length parts.joined ∙ length-append parts.own later in
+    omega (arith, few, a, b, c, d, e)
+
+front_by : (head : CaptureHead) (number place count : ℕ) (rest : List ℕ)
+    → ((n p : ℕ) (more : List ℕ) → count ≤ length (records_at head n p more) → Front head n p count more)
+    → suc count ≤ length (records_at head number place rest)
+    → (next : Next) → next_of head number place rest ≡ next → Front head number place (suc count) rest
+front_by head number place count rest on enough (Ends ending) is = absurd (none_at head number place count rest ending is enough)
+front_by head number place count rest on enough (Stands first more) is =
+    let all = ap (λ (cut : Cut). cut.records) (records_left-stands head number place rest first more is) in
+    let parts = stands_parts head number place rest first more is in
+    let behind = on (number + 1) (place_behind place first) more (omega (arith, enough, ap length all)) in
+    record {
+      own = parts.own ++ behind.own;
+      left = behind.left;
+      joined = parts.joined ∙ ap (λ (xs : List ℕ). parts.own ++ xs) behind.joined ∙ sym (append_assoc parts.own behind.own behind.left);
+      exact = records_left-stands head number place (parts.own ++ behind.own) first behind.own (parts.goes behind.own)
+          ∙ ap (with_first first) behind.exact
+          ∙ ap (λ (records : List Record). clean_cut (take (suc count) records)) (sym all);
+      size = length-append parts.own behind.own ∙ ap (λ (n : ℕ). n + length behind.own) parts.size
+          ∙ ap (λ (n : ℕ). (record_header + length first.bytes) + n) behind.size
+          ∙ ap (λ (records : List Record). size_of (take (suc count) records)) (sym all);
+      shortest = λ xs ys split few. shortest_by head number place count rest parts.own first more is parts.joined behind xs ys split few _ refl;
+    }
+
+pub front : (head : CaptureHead) (number place count : ℕ) (rest : List ℕ) → count ≤ length (records_at head number place rest) → Front head number place count rest
+front head number place zero rest enough = record {
+  own = [];
+  left = rest;
+  joined = refl;
+  exact = records_left-ends head number place [] Clean (next_of_nothing head number place);
+  size = refl;
+  shortest = λ xs ys split few. omega arith;
+}
+front head number place (suc count) rest enough =
+    front_by head number place count rest (λ n p more few. front head n p count more few) enough (next_of head number place rest) refl
