@@ -21,6 +21,10 @@ pub mod Batches
 pub mod Watched
 pub mod Finishing
 pub mod FileWays
+pub mod FitSavefiles
+pub mod FitBlocks
+pub mod FitRecords
+pub mod ReadBack
 pub mod Loaded
 pub mod Captures
 pub mod MadeCaptures

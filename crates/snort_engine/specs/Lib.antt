@@ -21,6 +21,8 @@ pub mod Beside
 pub mod Lines
 -- an alert as Unified2 records
 pub mod Unified2
+-- the records under `--unified2`, and what lets them be read back
+pub mod ReadBack
 -- what is counted of a capture
 pub mod Counts
 -- the lines of a Unified2 file

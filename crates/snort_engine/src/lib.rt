@@ -40,5 +40,5 @@ mod watch;
 
 pub use detector::run;
 pub use laws::first_lines_stand;
-pub use run_laws::limits_cut_captures;
+pub use run_laws::{limits_cut_captures, written_records_read_back};
 pub use status::Status;

@@ -1,0 +1,75 @@
+-- The records that a run writes under `--unified2`, and what lets them be read back.
+--
+-- Each alert is two records, its event and its packet (`Unified2`). A list of records is read back from its
+-- joined texts where each number fits its bytes, both addresses of an event are of one version, and its packet
+-- isn't too long (unified2_out specs/Reading): each of these goes by the rules, the records and the items alone.
+-- To try it on: one alert on a packet of 45 bytes is an event of 60 bytes and a packet of 81, which read back as
+-- these two.
+use Rattle.std.specs.Prelude.{ℕ, ◌+◌, ◌^◌, ◌<◌, ◌≤◌, IfSome, List, [], ◌∷◌, ◌++◌, length}
+use Rattle.std.specs.List.{All}
+use Rattle.packet_decode.specs.declared.item.ItemHead.{ItemHead}
+use Rattle.packet_decode.specs.declared.packet.Body.{Body}
+use Rattle.packet_decode.specs.declared.packet.IpHead.{IpHead}
+use Rattle.pcap_input.specs.Savefile.{longest}
+use Rattle.rule_types.specs.declared.rule.Rule.{Rule}
+use Rattle.record_jobs.specs.Way.{LinkedRecord}
+use Rattle.flow_lanes.specs.declared.answer.Hits.{Hits}
+use Rattle.unified2_out.specs.declared.record.U2.{U2}
+use Rattle.unified2_out.specs.declared.record.U2.TheVariants.{Event as an_event, Packet as a_packet}
+use Rattle.unified2_out.specs.Records.{AllFit, AreOfOneVersion, IsInRange}
+use Rattle.snort_engine.specs.Course.{Plan}
+use Rattle.snort_engine.specs.Counts.{all_items}
+use Rattle.snort_engine.specs.Lines.{alert_count}
+use Rattle.snort_engine.specs.Trace.{Alert, CaptureState, trace}
+use Rattle.snort_engine.specs.Unified2.{event_record, first_port, packet_record, second_port}
+
+-- the records of an alert behind so many: its event, and then the packet
+abbrev pub entries_of : ℕ → Alert → List U2
+entries_of before alert =
+    an_event (event_record before alert.what)
+    ∷ a_packet (packet_record before alert.what.head.moment alert.source) ∷ []
+
+-- the records of alerts behind so many
+abbrev pub entries_from : ℕ → List Alert → List U2
+entries_from before [] = []
+entries_from before (alert ∷ later) = entries_of before alert ++ entries_from (before + 1) later
+
+-- the records that are written for a capture's records behind these records
+unfoldable pub entries : Plan → List LinkedRecord → List LinkedRecord → CaptureState → List U2
+entries plan before records state = entries_from (alert_count plan before) (trace plan before records state)
+
+-- ---- what fits
+
+-- a rule's numbers have four bytes each, and so has the place of its class, counted from 1
+pub record FitsRule (rule : Rule) : Type 0 where
+  pub sid : rule.sid < 2 ^ 32
+  pub gid : rule.gid < 2 ^ 32
+  pub rev : rule.rev < 2 ^ 32
+  pub priority : rule.priority < 2 ^ 32
+  pub class : IfSome rule.class (λ place. place + 1 < 2 ^ 32)
+
+-- a record holds bytes, and no more than a capture's may
+pub record FitsRecord (r : LinkedRecord) : Type 0 where
+  pub short : length r.captured.bytes ≤ longest
+  pub bytes : AllFit 1 r.captured.bytes
+
+-- a packet goes between two addresses of one version, and its numbers have as many bytes as headers give them
+pub record FitsPacket (ip : IpHead) (carried : Body) : Type 0 where
+  pub version : AreOfOneVersion ip.src ip.dst
+  pub src : IsInRange ip.src
+  pub dst : IsInRange ip.dst
+  pub protocol : ip.protocol < 2 ^ 8
+  pub first : first_port carried < 2 ^ 16
+  pub second : second_port carried < 2 ^ 16
+
+abbrev pub FitsHead : ItemHead → Type 0
+FitsHead head = FitsPacket head.ip head.body
+
+-- an item by its head
+abbrev pub FitsHits : Hits → Type 0
+FitsHits hits = FitsHead hits.head
+
+-- the rules that a plan tries, and the items that a capture's records make
+pub record FitIn (plan : Plan) (records : List LinkedRecord) : Type 0 where
+  pub rules : All FitsRule plan.rules
+  pub items : All FitsHits (all_items plan records)
