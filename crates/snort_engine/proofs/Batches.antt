@@ -12,8 +12,7 @@ use Rattle.snort_engine.specs.declared.batch.Reached.TheVariants.{More, End, Fau
 use Rattle.snort_engine.specs.Steps.Batch.{Place, HasStopped, Reaches, ReadsOn, more_of}
 use Rattle.snort_engine.specs.declared.stop.Stop.{Stop}
 use Rattle.snort_engine.specs.declared.stop.Stop.TheVariants as stop
-use Rattle.snort_engine.specs.Steps.Stop.{is_whole}
-use Rattle.snort_engine.specs.Steps.Watching.{IsShowStop}
+use Rattle.snort_engine.specs.Steps.Stop.{is_whole, IsShowStop}
 
 -- reading went no record further than what was read so far
 still_there : (first : RecordReader) (given : List LinkedRecord) (left_first : Option (List ℕ)) (reader : RecordReader) (left : Option (List ℕ)) → HasRead first reader given left_first left → HasStopped first given left_first left

@@ -1,10 +1,9 @@
 -- The steps from records to lines.
 use Rattle.std.proofs.Common.{◌≡◌, ℕ, ◌+◌, ◌^◌, ◌<◌, ◌≤◌, List, [], ◌∷◌, ◌++◌, Option, Result, Ok, Err, length, map, take, get_or, refl, sym, ap, ap₂, subst, ◌∙◌, append_assoc, arith, length-append}
-use Rattle.std.specs.Prelude.{OnOk, OnErr, sum}
+use Rattle.std.specs.Prelude.{OnOk, sum}
 use Rattle.std.proofs.lemmas.List.{append-nil, take_more}
 use Rattle.std.proofs.lemmas.List.Sums.{sum_by-append}
 use Rattle.edge_io.specs.declared.pattern.Span.{Span}
-use Rattle.edge_io.specs.Told.{behind}
 use Rattle.edge_io.specs.Along.{along, along_from, trail, trail_from}
 use Rattle.edge_io.proofs.Along.{along-append, pipe_more, trail-append, trail_from-append}
 use Rattle.rule_types.specs.declared.rule.Rule.{Rule}
@@ -33,19 +32,19 @@ use Rattle.snort_engine.specs.declared.detect.Inspection.{Inspection}
 use Rattle.snort_engine.specs.declared.events.Tally.{Tally}
 use Rattle.snort_engine.specs.declared.plan.Plan as code
 use Rattle.snort_engine.specs.declared.stop.Stop.{Stop}
+use Rattle.snort_engine.specs.declared.stop.Stop.TheVariants as stop
 use Rattle.snort_engine.specs.Course.{Plan}
 use Rattle.snort_engine.specs.Beside.{beside, by_place, places_along, source_in, whats}
 use Rattle.snort_engine.specs.Trace.{Closed, Open, closing_items, detection_of, filtered_item, items_of, job_items, jobs_of, last_of, trace, jobs_way_by, jobs_way}
 use Rattle.snort_engine.specs.Lines.{lines}
 use Rattle.snort_engine.specs.Counts.{counts_of, hit_count, try_count}
-use Rattle.snort_engine.specs.Outside.{WritesPart}
-use Rattle.snort_engine.specs.Steps.Gathering.{Gathers}
-use Rattle.snort_engine.specs.Steps.Showing.{EventsStand, Showing, Shows, ShowsPart, SourcedItem, items_lines, tally_of}
-use Rattle.snort_engine.specs.Steps.Matching.{ShowsMatches, ShowsMatchesPart}
+use Rattle.snort_engine.specs.Steps.Gathering.{Sending, Emits, EmitsBy}
+use Rattle.snort_engine.specs.Steps.Showing.{EventsStand, Showing, items_lines, tally_of}
+use Rattle.snort_engine.specs.Steps.Matching.{AreMatchesOf, Matched, ShowsMatches}
 use Rattle.snort_engine.specs.Steps.Sourcing.{PlacesJobs, Sourced, last_behind, sourced_items}
-use Rattle.snort_engine.specs.Steps.Detecting.{AreTaken, Closes, ClosesPart, Detecting, InspectionStands, IsKnown, IsNewInspection, IsSoundPlan, MakesJobs, Running, Runs, RunsPart, ShowsRecords, ShowsRecordsPart, closing_lines, counted, jobs_lines, waiting}
+use Rattle.snort_engine.specs.Steps.Detecting.{AreTaken, Closes, Detecting, EarlierJobs, EarlierRecords, InspectionStands, IsKnown, IsNewInspection, IsSoundPlan, MakesJobs, Running, Runs, ShowsRecords, closing_lines, counted, jobs_lines, settled, waiting}
 use Rattle.snort_engine.specs.Steps.Watching.{IsTest, plan_of}
-use Rattle.snort_engine.proofs.Prefixes.{WritesPart-none, gathers_written, gathers_stopped}
+use Rattle.snort_engine.proofs.Emitting.{by_nothing, by_same, by_settled, by_stopped, by_then, by_told, emptied}
 use Rattle.snort_engine.proofs.Beside.{whats-by_place, whats-carried}
 use Rattle.snort_engine.proofs.LinesLaws.{alerts-counted, jobs_lines-closing, jobs_lines-records}
 use Rattle.snort_engine.proofs.Sourcing.{last_of-more, sources_last, sources_made, told_found}
@@ -73,7 +72,25 @@ tries_found d before batch old new more so_far is found =
 
 -- how the events of a running inspection are shown
 abbrev pub showing_of : Running → Showing
-showing_of running = record { events = running.inspection.events; written = running.written }
+showing_of now = record { events = now.inspection.events; written = now.written; faults = now.faults }
+
+-- what is known of the events that go before those of a batch
+abbrev known_before : (plan : Plan) (batch : List Job) (inspection : Inspection) (out : Matches) (lanes : LanesState) (before : EarlierJobs plan inspection)
+    → IsBatchSearched (detection_of plan) before.jobs batch out lanes → Matched plan.config plan.rules out inspection.events
+known_before plan batch inspection out lanes before answered = record {
+  jobs = along_from (answer (detection_of plan)) before.jobs batch;
+  are = record { hits = answered.hits; items = answered.items };
+  before = record { items = trail (job_items (detection_of plan)) before.jobs; stand = before.stand.events };
+}
+
+-- the lines of a batch are those of its items
+found_lines : (plan : Plan) (source : ℕ → LinkedRecord) (before batch : List Job)
+    → jobs_lines plan before (by_place source 0 batch)
+    ≡ items_lines plan.form plan.config plan.rules (trail (job_items (detection_of plan)) before) (sourced_items (by_place source 0 (along_from (answer (detection_of plan)) before batch)))
+unfolding jobs_lines
+found_lines plan source before batch =
+    ap (items_lines plan.form plan.config plan.rules (trail (job_items (detection_of plan)) before))
+    (sym (told_found (detection_of plan) source before batch (along_from (answer (detection_of plan)) before batch) refl))
 
 -- an inspection that stands behind jobs stands behind them, whatever records they are beside
 stands_beside : (plan : Plan) (source : ℕ → LinkedRecord) (before batch : List Job) (inspection : Inspection) → InspectionStands plan (before ++ batch) inspection
@@ -81,72 +98,40 @@ stands_beside : (plan : Plan) (source : ℕ → LinkedRecord) (before batch : Li
 stands_beside plan source before batch inspection stands =
     subst (λ (x : List Job). InspectionStands plan (before ++ x) inspection) (sym (whats-by_place source 0 batch)) stands
 
--- the jobs of a batch were run, and the items that were found shown
-pub runs_found : (plan : Plan) (source : ℕ → LinkedRecord) (batch : List Job) (old new : Running) (out : Matches)
+-- the jobs of a batch were run, and the items that were found shown, or a part of their lines was written
+pub runs_by : (outcome : Result (Unit {0}) Stop) (plan : Plan) (source : ℕ → LinkedRecord) (batch : List Job) (old new : Running) (out : Matches)
     → ((before : List Job) → LanesStand (detection_of plan) old.inspection.lanes before → IsBatchSearched (detection_of plan) before batch out new.inspection.lanes)
     → new.inspection.tries ≡ old.inspection.tries + out.tries
-    → ShowsMatches plan.form plan.config plan.rules source out (showing_of old) (showing_of new)
-    → Runs plan (by_place source 0 batch) old new
-unfolding Runs Shows jobs_lines
-runs_found plan source batch old new out answers tries shows = λ before stands.
-    let d = detection_of plan in
-    let answered = answers before stands.lanes in
-    let entries : List JobHits = along_from (answer d) before batch in
-    let items = items_found d source before batch entries refl in
-    let shown = shows entries (record { hits = answered.hits; items = answered.items }) (trail (job_items d) before) stands.events in record {
-      stands = stands_beside plan source before batch new.inspection (record {
-        lanes = answered.stands;
-        events = subst (λ (x : List Hits). EventsStand plan.config plan.rules x new.inspection.events)
-            (ap (λ (x : List Hits). trail (job_items d) before ++ x) items ∙ pipe_more (job_items d) before batch) shown.stands;
-        tries = tries_found d before batch old.inspection.tries new.inspection.tries out.tries stands.tries tries answered.tries;
-      });
-      came = subst (λ (x : List SourcedItem). Gathers (items_lines plan.form plan.config plan.rules (trail (job_items d) before) x) (waiting old) (waiting new))
-          (told_found d source before batch entries refl) shown.came;
-    }
+    → ShowsMatches plan.form plan.config plan.rules source out (showing_of old) (showing_of new) outcome
+    → Runs plan (by_place source 0 batch) old new outcome
+runs_by outcome plan source batch old new out answers tries shows = record {
+  stands = by_outcome outcome shows.stands;
+  emits = by_same shows.emits (λ before. (
+    known_before plan batch old.inspection out new.inspection.lanes before (answers before.jobs before.stand.lanes),
+    found_lines plan source before.jobs batch,
+  ));
+}
+  where
+    by_outcome : (so : Result (Unit {0}) Stop)
+        → OnOk so ((entries : List JobHits) → AreMatchesOf entries out → (before : List Hits) → EventsStand plan.config plan.rules before old.inspection.events
+        → EventsStand plan.config plan.rules (before ++ whats (sourced_items (by_place source 0 entries))) new.inspection.events)
+        → OnOk so ((before : List Job) → InspectionStands plan before old.inspection → InspectionStands plan (before ++ whats (by_place source 0 batch)) new.inspection)
+    by_outcome (Ok done) on = λ before stands.
+        let answered = answers before stands.lanes in
+        let entries : List JobHits = along_from (answer (detection_of plan)) before batch in
+        let items = items_found (detection_of plan) source before batch entries refl in
+        stands_beside plan source before batch new.inspection (record {
+          lanes = answered.stands;
+          events = subst (λ (x : List Hits). EventsStand plan.config plan.rules x new.inspection.events)
+              (ap (λ (x : List Hits). trail (job_items (detection_of plan)) before ++ x) items ∙ pipe_more (job_items (detection_of plan)) before batch)
+              (on entries (record { hits = answered.hits; items = answered.items }) (trail (job_items (detection_of plan)) before) stands.events);
+          tries = tries_found (detection_of plan) before batch old.inspection.tries new.inspection.tries out.tries stands.tries tries answered.tries;
+        })
+    by_outcome (Err why) on = tt
 
--- or a part of their lines was written
-pub runs_part_found : (plan : Plan) (source : ℕ → LinkedRecord) (batch : List Job) (old : Running) (new : Option (List ℕ)) (out : Matches) (lanes : LanesState)
-    → ((before : List Job) → LanesStand (detection_of plan) old.inspection.lanes before → IsBatchSearched (detection_of plan) before batch out lanes)
-    → ShowsMatchesPart plan.form plan.config plan.rules source out (showing_of old) new
-    → RunsPart plan (by_place source 0 batch) old new
-unfolding RunsPart ShowsPart jobs_lines
-runs_part_found plan source batch old new out lanes answers part = λ before stands.
-    let d = detection_of plan in
-    let answered = answers before stands.lanes in
-    let entries : List JobHits = along_from (answer d) before batch in
-    let items = told_found d source before batch entries refl in
-    subst (λ (x : List SourcedItem). WritesPart old.written (old.inspection.events.block.items ++ items_lines plan.form plan.config plan.rules (trail (job_items d) before) x) new) items
-    (part entries (record { hits = answered.hits; items = answered.items }) (trail (job_items d) before) stands.events)
-
--- or nothing was
-pub runs_nothing : (plan : Plan) (batch : List Sourced) (old : Running) → RunsPart plan batch old old.written
-unfolding RunsPart
-runs_nothing plan batch old = λ before stands. WritesPart-none old.written _
-
--- by the answer of the last step
-pub runs_by : (answer : Result (Unit {0}) Stop) (plan : Plan) (source : ℕ → LinkedRecord) (batch : List Job) (old new : Running) (out : Matches)
-    → ((before : List Job) → LanesStand (detection_of plan) old.inspection.lanes before → IsBatchSearched (detection_of plan) before batch out new.inspection.lanes)
-    → new.inspection.tries ≡ old.inspection.tries + out.tries
-    → OnOk answer (ShowsMatches plan.form plan.config plan.rules source out (showing_of old) (showing_of new))
-    → OnOk answer (Runs plan (by_place source 0 batch) old new)
-runs_by (Ok done) plan source batch old new out answers tries shows = runs_found plan source batch old new out answers tries shows
-runs_by (Err why) plan source batch old new out answers tries shows = tt
-
-pub runs_part_by : (answer : Result (Unit {0}) Stop) (plan : Plan) (source : ℕ → LinkedRecord) (batch : List Job) (old : Running) (new : Option (List ℕ)) (out : Matches) (lanes : LanesState)
-    → ((before : List Job) → LanesStand (detection_of plan) old.inspection.lanes before → IsBatchSearched (detection_of plan) before batch out lanes)
-    → OnErr answer (ShowsMatchesPart plan.form plan.config plan.rules source out (showing_of old) new)
-    → OnErr answer (RunsPart plan (by_place source 0 batch) old new)
-runs_part_by (Ok done) plan source batch old new out lanes answers part = tt
-runs_part_by (Err why) plan source batch old new out lanes answers part = runs_part_found plan source batch old new out lanes answers part
-
--- what holds anyhow holds of any answer
-pub on_ok : {A E : Type 0} {P : Type 0} (answer : Result A E) → P → OnOk answer P
-on_ok (Ok done) holds = holds
-on_ok (Err why) holds = tt
-
-pub on_err : {A E : Type 0} {P : Type 0} (answer : Result A E) → P → OnErr answer P
-on_err (Ok done) holds = tt
-on_err (Err why) holds = holds
+-- or memory was lacking before
+pub runs_nothing : (plan : Plan) (batch : List Sourced) (old new : Running) → new.written ≡ old.written → new.faults ≡ old.faults → Runs {A = Unit {0}} plan batch old new (Err stop.NoMemory)
+runs_nothing plan batch old new written faults = record { stands = tt; emits = by_nothing _ (waiting old) (waiting new) written faults }
 
 -- ---- the jobs of records
 
@@ -203,61 +188,76 @@ stands_made plan source before records new made inspection taken stands =
     subst (λ (x : List Job). InspectionStands plan x inspection)
     (ap (λ (x : List Job). jobs_of plan before ++ x) (whats-by_place source 0 made ∙ taken.jobs_are) ∙ pipe_more (jobs (jobs_way plan)) before records) stands
 
--- a batch of records was taken and run, its lines written whole, and its last record kept
-pub records_shown : (plan : Plan) (records : List LinkedRecord) (old new : Detecting) (made : List Job) (places : List ℕ) (middle : Running)
-    → MakesJobs (jobs_way plan) records old.detector.front new.detector.front made → PlacesJobs (jobs_way plan) records old.detector.front places
-    → Runs plan (by_place (source_in records old.detector.inspection.last places) 0 made) (record { inspection = old.detector.inspection; written = old.written }) middle
-    → old.detector.inspection.events.block.items ≡ [] → new.written ≡ behind middle.written middle.inspection.events.block.items
-    → ((before : List Job) → InspectionStands plan before middle.inspection → InspectionStands plan before new.detector.inspection)
-    → new.detector.inspection.last ≡ last_behind old.detector.inspection.last records
-    → ShowsRecords plan records old new
-unfolding ShowsRecords Runs
-records_shown plan records old new made places middle makes placed runs empty offered on kept = λ before stands.
-    let last = old.detector.inspection.last in
-    let source = source_in records last places in
-    let batch = by_place source 0 made in
-    let taken = makes before stands.front in
-    let run = runs (jobs_of plan before) stands.inspection in record {
-      stands = record {
-        front = taken.stands;
-        inspection = stands_made plan source before records new.detector.front made new.detector.inspection taken (on (jobs_of plan before ++ whats batch) run.stands);
-        last = kept ∙ last_of-more before last records stands.last;
-      };
-      wrote = gathers_written (jobs_lines plan (jobs_of plan before) batch) (waiting (record { inspection = old.detector.inspection; written = old.written })) (waiting middle) new.written empty run.came offered
-          ∙ ap (behind old.written) (lines_made plan records last before new.detector.front made places taken (placed before stands.front));
-    }
+-- how the inspection of a detector runs
+abbrev pub running_of : Detecting → Running
+running_of now = record { inspection = now.detector.inspection; written = now.written; faults = now.faults }
 
--- or a part of its lines was
-pub records_part : (plan : Plan) (records : List LinkedRecord) (old : Detecting) (front : FrontState) (new : Option (List ℕ)) (made : List Job) (places : List ℕ)
+-- what is known of the jobs before, of which the lines of records are
+taken_lines : (plan : Plan) (records : List LinkedRecord) (old : Detecting) (front : FrontState) (made : List Job) (places : List ℕ)
+    → MakesJobs (jobs_way plan) records old.detector.front front made → PlacesJobs (jobs_way plan) records old.detector.front places
+    → (before : EarlierRecords plan old.detector)
+    → (jobs : EarlierJobs plan old.detector.inspection)
+    × (lines plan before.records records Open ≡ jobs_lines plan jobs.jobs (by_place (source_in records old.detector.inspection.last places) 0 made))
+taken_lines plan records old front made places makes placed before = (
+  record { jobs = jobs_of plan before.records; stand = before.stand.inspection },
+  sym (lines_made plan records old.detector.inspection.last before.records front made places (makes before.records before.stand.front) (placed before.records before.stand.front)),
+)
+
+-- a batch of records was taken, and the running of its jobs was stopped
+pub records_stopped : (plan : Plan) (records : List LinkedRecord) (old : Detecting) (front : FrontState) (made : List Job) (places : List ℕ) (middle : Running) (detector : Detector) (why : Stop)
     → MakesJobs (jobs_way plan) records old.detector.front front made → PlacesJobs (jobs_way plan) records old.detector.front places
     → old.detector.inspection.events.block.items ≡ []
-    → RunsPart plan (by_place (source_in records old.detector.inspection.last places) 0 made) (record { inspection = old.detector.inspection; written = old.written }) new
-    → ShowsRecordsPart plan records old new
-unfolding ShowsRecordsPart RunsPart
-records_part plan records old front new made places makes placed empty part = λ before stands.
-    let last = old.detector.inspection.last in
-    let batch = by_place (source_in records last places) 0 made in
-    let own = part (jobs_of plan before) stands.inspection in
-    subst (λ (x : List ℕ). WritesPart old.written x new)
-    (ap (λ (x : List ℕ). x ++ jobs_lines plan (jobs_of plan before) batch) empty
-    ∙ lines_made plan records last before front made places (makes before stands.front) (placed before stands.front)) own
+    → Runs {A = Unit {0}} plan (by_place (source_in records old.detector.inspection.last places) 0 made) (running_of old) middle (Err why)
+    → ShowsRecords {A = Unit {0}} plan records old (record { detector = detector; written = middle.written; faults = middle.faults }) (Err why)
+records_stopped plan records old front made places middle detector why makes placed empty run = record {
+  stands = tt;
+  emits = by_settled (Err why) (waiting (running_of old)) (waiting middle) empty tt (by_stopped run.emits (taken_lines plan records old front made places makes placed));
+}
 
-pub records_offered_part : (plan : Plan) (records : List LinkedRecord) (old : Detecting) (front : FrontState) (middle : Running) (new : Option (List ℕ)) (made : List Job) (places : List ℕ)
+-- it was run, and what waited was offered
+records_offered : (plan : Plan) (records : List LinkedRecord) (old : Detecting) (front : FrontState) (made : List Job) (places : List ℕ) (middle : Running) (end : Sending) (done : Unit {0}) (outcome : Result (Unit {0}) Stop)
     → MakesJobs (jobs_way plan) records old.detector.front front made → PlacesJobs (jobs_way plan) records old.detector.front places
-    → Runs plan (by_place (source_in records old.detector.inspection.last places) 0 made) (record { inspection = old.detector.inspection; written = old.written }) middle
-    → old.detector.inspection.events.block.items ≡ [] → WritesPart middle.written middle.inspection.events.block.items new
-    → ShowsRecordsPart plan records old new
-unfolding ShowsRecordsPart Runs
-records_offered_part plan records old front middle new made places makes placed runs empty part = λ before stands.
-    let last = old.detector.inspection.last in
-    let batch = by_place (source_in records last places) 0 made in
-    let run = runs (jobs_of plan before) stands.inspection in
-    subst (λ (x : List ℕ). WritesPart old.written x new) (lines_made plan records last before front made places (makes before stands.front) (placed before stands.front))
-    (gathers_stopped (jobs_lines plan (jobs_of plan before) batch) (waiting (record { inspection = old.detector.inspection; written = old.written })) (waiting middle) new empty run.came part)
+    → old.detector.inspection.events.block.items ≡ [] → OnOk outcome (end.block ≡ [])
+    → Runs plan (by_place (source_in records old.detector.inspection.last places) 0 made) (running_of old) middle (Ok done) → Emits [] (waiting middle) end outcome
+    → EmitsBy (λ (before : EarlierRecords plan old.detector). lines plan before.records records Open) (settled old) (emptied end) outcome
+records_offered plan records old front made places middle end done outcome makes placed empty emptied_then run offered =
+    by_settled outcome (waiting (running_of old)) end empty emptied_then
+    (by_then run.emits offered (λ before. let own = taken_lines plan records old front made places makes placed before in (own.0, tt, own.1 ∙ sym (append-nil _))))
 
-pub records_nothing : (plan : Plan) (records : List LinkedRecord) (old : Detecting) → ShowsRecordsPart plan records old old.written
-unfolding ShowsRecordsPart
-records_nothing plan records old = λ before stands. WritesPart-none old.written _
+-- its lines written whole, and its last record kept
+pub records_shown : (plan : Plan) (records : List LinkedRecord) (old : Detecting) (new : Detector) (made : List Job) (places : List ℕ) (middle : Running) (end : Sending) (done told : Unit {0})
+    → MakesJobs (jobs_way plan) records old.detector.front new.front made → PlacesJobs (jobs_way plan) records old.detector.front places
+    → old.detector.inspection.events.block.items ≡ [] → end.block ≡ []
+    → Runs plan (by_place (source_in records old.detector.inspection.last places) 0 made) (running_of old) middle (Ok done) → Emits [] (waiting middle) end (Ok told)
+    → ((before : List Job) → InspectionStands plan before middle.inspection → InspectionStands plan before new.inspection)
+    → new.inspection.last ≡ last_behind old.detector.inspection.last records
+    → ShowsRecords {A = Unit {0}} plan records old (record { detector = new; written = end.written; faults = end.faults }) (Ok tt)
+records_shown plan records old new made places middle end done told makes placed empty emptied_then run offered on kept = record {
+  stands = λ before stands.
+      let last = old.detector.inspection.last in
+      let source = source_in records last places in
+      let taken = makes before stands.front in record {
+        front = taken.stands;
+        inspection = stands_made plan source before records new.front made new.inspection taken (on (jobs_of plan before ++ whats (by_place source 0 made)) (run.stands (jobs_of plan before) stands.inspection));
+        last = kept ∙ last_of-more before last records stands.last;
+      };
+  emits = by_told (records_offered plan records old new.front made places middle end done (Ok told) makes placed empty emptied_then run offered) (λ before. (before, refl));
+}
+
+-- or the writing of them was stopped
+pub records_part : (plan : Plan) (records : List LinkedRecord) (old : Detecting) (front : FrontState) (made : List Job) (places : List ℕ) (middle : Running) (end : Sending) (detector : Detector) (done : Unit {0}) (why : Stop)
+    → MakesJobs (jobs_way plan) records old.detector.front front made → PlacesJobs (jobs_way plan) records old.detector.front places
+    → old.detector.inspection.events.block.items ≡ []
+    → Runs plan (by_place (source_in records old.detector.inspection.last places) 0 made) (running_of old) middle (Ok done) → Emits {A = Unit {0}} [] (waiting middle) end (Err why)
+    → ShowsRecords {A = Unit {0}} plan records old (record { detector = detector; written = end.written; faults = end.faults }) (Err why)
+records_part plan records old front made places middle end detector done why makes placed empty run offered = record {
+  stands = tt;
+  emits = records_offered plan records old front made places middle end done (Err why) makes placed empty tt run offered;
+}
+
+-- or memory was lacking before
+pub records_nothing : (plan : Plan) (records : List LinkedRecord) (old new : Detecting) → new.written ≡ old.written → new.faults ≡ old.faults → ShowsRecords {A = Unit {0}} plan records old new (Err stop.NoMemory)
+records_nothing plan records old new written faults = record { stands = tt; emits = by_nothing _ (settled old) (settled new) written faults }
 
 -- ---- what is known, whatever the host tells
 
@@ -360,54 +360,61 @@ lines_closing plan records last made are is =
     ap (jobs_lines plan (jobs_of plan records)) (sources_last last made ∙ ap₂ (λ (l : LinkedRecord) (m : List Job). map (beside l) m) is are)
     ∙ jobs_lines-closing plan records
 
--- the jobs behind all records were run, and their lines written whole
-pub closed_whole : (plan : Plan) (old : Detecting) (made : List Job) (middle : Running) (end : Inspection) (written : Option (List ℕ)) (seen : RecordCounts)
-    → GivesFinishes old.detector.front [] made → TellsCounts old.detector.front seen
-    → Runs plan (by_place (source_in [] old.detector.inspection.last []) 0 made) (record { inspection = old.detector.inspection; written = old.written }) middle
-    → old.detector.inspection.events.block.items ≡ [] → written ≡ behind middle.written middle.inspection.events.block.items
-    → ((before : List Job) → InspectionStands plan before middle.inspection → InspectionStands plan before end)
-    → Closes plan old written (counted seen end)
-unfolding Closes Runs
-closed_whole plan old made middle end written seen gives tells runs empty offered on = λ records stands.
-    let way = jobs_way plan in
-    let last = old.detector.inspection.last in
-    let source = source_in [] last [] in
-    let batch = by_place source 0 made in
-    let are : made ≡ finishes way records = gives way records stands.front in
-    let run = runs (jobs_of plan records) stands.inspection in record {
-      wrote = gathers_written (jobs_lines plan (jobs_of plan records) batch) (waiting (record { inspection = old.detector.inspection; written = old.written })) (waiting middle) written empty run.came offered
-          ∙ ap (behind old.written) (lines_closing plan records last made are stands.last);
-      counted = counted_all plan records seen end (tells way records stands.front)
-          (subst (λ (x : List Job). InspectionStands plan (jobs_of plan records ++ x) end) (whats-by_place source 0 made ∙ are) (on (jobs_of plan records ++ whats batch) run.stands));
-    }
+-- what is known of the jobs before, of which the lines of the flows that end are
+ended_lines : (plan : Plan) (old : Detecting) (made : List Job) → GivesFinishes old.detector.front [] made → (before : EarlierRecords plan old.detector)
+    → (jobs : EarlierJobs plan old.detector.inspection)
+    × (closing_lines plan before.records ≡ jobs_lines plan jobs.jobs (by_place (source_in [] old.detector.inspection.last []) 0 made))
+ended_lines plan old made gives before = (
+  record { jobs = jobs_of plan before.records; stand = before.stand.inspection },
+  sym (lines_closing plan before.records old.detector.inspection.last made (gives (jobs_way plan) before.records before.stand.front) before.stand.last),
+)
 
--- or a part of them was
-pub closed_part : (plan : Plan) (old : Detecting) (made : List Job) (written : Option (List ℕ))
+-- the running of the jobs behind all records was stopped
+pub closed_stopped : (plan : Plan) (old : Detecting) (made : List Job) (middle : Running) (why : Stop)
     → GivesFinishes old.detector.front [] made → old.detector.inspection.events.block.items ≡ []
-    → RunsPart plan (by_place (source_in [] old.detector.inspection.last []) 0 made) (record { inspection = old.detector.inspection; written = old.written }) written
-    → ClosesPart plan old written
-unfolding ClosesPart RunsPart
-closed_part plan old made written gives empty part = λ records stands.
-    let last = old.detector.inspection.last in
-    subst (λ (x : List ℕ). WritesPart old.written x written)
-    (ap (λ (x : List ℕ). x ++ jobs_lines plan (jobs_of plan records) (by_place (source_in [] last []) 0 made)) empty
-    ∙ lines_closing plan records last made (gives (jobs_way plan) records stands.front) stands.last)
-    (part (jobs_of plan records) stands.inspection)
+    → Runs {A = Unit {0}} plan (by_place (source_in [] old.detector.inspection.last []) 0 made) (running_of old) middle (Err why)
+    → Closes plan old (emptied (waiting middle)) (Err why)
+closed_stopped plan old made middle why gives empty run = record {
+  counted = tt;
+  emits = by_stopped (by_settled (Err why) (waiting (running_of old)) (waiting middle) empty tt run.emits) (ended_lines plan old made gives);
+}
 
-pub closed_offered_part : (plan : Plan) (old : Detecting) (made : List Job) (middle : Running) (written : Option (List ℕ))
-    → GivesFinishes old.detector.front [] made
-    → Runs plan (by_place (source_in [] old.detector.inspection.last []) 0 made) (record { inspection = old.detector.inspection; written = old.written }) middle
-    → old.detector.inspection.events.block.items ≡ [] → WritesPart middle.written middle.inspection.events.block.items written
-    → ClosesPart plan old written
-unfolding ClosesPart Runs
-closed_offered_part plan old made middle written gives runs empty part = λ records stands.
-    let last = old.detector.inspection.last in
-    let batch = by_place (source_in [] last []) 0 made in
-    let run = runs (jobs_of plan records) stands.inspection in
-    subst (λ (x : List ℕ). WritesPart old.written x written)
-    (lines_closing plan records last made (gives (jobs_way plan) records stands.front) stands.last)
-    (gathers_stopped (jobs_lines plan (jobs_of plan records) batch) (waiting (record { inspection = old.detector.inspection; written = old.written })) (waiting middle) written empty run.came part)
+-- they were run, and what waited was offered
+closed_offered : (plan : Plan) (old : Detecting) (made : List Job) (middle : Running) (end : Sending) (done : Unit {0}) (outcome : Result (Unit {0}) Stop)
+    → GivesFinishes old.detector.front [] made → old.detector.inspection.events.block.items ≡ [] → OnOk outcome (end.block ≡ [])
+    → Runs plan (by_place (source_in [] old.detector.inspection.last []) 0 made) (running_of old) middle (Ok done) → Emits [] (waiting middle) end outcome
+    → EmitsBy (λ (before : EarlierRecords plan old.detector). closing_lines plan before.records) (settled old) (emptied end) outcome
+closed_offered plan old made middle end done outcome gives empty emptied_then run offered =
+    by_settled outcome (waiting (running_of old)) end empty emptied_then
+    (by_then run.emits offered (λ before. let own = ended_lines plan old made gives before in (own.0, tt, own.1 ∙ sym (append-nil _))))
 
-pub closed_nothing : (plan : Plan) (old : Detecting) → ClosesPart plan old old.written
-unfolding ClosesPart
-closed_nothing plan old = λ records stands. WritesPart-none old.written _
+-- their lines written whole
+pub closed_whole : (plan : Plan) (old : Detecting) (made : List Job) (middle : Running) (end : Sending) (last : Inspection) (done told : Unit {0}) (seen : RecordCounts)
+    → GivesFinishes old.detector.front [] made → TellsCounts old.detector.front seen → old.detector.inspection.events.block.items ≡ [] → end.block ≡ []
+    → Runs plan (by_place (source_in [] old.detector.inspection.last []) 0 made) (running_of old) middle (Ok done) → Emits [] (waiting middle) end (Ok told)
+    → ((before : List Job) → InspectionStands plan before middle.inspection → InspectionStands plan before last)
+    → Closes plan old (emptied end) (Ok (counted seen last))
+closed_whole plan old made middle end last done told seen gives tells empty emptied_then run offered on = record {
+  counted = λ records stands.
+      let way = jobs_way plan in
+      let source = source_in [] old.detector.inspection.last [] in
+      let are : made ≡ finishes way records = gives way records stands.front in
+      counted_all plan records seen last (tells way records stands.front)
+      (subst (λ (x : List Job). InspectionStands plan (jobs_of plan records ++ x) last) (whats-by_place source 0 made ∙ are)
+      (on (jobs_of plan records ++ whats (by_place source 0 made)) (run.stands (jobs_of plan records) stands.inspection)));
+  emits = by_told (closed_offered plan old made middle end done (Ok told) gives empty emptied_then run offered) (λ before. (before, refl));
+}
+
+-- or the writing of them was stopped
+pub closed_part : (plan : Plan) (old : Detecting) (made : List Job) (middle : Running) (end : Sending) (done : Unit {0}) (why : Stop)
+    → GivesFinishes old.detector.front [] made → old.detector.inspection.events.block.items ≡ []
+    → Runs plan (by_place (source_in [] old.detector.inspection.last []) 0 made) (running_of old) middle (Ok done) → Emits {A = Unit {0}} [] (waiting middle) end (Err why)
+    → Closes plan old (emptied end) (Err why)
+closed_part plan old made middle end done why gives empty run offered = record {
+  counted = tt;
+  emits = by_stopped (closed_offered plan old made middle end done (Err why) gives empty tt run offered) (λ before. (before, refl));
+}
+
+-- or memory was lacking before
+pub closed_nothing : (plan : Plan) (old : Detecting) → Closes plan old (settled old) (Err stop.NoMemory)
+closed_nothing plan old = record { counted = tt; emits = by_nothing _ (settled old) (settled old) refl refl }

@@ -20,8 +20,7 @@ use Rattle.snort_engine.specs.Answer.{Answer, answer_of, way_answer}
 use Rattle.snort_engine.specs.Outside.{Work, WritesPart}
 use Rattle.snort_engine.specs.ReadAhead.{IsApart, ReadsAhead, ReadsAheadOn}
 use Rattle.snort_engine.specs.Ending.{Ends}
-use Rattle.snort_engine.specs.Steps.Stop.{outcome_status, outcome_text, stop_text}
-use Rattle.snort_engine.specs.Steps.Watching.{IsWriteStop}
+use Rattle.snort_engine.specs.Steps.Stop.{outcome_status, outcome_text, stop_text, IsWriteStop}
 use Rattle.snort_engine.proofs.Finishing.{ends_met, ends_unwritten}
 
 -- ---- lines

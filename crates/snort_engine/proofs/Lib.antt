@@ -1,4 +1,5 @@
 pub mod Prefixes
+pub mod Emitting
 pub mod Recordings
 pub mod Limits
 pub mod LinesLaws

@@ -1,5 +1,5 @@
 -- The matches of jobs are shown in the place of all their items.
-use Rattle.std.proofs.Common.{◌≡◌, ℕ, ◌+◌, Bool, true, false, cond, List, [], ◌∷◌, ◌++◌, Option, length, map, refl, sym, ap, subst, ◌∙◌, arith, length-append}
+use Rattle.std.proofs.Common.{◌≡◌, ℕ, ◌+◌, Bool, true, false, cond, List, [], ◌∷◌, ◌++◌, Ok, Err, length, map, refl, sym, ap, subst, ◌∙◌, arith, length-append}
 use Rattle.std.specs.Prelude.{sum_by}
 use Rattle.std.specs.List.{flat_map}
 use Rattle.std.proofs.lemmas.List.{append-nil, length-map}
@@ -17,16 +17,17 @@ use Rattle.flow_lanes.specs.ItemHits.{is_matched, matched, matched_entry}
 use Rattle.record_jobs.specs.Way.{LinkedRecord}
 use Rattle.snort_engine.specs.declared.events.Tally.{Tally}
 use Rattle.snort_engine.specs.declared.form.Form.{Form}
+use Rattle.snort_engine.specs.declared.stop.Stop.{Stop}
+use Rattle.snort_engine.specs.declared.stop.Stop.TheVariants as stop
 use Rattle.snort_engine.specs.Beside.{beside, by_place, carried, whats}
 use Rattle.snort_engine.specs.Counts.{hit_count}
-use Rattle.snort_engine.specs.Steps.Gathering.{Gathers}
 use Rattle.snort_engine.specs.Lines.{text_of, texts_from}
-use Rattle.snort_engine.specs.Steps.Matching.{ShowsMatches, ShowsMatchesPart, matched_sourced}
-use Rattle.snort_engine.specs.Outside.{WritesPart}
-use Rattle.snort_engine.specs.Steps.Showing.{Showing, Shows, ShowsPart, SourcedItem, gathering_of, items_lines, tally_of}
+use Rattle.snort_engine.specs.Steps.Matching.{AreMatchesOf, ShowsMatches, matched_sourced}
+use Rattle.snort_engine.specs.Steps.Showing.{EventsStand, Showing, Shows, SourcedItem, sending_of, items_lines, tally_of}
 use Rattle.snort_engine.specs.Steps.Sourcing.{sourced_items}
 use Rattle.snort_engine.specs.Trace.{event_at, filtered_item, item_events}
-use Rattle.snort_engine.proofs.Showing.{same_tally, shows_nothing}
+use Rattle.snort_engine.proofs.Emitting.{by_nothing, by_stopped, by_told}
+use Rattle.snort_engine.proofs.Showing.{same_tally}
 
 -- ---- items that no rule matches
 
@@ -142,14 +143,15 @@ abbrev pub with_items : Showing → ℕ → Showing
 with_items showing count = record {
   events = record (showing.events) { tally = record (showing.events.tally) { items = count } };
   written = showing.written;
+  faults = showing.faults;
 }
 
--- the matched items were shown, and all were counted
-shows_matched : (form : Form) (config : Config) (rules : List Rule) (items : List SourcedItem) (old new : Showing) (count : ℕ) → count ≡ old.events.tally.items + length items
-    → Shows form config rules (matched_sourced items) old new → Shows form config rules items old (with_items new count)
-unfolding Shows tally_of
-shows_matched form config rules items old new count counted shows = λ before stands.
-    let shown = shows before stands in
+-- the matched items were given, and all were counted
+stands_matched : (config : Config) (rules : List Rule) (before : List Hits) (items : List SourcedItem) (old new : Showing) (count : ℕ) → count ≡ old.events.tally.items + length items
+    → EventsStand config rules before old.events → EventsStand config rules (before ++ whats (matched_sourced items)) new.events
+    → EventsStand config rules (before ++ whats items) (with_items new count).events
+unfolding tally_of
+stands_matched config rules before items old new count counted stands shown =
     let few : List Hits = before ++ whats (matched_sourced items) in
     let all : List Hits = before ++ whats items in
     let same : matched few ≡ matched all = behind-matched before items in
@@ -157,20 +159,12 @@ shows_matched form config rules items old new count counted shows = λ before st
     let joined : length all ≡ length before + length (whats items) = length-append before (whats items) in
     let sized : length (whats items) ≡ length items = length-map items (λ (b : SourcedItem). b.what) in
     record {
-      stands = record {
-        given = IsGiven-matched config rules (map filtered_item few) (map filtered_item all) new.events.filters (filtered-same few all same) shown.stands.given;
-        tally = same_tally count (length all) new.events.tally.hits (hit_count all) new.events.tally.alerts (length (trail (item_events config rules) all))
-            (omega (arith, counted, so_far, joined, sized))
-            (ap (λ (t : Tally). t.hits) shown.stands.tally ∙ hit_count-same few all same)
-            (ap (λ (t : Tally). t.alerts) shown.stands.tally ∙ ap length (events-same config rules few all same));
-      };
-      came = subst (λ (x : List ℕ). Gathers x (gathering_of old) (gathering_of new)) (sym (items_lines-matched form config rules before items)) shown.came;
+      given = IsGiven-matched config rules (map filtered_item few) (map filtered_item all) new.events.filters (filtered-same few all same) shown.given;
+      tally = same_tally count (length all) new.events.tally.hits (hit_count all) new.events.tally.alerts (length (trail (item_events config rules) all))
+          (omega (arith, counted, so_far, joined, sized))
+          (ap (λ (t : Tally). t.hits) shown.tally ∙ hit_count-same few all same)
+          (ap (λ (t : Tally). t.alerts) shown.tally ∙ ap length (events-same config rules few all same));
     }
-
-shows_part_matched : (form : Form) (config : Config) (rules : List Rule) (items : List SourcedItem) (old : Showing) (new : Option (List ℕ)) → ShowsPart form config rules (matched_sourced items) old new → ShowsPart form config rules items old new
-unfolding ShowsPart
-shows_part_matched form config rules items old new part = λ before stands.
-    subst (λ (x : List ℕ). WritesPart old.written (old.events.block.items ++ x) new) (sym (items_lines-matched form config rules before items)) (part before stands)
 
 -- ---- the items of jobs
 
@@ -201,20 +195,34 @@ length-told source place (job ∷ jobs) =
 
 -- ---- the matches of jobs
 
-pub shows_matches : (form : Form) (config : Config) (rules : List Rule) (source : ℕ → LinkedRecord) (found : Matches) (old new : Showing) (count : ℕ) → count ≡ old.events.tally.items + found.items
-    → Shows form config rules (sourced_items (by_place source 0 found.hits.items)) old new → ShowsMatches form config rules source found old (with_items new count)
-shows_matches form config rules source found old new count counted shows = λ jobs are.
-    let all : List SourcedItem = sourced_items (by_place source 0 jobs) in
-    let few : sourced_items (by_place source 0 found.hits.items) ≡ matched_sourced all = ap (λ (hits : List JobHits). sourced_items (by_place source 0 hits)) are.hits ∙ told-matched source 0 jobs in
-    shows_matched form config rules all old new count (counted ∙ ap (λ (n : ℕ). old.events.tally.items + n) (are.items ∙ sym (length-told source 0 jobs)))
-    (subst (λ (x : List SourcedItem). Shows form config rules x old new) few shows)
+-- the matches are the matched ones of all items
+few_of_all : (source : ℕ → LinkedRecord) (found : Matches) (jobs : List JobHits) → AreMatchesOf jobs found
+    → sourced_items (by_place source 0 found.hits.items) ≡ matched_sourced (sourced_items (by_place source 0 jobs))
+few_of_all source found jobs are = ap (λ (hits : List JobHits). sourced_items (by_place source 0 hits)) are.hits ∙ told-matched source 0 jobs
 
-pub matches_part : (form : Form) (config : Config) (rules : List Rule) (source : ℕ → LinkedRecord) (found : Matches) (old : Showing) (new : Option (List ℕ))
-    → ShowsPart form config rules (sourced_items (by_place source 0 found.hits.items)) old new → ShowsMatchesPart form config rules source found old new
-matches_part form config rules source found old new part = λ jobs are.
-    let all : List SourcedItem = sourced_items (by_place source 0 jobs) in
-    let few : sourced_items (by_place source 0 found.hits.items) ≡ matched_sourced all = ap (λ (hits : List JobHits). sourced_items (by_place source 0 hits)) are.hits ∙ told-matched source 0 jobs in
-    shows_part_matched form config rules all old new (subst (λ (x : List SourcedItem). ShowsPart form config rules x old new) few part)
+-- and have the lines of all
+matches_lines : (form : Form) (config : Config) (rules : List Rule) (source : ℕ → LinkedRecord) (found : Matches) (before : List Hits) (jobs : List JobHits) → AreMatchesOf jobs found
+    → items_lines form config rules before (sourced_items (by_place source 0 jobs)) ≡ items_lines form config rules before (sourced_items (by_place source 0 found.hits.items))
+matches_lines form config rules source found before jobs are =
+    items_lines-matched form config rules before (sourced_items (by_place source 0 jobs)) ∙ ap (items_lines form config rules before) (sym (few_of_all source found jobs are))
 
-pub matches_nothing : (form : Form) (config : Config) (rules : List Rule) (source : ℕ → LinkedRecord) (found : Matches) (old : Showing) → ShowsMatchesPart form config rules source found old old.written
-matches_nothing form config rules source found old = λ jobs are. shows_nothing form config rules (sourced_items (by_place source 0 jobs)) old
+pub shows_matches : (form : Form) (config : Config) (rules : List Rule) (source : ℕ → LinkedRecord) (found : Matches) (old new : Showing) (done : Unit {0}) (count : ℕ) → count ≡ old.events.tally.items + found.items
+    → Shows form config rules (sourced_items (by_place source 0 found.hits.items)) old new (Ok done) → ShowsMatches {A = Unit {0}} form config rules source found old (with_items new count) (Ok tt)
+shows_matches form config rules source found old new done count counted shows = record {
+  stands = λ jobs are before stands.
+      let all : List SourcedItem = sourced_items (by_place source 0 jobs) in
+      stands_matched config rules before all old new count (counted ∙ ap (λ (n : ℕ). old.events.tally.items + n) (are.items ∙ sym (length-told source 0 jobs))) stands
+      (subst (λ (x : List SourcedItem). EventsStand config rules (before ++ whats x) new.events) (few_of_all source found jobs are) (shows.stands before stands));
+  emits = by_told shows.emits (λ known. (known.before, matches_lines form config rules source found known.before.items known.jobs known.are));
+}
+
+pub matches_part : (form : Form) (config : Config) (rules : List Rule) (source : ℕ → LinkedRecord) (found : Matches) (old new : Showing) (why : Stop)
+    → Shows {A = Unit {0}} form config rules (sourced_items (by_place source 0 found.hits.items)) old new (Err why) → ShowsMatches {A = Unit {0}} form config rules source found old new (Err why)
+matches_part form config rules source found old new why shows = record {
+  stands = tt;
+  emits = by_stopped shows.emits (λ known. (known.before, matches_lines form config rules source found known.before.items known.jobs known.are));
+}
+
+pub matches_nothing : (form : Form) (config : Config) (rules : List Rule) (source : ℕ → LinkedRecord) (found : Matches) (old : Showing)
+    → ShowsMatches {A = Unit {0}} form config rules source found old old (Err stop.NoMemory)
+matches_nothing form config rules source found old = record { stands = tt; emits = by_nothing _ (sending_of old) (sending_of old) refl refl }

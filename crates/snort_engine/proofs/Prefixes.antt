@@ -1,6 +1,6 @@
 -- Laws of beginnings, and of parts of a text that were written.
-use Rattle.std.proofs.Common.{◌≡◌, ℕ, ◌≤◌, List, [], ◌++◌, Option, Result, Ok, Err, take, drop, refl, sym, ap, subst, append_assoc, ◌∙◌, arith}
-use Rattle.std.specs.Prelude.{OnOk, OnErr, IfErr}
+use Rattle.std.proofs.Common.{◌≡◌, ℕ, ◌≤◌, List, [], ◌++◌, Option, Result, Err, take, drop, refl, sym, ap, subst, append_assoc, ◌∙◌, arith}
+use Rattle.std.specs.Prelude.{IfErr}
 use Rattle.std.proofs.lemmas.Result.{IfErr-at_err}
 use Rattle.std.proofs.lemmas.Bool.Decides.{nat_tests}
 use Rattle.std.proofs.lemmas.List.{append-nil, take-append-drop}
@@ -11,7 +11,6 @@ use Rattle.edge_io.proofs.Told.{behind-nil, behind-behind}
 use Rattle.snort_engine.specs.declared.stop.Stop.{Stop}
 use Rattle.edge_io.specs.Frames.{OnlyRead}
 use Rattle.snort_engine.specs.Outside.{WritesPart}
-use Rattle.snort_engine.specs.Steps.Gathering.{Gathering, Gathers}
 
 -- a text is a beginning of itself
 pub IsPrefix-same : (whole : List ℕ) → IsPrefix whole whole
@@ -60,80 +59,6 @@ WritesPart-longer old new text rest (part, prefix, e) = (part, IsPrefix-longer p
 -- a whole text was written, and then nothing of what follows
 pub WritesPart-whole : (old new : Option (List ℕ)) (text rest : List ℕ) → new ≡ behind old text → WritesPart old (text ++ rest) new
 WritesPart-whole old new text rest e = WritesPart-behind old new new text rest e (WritesPart-none new rest)
-
--- ---- texts that wait in a block
-
--- no text came
-pub gathers_none : (old : Gathering) → Gathers [] old old
-gathers_none old = record { part = []; joined = append-nil old.block; wrote = sym (behind-nil old.written) }
-
--- a text came behind the block, and waits
-pub gathers_waits : (text : List ℕ) (old new : Gathering) → new.block ≡ old.block ++ text → new.written ≡ old.written → Gathers text old new
-gathers_waits text old new waits same = record { part = []; joined = sym waits; wrote = same ∙ sym (behind-nil old.written) }
-
--- all that waited was written
-pub gathers_all : (old new : Gathering) → new.written ≡ behind old.written old.block → new.block ≡ [] → Gathers [] old new
-gathers_all old new wrote empty = record { part = old.block; joined = ap (λ (x : List ℕ). old.block ++ x) (sym empty); wrote = wrote }
-
--- a text came, and then another one
-pub gathers_both : (first second : List ℕ) (old middle new : Gathering) → Gathers first old middle → Gathers second middle new → Gathers (first ++ second) old new
-gathers_both first second old middle new one two = record {
-  part = one.part ++ two.part;
-  joined = sym (append_assoc old.block first second)
-      ∙ ap (λ (x : List ℕ). x ++ second) one.joined
-      ∙ append_assoc one.part middle.block second
-      ∙ ap (λ (x : List ℕ). one.part ++ x) two.joined
-      ∙ sym (append_assoc one.part two.part new.block);
-  wrote = two.wrote ∙ ap (λ (x : Option (List ℕ)). behind x two.part) one.wrote ∙ behind-behind old.written one.part two.part;
-}
-
--- a text came, and then a part of what waits and of another text was written
-pub gathers_part : (first second : List ℕ) (old middle : Gathering) (new : Option (List ℕ)) → Gathers first old middle → WritesPart middle.written (middle.block ++ second) new
-    → WritesPart old.written (old.block ++ (first ++ second)) new
-gathers_part first second old middle new one part =
-    let P : List ℕ → Type 0 = λ x. WritesPart old.written x new in
-    let joined : one.part ++ (middle.block ++ second) ≡ old.block ++ (first ++ second) =
-    sym (append_assoc one.part middle.block second) ∙ ap (λ (x : List ℕ). x ++ second) (sym one.joined) ∙ append_assoc old.block first second in
-    subst P joined (WritesPart-behind old.written middle.written new one.part (middle.block ++ second) one.wrote part)
-
--- what came and what waits still was written behind the empty block
-pub gathers_written : (text : List ℕ) (old middle : Gathering) (new : Option (List ℕ)) → old.block ≡ [] → Gathers text old middle → new ≡ behind middle.written middle.block → new ≡ behind old.written text
-gathers_written text old middle new empty one wrote =
-    wrote ∙ ap (λ (x : Option (List ℕ)). behind x middle.block) one.wrote ∙ behind-behind old.written one.part middle.block
-    ∙ ap (behind old.written) (sym one.joined ∙ ap (λ (x : List ℕ). x ++ text) empty)
-
--- a part of what came and what waits still was written behind the empty block
-pub gathers_stopped : (text : List ℕ) (old middle : Gathering) (new : Option (List ℕ)) → old.block ≡ [] → Gathers text old middle → WritesPart middle.written middle.block new → WritesPart old.written text new
-gathers_stopped text old middle new empty one part =
-    subst (λ (x : List ℕ). WritesPart old.written x new) (sym one.joined ∙ ap (λ (x : List ℕ). x ++ text) empty)
-    (WritesPart-behind old.written middle.written new one.part middle.block one.wrote part)
-
--- a text came: a part of it and of what waited was written
-pub gathers_some : (text : List ℕ) (old new : Gathering) → Gathers text old new → WritesPart old.written (old.block ++ text) new.written
-unfolding WritesPart
-gathers_some text old new came = (came.part, (new.block, sym came.joined), came.wrote)
-
--- ---- by the answer of the last step
-
--- a text came behind the block, which was then offered where it is full
-pub came_then : (answer : Result (Unit {0}) Stop) (text : List ℕ) (old middle new : Gathering) → middle.block ≡ old.block ++ text → middle.written ≡ old.written → OnOk answer (Gathers [] middle new) → OnOk answer (Gathers text old new)
-came_then (Ok done) text old middle new waits same offered =
-    subst (λ (x : List ℕ). Gathers x old new) (append-nil text) (gathers_both text [] old middle new (gathers_waits text old middle waits same) offered)
-came_then (Err why) text old middle new waits same offered = tt
-
--- a text came, and what waits was then offered
-pub offered_then : (answer : Result (Unit {0}) Stop) (text : List ℕ) (old middle : Gathering) (new : Option (List ℕ)) → old.block ≡ [] → Gathers text old middle → OnOk answer (new ≡ behind middle.written middle.block) → OnOk answer (new ≡ behind old.written text)
-offered_then (Ok done) text old middle new empty came offered = gathers_written text old middle new empty came offered
-offered_then (Err why) text old middle new empty came offered = tt
-
-pub stopped_then : (answer : Result (Unit {0}) Stop) (text : List ℕ) (old middle : Gathering) (new : Option (List ℕ)) → old.block ≡ [] → Gathers text old middle → OnErr answer (WritesPart middle.written middle.block new) → OnErr answer (WritesPart old.written text new)
-stopped_then (Ok done) text old middle new empty came stopped = tt
-stopped_then (Err why) text old middle new empty came stopped = gathers_stopped text old middle new empty came stopped
-
--- all that waited was offered
-pub all_then : (answer : Result (Unit {0}) Stop) (old new : Gathering) → OnOk answer (new.written ≡ behind old.written old.block) → OnOk answer (new.block ≡ []) → OnOk answer (Gathers [] old new)
-all_then (Ok done) old new wrote empty = gathers_all old new wrote empty
-all_then (Err why) old new wrote empty = tt
 
 -- an answer has one stop
 pub same_stop : {T : Type 0} (answer : Result T Stop) (this that : Stop) → answer ≡ Err this → answer ≡ Err that → this ≡ that

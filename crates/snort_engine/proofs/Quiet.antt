@@ -22,8 +22,7 @@ use Rattle.snort_engine.specs.Ending.{IsUncut}
 use Rattle.snort_engine.specs.Records.{of_savefile, of_blocks}
 use Rattle.snort_engine.specs.Steps.Batch.{more_of}
 use Rattle.snort_engine.specs.Steps.Preparing.{StopsAtFile}
-use Rattle.snort_engine.specs.Steps.Stop.{capture_stop, setup_stop, stop_status, outcome_status, is_uncut, is_written, WritesQuietly}
-use Rattle.snort_engine.specs.Steps.Watching.{IsShowStop, IsWriteStop}
+use Rattle.snort_engine.specs.Steps.Stop.{capture_stop, setup_stop, stop_status, outcome_status, is_uncut, is_written, IsShowStop, IsWriteStop, WritesQuietly}
 use Rattle.snort_engine.proofs.Stops.{write_kind}
 
 -- ---- statuses

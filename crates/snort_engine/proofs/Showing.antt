@@ -1,6 +1,6 @@
 -- Lines of items that are made one behind another.
-use Rattle.std.proofs.Common.{◌≡◌, ℕ, ◌+◌, ◌<◌, List, [], ◌∷◌, ◌++◌, Option, Some, None, length, get_or, take, drop, map, refl, sym, ap, subst, append_assoc, ◌∙◌, arith, slice_get, length-append, zero-add}
-use Rattle.std.specs.Prelude.{All, ⊤}
+use Rattle.std.proofs.Common.{◌≡◌, ℕ, ◌+◌, ◌<◌, List, [], ◌∷◌, ◌++◌, Option, Some, None, Result, Ok, Err, length, get_or, take, drop, map, refl, sym, ap, subst, append_assoc, ◌∙◌, arith, slice_get, length-append, zero-add}
+use Rattle.std.specs.Prelude.{All, OnOk, ⊤}
 use Rattle.std.specs.Option.{ForSome, option_map, option_to_list}
 use Rattle.std.specs.List.{flat_map}
 use Rattle.std.specs.Borrow.{Bor}
@@ -21,17 +21,19 @@ use Rattle.flow_lanes.specs.declared.answer.JobHits.{JobHits}
 use Rattle.record_jobs.specs.Way.{LinkedRecord}
 use Rattle.event_filters.specs.Events.{Item, kept}
 use Rattle.event_filters.specs.Standing.{FiltersState, IsGiven, Passes}
+use Rattle.snort_engine.specs.declared.events.Events.{Events}
 use Rattle.snort_engine.specs.declared.events.Tally.{Tally}
 use Rattle.snort_engine.specs.declared.form.Form.{Form}
-use Rattle.snort_engine.specs.Outside.{WritesPart}
+use Rattle.snort_engine.specs.declared.stop.Stop.{Stop}
+use Rattle.snort_engine.specs.declared.stop.Stop.TheVariants as stop
 use Rattle.snort_engine.specs.Beside.{Beside, beside, by_place, carried, whats}
 use Rattle.snort_engine.specs.Trace.{Alert, Event, event_of, event_at, filtered_item, item_events}
 use Rattle.snort_engine.specs.Lines.{text_of, texts_from}
 use Rattle.snort_engine.specs.Counts.{hit_count}
-use Rattle.snort_engine.specs.Steps.Gathering.{Gathering, Gathers}
-use Rattle.snort_engine.specs.Steps.Showing.{Subject, SourcedItem, places_lines, places_count, ShowsPlaces, items_lines, tally_of, EventsStand, Showing, gathering_of, Shows, ShowsPart}
+use Rattle.snort_engine.specs.Steps.Gathering.{Sending, Emits}
+use Rattle.snort_engine.specs.Steps.Showing.{Subject, SourcedItem, places_lines, places_count, ShowsPlaces, items_lines, tally_of, EventsStand, Earlier, Showing, sending_of, Shows}
 use Rattle.snort_engine.specs.Steps.Sourcing.{sourced_items}
-use Rattle.snort_engine.proofs.Prefixes.{WritesPart-none, WritesPart-longer, gathers_none, gathers_both, gathers_part, gathers_some}
+use Rattle.snort_engine.proofs.Emitting.{by_lacking, by_longer, by_nothing, by_stopped, by_then, by_told, emits_longer, emits_none, emits_then}
 use Rattle.snort_engine.proofs.Texts.{texts_from-append}
 use Rattle.snort_engine.proofs.Beside.{by_place-append, carried-append, length-carried, whats-append}
 
@@ -87,80 +89,72 @@ pub place_absent : (rules : List Rule) (place : ℕ) (answer : Option (Bor Rule)
 place_absent rules place None found absent = slice_get_past rules place found.3
 place_absent rules place (Some rule) found absent = absurd (absent rule refl)
 
--- the line of a rule came, or there is none
-pub place_shown : (s : Subject) (before place : ℕ) (rule : Rule) (old new : Gathering) → slice_get s.rules place ≡ Some rule
-    → Gathers (text_by s before (beside s.source (event_of s.head rule))) old new → ShowsPlaces s before (place ∷ []) 1 old new
-place_shown s before place rule old new is came = record {
-  came = subst (λ (x : List ℕ). Gathers x old new) (sym (place_lines-some s before place rule is)) came;
+-- the line of a rule is on its way, or there is none
+pub place_shown : {A : Type 0} (s : Subject) (before place : ℕ) (rule : Rule) (old new : Sending) (done : A) → slice_get s.rules place ≡ Some rule
+    → Emits (text_by s before (beside s.source (event_of s.head rule))) old new (Ok done) → ShowsPlaces s before (place ∷ []) old new (Ok 1)
+place_shown s before place rule old new done is line = record {
+  emits = by_told line (λ known. (tt, place_lines-some s before place rule is));
   counted = sym (place_count-some s.rules s.head place rule is);
 }
 
-pub place_passed : (s : Subject) (before place : ℕ) (old : Gathering) → slice_get s.rules place ≡ None → ShowsPlaces s before (place ∷ []) 0 old old
+pub place_passed : (s : Subject) (before place : ℕ) (old : Sending) → slice_get s.rules place ≡ None → ShowsPlaces s before (place ∷ []) old old (Ok 0)
 place_passed s before place old is = record {
-  came = subst (λ (x : List ℕ). Gathers x old old) (sym (place_lines-none s before place is)) (gathers_none old);
+  emits = by_told (emits_none old (place_lines-none s before place is)) (λ known. (tt, refl));
   counted = sym (place_count-none s.rules s.head place is);
 }
 
--- or a part of it was written
-pub place_part : (s : Subject) (before place : ℕ) (rule : Rule) (old : Option (List ℕ)) (block : List ℕ) (new : Option (List ℕ)) → slice_get s.rules place ≡ Some rule
-    → WritesPart old (block ++ text_by s before (beside s.source (event_of s.head rule))) new → WritesPart old (block ++ places_lines s before (place ∷ [])) new
-place_part s before place rule old block new is part =
-    subst (λ (x : List ℕ). WritesPart old (block ++ x) new) (sym (place_lines-some s before place rule is)) part
+-- or it was stopped
+pub place_part : {A : Type 0} (s : Subject) (before place : ℕ) (rule : Rule) (old new : Sending) (why : Stop) → slice_get s.rules place ≡ Some rule
+    → Emits {A = A} (text_by s before (beside s.source (event_of s.head rule))) old new (Err why) → ShowsPlaces s before (place ∷ []) old new (Err why)
+place_part s before place rule old new why is line = record { emits = by_stopped line (λ known. (tt, place_lines-some s before place rule is)); counted = tt }
 
 -- no rule
-pub places_none : (s : Subject) (before : ℕ) (old : Gathering) → ShowsPlaces s before [] 0 old old
+pub places_none : (s : Subject) (before : ℕ) (old : Sending) → ShowsPlaces s before [] old old (Ok 0)
 unfolding places_lines places_count
-places_none s before old = record { came = gathers_none old; counted = refl }
+places_none s before old = record { emits = by_told (emits_none {text = []} old refl) (λ known. (tt, refl)); counted = refl }
 
--- nothing was written of some
-pub places_nothing : (s : Subject) (before : ℕ) (places : List ℕ) (i count : ℕ) (old middle : Gathering)
-    → ShowsPlaces s before (take i places) count old middle → WritesPart old.written (old.block ++ places_lines s before places) middle.written
-places_nothing s before places i count old middle so_far =
-    let front = take i places in
-    let back = drop i places in
-    let n = before + places_count s.rules s.head front in
-    let whole : places_lines s before front ++ places_lines s n back ≡ places_lines s before places =
-    sym (places_lines-append s before front back) ∙ ap (places_lines s before) (take-append-drop i places) in
-    subst (λ (x : List ℕ). WritesPart old.written x middle.written)
-    (append_assoc old.block (places_lines s before front) (places_lines s n back) ∙ ap (λ (x : List ℕ). old.block ++ x) whole)
-    (WritesPart-longer old.written middle.written (old.block ++ places_lines s before front) (places_lines s n back) (gathers_some (places_lines s before front) old middle so_far.came))
+-- the lines so far, and then those of the others
+places_split : (s : Subject) (before : ℕ) (places : List ℕ) (i : ℕ)
+    → places_lines s before places ≡ places_lines s before (take i places) ++ places_lines s (before + places_count s.rules s.head (take i places)) (drop i places)
+places_split s before places i = ap (places_lines s before) (sym (take-append-drop i places)) ∙ places_lines-append s before (take i places) (drop i places)
+
+places_more : (s : Subject) (before : ℕ) (places : List ℕ) (i number : ℕ) → i < length places → number ≡ before + places_count s.rules s.head (take i places)
+    → places_lines s before (take (i + 1) places) ≡ places_lines s before (take i places) ++ places_lines s number (get_or places i 0 ∷ [])
+places_more s before places i number lt at =
+    ap (places_lines s before) (take_more places i 0 lt) ∙ places_lines-append s before (take i places) (get_or places i 0 ∷ [])
+    ∙ ap (λ (n : ℕ). places_lines s before (take i places) ++ places_lines s n (get_or places i 0 ∷ [])) (sym at)
+
+-- memory was lacking behind some
+pub places_nothing : (s : Subject) (before : ℕ) (places : List ℕ) (i count : ℕ) (old middle : Sending)
+    → ShowsPlaces s before (take i places) old middle (Ok count) → ShowsPlaces s before places old middle (Err stop.NoMemory)
+places_nothing s before places i count old middle so_far = record {
+  emits = by_lacking so_far.emits (λ known. (tt, places_lines s (before + places_count s.rules s.head (take i places)) (drop i places), places_split s before places i));
+  counted = tt;
+}
 
 -- one rule more
-pub places_step : (s : Subject) (before : ℕ) (places : List ℕ) (i count one number : ℕ) (old middle new : Gathering) → i < length places → number ≡ before + count
-    → ShowsPlaces s before (take i places) count old middle → ShowsPlaces s number (get_or places i 0 ∷ []) one middle new
-    → ShowsPlaces s before (take (i + 1) places) (count + one) old new
+pub places_step : (s : Subject) (before : ℕ) (places : List ℕ) (i count one number : ℕ) (old middle new : Sending) → i < length places → number ≡ before + count
+    → ShowsPlaces s before (take i places) old middle (Ok count) → ShowsPlaces s number (get_or places i 0 ∷ []) middle new (Ok one)
+    → ShowsPlaces s before (take (i + 1) places) old new (Ok (count + one))
 places_step s before places i count one number old middle new lt numbered so_far more =
-    let front = take i places in
-    let place = get_or places i 0 in
-    let at = numbered ∙ ap (λ (n : ℕ). before + n) so_far.counted in
-    let came : Gathers (places_lines s (before + places_count s.rules s.head front) (place ∷ [])) middle new =
-    subst (λ (n : ℕ). Gathers (places_lines s n (place ∷ [])) middle new) at more.came in
-    let both : ShowsPlaces s before (front ++ place ∷ []) (count + one) old new = record {
-      came = subst (λ (x : List ℕ). Gathers x old new) (sym (places_lines-append s before front (place ∷ []))) (gathers_both _ _ old middle new so_far.came came);
-      counted = let first = so_far.counted in let second = more.counted in let joined = places_count-append s.rules s.head front (place ∷ []) in omega (arith, first, second, joined);
-    } in
-    subst (λ (x : List ℕ). ShowsPlaces s before x (count + one) old new) (sym (take_more places i 0 lt)) both
+    let at = numbered ∙ ap (λ (n : ℕ). before + n) so_far.counted in record {
+      emits = by_told (emits_then so_far.emits more.emits (places_more s before places i number lt at)) (λ known. (tt, refl));
+      counted =
+          let first = so_far.counted in
+          let second = more.counted in
+          let joined = ap (places_count s.rules s.head) (take_more places i 0 lt) ∙ places_count-append s.rules s.head (take i places) (get_or places i 0 ∷ []) in
+          omega (arith, first, second, joined);
+    }
 
--- the lines so far came, and then a part of that of the next rule was written
-pub places_part : (s : Subject) (before : ℕ) (places : List ℕ) (i count number : ℕ) (old middle : Gathering) (new : Option (List ℕ)) → i < length places → number ≡ before + count
-    → ShowsPlaces s before (take i places) count old middle → WritesPart middle.written (middle.block ++ places_lines s number (get_or places i 0 ∷ [])) new
-    → WritesPart old.written (old.block ++ places_lines s before places) new
-places_part s before places i count number old middle new lt numbered so_far part =
-    let front = take i places in
-    let place = get_or places i 0 in
-    let back = drop (i + 1) places in
-    let n = before + places_count s.rules s.head front in
-    let m = before + places_count s.rules s.head (take (i + 1) places) in
-    let at : number ≡ n = numbered ∙ ap (λ (k : ℕ). before + k) so_far.counted in
-    let here : WritesPart middle.written (middle.block ++ places_lines s n (place ∷ [])) new =
-    subst (λ (k : ℕ). WritesPart middle.written (middle.block ++ places_lines s k (place ∷ [])) new) at part in
-    let whole : (places_lines s before front ++ places_lines s n (place ∷ [])) ++ places_lines s m back ≡ places_lines s before places =
-    ap (λ (x : List ℕ). x ++ places_lines s m back) (sym (places_lines-append s before front (place ∷ [])) ∙ ap (places_lines s before) (sym (take_more places i 0 lt)))
-    ∙ sym (places_lines-append s before (take (i + 1) places) back) ∙ ap (places_lines s before) (take-append-drop (i + 1) places) in
-    subst (λ (x : List ℕ). WritesPart old.written x new)
-    (append_assoc old.block (places_lines s before front ++ places_lines s n (place ∷ [])) (places_lines s m back) ∙ ap (λ (x : List ℕ). old.block ++ x) whole)
-    (WritesPart-longer old.written new (old.block ++ (places_lines s before front ++ places_lines s n (place ∷ []))) (places_lines s m back)
-    (gathers_part (places_lines s before front) (places_lines s n (place ∷ [])) old middle new so_far.came here))
+-- the lines so far came, and then the next one was stopped
+pub places_part : (s : Subject) (before : ℕ) (places : List ℕ) (i count number : ℕ) (old middle new : Sending) (why : Stop) → i < length places → number ≡ before + count
+    → ShowsPlaces s before (take i places) old middle (Ok count) → ShowsPlaces s number (get_or places i 0 ∷ []) middle new (Err why)
+    → ShowsPlaces s before places old new (Err why)
+places_part s before places i count number old middle new why lt numbered so_far more =
+    let at = numbered ∙ ap (λ (n : ℕ). before + n) so_far.counted in record {
+      emits = emits_longer _ (emits_then so_far.emits more.emits (places_more s before places i number lt at)) (places_split s before places (i + 1));
+      counted = tt;
+    }
 
 -- a rule's class is one of the classes
 pub class_there : (classes : List Class) (rules : List Rule) (i : ℕ) (rule : Rule) → i < length rules → rule ≡ get_or rules i rule → All (IsSound classes) rules
@@ -245,86 +239,89 @@ item_lines form config rules source hits before tally places stands are =
     ∙ ap (places_lines s (length (trail (item_events config rules) before))) are
     ∙ sym (items_lines-one form config rules before source hits)
 
--- an item was given to the filters, and the lines of what they keep of it came
+item_lines_by : (form : Form) (config : Config) (rules : List Rule) (source : LinkedRecord) (hits : Hits) (old : Events) (after : FiltersState) (places : List ℕ)
+    → Passes config rules old.filters [] (filtered_item hits) after places → (before : Earlier config rules old)
+    → items_lines form config rules before.items (beside source hits ∷ []) ≡ places_lines (subject_for form config rules source hits) old.tally.alerts places
+item_lines_by form config rules source hits old after places passes before =
+    sym (item_lines form config rules source hits before.items old.tally places before.stand.tally (passes (map filtered_item before.items) before.stand.given).1)
+
+-- an item was given to the filters, and the lines of what they keep of it are on their way
 pub shows_one : (form : Form) (config : Config) (rules : List Rule) (source : LinkedRecord) (hits : Hits) (old new : Showing) (places : List ℕ) (count size : ℕ)
     → Passes config rules old.events.filters [] (filtered_item hits) new.events.filters places
-    → ShowsPlaces (subject_for form config rules source hits) old.events.tally.alerts places count (gathering_of old) (gathering_of new)
+    → ShowsPlaces (subject_for form config rules source hits) old.events.tally.alerts places (sending_of old) (sending_of new) (Ok count)
     → new.events.tally ≡ record { items = old.events.tally.items + 1; hits = old.events.tally.hits + size; alerts = old.events.tally.alerts + count } → size ≡ length hits.rules
-    → Shows form config rules (beside source hits ∷ []) old new
-unfolding Shows
-shows_one form config rules source hits old new places count size passes shown tally is = λ before stands.
-    let passed = passes (map filtered_item before) stands.given in
-    let own = kept config rules (map filtered_item before) (filtered_item hits) in record {
-      stands = record {
+    → Shows {A = Unit {0}} form config rules (beside source hits ∷ []) old new (Ok tt)
+shows_one form config rules source hits old new places count size passes shown tally is = record {
+  stands = λ before stands.
+      let passed = passes (map filtered_item before) stands.given in record {
         given = subst (λ (x : List Item). IsGiven config rules x new.events.filters) (sym (map-append filtered_item before (hits ∷ []))) passed.0;
         tally = tally
             ∙ ap (λ (n : ℕ). tally_with old.events.tally n count) is
             ∙ tally_of-more config rules before hits count old.events.tally stands.tally (shown.counted ∙ ap (places_count rules hits.head) passed.1);
       };
-      came = subst (λ (x : List ℕ). Gathers x (gathering_of old) (gathering_of new))
-          (item_lines form config rules source hits before old.events.tally places stands.tally passed.1) shown.came;
-    }
-
--- nothing was written of it
-pub shows_nothing : (form : Form) (config : Config) (rules : List Rule) (items : List SourcedItem) (old : Showing) → ShowsPart form config rules items old old.written
-unfolding ShowsPart
-shows_nothing form config rules items old = λ before stands. WritesPart-none old.written _
-
--- a part of its lines was written
-pub shows_part_of : (form : Form) (config : Config) (rules : List Rule) (source : LinkedRecord) (hits : Hits) (old : Showing) (after : FiltersState) (places : List ℕ) (new : Option (List ℕ))
-    → Passes config rules old.events.filters [] (filtered_item hits) after places
-    → WritesPart old.written (old.events.block.items ++ places_lines (subject_for form config rules source hits) old.events.tally.alerts places) new
-    → ShowsPart form config rules (beside source hits ∷ []) old new
-unfolding ShowsPart
-shows_part_of form config rules source hits old after places new passes part = λ before stands.
-    let passed = passes (map filtered_item before) stands.given in
-    subst (λ (x : List ℕ). WritesPart old.written (old.events.block.items ++ x) new)
-    (item_lines form config rules source hits before old.events.tally places stands.tally passed.1) part
-
--- its lines came, and it couldn't be counted
-pub shows_uncounted : (form : Form) (config : Config) (rules : List Rule) (source : LinkedRecord) (hits : Hits) (old : Showing) (after : FiltersState) (places : List ℕ) (count : ℕ) (new : Gathering)
-    → Passes config rules old.events.filters [] (filtered_item hits) after places
-    → ShowsPlaces (subject_for form config rules source hits) old.events.tally.alerts places count (gathering_of old) new
-    → ShowsPart form config rules (beside source hits ∷ []) old new.written
-shows_uncounted form config rules source hits old after places count new passes shown =
-    shows_part_of form config rules source hits old after places new.written passes (gathers_some _ (gathering_of old) new shown.came)
-
--- no item came
-pub shows_none : (form : Form) (config : Config) (rules : List Rule) (old : Showing) → Shows form config rules [] old old
-unfolding Shows items_lines
-shows_none form config rules old = λ before stands. record {
-  stands = subst (λ (x : List Hits). EventsStand config rules x old.events) (sym (append-nil before)) stands;
-  came = gathers_none (gathering_of old);
+  emits = by_told shown.emits (λ before. (tt, item_lines_by form config rules source hits old.events new.events.filters places passes before));
 }
 
--- items came, and then others
-pub shows_both : (form : Form) (config : Config) (rules : List Rule) (front back : List SourcedItem) (old middle new : Showing) → Shows form config rules front old middle → Shows form config rules back middle new → Shows form config rules (front ++ back) old new
-unfolding Shows
-shows_both form config rules front back old middle new one two = λ before stands.
-    let first = one before stands in
-    let second = two (before ++ whats front) first.stands in record {
-      stands = subst (λ (x : List Hits). EventsStand config rules x new.events)
-          (append_assoc before (whats front) (whats back) ∙ ap (λ (x : List Hits). before ++ x) (sym (whats-append front back))) second.stands;
-      came = subst (λ (x : List ℕ). Gathers x (gathering_of old) (gathering_of new)) (sym (items_lines-append form config rules before front back))
-          (gathers_both _ _ (gathering_of old) (gathering_of middle) (gathering_of new) first.came second.came);
-    }
+-- memory was lacking before it was shown
+pub shows_nothing : (form : Form) (config : Config) (rules : List Rule) (items : List SourcedItem) (old new : Showing) → new.written ≡ old.written → new.faults ≡ old.faults
+    → Shows {A = Unit {0}} form config rules items old new (Err stop.NoMemory)
+shows_nothing form config rules items old new written faults = record { stands = tt; emits = by_nothing _ (sending_of old) (sending_of new) written faults }
 
--- items came, and then a part of the lines of others was written
-pub shows_then_part : (form : Form) (config : Config) (rules : List Rule) (front back : List SourcedItem) (old middle : Showing) (new : Option (List ℕ)) → Shows form config rules front old middle → ShowsPart form config rules back middle new → ShowsPart form config rules (front ++ back) old new
-unfolding Shows ShowsPart
-shows_then_part form config rules front back old middle new one part = λ before stands.
-    let first = one before stands in
-    subst (λ (x : List ℕ). WritesPart old.written (old.events.block.items ++ x) new) (sym (items_lines-append form config rules before front back))
-    (gathers_part (items_lines form config rules before front) (items_lines form config rules (before ++ whats front) back) (gathering_of old) (gathering_of middle) new first.came (part (before ++ whats front) first.stands))
+-- it was stopped
+pub shows_part_of : (form : Form) (config : Config) (rules : List Rule) (source : LinkedRecord) (hits : Hits) (old new : Showing) (after : FiltersState) (places : List ℕ) (why : Stop)
+    → Passes config rules old.events.filters [] (filtered_item hits) after places
+    → ShowsPlaces (subject_for form config rules source hits) old.events.tally.alerts places (sending_of old) (sending_of new) (Err why)
+    → Shows {A = Unit {0}} form config rules (beside source hits ∷ []) old new (Err why)
+shows_part_of form config rules source hits old new after places why passes shown = record {
+  stands = tt;
+  emits = by_stopped shown.emits (λ before. (tt, item_lines_by form config rules source hits old.events after places passes before));
+}
+
+-- its lines came, and it couldn't be counted
+pub shows_uncounted : (form : Form) (config : Config) (rules : List Rule) (source : LinkedRecord) (hits : Hits) (old new : Showing) (after : FiltersState) (places : List ℕ) (count : ℕ)
+    → Passes config rules old.events.filters [] (filtered_item hits) after places
+    → ShowsPlaces (subject_for form config rules source hits) old.events.tally.alerts places (sending_of old) (sending_of new) (Ok count)
+    → Shows {A = Unit {0}} form config rules (beside source hits ∷ []) old new (Err stop.NoMemory)
+shows_uncounted form config rules source hits old new after places count passes shown = record {
+  stands = tt;
+  emits = by_lacking shown.emits (λ before. (tt, [], item_lines_by form config rules source hits old.events after places passes before ∙ sym (append-nil _)));
+}
+
+-- no item came
+items_lines-none : (form : Form) (config : Config) (rules : List Rule) (before : List Hits) → items_lines form config rules before [] ≡ []
+unfolding items_lines
+items_lines-none form config rules before = refl
+
+pub shows_none : (form : Form) (config : Config) (rules : List Rule) (old : Showing) → Shows {A = Unit {0}} form config rules [] old old (Ok tt)
+shows_none form config rules old = record {
+  stands = λ before stands. subst (λ (x : List Hits). EventsStand config rules x old.events) (sym (append-nil before)) stands;
+  emits = by_told (emits_none {text = []} (sending_of old) refl) (λ before. (tt, items_lines-none form config rules before.items));
+}
+
+-- items came, and then others, or a part of their lines
+pub shows_then : (form : Form) (config : Config) (rules : List Rule) (front back : List SourcedItem) (old middle new : Showing) (done : Unit {0}) (outcome : Result (Unit {0}) Stop)
+    → Shows form config rules front old middle (Ok done) → Shows form config rules back middle new outcome → Shows form config rules (front ++ back) old new outcome
+shows_then form config rules front back old middle new done outcome one two = record {
+  stands = by_outcome outcome two.stands;
+  emits = by_then one.emits two.emits (λ before. (before, record { items = before.items ++ whats front; stand = one.stands before.items before.stand }, items_lines-append form config rules before.items front back));
+}
+  where
+    by_outcome : (so : Result (Unit {0}) Stop)
+        → OnOk so ((before : List Hits) → EventsStand config rules before middle.events → EventsStand config rules (before ++ whats back) new.events)
+        → OnOk so ((before : List Hits) → EventsStand config rules before old.events → EventsStand config rules (before ++ whats (front ++ back)) new.events)
+    by_outcome (Ok more) on = λ before stands.
+        subst (λ (x : List Hits). EventsStand config rules x new.events)
+        (append_assoc before (whats front) (whats back) ∙ ap (λ (x : List Hits). before ++ x) (sym (whats-append front back)))
+        (on (before ++ whats front) (one.stands before stands))
+    by_outcome (Err why) on = tt
 
 -- a part of the lines of items is one of those of more items
-pub shows_part_longer : (form : Form) (config : Config) (rules : List Rule) (front back : List SourcedItem) (old : Showing) (new : Option (List ℕ)) → ShowsPart form config rules front old new → ShowsPart form config rules (front ++ back) old new
-unfolding ShowsPart
-shows_part_longer form config rules front back old new part = λ before stands.
-    subst (λ (x : List ℕ). WritesPart old.written x new)
-    (append_assoc old.events.block.items (items_lines form config rules before front) (items_lines form config rules (before ++ whats front) back)
-    ∙ ap (λ (x : List ℕ). old.events.block.items ++ x) (sym (items_lines-append form config rules before front back)))
-    (WritesPart-longer old.written new (old.events.block.items ++ items_lines form config rules before front) (items_lines form config rules (before ++ whats front) back) (part before stands))
+shows_longer : (form : Form) (config : Config) (rules : List Rule) (front back : List SourcedItem) (old new : Showing) (why : Stop)
+    → Shows {A = Unit {0}} form config rules front old new (Err why) → Shows {A = Unit {0}} form config rules (front ++ back) old new (Err why)
+shows_longer form config rules front back old new why one = record {
+  stands = tt;
+  emits = by_longer one.emits (λ before. (before, items_lines form config rules (before.items ++ whats front) back, items_lines-append form config rules before.items front back));
+}
 
 -- ---- the items of a job, beside one record
 
@@ -335,22 +332,23 @@ items_more source items i hits lt is =
     ∙ ap (map (beside source)) (ap (λ (h : Hits). take i items ++ h ∷ []) is ∙ sym (take_more items i hits lt))
 
 -- the items so far came, and then the next one
-pub items_step : (form : Form) (config : Config) (rules : List Rule) (source : LinkedRecord) (items : List Hits) (i : ℕ) (hits : Hits) (old middle new : Showing) → i < length items → hits ≡ get_or items i hits
-    → Shows form config rules (map (beside source) (take i items)) old middle → Shows form config rules (beside source hits ∷ []) middle new
-    → Shows form config rules (map (beside source) (take (i + 1) items)) old new
-items_step form config rules source items i hits old middle new lt is so_far more =
-    subst (λ (x : List SourcedItem). Shows form config rules x old new) (items_more source items i hits lt is)
-    (shows_both form config rules (map (beside source) (take i items)) (beside source hits ∷ []) old middle new so_far more)
+pub items_step : (form : Form) (config : Config) (rules : List Rule) (source : LinkedRecord) (items : List Hits) (i : ℕ) (hits : Hits) (old middle new : Showing) (done : Unit {0}) (outcome : Result (Unit {0}) Stop)
+    → i < length items → hits ≡ get_or items i hits
+    → Shows form config rules (map (beside source) (take i items)) old middle (Ok done) → Shows form config rules (beside source hits ∷ []) middle new outcome
+    → Shows form config rules (map (beside source) (take (i + 1) items)) old new outcome
+items_step form config rules source items i hits old middle new done outcome lt is so_far more =
+    subst (λ (x : List SourcedItem). Shows form config rules x old new outcome) (items_more source items i hits lt is)
+    (shows_then form config rules (map (beside source) (take i items)) (beside source hits ∷ []) old middle new done outcome so_far more)
 
-pub items_part : (form : Form) (config : Config) (rules : List Rule) (source : LinkedRecord) (items : List Hits) (i : ℕ) (hits : Hits) (old middle : Showing) (new : Option (List ℕ)) → i < length items → hits ≡ get_or items i hits
-    → Shows form config rules (map (beside source) (take i items)) old middle → ShowsPart form config rules (beside source hits ∷ []) middle new → ShowsPart form config rules (map (beside source) items) old new
-items_part form config rules source items i hits old middle new lt is so_far part =
-    let front = map (beside source) (take i items) in
-    let later = map (beside source) (drop (i + 1) items) in
-    subst (λ (x : List SourcedItem). ShowsPart form config rules x old new)
-    (ap (λ (x : List SourcedItem). x ++ later) (items_more source items i hits lt is)
-    ∙ sym (map-append (beside source) (take (i + 1) items) (drop (i + 1) items)) ∙ ap (map (beside source)) (take-append-drop (i + 1) items))
-    (shows_part_longer form config rules (front ++ beside source hits ∷ []) later old new (shows_then_part form config rules front (beside source hits ∷ []) old middle new so_far part))
+pub items_part : (form : Form) (config : Config) (rules : List Rule) (source : LinkedRecord) (items : List Hits) (i : ℕ) (hits : Hits) (old middle new : Showing) (done : Unit {0}) (why : Stop)
+    → i < length items → hits ≡ get_or items i hits
+    → Shows form config rules (map (beside source) (take i items)) old middle (Ok done) → Shows {A = Unit {0}} form config rules (beside source hits ∷ []) middle new (Err why)
+    → Shows {A = Unit {0}} form config rules (map (beside source) items) old new (Err why)
+items_part form config rules source items i hits old middle new done why lt is so_far part =
+    subst (λ (x : List SourcedItem). Shows {A = Unit {0}} form config rules x old new (Err why))
+    (sym (map-append (beside source) (take (i + 1) items) (drop (i + 1) items)) ∙ ap (map (beside source)) (take-append-drop (i + 1) items))
+    (shows_longer form config rules (map (beside source) (take (i + 1) items)) (map (beside source) (drop (i + 1) items)) old new why
+    (items_step form config rules source items i hits old middle new done (Err why) lt is so_far part))
 
 -- ---- the items of jobs
 
@@ -372,23 +370,23 @@ told_more source jobs i job lt is =
     ∙ ap sourced_items (sym (by_place-append source 0 front (job ∷ [])))
     ∙ ap (told_of source) (ap (λ (j : JobHits). front ++ j ∷ []) is ∙ sym (take_more jobs i job lt))
 
-pub jobs_step : (form : Form) (config : Config) (rules : List Rule) (source : ℕ → LinkedRecord) (jobs : List JobHits) (i : ℕ) (job : JobHits) (old middle new : Showing) → i < length jobs → job ≡ get_or jobs i job
-    → Shows form config rules (sourced_items (by_place source 0 (take i jobs))) old middle → Shows form config rules (map (beside (source i)) job.items) middle new
-    → Shows form config rules (sourced_items (by_place source 0 (take (i + 1) jobs))) old new
-jobs_step form config rules source jobs i job old middle new lt is so_far more =
-    subst (λ (x : List SourcedItem). Shows form config rules x old new) (told_more source jobs i job lt is)
-    (shows_both form config rules (told_of source (take i jobs)) (map (beside (source i)) job.items) old middle new so_far more)
+pub jobs_step : (form : Form) (config : Config) (rules : List Rule) (source : ℕ → LinkedRecord) (jobs : List JobHits) (i : ℕ) (job : JobHits) (old middle new : Showing) (done : Unit {0}) (outcome : Result (Unit {0}) Stop)
+    → i < length jobs → job ≡ get_or jobs i job
+    → Shows form config rules (sourced_items (by_place source 0 (take i jobs))) old middle (Ok done) → Shows form config rules (map (beside (source i)) job.items) middle new outcome
+    → Shows form config rules (sourced_items (by_place source 0 (take (i + 1) jobs))) old new outcome
+jobs_step form config rules source jobs i job old middle new done outcome lt is so_far more =
+    subst (λ (x : List SourcedItem). Shows form config rules x old new outcome) (told_more source jobs i job lt is)
+    (shows_then form config rules (told_of source (take i jobs)) (map (beside (source i)) job.items) old middle new done outcome so_far more)
 
-pub jobs_part : (form : Form) (config : Config) (rules : List Rule) (source : ℕ → LinkedRecord) (jobs : List JobHits) (i : ℕ) (job : JobHits) (old middle : Showing) (new : Option (List ℕ)) → i < length jobs → job ≡ get_or jobs i job
-    → Shows form config rules (sourced_items (by_place source 0 (take i jobs))) old middle → ShowsPart form config rules (map (beside (source i)) job.items) middle new
-    → ShowsPart form config rules (sourced_items (by_place source 0 jobs)) old new
-jobs_part form config rules source jobs i job old middle new lt is so_far part =
+pub jobs_part : (form : Form) (config : Config) (rules : List Rule) (source : ℕ → LinkedRecord) (jobs : List JobHits) (i : ℕ) (job : JobHits) (old middle new : Showing) (done : Unit {0}) (why : Stop)
+    → i < length jobs → job ≡ get_or jobs i job
+    → Shows form config rules (sourced_items (by_place source 0 (take i jobs))) old middle (Ok done) → Shows {A = Unit {0}} form config rules (map (beside (source i)) job.items) middle new (Err why)
+    → Shows {A = Unit {0}} form config rules (sourced_items (by_place source 0 jobs)) old new (Err why)
+jobs_part form config rules source jobs i job old middle new done why lt is so_far part =
     let front = take (i + 1) jobs in
     let back = drop (i + 1) jobs in
     let later = sourced_items (by_place source (0 + length front) back) in
-    subst (λ (x : List SourcedItem). ShowsPart form config rules x old new)
-    (ap (λ (x : List SourcedItem). x ++ later) (told_more source jobs i job lt is)
-    ∙ sym (flat_map-append told_job (by_place source 0 front) (by_place source (0 + length front) back))
+    subst (λ (x : List SourcedItem). Shows {A = Unit {0}} form config rules x old new (Err why))
+    (sym (flat_map-append told_job (by_place source 0 front) (by_place source (0 + length front) back))
     ∙ ap sourced_items (sym (by_place-append source 0 front back)) ∙ ap (told_of source) (take-append-drop (i + 1) jobs))
-    (shows_part_longer form config rules (told_of source (take i jobs) ++ map (beside (source i)) job.items) later old new
-    (shows_then_part form config rules (told_of source (take i jobs)) (map (beside (source i)) job.items) old middle new so_far part))
+    (shows_longer form config rules (told_of source front) later old new why (jobs_step form config rules source jobs i job old middle new done (Err why) lt is so_far part))

@@ -12,7 +12,7 @@ use Rattle.snort_engine.specs.declared.stop.Stop.{Stop}
 use Rattle.snort_engine.specs.declared.stop.Stop.TheVariants as stop
 use Rattle.snort_engine.specs.Records.{of_savefile, of_blocks}
 use Rattle.snort_engine.specs.Steps.Reader.{refusal_of}
-use Rattle.snort_engine.specs.Steps.Watching.{IsShowStop, IsWriteStop}
+use Rattle.snort_engine.specs.Steps.Stop.{IsShowStop, IsWriteStop}
 
 -- a reader keeps what it refused
 pub savefile_keeps : (old new : classic_reader.Reading) (why : CaptureFault) (so : ReadFault) → so ≡ of_savefile why → new ≡ classic_reader.after_refusal old why → refusal_of (Savefile new) ≡ Some so

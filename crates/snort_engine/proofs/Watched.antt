@@ -1,6 +1,5 @@
 -- The steps of watching a capture.
 use Rattle.std.proofs.Common.{◌≡◌, ℕ, ◌<◌, ◌≤◌, Bool, true, false, List, [], ◌++◌, length, Option, Some, None, Result, Ok, Err, refl, sym, ap, subst, ◌∙◌, append_assoc, arith, inl, inr, ◌⊎◌, ⊎_elim}
-use Rattle.std.specs.Prelude.{OnOk, OnErr}
 use Rattle.std.proofs.lemmas.List.{append-nil}
 use Rattle.edge_io.specs.Told.{behind}
 use Rattle.edge_io.proofs.Told.{behind-nil, behind-behind}
@@ -16,7 +15,7 @@ use Rattle.snort_engine.specs.Course.{Plan}
 use Rattle.snort_engine.specs.Records.{AreWithin, Recording, Ending, Clean, Refused, first_of}
 use Rattle.snort_engine.specs.Steps.Reader.{IsFresh, recording_for, HasRead, AreWhole, EndsWith, IsRefusedBy}
 use Rattle.snort_engine.specs.Outside.{WritesPart}
-use Rattle.snort_engine.specs.Steps.Stop.{capture_stop, is_whole}
+use Rattle.snort_engine.specs.Steps.Stop.{capture_stop, is_whole, IsShowStop}
 use Rattle.snort_engine.specs.Trace.{Open, Closed}
 use Rattle.snort_engine.specs.Lines.{lines}
 use Rattle.snort_engine.specs.Counts.{counts_of}
@@ -24,8 +23,10 @@ use Rattle.snort_engine.specs.Steps.Batch.{Place, HasStopped, Reaches, ReadsOn, 
 use Rattle.snort_engine.specs.declared.batch.Reached.{Reached}
 use Rattle.snort_engine.specs.declared.batch.Reached.TheVariants.{More, End, Fault}
 use Rattle.snort_engine.specs.ReadAhead.{batch, AreBatches}
-use Rattle.snort_engine.specs.Steps.Detecting.{Closes, ClosesPart, Detecting, DetectorStands, ShowsRecords, ShowsRecordsPart, closing_lines}
-use Rattle.snort_engine.specs.Steps.Watching.{Streams, Standing, lines_of, lines_left, recording_by, IsRoom, most_at, room_behind, IsReadOut, HasReadTo, IsUnderWay, IsAtEnd, IsReadCutShort, IsCloseBehind, WritesSome, WatchesTo, Watches, Comes, ComesOver, WatchesOn, IsShowStop, IsLeft, IsClosedWhole, IsClosedInPart, ClosesWatched}
+use Rattle.snort_engine.specs.Steps.Gathering.{Sending}
+use Rattle.snort_engine.specs.Steps.Detecting.{Closes, Detecting, DetectorStands, ShowsRecords, ShowsRecordsPart, closing_lines}
+use Rattle.snort_engine.specs.Steps.Watching.{Streams, Standing, lines_of, lines_left, recording_by, IsRoom, most_at, room_behind, IsReadOut, HasReadTo, IsUnderWay, IsAtEnd, IsReadCutShort, IsCloseBehind, WritesSome, WatchesTo, Watches, Comes, ComesOver, WatchesOn, IsLeft, IsClosedWhole, IsClosedInPart, ClosesWatched, closing}
+use Rattle.snort_engine.proofs.Emitting.{gathers_settled}
 use Rattle.snort_engine.proofs.Prefixes.{WritesPart-all, WritesPart-behind, WritesPart-longer}
 use Rattle.snort_engine.proofs.Limits.{first_of-front, below_limit, at_limit, within_limit, room_first, room_further, room_left, room_within, batches_none, batches_further, batches_last}
 use Rattle.snort_engine.proofs.Reading.{reading-start, reading-told, reading-whole}
@@ -235,26 +236,26 @@ nothing_left plan old failed none = λ first start going.
     )
 
 -- a batch was shown behind the records that were given
-batch_is : (plan : Plan) (records : List LinkedRecord) (old new : Standing) (first : RecordReader) (start : Streams) (going : IsUnderWay plan first start old)
-    → ShowsRecords plan records (record { detector = old.detector; written = old.streams.written }) (record { detector = new.detector; written = new.streams.written })
+batch_is : (plan : Plan) (records : List LinkedRecord) (old new : Standing) (first : RecordReader) (start : Streams) (going : IsUnderWay plan first start old) (faults after : ℕ) (done : Unit {0})
+    → ShowsRecords plan records (record { detector = old.detector; written = old.streams.written; faults = faults }) (record { detector = new.detector; written = new.streams.written; faults = after }) (Ok done)
     → DetectorStands plan (going.given ++ records) new.detector × (new.streams.written ≡ behind start.written (lines_of plan (going.given ++ records) Open))
-unfolding ShowsRecords
-batch_is plan records old new first start going shows =
-    let shown = shows going.given going.stands in (
-      shown.stands,
-      shown.wrote ∙ ap (λ (x : Option (List ℕ)). behind x (lines plan going.given records Open)) going.wrote
+batch_is plan records old new first start going faults after done shows =
+    let came = shows.emits.whole (record { records = going.given; stand = going.stands }) in (
+      shows.stands going.given going.stands,
+      gathers_settled (lines plan going.given records Open) _ _ refl refl came
+          ∙ ap (λ (x : Option (List ℕ)). behind x (lines plan going.given records Open)) going.wrote
           ∙ behind-behind start.written (lines_of plan going.given Open) (lines plan going.given records Open)
           ∙ ap (behind start.written) (sym (lines_of-batch plan going.given records)),
     )
 
 -- a batch was read and shown
-pub batch_shown : (plan : Plan) (records : List LinkedRecord) (old new : Standing) (failed : Type 0) (reached : Reached)
+pub batch_shown : (plan : Plan) (records : List LinkedRecord) (old new : Standing) (failed : Type 0) (reached : Reached) (faults after : ℕ) (done : Unit {0})
     → length records ≤ most_at old.room → new.room ≡ room_behind old.room (length records)
     → (reached ≡ More → length records ≡ most_at old.room) → ((reached ≡ More → ⊥) → length records < most_at old.room)
     → ReadsOn (record { reader = old.reader; records = []; left = old.streams.left }) (record { reader = new.reader; records = records; left = new.streams.left }) reached
-    → ShowsRecords plan records (record { detector = old.detector; written = old.streams.written }) (record { detector = new.detector; written = new.streams.written })
+    → ShowsRecords plan records (record { detector = old.detector; written = old.streams.written; faults = faults }) (record { detector = new.detector; written = new.streams.written; faults = after }) (Ok done)
     → WatchesOn plan old new failed (more_of reached)
-batch_shown plan records old new failed reached few room_is full fewer reads shows = by_case reached full fewer reads
+batch_shown plan records old new failed reached faults after done few room_is full fewer reads shows = by_case reached full fewer reads
   where
     room_now : (first : RecordReader) (start : Streams) (going : IsUnderWay plan first start old) → IsRoom plan.limit (length (going.given ++ records)) new.room
     room_now first start going =
@@ -266,7 +267,7 @@ batch_shown plan records old new failed reached few room_is full fewer reads sho
     by_case : (r : Reached) → (r ≡ More → length records ≡ most_at old.room) → ((r ≡ More → ⊥) → length records < most_at old.room)
         → ReadsOn (record { reader = old.reader; records = []; left = old.streams.left }) (record { reader = new.reader; records = records; left = new.streams.left }) r → WatchesOn plan old new failed (more_of r)
     by_case More all short on = λ first start going.
-        let own = batch_is plan records old new first start going shows in record {
+        let own = batch_is plan records old new first start going faults after done shows in record {
           given = going.given ++ records;
           read = reached_behind plan first start old (record { reader = new.reader; records = records; left = new.streams.left }) More going on;
           room_is = room_now first start going;
@@ -276,7 +277,7 @@ batch_shown plan records old new failed reached few room_is full fewer reads sho
         }
     by_case End all short on = λ first start going.
         let given = going.given ++ records in
-        let own = batch_is plan records old new first start going shows in
+        let own = batch_is plan records old new first start going faults after done shows in
         let came = reached_behind plan first start old (record { reader = new.reader; records = records; left = new.streams.left }) End going on in
         let some = some_left (short (λ e. cc)) in (
           at_end plan first new.room given start new.streams new.detector Clean (room_now first start going) some own.0 own.1 came.1,
@@ -285,7 +286,7 @@ batch_shown plan records old new failed reached few room_is full fewer reads sho
         )
     by_case (Fault why) all short on = λ first start going.
         let given = going.given ++ records in
-        let own = batch_is plan records old new first start going shows in
+        let own = batch_is plan records old new first start going faults after done shows in
         let came = reached_behind plan first start old (record { reader = new.reader; records = records; left = new.streams.left }) (Fault why) going on in
         let some = some_left (short (λ e. cc)) in (
           fault_comes plan first new.room given start new.streams new.detector why (room_now first start going) some own.0 own.1 came.0 came.1,
@@ -307,7 +308,7 @@ ReadsTo plan records old failed why =
 batch_part : (plan : Plan) (records : List LinkedRecord) (old new : Standing) (failed : Type 0) (reached : Reached) (why : Stop)
     → length records ≤ most_at old.room → ReadsTo plan records old failed why
     → ReadsOn (record { reader = old.reader; records = []; left = old.streams.left }) (record { reader = new.reader; records = records; left = new.streams.left }) reached
-    → IsShowStop why → ShowsRecordsPart plan records (record { detector = old.detector; written = old.streams.written }) new.streams.written
+    → IsShowStop why → ShowsRecordsPart plan records old.detector old.streams.written new.streams.written
     → WatchesOn plan old new failed (Err why)
 unfolding WritesPart ShowsRecordsPart
 batch_part plan records old new failed reached why few to reads kind shown = λ first start going.
@@ -343,7 +344,7 @@ pub batch_stops : (plan : Plan) (records : List LinkedRecord) (old new : Standin
     → (reached ≡ More → length records ≡ most_at old.room) → ((reached ≡ More → ⊥) → length records < most_at old.room)
     → (reached ≡ Fault fault.Failed → failed) → lacks_memory reached ≡ false
     → ReadsOn (record { reader = old.reader; records = []; left = old.streams.left }) (record { reader = new.reader; records = records; left = new.streams.left }) reached
-    → IsShowStop why → ShowsRecordsPart plan records (record { detector = old.detector; written = old.streams.written }) new.streams.written
+    → IsShowStop why → ShowsRecordsPart plan records old.detector old.streams.written new.streams.written
     → WatchesOn plan old new failed (Err why)
 batch_stops plan records old new failed reached why few full fewer rose enough reads kind shown =
     batch_part plan records old new failed reached why few (by_kind why kind) reads kind shown
@@ -363,17 +364,18 @@ batch_stops plan records old new failed reached why few full fewer rose enough r
 pub batch_lacks : (plan : Plan) (records : List LinkedRecord) (old new : Standing) (failed : Type 0) (reached : Reached)
     → length records ≤ most_at old.room
     → ReadsOn (record { reader = old.reader; records = []; left = old.streams.left }) (record { reader = new.reader; records = records; left = new.streams.left }) reached
-    → ShowsRecordsPart plan records (record { detector = old.detector; written = old.streams.written }) new.streams.written
+    → ShowsRecordsPart plan records old.detector old.streams.written new.streams.written
     → WatchesOn plan old new failed (Err stop.NoMemory)
 batch_lacks plan records old new failed reached few reads shown =
     batch_part plan records old new failed reached stop.NoMemory few (λ first start going taken are. tt) reads tt shown
 
 -- lines that were shown, or a part of them
-pub part_shown : (plan : Plan) (records : List LinkedRecord) (old new : Detecting) (answer : Result (Unit {0}) Stop) → OnOk answer (ShowsRecords plan records old new) → OnErr answer (ShowsRecordsPart plan records old new.written)
-    → ShowsRecordsPart plan records old new.written
-unfolding ShowsRecords ShowsRecordsPart
-part_shown plan records old new (Ok done) shows part = λ before stands. WritesPart-all old.written new.written _ (shows before stands).wrote
-part_shown plan records old new (Err why) shows part = part
+pub part_shown : (plan : Plan) (records : List LinkedRecord) (old new : Detecting) (answer : Result (Unit {0}) Stop) → ShowsRecords plan records old new answer
+    → ShowsRecordsPart plan records old.detector old.written new.written
+unfolding ShowsRecordsPart
+part_shown plan records old new (Ok done) shows = λ before stands.
+    WritesPart-all old.written new.written _ (gathers_settled _ _ _ refl refl (shows.emits.whole (record { records = before; stand = stands })))
+part_shown plan records old new (Err why) shows = λ before stands. shows.emits.part (record { records = before; stand = stands })
 
 -- how far was read from the start, where the host may have failed before
 to_since : (plan : Plan) (first : RecordReader) (taken : List ℕ) (left : Option (List ℕ)) (later since : Type 0) (outcome : Result (Unit {0}) Stop) → (later → since) → HasReadTo plan first taken left later outcome → HasReadTo plan first taken left since outcome
@@ -414,29 +416,27 @@ close-start plan reader old failed fresh =
     (λ taken are. tt)
 
 -- a capture at its end was closed
-closed_to : (plan : Plan) (first : RecordReader) (start now : Streams) (detector : Detector) (ending : Ending) (written : Option (List ℕ)) (counts : Counts) → IsAtEnd plan first start now detector ending
-    → Closes plan (record { detector = detector; written = now.written }) written counts
+closed_to : (plan : Plan) (first : RecordReader) (start now : Streams) (detector : Detector) (ending : Ending) (written : Option (List ℕ)) (faults after : ℕ) (counts : Counts) → IsAtEnd plan first start now detector ending
+    → Closes plan (record { detector = detector; written = now.written; faults = faults }) (record { written = written; block = []; faults = after }) (Ok counts)
     → (left : Option (List ℕ)) → WatchesTo plan first ending start (record { left = left; written = written }) counts
-unfolding Closes
-closed_to plan first start now detector ending written counts came closes left = λ whole told.
-    let cut = came.ends whole told in
-    let shut = closes came.given came.stands in record {
+closed_to plan first start now detector ending written faults after counts came closes left = λ whole told.
+    let cut = came.ends whole told in record {
       ends = ap (λ (c : Recording). c.ending) cut;
-      wrote = shut.wrote ∙ ap (λ (x : Option (List ℕ)). behind x (closing_lines plan came.given)) came.wrote
+      wrote = gathers_settled (closing_lines plan came.given) _ _ refl refl (closes.emits.whole (record { records = came.given; stand = came.stands }))
+          ∙ ap (λ (x : Option (List ℕ)). behind x (closing_lines plan came.given)) came.wrote
           ∙ behind-behind start.written (lines_of plan came.given Open) (closing_lines plan came.given)
           ∙ ap (behind start.written) (sym (ap (λ (c : Recording). lines_of plan c.records Closed) cut ∙ lines_of-closed plan came.given));
-      counted = shut.counted ∙ sym (ap (λ (c : Recording). counts_of plan c.records) cut);
+      counted = closes.counted came.given came.stands ∙ sym (ap (λ (c : Recording). counts_of plan c.records) cut);
     }
 
 -- or in part
-closed_some : (plan : Plan) (first : RecordReader) (start now : Streams) (detector : Detector) (ending : Ending) (written : Option (List ℕ)) → IsAtEnd plan first start now detector ending
-    → ClosesPart plan (record { detector = detector; written = now.written }) written
+closed_some : (plan : Plan) (first : RecordReader) (start now : Streams) (detector : Detector) (ending : Ending) (written : Option (List ℕ)) (faults after : ℕ) (why : Stop) → IsAtEnd plan first start now detector ending
+    → Closes plan (record { detector = detector; written = now.written; faults = faults }) (record { written = written; block = []; faults = after }) (Err why)
     → (left : Option (List ℕ)) → WritesSome plan first start (record { left = left; written = written })
-unfolding ClosesPart
-closed_some plan first start now detector ending written came part left = λ whole told.
+closed_some plan first start now detector ending written faults after why came part left = λ whole told.
     subst (λ (x : List ℕ). WritesPart start.written x written)
     (sym (ap (λ (c : Recording). lines_of plan c.records Closed) (came.ends whole told) ∙ lines_of-closed plan came.given))
-    (WritesPart-behind start.written now.written written (lines_of plan came.given Open) (closing_lines plan came.given) came.wrote (part came.given came.stands))
+    (WritesPart-behind start.written now.written written (lines_of plan came.given Open) (closing_lines plan came.given) came.wrote (part.emits.part (record { records = came.given; stand = came.stands })))
 
 -- a part of lines stopped the showing of them
 stopped_some : (plan : Plan) (first : RecordReader) (start after : Streams) (counts : Counts) (why : Stop) → IsShowStop why → WritesSome plan first start after → Watches plan first start after counts (Err why)
@@ -445,9 +445,16 @@ stopped_some plan first start after counts stop.NoMemory kind some = some
 stopped_some plan first start after counts why kind some = absurd kind
 
 -- how the watching ends, by how the batches ended and how it was closed
-module _ (plan : Plan) (first : RecordReader) (start now : Streams) (detector : Detector) (written : Option (List ℕ)) (counts : Counts) where
+module _ (plan : Plan) (first : RecordReader) (start now : Streams) (detector : Detector) (written : Option (List ℕ)) (faults after : ℕ) (counts : Counts) where
   abbrev after_it : Streams
   after_it = record { left = now.left; written = written }
+
+  -- the sink before and after the closing
+  abbrev sink_then : Sending
+  sink_then = record { written = now.written; block = []; faults = faults }
+
+  abbrev sink_now : Sending
+  sink_now = record { written = written; block = []; faults = after }
 
   -- cut short before it was closed
   left_so : (watched : Result (Unit {0}) Stop) → is_whole watched ≡ false → Comes plan first start now detector watched → written ≡ now.written → Watches plan first start after_it counts watched
@@ -461,34 +468,34 @@ module _ (plan : Plan) (first : RecordReader) (start now : Streams) (detector : 
   left_so (Err why) cut came same = absurd cc
 
   -- closed
-  closed_so : (watched : Result (Unit {0}) Stop) → is_whole watched ≡ true → Comes plan first start now detector watched → Closes plan (record { detector = detector; written = now.written }) written counts → Watches plan first start after_it counts watched
-  closed_so (Ok done) whole came closes = closed_to plan first start now detector Clean written counts came closes now.left
+  closed_so : (watched : Result (Unit {0}) Stop) → is_whole watched ≡ true → Comes plan first start now detector watched → Closes plan (closing detector sink_then) sink_now (Ok counts) → Watches plan first start after_it counts watched
+  closed_so (Ok done) whole came closes = closed_to plan first start now detector Clean written faults after counts came closes now.left
   closed_so (Err stop.CannotRead) whole came closes = absurd cc
   closed_so (Err stop.CannotWrite) whole came closes = absurd cc
   closed_so (Err stop.NoMemory) whole came closes = absurd cc
-  closed_so (Err why) whole (fault_then, is, came) closes = (fault_then, is, closed_to plan first start now detector (Refused fault_then) written counts came closes now.left)
+  closed_so (Err why) whole (fault_then, is, came) closes = (fault_then, is, closed_to plan first start now detector (Refused fault_then) written faults after counts came closes now.left)
 
   -- closed in part
-  closed_part_so : (watched : Result (Unit {0}) Stop) (why : Stop) → is_whole watched ≡ true → IsShowStop why → Comes plan first start now detector watched → ClosesPart plan (record { detector = detector; written = now.written }) written
+  closed_part_so : (watched : Result (Unit {0}) Stop) (why : Stop) → is_whole watched ≡ true → Comes plan first start now detector watched → Closes plan (closing detector sink_then) sink_now (Err why)
       → Watches plan first start after_it counts (Err why)
-  closed_part_so (Ok done) why whole kind came part = stopped_some plan first start after_it counts why kind (closed_some plan first start now detector Clean written came part now.left)
-  closed_part_so (Err stop.CannotRead) why whole kind came part = absurd cc
-  closed_part_so (Err stop.CannotWrite) why whole kind came part = absurd cc
-  closed_part_so (Err stop.NoMemory) why whole kind came part = absurd cc
-  closed_part_so (Err other) why whole kind (fault_then, is, came) part = stopped_some plan first start after_it counts why kind (closed_some plan first start now detector (Refused fault_then) written came part now.left)
+  closed_part_so (Ok done) why whole came part = stopped_some plan first start after_it counts why part.emits.kind (closed_some plan first start now detector Clean written faults after why came part now.left)
+  closed_part_so (Err stop.CannotRead) why whole came part = absurd cc
+  closed_part_so (Err stop.CannotWrite) why whole came part = absurd cc
+  closed_part_so (Err stop.NoMemory) why whole came part = absurd cc
+  closed_part_so (Err other) why whole (fault_then, is, came) part = stopped_some plan first start after_it counts why part.emits.kind (closed_some plan first start now detector (Refused fault_then) written faults after why came part now.left)
 
-  pub closed_watch : (watched result_then : Result (Unit {0}) Stop) → Comes plan first start now detector watched → ClosesWatched plan detector watched now.written written counts result_then
+  pub closed_watch : (watched result_then : Result (Unit {0}) Stop) → Comes plan first start now detector watched → ClosesWatched plan detector watched sink_then sink_now counts result_then
       → Watches plan first start (record { left = now.left; written = written }) counts result_then
   unfolding ClosesWatched
   closed_watch watched result_then came how =
       ⊎_elim
-      (λ (left : IsLeft watched result_then now.written written).
+      (λ (left : IsLeft watched result_then sink_then sink_now).
       subst (λ (r : Result (Unit {0}) Stop). Watches plan first start after_it counts r) (sym left.1) (left_so watched left.0 came left.2))
       (λ shut. ⊎_elim
-      (λ (whole : IsClosedWhole plan detector watched result_then now.written written counts).
+      (λ (whole : IsClosedWhole plan detector watched result_then sink_then sink_now counts).
       subst (λ (r : Result (Unit {0}) Stop). Watches plan first start after_it counts r) (sym whole.1) (closed_so watched whole.0 came whole.2))
-      (λ (part : IsClosedInPart plan detector watched result_then now.written written).
-      subst (λ (r : Result (Unit {0}) Stop). Watches plan first start after_it counts r) (sym part.1.1) (closed_part_so watched part.1.0 part.0 part.1.2 came part.2))
+      (λ (part : IsClosedInPart plan detector watched result_then sink_then sink_now).
+      subst (λ (r : Result (Unit {0}) Stop). Watches plan first start after_it counts r) (sym part.1.1) (closed_part_so watched part.1.0 part.0 came part.1.2))
       shut)
       how
 
@@ -533,21 +540,21 @@ module _ (plan : Plan) (first : RecordReader) (start now : Streams) (detector : 
     to = to close.taken close.to;
   }
 
-  pub closed_behind : (failed : Type 0) (watched result_then : Result (Unit {0}) Stop) → ComesOver plan first start now failed detector watched → ClosesWatched plan detector watched now.written written counts result_then
+  pub closed_behind : (failed : Type 0) (watched result_then : Result (Unit {0}) Stop) → ComesOver plan first start now failed detector watched → ClosesWatched plan detector watched sink_then sink_now counts result_then
       → IsCloseBehind plan first start (record { left = now.left; written = written }) failed result_then
-  unfolding ClosesWatched Closes ClosesPart WritesPart
+  unfolding ClosesWatched WritesPart
   closed_behind failed watched result_then (came, close) how =
       let same : result_then ≡ watched → (taken : List ℕ) → HasReadTo plan first taken start.left failed watched → HasReadTo plan first taken start.left failed result_then =
       λ is taken to. subst (λ (r : Result (Unit {0}) Stop). HasReadTo plan first taken start.left failed r) (sym is) to in
       ⊎_elim
-      (λ (left : IsLeft watched result_then now.written written). closer failed watched result_then close [] (left.2 ∙ sym (behind-nil now.written)) (same left.1))
+      (λ (left : IsLeft watched result_then sink_then sink_now). closer failed watched result_then close [] (left.2 ∙ sym (behind-nil now.written)) (same left.1))
       (λ shut. ⊎_elim
-      (λ (whole : IsClosedWhole plan detector watched result_then now.written written counts).
-      let more = wrote_more watched whole.0 came (λ records stands. (closing_lines plan records, (whole.2 records stands).wrote)) in
+      (λ (whole : IsClosedWhole plan detector watched result_then sink_then sink_now counts).
+      let more = wrote_more watched whole.0 came (λ records stands. (closing_lines plan records, gathers_settled _ _ _ refl refl (whole.2.emits.whole (record { records = records; stand = stands })))) in
       closer failed watched result_then close more.0 more.1 (same whole.1))
-      (λ (part : IsClosedInPart plan detector watched result_then now.written written).
-      let more = wrote_more watched part.0 came (λ records stands. let own = part.2 records stands in (own.0, own.2)) in
+      (λ (part : IsClosedInPart plan detector watched result_then sink_then sink_now).
+      let more = wrote_more watched part.0 came (λ records stands. let own = part.1.2.emits.part (record { records = records; stand = stands }) in (own.0, own.2)) in
       closer failed watched result_then close more.0 more.1
-      (λ taken to. subst (λ (r : Result (Unit {0}) Stop). HasReadTo plan first taken start.left failed r) (sym part.1.1) (closing_to failed taken watched part.1.0 part.0 part.1.2 to)))
+      (λ taken to. subst (λ (r : Result (Unit {0}) Stop). HasReadTo plan first taken start.left failed r) (sym part.1.1) (closing_to failed taken watched part.1.0 part.0 part.1.2.emits.kind to)))
       shut)
       how

@@ -1,6 +1,5 @@
 //! Records with what stands before them: their jobs, what these find, and the lines of it.
-ghost use Rattle.std.specs.Prelude.{◌≡◌, ◌+◌, ◌≤◌, ◌^◌, ◌<◌, [], length, All, OnOk, OnErr, IfOk, IfErr, IsErrOf};
-ghost use Rattle.edge_io.specs.Told.{Rose};
+ghost use Rattle.std.specs.Prelude.{◌≡◌, ◌+◌, ◌≤◌, ◌^◌, [], length, All, OnOk, IfOk};
 ghost use Rattle.conf_types.specs.Sound as conf;
 ghost use Rattle.fast_pattern.specs.Grouping.{StandFor};
 ghost use Rattle.rule_eval.specs.Hits.{Test};
@@ -10,9 +9,10 @@ ghost use Rattle.record_jobs.specs.Ready.{AreReady};
 ghost use Rattle.record_jobs.specs.Fronts.{GivesFinishes};
 ghost use Rattle.snort_engine.specs.Beside.{by_place, source_in};
 ghost use Rattle.snort_engine.specs.Steps.Sourcing.{PlacesJobs};
-ghost use Rattle.snort_engine.specs.Steps.Watching.{plan_of, OfTest, IsShowStop};
-ghost use Rattle.snort_engine.specs.Steps.Detecting.{IsSoundPlan, IsNewInspection, counted, MakesJobs, Runs, RunsPart};
-ghost use Rattle.snort_engine.specs.Steps.Detecting.{Knows, DetectorStands, ShowsRecords, ShowsRecordsPart, Closes, ClosesPart};
+ghost use Rattle.snort_engine.specs.Steps.Gathering.{EmitsAny, sending};
+ghost use Rattle.snort_engine.specs.Steps.Watching.{plan_of, OfTest};
+ghost use Rattle.snort_engine.specs.Steps.Detecting.{IsSoundPlan, IsNewInspection, counted, MakesJobs, Runs, running};
+ghost use Rattle.snort_engine.specs.Steps.Detecting.{Knows, DetectorStands, ShowsRecords, detecting, Closes};
 
 use crate::context::Context;
 use crate::counts::{Counts, sum};
@@ -133,20 +133,13 @@ fn run_jobs<P: Pattern, G: Gate, A: Sink, R: Threads + Sync>(
     requires plan { IsSoundPlan context.now.plan.now }
     requires ready { AreReady (length context.now.plan.now.setup.config.stream.engines) inspection.old.lanes jobs.now }
     requires groups { StandFor inspection.old.groups context.now.plan.now.setup.set.rules }
-    ensures shown { OfTest P.finds context.now.plan.now (λ plan. OnOk result (Runs plan
+    ensures shown { OfTest P.finds context.now.plan.now (λ plan. Runs plan
         (by_place (source_in records.now inspection.old.last places.now) 0 jobs.now)
-        (record { inspection = inspection.old; written = A.written alerts.old })
-        (record { inspection = inspection.new; written = A.written alerts.new }))) }
-    ensures stopped { OfTest P.finds context.now.plan.now (λ plan. OnErr result (RunsPart plan
-        (by_place (source_in records.now inspection.old.last places.now) 0 jobs.now)
-        (record { inspection = inspection.old; written = A.written alerts.old }) (A.written alerts.new))) }
+        (running A.Sink inspection.old alerts.old) (running A.Sink inspection.new alerts.new) result) }
     ensures learns { OnOk result (LearnsBatch inspection.old.lanes jobs.now inspection.new.lanes) }
     ensures groups_stay { OnOk result (inspection.new.groups ≡ inspection.old.groups) }
     ensures last_stays { OnOk result (inspection.new.last ≡ inspection.old.last) }
-    ensures kind { IfErr result IsShowStop }
-    ensures fault { IsErrOf result Stop.CannotWrite → Rose (A.faults alerts.old) (A.faults alerts.new) }
-    ensures quiet { OnOk result (A.faults alerts.new ≡ A.faults alerts.old) }
-    ensures later { A.faults alerts.old ≤ A.faults alerts.new }
+    ensures ends { EmitsAny (sending A.Sink [] alerts.old) (sending A.Sink [] alerts.new) result }
 {
     let plan = context.plan;
     let mut found = Matches::new(context.alloc);
@@ -189,18 +182,12 @@ pub(crate) fn show_records<P: Pattern, G: Gate, A: Sink, R: Threads + Sync>(
     requires plan { IsSoundPlan context.now.plan.now }
     requires known { Knows context.now.plan.now detector.old }
     requires few { detector.old.front.counts.records + length records.old.items ≤ 2 ^ 32 }
-    ensures shown { OfTest P.finds context.now.plan.now (λ plan. OnOk result (ShowsRecords plan records.old.items
-        (record { detector = detector.old; written = A.written alerts.old })
-        (record { detector = detector.new; written = A.written alerts.new }))) }
-    ensures stopped { OfTest P.finds context.now.plan.now (λ plan. OnErr result (ShowsRecordsPart plan records.old.items
-        (record { detector = detector.old; written = A.written alerts.old }) (A.written alerts.new))) }
+    ensures shown { OfTest P.finds context.now.plan.now (λ plan. ShowsRecords plan records.old.items
+        (detecting A.Sink detector.old alerts.old) (detecting A.Sink detector.new alerts.new) result) }
     ensures known { OnOk result (Knows context.now.plan.now detector.new) }
     ensures records { OnOk result (detector.new.front.counts.records
         ≡ detector.old.front.counts.records + length records.old.items) }
-    ensures kind { IfErr result IsShowStop }
-    ensures fault { IsErrOf result Stop.CannotWrite → Rose (A.faults alerts.old) (A.faults alerts.new) }
-    ensures quiet { OnOk result (A.faults alerts.new ≡ A.faults alerts.old) }
-    ensures later { A.faults alerts.old ≤ A.faults alerts.new }
+    ensures ends { EmitsAny (sending A.Sink [] alerts.old) (sending A.Sink [] alerts.new) result }
 {
     let by = front_config(context.plan);
     let made = make_jobs(context.alloc, &by, records, &mut detector.front)?;
@@ -239,14 +226,9 @@ pub(crate) fn close<P: Pattern, G: Gate, A: Sink, R: Threads + Sync>(
     requires plan { IsSoundPlan context.now.plan.now }
     requires known { Knows context.now.plan.now detector }
     requires few { detector.front.counts.records ≤ 2 ^ 32 }
-    ensures shown { OfTest P.finds context.now.plan.now (λ plan. IfOk result (λ counts. Closes plan
-        (record { detector = detector; written = A.written alerts.old }) (A.written alerts.new) counts)) }
-    ensures stopped { OfTest P.finds context.now.plan.now (λ plan. OnErr result (ClosesPart plan
-        (record { detector = detector; written = A.written alerts.old }) (A.written alerts.new))) }
-    ensures kind { IfErr result IsShowStop }
-    ensures fault { IsErrOf result Stop.CannotWrite → Rose (A.faults alerts.old) (A.faults alerts.new) }
-    ensures quiet { OnOk result (A.faults alerts.new ≡ A.faults alerts.old) }
-    ensures later { A.faults alerts.old ≤ A.faults alerts.new }
+    ensures closed { OfTest P.finds context.now.plan.now (λ plan. Closes plan
+        (detecting A.Sink detector alerts.old) (sending A.Sink [] alerts.new) result) }
+    ensures ends { EmitsAny (sending A.Sink [] alerts.old) (sending A.Sink [] alerts.new) result }
 {
     let Detector {
         front,

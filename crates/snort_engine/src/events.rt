@@ -1,12 +1,10 @@
 //! Items with the rules that match them: their events, and the texts of those that are kept.
-ghost use Rattle.std.specs.Prelude.{◌≡◌, ◌+◌, ◌≤◌, [], ◌∷◌, All, OnOk, OnErr, IfOk, IfErr, IsErrOf, map};
-ghost use Rattle.edge_io.specs.Told.{Rose};
+ghost use Rattle.std.specs.Prelude.{◌≡◌, ◌+◌, [], ◌∷◌, All, IfOk, map};
 ghost use Rattle.conf_types.specs.Sound as conf;
 ghost use Rattle.rule_types.specs.Sound.{IsSound};
-ghost use Rattle.snort_engine.specs.Steps.Watching.{IsShowStop};
 ghost use Rattle.snort_engine.specs.Beside.{beside, by_place};
-ghost use Rattle.snort_engine.specs.Steps.Matching.{ShowsMatches, ShowsMatchesPart};
-ghost use Rattle.snort_engine.specs.Steps.Showing.{EventsStand, Shows, ShowsPart};
+ghost use Rattle.snort_engine.specs.Steps.Matching.{ShowsMatches};
+ghost use Rattle.snort_engine.specs.Steps.Showing.{EventsStand, Shows, showing};
 ghost use Rattle.snort_engine.specs.Steps.Sourcing.{source_by, sourced_items};
 
 use crate::counts::sum;
@@ -84,7 +82,6 @@ impl Events {
 /// Makes the texts of an item, behind those that wait.
 // Kept out of the line of most jobs, which have none that a rule matches.
 #[inline(never)]
-#[tactic(auto, using(crate::proofs::Prefixes::rising))]
 fn show_item<A: Sink>(
     config: &Config,
     rules: &[Rule],
@@ -95,15 +92,8 @@ fn show_item<A: Sink>(
     alerts: &mut A,
 ) -> Result<(), Stop>
     requires { All (IsSound config.now.classes) rules.now }
-    ensures shown { OnOk result (Shows form config.now rules.now (beside origin.now hits.now ∷ [])
-        (record { events = events.old; written = A.written alerts.old })
-        (record { events = events.new; written = A.written alerts.new })) }
-    ensures stopped { OnErr result (ShowsPart form config.now rules.now (beside origin.now hits.now ∷ [])
-        (record { events = events.old; written = A.written alerts.old }) (A.written alerts.new)) }
-    ensures kind { IfErr result IsShowStop }
-    ensures fault { IsErrOf result Stop.CannotWrite → Rose (A.faults alerts.old) (A.faults alerts.new) }
-    ensures quiet { OnOk result (A.faults alerts.new ≡ A.faults alerts.old) }
-    ensures later { A.faults alerts.old ≤ A.faults alerts.new }
+    ensures { Shows form config.now rules.now (beside origin.now hits.now ∷ [])
+        (showing A.Sink events.old alerts.old) (showing A.Sink events.new alerts.new) result }
 {
     events.kept.clear();
     let matching = hits.rules.as_slice();
@@ -129,7 +119,6 @@ fn show_item<A: Sink>(
 }
 
 /// Makes the texts of the items of a job, one behind another.
-#[tactic(auto, using(crate::proofs::Prefixes::rising))]
 fn show_items<A: Sink>(
     config: &Config,
     rules: &[Rule],
@@ -140,15 +129,8 @@ fn show_items<A: Sink>(
     alerts: &mut A,
 ) -> Result<(), Stop>
     requires { All (IsSound config.now.classes) rules.now }
-    ensures shown { OnOk result (Shows form config.now rules.now (map (beside origin.now) items.now)
-        (record { events = events.old; written = A.written alerts.old })
-        (record { events = events.new; written = A.written alerts.new })) }
-    ensures stopped { OnErr result (ShowsPart form config.now rules.now (map (beside origin.now) items.now)
-        (record { events = events.old; written = A.written alerts.old }) (A.written alerts.new)) }
-    ensures kind { IfErr result IsShowStop }
-    ensures fault { IsErrOf result Stop.CannotWrite → Rose (A.faults alerts.old) (A.faults alerts.new) }
-    ensures quiet { OnOk result (A.faults alerts.new ≡ A.faults alerts.old) }
-    ensures later { A.faults alerts.old ≤ A.faults alerts.new }
+    ensures { Shows form config.now rules.now (map (beside origin.now) items.now)
+        (showing A.Sink events.old alerts.old) (showing A.Sink events.new alerts.new) result }
 {
     for hits in items {
         show_item(config, rules, form, origin, hits, events, alerts)?;
@@ -157,7 +139,6 @@ fn show_items<A: Sink>(
 }
 
 /// Makes the texts of the items of jobs, in the order of the jobs.
-#[tactic(auto, using(crate::proofs::Prefixes::rising))]
 fn show_hits<A: Sink>(
     config: &Config,
     rules: &[Rule],
@@ -168,17 +149,9 @@ fn show_hits<A: Sink>(
     alerts: &mut A,
 ) -> Result<(), Stop>
     requires { All (IsSound config.now.classes) rules.now }
-    ensures shown { OnOk result (Shows form config.now rules.now
+    ensures { Shows form config.now rules.now
         (sourced_items (by_place (source_by sources.entry) 0 jobs.now))
-        (record { events = events.old; written = A.written alerts.old })
-        (record { events = events.new; written = A.written alerts.new })) }
-    ensures stopped { OnErr result (ShowsPart form config.now rules.now
-        (sourced_items (by_place (source_by sources.entry) 0 jobs.now))
-        (record { events = events.old; written = A.written alerts.old }) (A.written alerts.new)) }
-    ensures kind { IfErr result IsShowStop }
-    ensures fault { IsErrOf result Stop.CannotWrite → Rose (A.faults alerts.old) (A.faults alerts.new) }
-    ensures quiet { OnOk result (A.faults alerts.new ≡ A.faults alerts.old) }
-    ensures later { A.faults alerts.old ≤ A.faults alerts.new }
+        (showing A.Sink events.old alerts.old) (showing A.Sink events.new alerts.new) result }
 {
     let mut place = 0;
     for job in jobs {
@@ -192,7 +165,6 @@ fn show_hits<A: Sink>(
 
 /// Makes the texts of the matches of jobs, in the order of the jobs, and counts all items of the jobs: those that
 /// no rule matches give nothing but their count.
-#[tactic(auto, using(crate::proofs::Prefixes::rising))]
 pub(crate) fn show_matches<A: Sink>(
     config: &Config,
     rules: &[Rule],
@@ -203,15 +175,8 @@ pub(crate) fn show_matches<A: Sink>(
     alerts: &mut A,
 ) -> Result<(), Stop>
     requires { All (IsSound config.now.classes) rules.now }
-    ensures shown { OnOk result (ShowsMatches form config.now rules.now (source_by sources.entry) found.now
-        (record { events = events.old; written = A.written alerts.old })
-        (record { events = events.new; written = A.written alerts.new })) }
-    ensures stopped { OnErr result (ShowsMatchesPart form config.now rules.now (source_by sources.entry)
-        found.now (record { events = events.old; written = A.written alerts.old }) (A.written alerts.new)) }
-    ensures kind { IfErr result IsShowStop }
-    ensures fault { IsErrOf result Stop.CannotWrite → Rose (A.faults alerts.old) (A.faults alerts.new) }
-    ensures quiet { OnOk result (A.faults alerts.new ≡ A.faults alerts.old) }
-    ensures later { A.faults alerts.old ≤ A.faults alerts.new }
+    ensures { ShowsMatches form config.now rules.now (source_by sources.entry) found.now
+        (showing A.Sink events.old alerts.old) (showing A.Sink events.new alerts.new) result }
 {
     let items = sum(events.tally.items, found.items)?;
     show_hits(config, rules, form, sources, &found.hits, events, alerts)?;

@@ -1,15 +1,13 @@
 //! Alerts on their way to the sink: their texts are made one behind another, and written in blocks.
-ghost use Rattle.std.specs.Prelude.{◌≡◌, ◌+◌, ◌<◌, ◌≤◌, [], ◌∷◌, ◌++◌, length, All, OnOk, OnErr, IfOk, IfErr, IsErrOf};
+ghost use Rattle.std.specs.Prelude.{◌≡◌, ◌+◌, ◌<◌, ◌≤◌, [], ◌∷◌, ◌++◌, length, All, OnOk, IfOk, IfErr};
 ghost use Rattle.std.specs.Option.{ForSome};
-ghost use Rattle.edge_io.specs.Told.{behind, Rose};
 ghost use Rattle.rule_types.specs.Sound.{IsSound};
-ghost use Rattle.snort_engine.specs.Outside.{WritesPart};
 ghost use Rattle.snort_engine.specs.Beside.{beside};
 ghost use Rattle.snort_engine.specs.Trace.{event_of};
 ghost use Rattle.snort_engine.specs.Lines.{text_of};
-ghost use Rattle.snort_engine.specs.Steps.Gathering.{Gathers};
-ghost use Rattle.snort_engine.specs.Steps.Watching.{IsShowStop, IsWriteStop};
-ghost use Rattle.snort_engine.specs.Steps.Showing.{ShowsPlaces, places_lines, subject_of};
+ghost use Rattle.snort_engine.specs.Steps.Gathering.{Emits, sending};
+ghost use Rattle.snort_engine.specs.Steps.Stop.{IsWriteStop};
+ghost use Rattle.snort_engine.specs.Steps.Showing.{ShowsPlaces, subject_of};
 
 use crate::counts::sum;
 use crate::form::Form;
@@ -38,13 +36,10 @@ pub(crate) struct Subject<'a> {
 
 /// Writes the lines that wait, whole. Takes no memory.
 pub(crate) fn offer<A: Sink>(block: &mut Vec<u8>, alerts: &mut A) -> Result<(), Stop>
-    ensures offered { OnOk result (A.written alerts.new ≡ behind (A.written alerts.old) block.old.items) }
+    ensures emits { Emits []
+        (sending A.Sink block.old.items alerts.old) (sending A.Sink block.new.items alerts.new) result }
     ensures emptied { OnOk result (block.new.items ≡ []) }
-    ensures stopped { OnErr result (WritesPart (A.written alerts.old) block.old.items (A.written alerts.new)) }
     ensures kind { IfErr result IsWriteStop }
-    ensures fault { IsErrOf result Stop.CannotWrite → Rose (A.faults alerts.old) (A.faults alerts.new) }
-    ensures quiet { OnOk result (A.faults alerts.new ≡ A.faults alerts.old) }
-    ensures later { A.faults alerts.old ≤ A.faults alerts.new }
 {
     match write_all(alerts, block) {
         Ok(()) => {
@@ -57,14 +52,9 @@ pub(crate) fn offer<A: Sink>(block: &mut Vec<u8>, alerts: &mut A) -> Result<(), 
 
 /// Writes the lines that wait, where they fill the block.
 fn offer_full<A: Sink>(block: &mut Vec<u8>, alerts: &mut A) -> Result<(), Stop>
-    ensures shown { OnOk result (Gathers []
-        (record { written = A.written alerts.old; block = block.old.items })
-        (record { written = A.written alerts.new; block = block.new.items })) }
-    ensures stopped { OnErr result (WritesPart (A.written alerts.old) block.old.items (A.written alerts.new)) }
+    ensures emits { Emits []
+        (sending A.Sink block.old.items alerts.old) (sending A.Sink block.new.items alerts.new) result }
     ensures kind { IfErr result IsWriteStop }
-    ensures fault { IsErrOf result Stop.CannotWrite → Rose (A.faults alerts.old) (A.faults alerts.new) }
-    ensures quiet { OnOk result (A.faults alerts.new ≡ A.faults alerts.old) }
-    ensures later { A.faults alerts.old ≤ A.faults alerts.new }
 {
     if block.len() < BLOCK {
         return Ok(());
@@ -91,7 +81,6 @@ fn push_alert(
 }
 
 /// Makes the text of a rule that alerts on an item, behind those that wait; so many alerts came before.
-#[tactic(auto, using(crate::proofs::Prefixes::rising))]
 fn show_line<A: Sink>(
     subject: &Subject<'_>,
     before: u128,
@@ -100,24 +89,15 @@ fn show_line<A: Sink>(
     alerts: &mut A,
 ) -> Result<(), Stop>
     requires { ForSome rule.now.class (λ class. class < length subject.now.classes.now) }
-    ensures shown { OnOk result (Gathers (text_of subject.now.form subject.now.classes.now before
+    ensures { Emits (text_of subject.now.form subject.now.classes.now before
         (beside subject.now.origin.now (event_of subject.now.head.now rule.now)))
-        (record { written = A.written alerts.old; block = block.old.items })
-        (record { written = A.written alerts.new; block = block.new.items })) }
-    ensures stopped { OnErr result (WritesPart (A.written alerts.old)
-        (block.old.items ++ text_of subject.now.form subject.now.classes.now before
-        (beside subject.now.origin.now (event_of subject.now.head.now rule.now))) (A.written alerts.new)) }
-    ensures kind { IfErr result IsShowStop }
-    ensures fault { IsErrOf result Stop.CannotWrite → Rose (A.faults alerts.old) (A.faults alerts.new) }
-    ensures quiet { OnOk result (A.faults alerts.new ≡ A.faults alerts.old) }
-    ensures later { A.faults alerts.old ≤ A.faults alerts.new }
+        (sending A.Sink block.old.items alerts.old) (sending A.Sink block.new.items alerts.new) result }
 {
     push_alert(subject, before, rule, block)?;
     offer_full(block, alerts)
 }
 
 /// Makes the text of the rule at a place, on an item. It tells how many alerts these are.
-#[tactic(auto, using(crate::proofs::Prefixes::rising))]
 fn show_place<A: Sink>(
     subject: &Subject<'_>,
     before: u128,
@@ -126,16 +106,9 @@ fn show_place<A: Sink>(
     alerts: &mut A,
 ) -> Result<usize, Stop>
     requires { All (IsSound subject.now.classes.now) subject.now.rules.now }
-    ensures shown { IfOk result (λ count. ShowsPlaces (subject_of subject.now) before (place ∷ []) count
-        (record { written = A.written alerts.old; block = block.old.items })
-        (record { written = A.written alerts.new; block = block.new.items })) }
+    ensures shown { ShowsPlaces (subject_of subject.now) before (place ∷ [])
+        (sending A.Sink block.old.items alerts.old) (sending A.Sink block.new.items alerts.new) result }
     ensures few { IfOk result (λ count. count ≤ 1) }
-    ensures stopped { OnErr result (WritesPart (A.written alerts.old)
-        (block.old.items ++ places_lines (subject_of subject.now) before (place ∷ [])) (A.written alerts.new)) }
-    ensures kind { IfErr result IsShowStop }
-    ensures fault { IsErrOf result Stop.CannotWrite → Rose (A.faults alerts.old) (A.faults alerts.new) }
-    ensures quiet { OnOk result (A.faults alerts.new ≡ A.faults alerts.old) }
-    ensures later { A.faults alerts.old ≤ A.faults alerts.new }
 {
     let Some(rule) = subject.rules.get(place as usize) else {
         return Ok(0);
@@ -146,7 +119,6 @@ fn show_place<A: Sink>(
 
 /// Makes the texts of the rules at these places, on an item, behind so many alerts. It tells how many
 /// alerts these are.
-#[tactic(auto, using(crate::proofs::Prefixes::rising))]
 pub(crate) fn show_places<A: Sink>(
     subject: &Subject<'_>,
     before: u128,
@@ -155,15 +127,8 @@ pub(crate) fn show_places<A: Sink>(
     alerts: &mut A,
 ) -> Result<usize, Stop>
     requires { All (IsSound subject.now.classes.now) subject.now.rules.now }
-    ensures shown { IfOk result (λ count. ShowsPlaces (subject_of subject.now) before places.now count
-        (record { written = A.written alerts.old; block = block.old.items })
-        (record { written = A.written alerts.new; block = block.new.items })) }
-    ensures stopped { OnErr result (WritesPart (A.written alerts.old)
-        (block.old.items ++ places_lines (subject_of subject.now) before places.now) (A.written alerts.new)) }
-    ensures kind { IfErr result IsShowStop }
-    ensures fault { IsErrOf result Stop.CannotWrite → Rose (A.faults alerts.old) (A.faults alerts.new) }
-    ensures quiet { OnOk result (A.faults alerts.new ≡ A.faults alerts.old) }
-    ensures later { A.faults alerts.old ≤ A.faults alerts.new }
+    ensures { ShowsPlaces (subject_of subject.now) before places.now
+        (sending A.Sink block.old.items alerts.old) (sending A.Sink block.new.items alerts.new) result }
 {
     let mut count = 0;
     for place in places {

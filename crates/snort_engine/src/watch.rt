@@ -10,6 +10,7 @@ ghost use Rattle.snort_engine.specs.Outside.{by, work};
 ghost use Rattle.snort_engine.specs.Ending.{Ends};
 ghost use Rattle.snort_engine.specs.Steps.Stop.{outcome_status, is_uncut, is_written, ReadsQuietly, WritesQuietly};
 ghost use Rattle.snort_engine.specs.Steps.Reporting.{outcome_said};
+ghost use Rattle.snort_engine.specs.Steps.Gathering.{sending};
 ghost use Rattle.snort_engine.specs.Counts.{no_counts};
 ghost use Rattle.snort_engine.specs.Steps.Detecting.{IsSoundPlan, Knows, DetectorStands, ShowsRecordsPart};
 ghost use Rattle.snort_engine.specs.Steps.Watching.{standing, streams, OfTest, Watches, ComesOver, IsCloseBehind};
@@ -36,8 +37,8 @@ fn show_some<P: Pattern, G: Gate, A: Sink, R: Threads + Sync>(
     requires plan { IsSoundPlan context.now.plan.now }
     requires known { Knows context.now.plan.now detector.old }
     requires few { detector.old.front.counts.records + length records.old.items ≤ 2 ^ 32 }
-    ensures part { OfTest P.finds context.now.plan.now (λ plan. ShowsRecordsPart plan records.old.items
-        (record { detector = detector.old; written = A.written alerts.old }) (A.written alerts.new)) }
+    ensures part { OfTest P.finds context.now.plan.now (λ plan. ShowsRecordsPart plan records.old.items detector.old
+        (A.written alerts.old) (A.written alerts.new)) }
     ensures later { A.faults alerts.old ≤ A.faults alerts.new }
 {
     let _shown = show_records(context, records, detector, alerts);
@@ -143,7 +144,7 @@ fn close_watched<P: Pattern, G: Gate, A: Sink, R: Threads + Sync>(
     requires plan { IsSoundPlan context.now.plan.now }
     requires closable { MayClose context.now.plan.now detector watched }
     ensures closes { OfTest P.finds context.now.plan.now (λ plan. ClosesWatched plan detector watched
-        (A.written alerts.old) (A.written alerts.new) counts.new result) }
+        (sending A.Sink [] alerts.old) (sending A.Sink [] alerts.new) counts.new result) }
     ensures write_fault { IsErrOf result Stop.CannotWrite
         → IsErrOf watched Stop.CannotWrite ⊎ Rose (A.faults alerts.old) (A.faults alerts.new) }
     ensures read_fault { outcome_status result ≡ Status.HostFault → outcome_status watched ≡ Status.HostFault }

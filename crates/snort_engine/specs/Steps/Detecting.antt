@@ -4,9 +4,9 @@
 -- of records stands before each step, of which the lanes know what they must know to run the next jobs.
 -- To try it on: of a UDP packet whose flow has a rule's bit set by an earlier one, the second batch shows
 -- what it would show if both stood in one.
-use Rattle.std.specs.Prelude.{◌≡◌, ℕ, ◌≤◌, List, [], ◌++◌, length, Option, All}
+use Rattle.std.specs.Prelude.{◌≡◌, ℕ, ◌≤◌, List, [], ◌++◌, length, Option, Result, OnOk, IfOk, All}
 use Rattle.edge_io.specs.Along.{trail, trail_from}
-use Rattle.edge_io.specs.Told.{behind}
+use Rattle.edge_io.specs.declared.sink.Sink.{Ghosts as SinkOf}
 use Rattle.conf_types.specs.Sound as conf
 use Rattle.rule_types.specs.Sound.{IsSound}
 use Rattle.rule_types.specs.declared.rule.Rule.{Rule}
@@ -24,12 +24,13 @@ use Rattle.snort_engine.specs.declared.counts.Counts.{Counts}
 use Rattle.snort_engine.specs.declared.plan.Plan as code
 use Rattle.snort_engine.specs.declared.detect.Inspection.{Inspection}
 use Rattle.snort_engine.specs.declared.detect.Detector.{Detector}
+use Rattle.snort_engine.specs.declared.stop.Stop.{Stop}
 use Rattle.snort_engine.specs.Course.{Plan}
 use Rattle.snort_engine.specs.Trace.{Open, closing_alerts, detection_of, job_items, jobs_of, last_of, no_record, jobs_way_by, jobs_way}
 use Rattle.snort_engine.specs.Lines.{alert_count, lines, text_of, texts_from}
 use Rattle.snort_engine.specs.Counts.{counts_of, try_count}
 use Rattle.snort_engine.specs.Outside.{WritesPart}
-use Rattle.snort_engine.specs.Steps.Gathering.{Gathering, Gathers}
+use Rattle.snort_engine.specs.Steps.Gathering.{Sending, EmitsBy}
 use Rattle.snort_engine.specs.Steps.Showing.{EventsStand, items_lines}
 use Rattle.snort_engine.specs.Beside.{carried, whats}
 use Rattle.snort_engine.specs.Steps.Sourcing.{Sourced}
@@ -74,28 +75,28 @@ jobs_lines plan before batch =
     items_lines plan.form plan.config plan.rules (trail (job_items (detection_of plan)) before)
     (carried (job_items (detection_of plan)) before batch)
 
--- the inspection, and what was written where it is told
+-- the inspection, and the sink
 pub record Running : Type 0 where
   pub inspection : Inspection
   pub written : Option (List ℕ)
+  pub faults : ℕ
 
-abbrev pub waiting : Running → Gathering
-waiting running = record { written = running.written; block = running.inspection.events.block.items }
+abbrev pub running : {A : Type 0} → SinkOf A → Inspection → A → Running
+running a inspection alerts = record { inspection = inspection; written = a.written alerts; faults = a.faults alerts }
 
--- jobs came behind earlier jobs: the inspection was given them, and their lines came behind those that wait
-pub record IsRun (plan : Plan) (before : List Job) (batch : List Sourced) (old new : Running) : Type 0 where
-  pub stands : InspectionStands plan (before ++ whats batch) new.inspection
-  pub came : Gathers (jobs_lines plan before batch) (waiting old) (waiting new)
+-- jobs that came before
+pub record EarlierJobs (plan : Plan) (inspection : Inspection) : Type 0 where
+  pub jobs : List Job
+  pub stand : InspectionStands plan jobs inspection
 
--- the same, whatever jobs came before
-unfoldable pub Runs : Plan → List Sourced → Running → Running → Type 0
-Runs plan batch old new = (before : List Job) → InspectionStands plan before old.inspection → IsRun plan before batch old new
+abbrev pub waiting : Running → Sending
+waiting now = record { written = now.written; block = now.inspection.events.block.items; faults = now.faults }
 
--- or no more than a part of their lines, and of those that wait, was written
-unfoldable pub RunsPart : Plan → List Sourced → Running → Option (List ℕ) → Type 0
-RunsPart plan batch old written =
-    (before : List Job) → InspectionStands plan before old.inspection
-    → WritesPart old.written (old.inspection.events.block.items ++ jobs_lines plan before batch) written
+-- whatever jobs came before: the inspection was given these too, and their lines are on their way
+pub record Runs {A : Type 0} (plan : Plan) (batch : List Sourced) (old new : Running) (outcome : Result A Stop) : Type 0 where
+  pub stands : OnOk outcome ((before : List Job) → InspectionStands plan before old.inspection
+      → InspectionStands plan (before ++ whats batch) new.inspection)
+  pub emits : EmitsBy (λ (before : EarlierJobs plan old.inspection). jobs_lines plan before.jobs batch) (waiting old) (waiting new) outcome
 
 -- ---- records
 
@@ -131,26 +132,33 @@ pub record IsClosable {P : Type 0} (plan : code.Plan P) (detector : Detector) : 
   pub known : Knows plan detector
   pub few : detector.front.counts.records ≤ most_records
 
--- the detector, and what was written where it is told
+-- the detector, and the sink: no line waits
 pub record Detecting : Type 0 where
   pub detector : Detector
   pub written : Option (List ℕ)
+  pub faults : ℕ
 
--- records came behind earlier records: the detector was given them, and their lines were written
-pub record AreShown (plan : Plan) (before records : List LinkedRecord) (old new : Detecting) : Type 0 where
-  pub stands : DetectorStands plan (before ++ records) new.detector
-  pub wrote : new.written ≡ behind old.written (lines plan before records Open)
+abbrev pub detecting : {A : Type 0} → SinkOf A → Detector → A → Detecting
+detecting a detector alerts = record { detector = detector; written = a.written alerts; faults = a.faults alerts }
 
--- the same, whatever records came before
-unfoldable pub ShowsRecords : Plan → List LinkedRecord → Detecting → Detecting → Type 0
-ShowsRecords plan records old new =
-    (before : List LinkedRecord) → DetectorStands plan before old.detector → AreShown plan before records old new
+abbrev pub settled : Detecting → Sending
+settled now = record { written = now.written; block = []; faults = now.faults }
 
--- or no more than a part of their lines was written
-unfoldable pub ShowsRecordsPart : Plan → List LinkedRecord → Detecting → Option (List ℕ) → Type 0
-ShowsRecordsPart plan records old written =
-    (before : List LinkedRecord) → DetectorStands plan before old.detector
-    → WritesPart old.written (lines plan before records Open) written
+-- records that came before
+pub record EarlierRecords (plan : Plan) (detector : Detector) : Type 0 where
+  pub records : List LinkedRecord
+  pub stand : DetectorStands plan records detector
+
+-- whatever records came before: the detector was given these too, and their lines were written, or a part of them
+pub record ShowsRecords {A : Type 0} (plan : Plan) (batch : List LinkedRecord) (old new : Detecting) (outcome : Result A Stop) : Type 0 where
+  pub stands : OnOk outcome ((before : List LinkedRecord) → DetectorStands plan before old.detector
+      → DetectorStands plan (before ++ batch) new.detector)
+  pub emits : EmitsBy (λ (before : EarlierRecords plan old.detector). lines plan before.records batch Open) (settled old) (settled new) outcome
+
+-- no more than a part of their lines was written
+unfoldable pub ShowsRecordsPart : Plan → List LinkedRecord → Detector → Option (List ℕ) → Option (List ℕ) → Type 0
+ShowsRecordsPart plan batch detector old new =
+    (before : List LinkedRecord) → DetectorStands plan before detector → WritesPart old (lines plan before batch Open) new
 
 -- ---- the end
 
@@ -169,19 +177,7 @@ unfoldable pub closing_lines : Plan → List LinkedRecord → List ℕ
 closing_lines plan records =
     texts_from (text_of plan.form plan.config.classes) (alert_count plan records) (closing_alerts plan records)
 
--- they were written, and all was counted
-pub record IsClosed (plan : Plan) (records : List LinkedRecord) (old : Detecting) (written : Option (List ℕ)) (counts : Counts) :
-    Type 0 where
-  pub wrote : written ≡ behind old.written (closing_lines plan records)
-  pub counted : counts ≡ counts_of plan records
-
--- the same, whatever records came before
-unfoldable pub Closes : Plan → Detecting → Option (List ℕ) → Counts → Type 0
-Closes plan old written counts =
-    (records : List LinkedRecord) → DetectorStands plan records old.detector → IsClosed plan records old written counts
-
--- or no more than a part of the lines was written
-unfoldable pub ClosesPart : Plan → Detecting → Option (List ℕ) → Type 0
-ClosesPart plan old written =
-    (records : List LinkedRecord) → DetectorStands plan records old.detector
-    → WritesPart old.written (closing_lines plan records) written
+-- whatever records came before: they were written, or a part of them, and all was counted
+pub record Closes (plan : Plan) (old : Detecting) (new : Sending) (outcome : Result Counts Stop) : Type 0 where
+  pub counted : IfOk outcome (λ counts. (records : List LinkedRecord) → DetectorStands plan records old.detector → counts ≡ counts_of plan records)
+  pub emits : EmitsBy (λ (before : EarlierRecords plan old.detector). closing_lines plan before.records) (settled old) new outcome

@@ -1,16 +1,47 @@
--- Lines that wait in a block on their way to the sink.
+-- Texts on their way to the sink, by a block in which they wait.
 --
--- To try it on: where 65530 bytes wait and a line of 90 comes, the block is written, and the line with it.
-use Rattle.std.specs.Prelude.{◌≡◌, ℕ, List, ◌++◌, Option}
-use Rattle.edge_io.specs.Told.{behind}
+-- What a step says of its text and of the sink is one relation: the text came whole, or the step was stopped and
+-- a part of what was to be written was. To try it on: where 65530 bytes wait and a line of 90 comes, the block is
+-- written, and the line with it; where the sink fails behind 100 of these bytes, they were written, its count of
+-- faults rose, and the step ends with `CannotWrite`.
+use Rattle.std.specs.Prelude.{◌≡◌, ℕ, ◌≤◌, List, [], ◌++◌, Option, Result, ⊤, OnOk, OnErr, IfErr, IsErrOf}
+use Rattle.edge_io.specs.Told.{behind, Rose}
+use Rattle.edge_io.specs.declared.sink.Sink.{Ghosts as SinkOf}
+use Rattle.snort_engine.specs.declared.stop.Stop.{Stop}
+use Rattle.snort_engine.specs.declared.stop.Stop.TheVariants as stop
+use Rattle.snort_engine.specs.Outside.{WritesPart}
+use Rattle.snort_engine.specs.Steps.Stop.{IsShowStop}
 
--- what was written, where it is told, and the block in which lines wait
-pub record Gathering : Type 0 where
+-- what was written, where it is told, the block in which texts wait, and how often the sink failed
+pub record Sending : Type 0 where
   pub written : Option (List ℕ)
   pub block : List ℕ
+  pub faults : ℕ
+
+-- of a block and a sink
+abbrev pub sending : {A : Type 0} → SinkOf A → List ℕ → A → Sending
+sending a block alerts = record { written = a.written alerts; block = block; faults = a.faults alerts }
 
 -- a text came behind the block: a front of both was written, and the rest waits
-pub record Gathers (text : List ℕ) (old new : Gathering) : Type 0 where
+pub record Gathers (text : List ℕ) (old new : Sending) : Type 0 where
   pub part : List ℕ
   pub joined : old.block ++ text ≡ part ++ new.block
   pub wrote : new.written ≡ behind old.written part
+
+-- a text is on its way, or a part of it and of what waited was written, and why no more is told: the sink failed, and
+-- that was counted, or memory was lacking. The text may go by what is known of the steps before
+pub record EmitsBy {Known A : Type 0} (text : Known → List ℕ) (old new : Sending) (outcome : Result A Stop) : Type 0 where
+  pub whole : OnOk outcome ((known : Known) → Gathers (text known) old new)
+  pub part : OnErr outcome ((known : Known) → WritesPart old.written (old.block ++ text known) new.written)
+  pub kind : IfErr outcome IsShowStop
+  pub fault : IsErrOf outcome stop.CannotWrite → Rose old.faults new.faults
+  pub quiet : OnOk outcome (new.faults ≡ old.faults)
+  pub later : old.faults ≤ new.faults
+
+-- the same of a text that goes by nothing else
+abbrev pub Emits : {A : Type 0} → List ℕ → Sending → Sending → Result A Stop → Type 0
+Emits text = EmitsBy {Known = ⊤} (λ known. text)
+
+-- or of a text that isn't known: how the step ended is left
+abbrev pub EmitsAny : {A : Type 0} → Sending → Sending → Result A Stop → Type 0
+EmitsAny = EmitsBy {Known = ⊥} (λ none. [])

@@ -4,16 +4,20 @@
 -- item that no rule matches gives no line; it is counted.
 -- To try it on: of a job of three items of which a rule matches the second, its line is that of the second
 -- alone, and three items are counted.
-use Rattle.std.specs.Prelude.{◌≡◌, ℕ, List, Option, filter, length, map, sum_by}
+use Rattle.std.specs.Prelude.{◌≡◌, ℕ, List, ◌++◌, Result, OnOk, filter, length, map, sum_by}
 use Rattle.conf_types.specs.declared.config.Config.{Config}
 use Rattle.rule_types.specs.declared.rule.Rule.{Rule}
+use Rattle.flow_lanes.specs.declared.answer.Hits.{Hits}
 use Rattle.flow_lanes.specs.declared.answer.JobHits.{JobHits}
 use Rattle.flow_lanes.specs.declared.answer.Matches.{Matches}
 use Rattle.flow_lanes.specs.ItemHits.{is_matched, matched_entry}
 use Rattle.record_jobs.specs.Way.{LinkedRecord}
+use Rattle.snort_engine.specs.declared.events.Events.{Events}
 use Rattle.snort_engine.specs.declared.form.Form.{Form}
-use Rattle.snort_engine.specs.Beside.{by_place}
-use Rattle.snort_engine.specs.Steps.Showing.{Showing, Shows, ShowsPart, SourcedItem}
+use Rattle.snort_engine.specs.declared.stop.Stop.{Stop}
+use Rattle.snort_engine.specs.Beside.{by_place, whats}
+use Rattle.snort_engine.specs.Steps.Gathering.{EmitsBy}
+use Rattle.snort_engine.specs.Steps.Showing.{EventsStand, Earlier, Showing, SourcedItem, sending_of, items_lines}
 use Rattle.snort_engine.specs.Steps.Sourcing.{sourced_items}
 
 -- these are the matches of jobs with these items, and the number of all their items
@@ -25,13 +29,18 @@ pub record AreMatchesOf (jobs : List JobHits) (found : Matches) : Type 0 where
 abbrev pub matched_sourced : List SourcedItem → List SourcedItem
 matched_sourced items = filter (λ (told : SourcedItem). is_matched told.what) items
 
--- whatever jobs these are the matches of, all their items are shown
-abbrev pub ShowsMatches : Form → Config → List Rule → (ℕ → LinkedRecord) → Matches → Showing → Showing → Type 0
-ShowsMatches form config rules source found old new =
-    (jobs : List JobHits) → AreMatchesOf jobs found → Shows form config rules (sourced_items (by_place source 0 jobs)) old new
+-- jobs that these may be the matches of, and items that were given before theirs
+pub record Matched (config : Config) (rules : List Rule) (found : Matches) (events : Events) : Type 0 where
+  pub jobs : List JobHits
+  pub are : AreMatchesOf jobs found
+  pub before : Earlier config rules events
 
--- or a part of their lines was written
-abbrev pub ShowsMatchesPart : Form → Config → List Rule → (ℕ → LinkedRecord) → Matches → Showing → Option (List ℕ) → Type 0
-ShowsMatchesPart form config rules source found old written =
-    (jobs : List JobHits) → AreMatchesOf jobs found
-    → ShowsPart form config rules (sourced_items (by_place source 0 jobs)) old written
+-- whatever jobs these are the matches of, all their items are shown
+pub record ShowsMatches {A : Type 0} (form : Form) (config : Config) (rules : List Rule) (source : ℕ → LinkedRecord) (found : Matches)
+    (old new : Showing) (outcome : Result A Stop) : Type 0 where
+  pub stands : OnOk outcome ((jobs : List JobHits) → AreMatchesOf jobs found
+      → (before : List Hits) → EventsStand config rules before old.events
+      → EventsStand config rules (before ++ whats (sourced_items (by_place source 0 jobs))) new.events)
+  pub emits : EmitsBy (λ (known : Matched config rules found old.events).
+      items_lines form config rules known.before.items (sourced_items (by_place source 0 known.jobs)))
+      (sending_of old) (sending_of new) outcome

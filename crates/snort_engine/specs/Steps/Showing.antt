@@ -4,9 +4,10 @@
 -- A step says what it does to whatever items were given before: so steps follow one another, and a batch
 -- is its items, one by one. To try it on: of two items of one address, of which each would alert, under
 -- `event_filter` with `type limit` and `count 1` the first has its line, and the second none.
-use Rattle.std.specs.Prelude.{◌≡◌, ℕ, List, ◌++◌, Option, length, map}
+use Rattle.std.specs.Prelude.{◌≡◌, ℕ, List, ◌++◌, Option, Result, OnOk, IfOk, length, map}
 use Rattle.std.specs.List.{flat_map}
 use Rattle.edge_io.specs.Along.{trail}
+use Rattle.edge_io.specs.declared.sink.Sink.{Ghosts as SinkOf}
 use Rattle.packet_decode.specs.declared.item.ItemHead.{ItemHead}
 use Rattle.conf_types.specs.declared.classes.Class.{Class}
 use Rattle.conf_types.specs.declared.config.Config.{Config}
@@ -23,8 +24,8 @@ use Rattle.snort_engine.specs.Beside.{Beside, beside, carried, whats}
 use Rattle.snort_engine.specs.Trace.{event_at, filtered_item, item_events}
 use Rattle.snort_engine.specs.Lines.{text_of, texts_from}
 use Rattle.snort_engine.specs.Counts.{hit_count}
-use Rattle.snort_engine.specs.Outside.{WritesPart}
-use Rattle.snort_engine.specs.Steps.Gathering.{Gathering, Gathers}
+use Rattle.snort_engine.specs.declared.stop.Stop.{Stop}
+use Rattle.snort_engine.specs.Steps.Gathering.{Sending, Emits, EmitsBy}
 
 -- ---- the rules at some places
 
@@ -55,10 +56,10 @@ places_lines subject before places =
 unfoldable pub places_count : List Rule → ItemHead → List ℕ → ℕ
 places_count rules head places = length (flat_map (event_at rules head) places)
 
--- their lines came behind those that wait, and were counted
-pub record ShowsPlaces (subject : Subject) (before : ℕ) (places : List ℕ) (count : ℕ) (old new : Gathering) : Type 0 where
-  pub came : Gathers (places_lines subject before places) old new
-  pub counted : count ≡ places_count subject.rules subject.head places
+-- their lines are on their way, and were counted
+pub record ShowsPlaces (subject : Subject) (before : ℕ) (places : List ℕ) (old new : Sending) (outcome : Result ℕ Stop) : Type 0 where
+  pub emits : Emits (places_lines subject before places) old new outcome
+  pub counted : IfOk outcome (λ count. count ≡ places_count subject.rules subject.head places)
 
 -- ---- items
 
@@ -85,30 +86,30 @@ pub record EventsStand (config : Config) (rules : List Rule) (before : List Hits
   pub given : IsGiven config rules (map filtered_item before) events.filters
   pub tally : events.tally ≡ tally_of config rules before
 
--- the filters and the counts, and what was written where it is told
+-- items that were given before
+pub record Earlier (config : Config) (rules : List Rule) (events : Events) : Type 0 where
+  pub items : List Hits
+  pub stand : EventsStand config rules items events
+
+-- the filters and the counts, and the sink
 pub record Showing : Type 0 where
   pub events : Events
   pub written : Option (List ℕ)
+  pub faults : ℕ
 
-abbrev pub gathering_of : Showing → Gathering
-gathering_of showing = record { written = showing.written; block = showing.events.block.items }
+abbrev pub showing : {A : Type 0} → SinkOf A → Events → A → Showing
+showing a events alerts = record { events = events; written = a.written alerts; faults = a.faults alerts }
 
--- items came behind earlier items: the filters were given them, and their lines came behind those that wait
-pub record IsShown (form : Form) (config : Config) (rules : List Rule) (before : List Hits) (items : List SourcedItem)
-    (old new : Showing) : Type 0 where
-  pub stands : EventsStand config rules (before ++ whats items) new.events
-  pub came : Gathers (items_lines form config rules before items) (gathering_of old) (gathering_of new)
+abbrev pub sending_of : Showing → Sending
+sending_of now = record { written = now.written; block = now.events.block.items; faults = now.faults }
 
--- the same, whatever items were given before
-unfoldable pub Shows : Form → Config → List Rule → List SourcedItem → Showing → Showing → Type 0
-Shows form config rules items old new =
-    (before : List Hits) → EventsStand config rules before old.events → IsShown form config rules before items old new
-
--- or no more than a part of their lines, and of those that wait, was written
-unfoldable pub ShowsPart : Form → Config → List Rule → List SourcedItem → Showing → Option (List ℕ) → Type 0
-ShowsPart form config rules items old written =
-    (before : List Hits) → EventsStand config rules before old.events
-    → WritesPart old.written (old.events.block.items ++ items_lines form config rules before items) written
+-- whatever items were given before: the filters were given these too, and their lines are on their way
+pub record Shows {A : Type 0} (form : Form) (config : Config) (rules : List Rule) (items : List SourcedItem) (old new : Showing)
+    (outcome : Result A Stop) : Type 0 where
+  pub stands : OnOk outcome ((before : List Hits) → EventsStand config rules before old.events
+      → EventsStand config rules (before ++ whats items) new.events)
+  pub emits : EmitsBy (λ (before : Earlier config rules old.events). items_lines form config rules before.items items)
+      (sending_of old) (sending_of new) outcome
 
 -- the items of jobs, in the order of the jobs
 abbrev pub hits_in : List JobHits → List Hits

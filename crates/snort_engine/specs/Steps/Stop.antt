@@ -2,7 +2,7 @@
 --
 -- To try it on: a capture that is neither a savefile nor blocks ends a run as BadCapture, with
 -- `ERROR: capture is not a pcap file`.
-use Rattle.std.specs.Prelude.{◌≡◌, ℕ, Bool, true, false, List, [], Result, Ok, Err}
+use Rattle.std.specs.Prelude.{◌≡◌, ℕ, Bool, true, false, List, [], Result, Ok, Err, ⊤}
 use Rattle.snort_setup.specs.declared.stop.SetupStop.{SetupStop}
 use Rattle.snort_setup.specs.declared.stop.SetupStop.TheVariants as setup
 use Rattle.snort_engine.specs.declared.fault.ReadFault.{ReadFault}
@@ -69,6 +69,17 @@ abbrev pub setup_stop : SetupStop → Stop
 setup_stop (setup.Refused message) = stop.Refused message
 setup_stop (setup.CannotRead name) = stop.CannotReadFile name
 setup_stop setup.NoMemory = stop.NoMemory
+
+-- what may stop the showing of lines
+abbrev pub IsShowStop : Stop → Type 0
+IsShowStop stop.CannotWrite = ⊤
+IsShowStop stop.NoMemory = ⊤
+IsShowStop why = ⊥
+
+-- what may stop the writing of lines, which takes no memory
+abbrev pub IsWriteStop : Stop → Type 0
+IsWriteStop stop.CannotWrite = ⊤
+IsWriteStop why = ⊥
 
 -- work on a capture came to its end, or to where the capture is refused: neither the host nor the alert
 -- sink failed, and memory was there

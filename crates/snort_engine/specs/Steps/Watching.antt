@@ -30,7 +30,8 @@ use Rattle.snort_engine.specs.Counts.{counts_of}
 use Rattle.snort_engine.specs.ReadAhead.{batch, AreBatches}
 use Rattle.snort_engine.specs.Outside.{WritesPart}
 use Rattle.snort_engine.specs.Steps.Stop.{capture_stop, is_whole}
-use Rattle.snort_engine.specs.Steps.Detecting.{DetectorStands, IsClosable, Knows, Closes, ClosesPart}
+use Rattle.snort_engine.specs.Steps.Gathering.{Sending}
+use Rattle.snort_engine.specs.Steps.Detecting.{Detecting, DetectorStands, IsClosable, Knows, Closes}
 
 -- the test says which rules of a set match, by what its patterns find
 pub record IsTest {P : Type 0} (finds : P → List ℕ → Option Span) (set : Rules P) (test : Test) : Type 0 where
@@ -56,17 +57,6 @@ plan_of matches plan = record {
 -- whatever test says which rules match, this holds of the plan that it makes
 abbrev pub OfTest : {P : Type 0} → (P → List ℕ → Option Span) → code.Plan P → (Plan → Type 0) → Type 0
 OfTest finds plan Holds = (matches : Test) → IsTest finds plan.setup.set matches → Holds (plan_of matches plan)
-
--- what may stop the showing of lines
-abbrev pub IsShowStop : Stop → Type 0
-IsShowStop stop.CannotWrite = ⊤
-IsShowStop stop.NoMemory = ⊤
-IsShowStop why = ⊥
-
--- what may stop the writing of lines, which takes no memory
-abbrev pub IsWriteStop : Stop → Type 0
-IsWriteStop stop.CannotWrite = ⊤
-IsWriteStop why = ⊥
 
 -- ---- the watching
 
@@ -247,25 +237,28 @@ abbrev pub MayClose : {P A : Type 0} → code.Plan P → Detector → Result A S
 MayClose plan detector outcome = is_whole outcome ≡ true → IsClosable plan detector
 
 -- what was cut short is left as it was
-abbrev pub IsLeft : Result (Unit {0}) Stop → Result (Unit {0}) Stop → Option (List ℕ) → Option (List ℕ) → Type 0
-IsLeft watched result old new = (is_whole watched ≡ false) × (result ≡ watched) × (new ≡ old)
+abbrev pub IsLeft : Result (Unit {0}) Stop → Result (Unit {0}) Stop → Sending → Sending → Type 0
+IsLeft watched result old new = (is_whole watched ≡ false) × (result ≡ watched) × (new.written ≡ old.written)
+
+-- a detector whose sink stands so
+abbrev pub closing : Detector → Sending → Detecting
+closing detector now = record { detector = detector; written = now.written; faults = now.faults }
 
 -- what came to its end is closed
 abbrev pub IsClosedWhole : Plan → Detector → Result (Unit {0}) Stop → Result (Unit {0}) Stop
-    → Option (List ℕ) → Option (List ℕ) → Counts → Type 0
+    → Sending → Sending → Counts → Type 0
 IsClosedWhole plan detector watched result old new counts =
-    (is_whole watched ≡ true) × (result ≡ watched) × Closes plan (record { detector = detector; written = old }) new counts
+    (is_whole watched ≡ true) × (result ≡ watched) × Closes plan (closing detector old) new (Ok counts)
 
 -- or its closing was stopped
 abbrev pub IsClosedInPart : Plan → Detector → Result (Unit {0}) Stop → Result (Unit {0}) Stop
-    → Option (List ℕ) → Option (List ℕ) → Type 0
+    → Sending → Sending → Type 0
 IsClosedInPart plan detector watched result old new =
-    (is_whole watched ≡ true) × ((why : Stop) × (result ≡ Err why) × IsShowStop why)
-    × ClosesPart plan (record { detector = detector; written = old }) new
+    (is_whole watched ≡ true) × ((why : Stop) × (result ≡ Err why) × Closes plan (closing detector old) new (Err why))
 
 -- how a capture whose batches ended so is closed
 unfoldable pub ClosesWatched : Plan → Detector → Result (Unit {0}) Stop
-    → Option (List ℕ) → Option (List ℕ) → Counts → Result (Unit {0}) Stop → Type 0
+    → Sending → Sending → Counts → Result (Unit {0}) Stop → Type 0
 ClosesWatched plan detector watched old new counts result =
     IsLeft watched result old new
     ⊎ (IsClosedWhole plan detector watched result old new counts ⊎ IsClosedInPart plan detector watched result old new)

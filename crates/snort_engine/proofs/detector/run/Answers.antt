@@ -4,6 +4,7 @@ use Rattle.edge_io.specs.Told.{Rose}
 use Rattle.edge_io.proofs.Seeing.{seen_left}
 use Rattle.snort_engine.specs.Steps.Preparing.{task_way}
 use Rattle.snort_engine.specs.declared.prepare.Task.TheVariants.{Watch, Tell}
+use Rattle.snort_engine.proofs.Emitting.{offered_some, offered_whole}
 use Rattle.snort_engine.proofs.FileWays.{listed_ends, no_host_stop, write_stop}
 use Rattle.snort_engine.proofs.Quiet.{written_quiet}
 use Rattle.snort_engine.proofs.Runs.{headline, stopped_run, watched_run, opens_made}
@@ -92,17 +93,18 @@ returns-in-Ok-Tell-clause-headline g c = λ seen may.
       since = record { left = still; opens = c.prepare-prepared.ensures.host.opens; alerts = refl; later = c.prepare-prepared.ensures.host.later };
       ends = λ matches tells files course is lists.
           listed_ends files course c.in-Ok-Tell.lines _ _ c.offer-outcome.result lists refl refl
-          (rw c.into_vec-block.ensures at c.offer-outcome.ensures.offered) (rw c.into_vec-block.ensures at c.offer-outcome.ensures.stopped) c.offer-outcome.ensures.kind;
-      write_fault = λ failed. write_stop c.offer-outcome.result c.offer-outcome.ensures.kind c.offer-outcome.ensures.fault failed;
+          (rw c.into_vec-block.ensures at (offered_whole c.offer-outcome.result _ _ c.offer-outcome.ensures.emits c.offer-outcome.ensures.emptied))
+          (rw c.into_vec-block.ensures at (offered_some c.offer-outcome.result _ _ c.offer-outcome.ensures.emits)) c.offer-outcome.ensures.kind;
+      write_fault = λ failed. write_stop c.offer-outcome.result c.offer-outcome.ensures.kind c.offer-outcome.ensures.emits.fault failed;
       read_fault = λ matches failed. absurd (no_host_stop c.offer-outcome.result c.offer-outcome.ensures.kind failed);
       quiet = λ uncut. c.in-Ok-Tell.ensures.quiet refl;
-      quiet_alerts = written_quiet c.offer-outcome.result _ _ c.offer-outcome.ensures.kind c.offer-outcome.ensures.quiet;
+      quiet_alerts = written_quiet c.offer-outcome.result _ _ c.offer-outcome.ensures.kind c.offer-outcome.ensures.emits.quiet;
       opened = λ matches. c.prepare-prepared.ensures.host.opens;
       made_unopened = λ for_made. (c.prepare-prepared.ensures.host.opens, still);
       same_files = refl;
       counts = record {
         host = c.prepare-prepared.ensures.host.later;
-        alerts = c.offer-outcome.ensures.later;
+        alerts = c.offer-outcome.ensures.emits.later;
         errors = omega (arith, c.tell_all-well.ensures.later, c.report-in-Ok-Tell.ensures.later);
       };
     })

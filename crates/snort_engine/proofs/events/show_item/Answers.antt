@@ -1,30 +1,30 @@
-use Rattle.std.proofs.Common.{ap, ℕ, List}
+use Rattle.std.proofs.Common.{ap, refl, ℕ, List}
 use Rattle.std.specs.Prelude.{length}
 use Rattle.std.proofs.lemmas.Result.{err_from_is_err_and}
 use Rattle.snort_engine.proofs.Showing.{shows_nothing, shows_one, shows_part_of, shows_uncounted}
 use Rattle.snort_engine.proofs.events.show_item.Goals as goal
 
-pub returns-in_err-pass-clause-stopped : goal.returns-in_err-pass-clause-stopped
-returns-in_err-pass-clause-stopped g c =
+pub returns-in_err-pass : goal.returns-in_err-pass
+returns-in_err-pass g c =
     let p = err_from_is_err_and c.from_residual.result c.from_residual.ensures.1 in
-    rw p.1 (shows_nothing c.args.form c.args.config.now c.args.rules.now _ _)
+    rw (p.1, p.2) (shows_nothing c.args.form c.args.config.now c.args.rules.now _ _ _ refl refl)
 
-pub returns-in_err-count-clause-stopped : goal.returns-in_err-count-clause-stopped
-returns-in_err-count-clause-stopped g c =
+pub returns-in_err-count : goal.returns-in_err-count
+returns-in_err-count g c =
     let p = err_from_is_err_and c.from_residual-in_err-count.result c.from_residual-in_err-count.ensures.1 in
     let passes = rw (c.clear.ensures.items, c.as_slice-matching.ensures) at c.in_ok-pass.ensures.passes in
-    let part = rw c.deref.ensures.value at c.in_err-count.ensures.stopped in
-    rw p.1 (shows_part_of c.args.form c.args.config.now c.args.rules.now c.args.origin.now c.args.hits.now _ _ c.pass.new.out.items _ passes part)
+    let stopped = rw c.deref.ensures.value at c.in_err-count.ensures in
+    rw (p.1, p.2) (shows_part_of c.args.form c.args.config.now c.args.rules.now c.args.origin.now c.args.hits.now _ _ _ c.pass.new.out.items _ passes stopped)
 
-pub returns-in_err-events-clause-stopped : goal.returns-in_err-events-clause-stopped
-returns-in_err-events-clause-stopped g c =
+pub returns-in_err-events : goal.returns-in_err-events
+returns-in_err-events g c =
     let p = err_from_is_err_and c.from_residual-in_err-events.result c.from_residual-in_err-events.ensures.1 in
     let passes = rw (c.clear.ensures.items, c.as_slice-matching.ensures) at c.in_ok-pass.ensures.passes in
-    let shown = rw c.deref.ensures.value at c.in_ok-count.ensures.shown in
-    rw p.1 (shows_uncounted c.args.form c.args.config.now c.args.rules.now c.args.origin.now c.args.hits.now _ _ c.pass.new.out.items c.in_ok-count.count _ passes shown)
+    let shown = rw c.deref.ensures.value at c.in_ok-count.ensures in
+    rw (p.1, p.2) (shows_uncounted c.args.form c.args.config.now c.args.rules.now c.args.origin.now c.args.hits.now _ _ _ c.pass.new.out.items c.in_ok-count.count passes shown)
 
-pub returns-clause-shown : goal.returns-clause-shown
-returns-clause-shown g c =
+pub returns : goal.returns
+returns g c =
     let passes = rw (c.clear.ensures.items, c.as_slice-matching.ensures) at c.in_ok-pass.ensures.passes in
-    let shown = rw c.deref.ensures.value at c.in_ok-count.ensures.shown in
+    let shown = rw c.deref.ensures.value at c.in_ok-count.ensures in
     shows_one c.args.form c.args.config.now c.args.rules.now c.args.origin.now c.args.hits.now _ _ c.pass.new.out.items c.in_ok-count.count (length c.as_slice-matching.result.now) passes shown c.in_ok-events.ensures (ap (λ (x : List ℕ). length x) c.as_slice-matching.ensures)

@@ -1,25 +1,22 @@
-use Rattle.std.proofs.Common.{◌≡◌, refl, ◌∙◌, take, arith}
+use Rattle.std.proofs.Common.{◌≡◌, take, arith}
 use Rattle.std.proofs.lemmas.List.{take_all}
 use Rattle.std.proofs.lemmas.Result.{err_from_is_err_and}
 use Rattle.snort_engine.proofs.Showing.{shows_none, items_step, items_part}
 use Rattle.snort_engine.proofs.events.show_items.Goals as goal
 
 pub loop-hits-init : goal.loop-hits-init
-loop-hits-init g c = record { came = shows_none c.args.form c.args.config.now c.args.rules.now _; same = refl; later = omega arith }
+loop-hits-init g c = shows_none c.args.form c.args.config.now c.args.rules.now _
 
-pub returns-in_err-show_item-clause-stopped : goal.returns-in_err-show_item-clause-stopped
-returns-in_err-show_item-clause-stopped g c =
+pub returns-in_err-show_item : goal.returns-in_err-show_item
+returns-in_err-show_item g c =
     let p = err_from_is_err_and c.from_residual.result c.from_residual.ensures.1 in
-    rw p.1 (items_part c.args.form c.args.config.now c.args.rules.now c.args.origin.now c.args.items.now c.loop-hits.hits-index c.hits-item.result _ _ _ c.loop-hits-test.true c.hits-item.is c.loop-hits.invariant.came c.in_err-show_item.ensures.stopped)
+    rw (p.1, p.2) (items_part c.args.form c.args.config.now c.args.rules.now c.args.origin.now c.args.items.now c.loop-hits.hits-index c.hits-item.result _ _ _ _ _ c.loop-hits-test.true c.hits-item.is c.loop-hits.invariant c.in_err-show_item.ensures)
 
 pub loop-hits-preserved : goal.loop-hits-preserved
-loop-hits-preserved g c = record {
-  came = items_step c.args.form c.args.config.now c.args.rules.now c.args.origin.now c.args.items.now c.loop-hits.hits-index c.hits-item.result _ _ _ c.loop-hits-test.true c.hits-item.is c.loop-hits.invariant.came c.in_ok-show_item.ensures.shown;
-  same = c.in_ok-show_item.ensures.quiet ∙ c.loop-hits.invariant.same;
-  later = omega (arith, c.in_ok-show_item.ensures.later, c.loop-hits.invariant.later);
-}
+loop-hits-preserved g c =
+    items_step c.args.form c.args.config.now c.args.rules.now c.args.origin.now c.args.items.now c.loop-hits.hits-index c.hits-item.result _ _ _ _ _ c.loop-hits-test.true c.hits-item.is c.loop-hits.invariant c.in_ok-show_item.ensures
 
-pub returns-clause-shown : goal.returns-clause-shown
-returns-clause-shown g c =
+pub returns : goal.returns
+returns g c =
     let all : take c.loop-hits.hits-index c.args.items.now ≡ c.args.items.now = take_all c.loop-hits.hits-index c.args.items.now (omega arith) in
-    rw all at c.loop-hits.invariant.came
+    rw all at c.loop-hits.invariant

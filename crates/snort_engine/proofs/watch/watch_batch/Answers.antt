@@ -1,15 +1,18 @@
-use Rattle.std.proofs.Common.{◌≡◌, ◌≤◌, ℕ, length, vec_len, sym, ap, subst, ◌∙◌, arith}
+use Rattle.std.proofs.Common.{◌≡◌, ◌≤◌, ℕ, Err, length, vec_len, sym, ap, subst, ◌∙◌, arith}
 use Rattle.std.proofs.lemmas.Result.{err_from_is_err_and}
 use Rattle.edge_io.specs.Files.{left_by}
 use Rattle.edge_io.specs.Told.{Rose}
 use Rattle.pcap_input.specs.Savefile.{most_records}
 use Rattle.snort_engine.specs.declared.reader.RecordReader.{RecordReader}
+use Rattle.snort_engine.specs.declared.stop.Stop.{Stop}
+use Rattle.snort_engine.specs.declared.stop.Stop.TheVariants.{CannotWrite}
 use Rattle.snort_engine.specs.Steps.Reader.{number_of}
 use Rattle.snort_engine.specs.Steps.Stop.{outcome_status, is_uncut}
 use Rattle.snort_engine.specs.Steps.Watching.{plan_of, most_at, room_behind, MayGoOn, Standing}
 use Rattle.snort_engine.proofs.Batches.{more_reached, showing_cuts, within_batch}
+use Rattle.snort_engine.proofs.Prefixes.{same_stop}
 use Rattle.snort_engine.proofs.Quiet.{reached_uncut, showing_uncut, showing_written}
-use Rattle.snort_engine.proofs.Watched.{nothing_left, batch_lacks, batch_shown, batch_stops}
+use Rattle.snort_engine.proofs.Watched.{nothing_left, batch_lacks, batch_shown, batch_stops, part_shown}
 use Rattle.snort_engine.proofs.watch.watch_batch.Goals as goal
 
 pub read_batch-reached-requires-clause-fresh : goal.read_batch-reached-requires-clause-fresh
@@ -52,7 +55,7 @@ pub returns-in_err-show_records-clause-goes_on : goal.returns-in_err-show_record
 returns-in_err-show_records-clause-goes_on g c = λ matches test seen may.
     let p = err_from_is_err_and c.from_residual.result c.from_residual.ensures.1 in
     let few : length c.read_batch-reached.new.records.items ≤ most_at c.args.room.now = omega (arith, c.read_batch-reached.ensures.filled.few, c.most_at-most.ensures, c.read_batch-reached.new.records.ok.0) in
-    let stopped = c.in_err-show_records.ensures.stopped matches test in
+    let stopped = part_shown (plan_of matches c.args.context.now.plan.now) c.read_batch-reached.new.records.items _ _ (Err c.in_err-show_records.field-0.0) (c.in_err-show_records.ensures.shown matches test) in
     let old : Standing = record { reader = c.args.reader.now; room = c.args.room.now; detector = c.args.detector.now; streams = record { left = left_by (g.H.Host.left_of c.args.host.now) seen; written = g.A.Sink.written c.args.alerts.now } } in
     let new : Standing = record { reader = c.read_batch-reached.new.reader; room = c.room_behind.result; detector = c.show_records.new.detector; streams = record { left = left_by (g.H.Host.left_of c.read_batch-reached.new.host) seen; written = g.A.Sink.written c.show_records.new.alerts } } in
     rw (p.1, p.2) (batch_stops (plan_of matches c.args.context.now.plan.now) c.read_batch-reached.new.records.items old new (Rose (g.H.Host.faults c.args.host.now) (g.H.Host.faults c.read_batch-reached.new.host)) c.read_batch-reached.result c.in_err-show_records.field-0.0
@@ -60,7 +63,7 @@ returns-in_err-show_records-clause-goes_on g c = λ matches test seen may.
     (λ more. omega (arith, c.read_batch-reached.ensures.filled.full more, c.most_at-most.ensures, c.read_batch-reached.new.records.ok.0))
     (λ other. omega (arith, c.read_batch-reached.ensures.filled.fewer other, c.most_at-most.ensures, c.read_batch-reached.new.records.ok.0))
     c.read_batch-reached.ensures.failed (sym c.lacks_memory.ensures ∙ c.if-lacks_memory.false)
-    (c.read_batch-reached.ensures.reads seen may) c.in_err-show_records.ensures.kind stopped)
+    (c.read_batch-reached.ensures.reads seen may) c.in_err-show_records.ensures.ends.kind stopped)
 
 pub returns-clause-goes_on : goal.returns-clause-goes_on
 returns-clause-goes_on g c = λ matches test seen may.
@@ -70,7 +73,7 @@ returns-clause-goes_on g c = λ matches test seen may.
     let new : Standing = record { reader = c.read_batch-reached.new.reader; room = c.room_behind.result; detector = c.show_records.new.detector; streams = record { left = left_by (g.H.Host.left_of c.read_batch-reached.new.host) seen; written = g.A.Sink.written c.show_records.new.alerts } } in
     let count : c.len.result ≡ length c.read_batch-reached.new.records.items = omega (arith, c.len.ensures, c.read_batch-reached.new.records.ok.0) in
     let room_is : c.room_behind.result ≡ room_behind c.args.room.now (length c.read_batch-reached.new.records.items) = c.room_behind.ensures ∙ ap (λ (n : ℕ). room_behind c.args.room.now n) count in
-    rw (c.more.ensures, c.give_back.ensures.same) (batch_shown (plan_of matches c.args.context.now.plan.now) c.read_batch-reached.new.records.items old new _ c.read_batch-reached.result
+    rw (c.more.ensures, c.give_back.ensures.same) (batch_shown (plan_of matches c.args.context.now.plan.now) c.read_batch-reached.new.records.items old new _ c.read_batch-reached.result _ _ _
     few room_is
     (λ more. omega (arith, c.read_batch-reached.ensures.filled.full more, c.most_at-most.ensures, c.read_batch-reached.new.records.ok.0))
     (λ other. omega (arith, c.read_batch-reached.ensures.filled.fewer other, c.most_at-most.ensures, c.read_batch-reached.new.records.ok.0))
@@ -102,7 +105,7 @@ returns-in_err-show_records-clause-ready g c = λ on.
 pub returns-in_err-show_records-clause-closable : goal.returns-in_err-show_records-clause-closable
 returns-in_err-show_records-clause-closable g c =
     let p = err_from_is_err_and c.from_residual.result c.from_residual.ensures.1 in
-    rw (p.1, p.2) (λ whole. absurd (showing_cuts c.in_err-show_records.field-0.0 c.in_err-show_records.ensures.kind whole))
+    rw (p.1, p.2) (λ whole. absurd (showing_cuts c.in_err-show_records.field-0.0 c.in_err-show_records.ensures.ends.kind whole))
 
 -- the reader gave the records of the batch, and the detector was given them
 pub returns-clause-further : goal.returns-clause-further
@@ -137,13 +140,29 @@ returns-clause-closable g c = λ whole.
 pub returns-in_err-show_records-clause-quiet : goal.returns-in_err-show_records-clause-quiet
 returns-in_err-show_records-clause-quiet g c =
     let p = err_from_is_err_and c.from_residual.result c.from_residual.ensures.1 in
-    rw (p.1, p.2) (λ uncut. absurd (showing_uncut c.in_err-show_records.field-0.0 c.in_err-show_records.ensures.kind uncut))
+    rw (p.1, p.2) (λ uncut. absurd (showing_uncut c.in_err-show_records.field-0.0 c.in_err-show_records.ensures.ends.kind uncut))
 
 pub returns-in_err-show_records-clause-quiet_alerts : goal.returns-in_err-show_records-clause-quiet_alerts
 returns-in_err-show_records-clause-quiet_alerts g c =
     let p = err_from_is_err_and c.from_residual.result c.from_residual.ensures.1 in
-    rw (p.1, p.2) (λ written. absurd (showing_written c.in_err-show_records.field-0.0 c.in_err-show_records.ensures.kind written))
+    rw (p.1, p.2) (λ written. absurd (showing_written c.in_err-show_records.field-0.0 c.in_err-show_records.ensures.ends.kind written))
 
 pub returns-clause-quiet : goal.returns-clause-quiet
 returns-clause-quiet g c =
     rw c.more.ensures (λ uncut. c.read_batch-reached.ensures.quiet (reached_uncut c.read_batch-reached.result uncut))
+
+-- what is said of the alert sink is that of the showing
+pub returns-in_err-show_records-clause-write_fault : goal.returns-in_err-show_records-clause-write_fault
+returns-in_err-show_records-clause-write_fault g c = λ is.
+    let p = err_from_is_err_and c.from_residual.result c.from_residual.ensures.1 in
+    let stop = sym p.2 ∙ same_stop c.from_residual.result p.0 CannotWrite p.1 is in
+    c.in_err-show_records.ensures.ends.fault (ap (λ (why : Stop). Err why) stop)
+
+pub returns-in_err-show_records-clause-later_alerts : goal.returns-in_err-show_records-clause-later_alerts
+returns-in_err-show_records-clause-later_alerts g c = c.in_err-show_records.ensures.ends.later
+
+pub returns-clause-quiet_alerts : goal.returns-clause-quiet_alerts
+returns-clause-quiet_alerts g c = λ written. c.in_ok-show_records.ensures.ends.quiet
+
+pub returns-clause-later_alerts : goal.returns-clause-later_alerts
+returns-clause-later_alerts g c = c.in_ok-show_records.ensures.ends.later

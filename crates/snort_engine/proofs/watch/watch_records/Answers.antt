@@ -24,12 +24,12 @@ returns-in_err-detector-clause-close g c = λ matches test seen may.
 
 pub returns-clause-watches : goal.returns-clause-watches
 returns-clause-watches g c = λ matches test seen may.
-    closed_watch (plan_of matches c.args.context.now.plan.now) c.args.reader.now _ _ c.watch_batches-watched.new.detector _ _ c.watch_batches-watched.result c.close_watched.result
+    closed_watch (plan_of matches c.args.context.now.plan.now) c.args.reader.now _ _ c.watch_batches-watched.new.detector _ _ _ _ c.watch_batches-watched.result c.close_watched.result
     ((c.watch_batches-watched.ensures.comes matches test (c.in_ok-detector.ensures.stands matches) seen may).0) (c.close_watched.ensures.closes matches test)
 
 pub returns-clause-close : goal.returns-clause-close
 returns-clause-close g c = λ matches test seen may.
-    closed_behind (plan_of matches c.args.context.now.plan.now) c.args.reader.now _ _ c.watch_batches-watched.new.detector _ _ _ c.watch_batches-watched.result c.close_watched.result
+    closed_behind (plan_of matches c.args.context.now.plan.now) c.args.reader.now _ _ c.watch_batches-watched.new.detector _ _ _ _ _ c.watch_batches-watched.result c.close_watched.result
     (c.watch_batches-watched.ensures.comes matches test (c.in_ok-detector.ensures.stands matches) seen may) (c.close_watched.ensures.closes matches test)
 
 pub returns-clause-quiet : goal.returns-clause-quiet
