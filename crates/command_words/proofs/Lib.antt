@@ -4,4 +4,6 @@ pub mod Letters
 pub mod Turns
 pub mod Whole
 pub mod Rows
-pub mod Values
+pub mod Matched
+pub mod Ids
+pub mod Runs

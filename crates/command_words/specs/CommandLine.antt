@@ -8,7 +8,7 @@
 -- To try it on: `snort -c a.conf -r b.pcap -n 5` is a run with the limit 5; `snort -c a.conf` is refused;
 -- `snort --lanes 65 --help` is refused; `snort -V --help` asks for help; `snort --read-unified2 u` asks for the
 -- records of `u`, and `snort -q --read-unified2 u` is refused.
-use Rattle.std.specs.Prelude.{ℕ, ◌==◌, ◌&&◌, ◌||◌, Bool, true, false, not, List, [], ◌∷◌, Option, Some, None, drop, length, is_some, codes, if◌then◌else◌, option_map}
+use Rattle.std.specs.Prelude.{ℕ, ◌==◌, ◌&&◌, ◌||◌, Bool, true, not, List, Option, Some, None, drop, length, is_some, codes, if◌then◌else◌, option_map}
 use Rattle.std.specs.List.{list_any}
 use Rattle.std.specs.Str.{bytes_eq}
 use Rattle.edge_io.specs.OnOption.{◌>>=◌}
@@ -16,37 +16,17 @@ use Rattle.net_lists.specs.Addresses.{cut}
 use Rattle.net_lists.specs.Numbers.{number_in}
 use Rattle.net_lists.specs.Variables.{is_name}
 use Rattle.command_words.specs.Table.{table}
-use Rattle.command_words.specs.Uses.{uses_of, value_in}
+use Rattle.command_words.specs.Uses.{Use, uses_of, value_in}
 use Rattle.command_words.specs.declared.asked.ChecksumMode.{ChecksumMode}
 use Rattle.command_words.specs.declared.asked.ChecksumMode.TheVariants as mode
+use Rattle.command_words.specs.declared.asked.Form.{Form}
+use Rattle.command_words.specs.declared.asked.Form.TheVariants as form
+use Rattle.command_words.specs.declared.values.Values.{Values}
 
 -- a variable's name and its value
 pub record Defined : Type 0 where
   pub name : List ℕ
   pub value : List ℕ
-
--- the values of the options and flags
-pub record Values : Type 0 where
-  pub conf : Option (List ℕ)
-  pub capture : Option (List ℕ)
-  pub checks : Option ChecksumMode
-  pub limit : Option ℕ
-  pub defined : Option (List ℕ)
-  pub host_table : Option (List ℕ)
-  pub lanes : ℕ
-  pub flush_point : ℕ
-  pub generate : Option ℕ
-  pub seed : ℕ
-  pub quiet : Bool
-  pub test : Bool
-  pub version : Bool
-  pub skip_refused : Bool
-  pub stats : Bool
-  pub unified2 : Bool
-  pub read_unified2 : Option (List ℕ)
-  -- something is used beside `--read-unified2`, `--help` and `-V`
-  pub others : Bool
-  pub help : Bool
 
 -- a run that the words ask for
 pub record Run : Type 0 where
@@ -64,7 +44,7 @@ pub record Run : Type 0 where
   pub test : Bool
   pub skip_refused : Bool
   pub stats : Bool
-  pub unified2 : Bool
+  pub form : Form
 
 -- what the words ask for
 pub data Asked : Type 0 where
@@ -102,28 +82,7 @@ abbrev pub is_console : Option (List ℕ) → Bool
 is_console None = true
 is_console (Some text) = bytes_eq text (codes "console")
 
--- the flag is there
-abbrev pub is_on : Option (List ℕ) → Bool
-is_on None = false
-is_on (Some text) = bytes_eq text (codes "true")
-
--- the options and the flags that may not stand beside `--read-unified2`
-abbrev pub other_letters : List (List ℕ)
-other_letters = codes "c" ∷ codes "r" ∷ codes "A" ∷ codes "k" ∷ codes "n" ∷ codes "S" ∷ []
-
-abbrev pub other_names : List (List ℕ)
-other_names = codes "host-table" ∷ codes "lanes" ∷ codes "flush-point" ∷ codes "generate" ∷ codes "seed" ∷ []
-
-abbrev pub other_flags : List (List ℕ)
-other_flags = codes "q" ∷ codes "U" ∷ codes "T" ∷ codes "skip-refused" ∷ codes "stats" ∷ codes "unified2" ∷ []
-
--- one of them is there
-abbrev pub has_others : (List ℕ → Option (List ℕ)) → Bool
-has_others text_of =
-    list_any (λ label. is_some (text_of label)) other_letters
-    || (list_any (λ label. is_some (text_of label)) other_names || list_any (λ label. is_on (text_of label)) other_flags)
-
--- the values behind `-A`, by the text that each option and flag has
+-- the values behind `-A`, by the text that each option has
 abbrev pub values_behind : (List ℕ → Option (List ℕ)) → Option Values
 values_behind text_of =
     maybe mode_named (text_of (codes "k")) >>= λ checks.
@@ -132,28 +91,15 @@ values_behind text_of =
     number_or 1024 1 65536 (text_of (codes "flush-point")) >>= λ flush_point.
     maybe (number_in 1 100000) (text_of (codes "generate")) >>= λ generate.
     option_map (λ seed. record {
-      conf = text_of (codes "c");
-      capture = text_of (codes "r");
       checks = checks;
       limit = limit;
-      defined = text_of (codes "S");
-      host_table = text_of (codes "host-table");
       lanes = lanes;
       flush_point = flush_point;
       generate = generate;
       seed = seed;
-      quiet = is_on (text_of (codes "q"));
-      test = is_on (text_of (codes "T"));
-      version = is_on (text_of (codes "V"));
-      skip_refused = is_on (text_of (codes "skip-refused"));
-      stats = is_on (text_of (codes "stats"));
-      unified2 = is_on (text_of (codes "unified2"));
-      read_unified2 = text_of (codes "read-unified2");
-      others = has_others text_of;
-      help = is_on (text_of (codes "help"));
     }) (number_or 1 0 2147483647 (text_of (codes "seed")))
 
--- the values, by the text that each option and flag has
+-- the values that have a form of their own, by the text that each option has
 unfoldable pub values_by : (List ℕ → Option (List ℕ)) → Option Values
 values_by text_of = if is_console (text_of (codes "A")) then values_behind text_of else None
 
@@ -167,44 +113,77 @@ named name value = if is_name name && not (length value == 0) then Some (record 
 abbrev pub definition : List ℕ → Option Defined
 definition text = cut 61 text >>= λ parts. named parts.0 parts.1
 
--- the capture comes from one place, or there is none and the configuration is tested
-abbrev pub has_its_capture : Values → Bool
-has_its_capture values =
-    if is_some values.capture then not (is_some values.generate) else is_some values.generate || values.test
+-- the form of alerts: lines, or Unified2 records under `--unified2`
+abbrev pub form_of : Bool → Form
+form_of unified2 = if unified2 then form.Unified2 else form.Lines
 
--- `-c` is there, and the capture
-abbrev pub run_by : Values → Option (List ℕ) → Option Defined → Option Asked
-run_by values None defined = None
-run_by values (Some conf) defined = if has_its_capture values then Some (run (record {
+-- the run with this configuration and this variable
+abbrev pub run_with : (List ℕ → Option (List ℕ)) → Values → Option Defined → List ℕ → Run
+run_with text_of values defined conf = record {
   conf = conf;
-  capture = values.capture;
+  capture = text_of (codes "r");
   checks = values.checks;
   limit = values.limit;
   defined = defined;
-  host_table = values.host_table;
+  host_table = text_of (codes "host-table");
   lanes = values.lanes;
   flush_point = values.flush_point;
   generate = values.generate;
   seed = values.seed;
-  quiet = values.quiet;
-  test = values.test;
-  skip_refused = values.skip_refused;
-  stats = values.stats || is_some values.generate;
-  unified2 = values.unified2;
-})) else None
+  quiet = is_some (text_of (codes "q"));
+  test = is_some (text_of (codes "T"));
+  skip_refused = is_some (text_of (codes "skip-refused"));
+  stats = is_some (text_of (codes "stats")) || is_some values.generate;
+  form = form_of (is_some (text_of (codes "unified2")));
+}
 
--- the records of a Unified2 file alone, or a run
-abbrev pub asked_of : Values → Option (List ℕ) → Option Asked
-asked_of values None = maybe definition values.defined >>= run_by values values.conf
-asked_of values (Some file) = if values.others then None else Some (records_of file)
+-- the capture comes from one place, or there is none and the configuration is tested
+abbrev pub has_its_capture : Run → Bool
+has_its_capture wanted =
+    if is_some wanted.capture then not (is_some wanted.generate) else is_some wanted.generate || wanted.test
 
--- what the values ask for: the first step that holds
-unfoldable pub asked_by : Values → Option Asked
-asked_by values =
-    if values.help then Some help
-    else if values.version then Some version
-    else asked_of values values.read_unified2
+abbrev pub with_its_capture : Run → Option Asked
+with_its_capture wanted = if has_its_capture wanted then Some (run wanted) else None
+
+-- a run: `-S` defines a variable, if it is there; `-c` is there, and the capture
+abbrev pub run_by : (List ℕ → Option (List ℕ)) → Values → Option Asked
+run_by text_of values =
+    maybe definition (text_of (codes "S")) >>= λ defined.
+    text_of (codes "c") >>= λ conf.
+    with_its_capture (run_with text_of values defined conf)
+
+-- the records of a Unified2 file, if nothing else is there
+abbrev pub if_alone : Bool → List ℕ → Option Asked
+if_alone others file = if others then None else Some (records_of file)
+
+-- the records of a Unified2 file, or a run
+abbrev pub asked_of : (List ℕ → Option (List ℕ)) → Bool → Values → Option (List ℕ) → Option Asked
+asked_of text_of others values None = run_by text_of values
+asked_of text_of others values (Some file) = if_alone others file
+
+-- the first step that holds
+abbrev pub first_asked : (List ℕ → Option (List ℕ)) → Bool → Values → Option Asked
+first_asked text_of others values =
+    if is_some (text_of (codes "help")) then Some help
+    else if is_some (text_of (codes "V")) then Some version
+    else asked_of text_of others values (text_of (codes "read-unified2"))
+
+-- what is asked for, by the text that each option and flag has, and whether any use is one that may not stand
+-- beside `--read-unified2`
+unfoldable pub asked_by : (List ℕ → Option (List ℕ)) → Bool → Option Asked
+asked_by text_of others = values_by text_of >>= first_asked text_of others
+
+-- ---- the command
+
+-- what may stand beside `--read-unified2`
+abbrev pub stands_beside : List ℕ → Bool
+stands_beside label =
+    bytes_eq label (codes "read-unified2") || (bytes_eq label (codes "help") || bytes_eq label (codes "V"))
+
+-- anything else is used
+abbrev pub has_others : List Use → Bool
+has_others uses = list_any (λ use_here. not (stands_beside use_here.label)) uses
 
 -- what the words of a command ask for, the program's name among them
 unfoldable pub command_line : List (List ℕ) → Option Asked
-command_line words = uses_of table (drop 1 words) >>= (λ uses. values_by (value_in uses)) >>= asked_by
+command_line words = uses_of table (drop 1 words) >>= λ uses. asked_by (value_in uses) (has_others uses)

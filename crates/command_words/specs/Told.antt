@@ -5,10 +5,9 @@ use Rattle.command_words.specs.declared.asked.Command.{Command}
 use Rattle.command_words.specs.declared.asked.Command.TheVariants as command
 use Rattle.command_words.specs.declared.asked.Words.{Words}
 use Rattle.command_words.specs.declared.asked.Definition.{Definition}
-use Rattle.command_words.specs.declared.fields.Fields.{Fields}
 use Rattle.command_words.specs.declared.read.WordsFault.{WordsFault}
 use Rattle.command_words.specs.declared.read.WordsFault.TheVariants as fault
-use Rattle.command_words.specs.CommandLine.{Asked, help, version, records_of, run, Run, Defined, Values}
+use Rattle.command_words.specs.CommandLine.{Asked, help, version, records_of, run, Run, Defined}
 
 abbrev pub lent : Bor (List ℕ) → List ℕ
 lent word = word.now
@@ -32,7 +31,7 @@ run_of w = record {
   test = w.test;
   skip_refused = w.skip_refused;
   stats = w.stats;
-  unified2 = w.unified2;
+  form = w.form;
 }
 
 -- what the answer asks for
@@ -41,29 +40,6 @@ asked command.Help = help
 asked command.Version = version
 asked (command.ReadUnified2 file) = records_of file.now
 asked (command.Run w) = run (run_of w)
-
-abbrev pub values_of : Fields → Values
-values_of f = record {
-  conf = option_map lent f.conf;
-  capture = option_map lent f.capture;
-  checks = f.checks;
-  limit = f.limit;
-  defined = option_map lent f.defined;
-  host_table = option_map lent f.host_table;
-  lanes = f.lanes;
-  flush_point = f.flush_point;
-  generate = f.generate;
-  seed = f.seed;
-  quiet = f.quiet;
-  test = f.test;
-  version = f.version;
-  skip_refused = f.skip_refused;
-  stats = f.stats;
-  unified2 = f.unified2;
-  read_unified2 = option_map lent f.read_unified2;
-  others = f.others;
-  help = f.help;
-}
 
 -- an answer is what the plain reading has; `CommandLine` comes only where it has none; `NoMemory` is free
 abbrev pub IsAnswered : Result Command WordsFault → Option Asked → Type 0

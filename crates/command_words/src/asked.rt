@@ -17,6 +17,15 @@ pub enum ChecksumMode {
     NoIcmp,
 }
 
+/// The form in which alerts are written.
+#[derive(Clone, Copy, Debug, PartialEq, Eq)]
+pub enum Form {
+    /// A line each.
+    Lines,
+    /// `--unified2`: two Unified2 records each, the event and its packet.
+    Unified2,
+}
+
 /// A variable that the command line defines: `-S name=value`.
 #[derive(Clone, Copy, Debug)]
 pub struct Definition<'a> {
@@ -57,8 +66,8 @@ pub struct Words<'a> {
     pub skip_refused: bool,
     /// `--stats`, or `--generate`: the counts of the run are written.
     pub stats: bool,
-    /// `--unified2`: alerts are written as Unified2 records, not as lines.
-    pub unified2: bool,
+    /// `--unified2`, or lines where nothing is said: the form of alerts.
+    pub form: Form,
 }
 
 /// What the words of a command ask for.

@@ -1,10 +1,14 @@
-//! What the values of a command's options and flags ask for.
-ghost use Rattle.std.specs.Prelude.{◌≡◌, None, Some, option_map};
-ghost use Rattle.command_words.specs.CommandLine.{asked_by, asked_of, definition, has_its_capture, named};
-ghost use Rattle.command_words.specs.Told.{asked, defined_of, values_of};
+//! What the words ask for, by what they gave.
+ghost use Rattle.std.specs.Prelude.{◌≡◌, option_map};
+ghost use Rattle.clap.specs.Words.{found_of, rows_of};
+ghost use Rattle.command_words.specs.Clap.{asked_in, given_in, others_in};
+ghost use Rattle.command_words.specs.CommandLine.{asked_by, definition, form_of, has_its_capture, if_alone, named, run_by};
+ghost use Rattle.command_words.specs.Told.{asked, defined_of, run_of};
 
-use crate::asked::{Command, Definition, Words};
-use crate::fields::Fields;
+use crate::asked::{Command, Definition, Form, Words};
+use crate::given::{given, has_others, is_given};
+use crate::values::{Values, read_values};
+use clap::ArgMatches;
 use net_lists::{cut, is_name};
 
 /// A variable of this name and value.
@@ -26,72 +30,86 @@ fn definition(text: &[u8]) -> Option<Definition<'_>>
     named(name, value)
 }
 
-/// Whether the capture comes from one place, or none is wanted.
-fn has_its_capture(fields: &Fields) -> bool
-    ensures { result ≡ has_its_capture (values_of fields.now) }
+/// The form of alerts.
+fn form_of(unified2: bool) -> Form
+    ensures { result ≡ form_of unified2 }
 {
-    if fields.capture.is_some() {
-        fields.generate.is_none()
+    if unified2 {
+        Form::Unified2
     } else {
-        fields.generate.is_some() || fields.test
+        Form::Lines
     }
 }
 
-/// What the values ask for.
-#[tactic(auto, unfolding(crate::specs::CommandLine::asked_by))]
-pub(crate) fn decide<'a>(fields: &Fields<'a>) -> Option<Command<'a>>
-    ensures { option_map asked result ≡ asked_by (values_of fields.now) }
+/// Whether the capture comes from one place, or none is wanted.
+fn has_its_capture(wanted: &Words<'_>) -> bool
+    ensures { result ≡ has_its_capture (run_of wanted.now) }
 {
-    if fields.help {
-        return Some(Command::Help);
+    if wanted.capture.is_some() {
+        wanted.generate.is_none()
+    } else {
+        wanted.generate.is_some() || wanted.test
     }
-    if fields.version {
-        return Some(Command::Version);
+}
+
+/// The run that the words ask for.
+fn run_by<'a>(matches: &ArgMatches<'a>, values: Values) -> Option<Command<'a>>
+    ensures { option_map asked result ≡ run_by (given_in (rows_of (found_of matches.now))) values }
+{
+    let defined = match given(matches, "S") {
+        None => None,
+        Some(text) => Some(definition(text.as_bytes())?),
+    };
+    let wanted = Words {
+        conf: given(matches, "c")?,
+        capture: given(matches, "r"),
+        checks: values.checks,
+        limit: values.limit,
+        defined,
+        host_table: given(matches, "host-table"),
+        lanes: values.lanes,
+        flush_point: values.flush_point,
+        generate: values.generate,
+        seed: values.seed,
+        quiet: is_given(matches, "q"),
+        test: is_given(matches, "T"),
+        skip_refused: is_given(matches, "skip-refused"),
+        stats: is_given(matches, "stats") || values.generate.is_some(),
+        form: form_of(is_given(matches, "unified2")),
+    };
+    if has_its_capture(&wanted) {
+        Some(Command::Run(wanted))
+    } else {
+        None
     }
-    if let Some(file) = fields.read_unified2 {
-        return records_of(fields, file);
-    }
-    decide_run(fields)
 }
 
 /// The records of a Unified2 file, where nothing else is wanted.
-fn records_of<'a>(fields: &Fields<'a>, file: &'a str) -> Option<Command<'a>>
-    ensures { option_map asked result ≡ asked_of (values_of fields.now) (Some file.entry.now) }
+fn records_of<'a>(matches: &ArgMatches<'a>, file: &'a str) -> Option<Command<'a>>
+    ensures { option_map asked result
+        ≡ if_alone (others_in (rows_of (found_of matches.now))) file.entry.now }
 {
-    if fields.others {
+    if has_others(matches) {
         None
     } else {
         Some(Command::ReadUnified2(file))
     }
 }
 
-/// The run that the values ask for.
-fn decide_run<'a>(fields: &Fields<'a>) -> Option<Command<'a>>
-    ensures { option_map asked result ≡ asked_of (values_of fields.now) None }
+/// What the words ask for.
+#[tactic(auto, unfolding(crate::specs::CommandLine::asked_by))]
+pub(crate) fn decide<'a>(matches: &ArgMatches<'a>) -> Option<Command<'a>>
+    ensures { option_map asked result ≡ asked_in (rows_of (found_of matches.now)) }
 {
-    let defined = match fields.defined {
-        None => None,
-        Some(text) => Some(definition(text.as_bytes())?),
-    };
-    let conf = fields.conf?;
-    if !has_its_capture(fields) {
-        return None;
+    let values = read_values(matches)?;
+    if is_given(matches, "help") {
+        return Some(Command::Help);
     }
-    Some(Command::Run(Words {
-        conf,
-        capture: fields.capture,
-        checks: fields.checks,
-        limit: fields.limit,
-        defined,
-        host_table: fields.host_table,
-        lanes: fields.lanes,
-        flush_point: fields.flush_point,
-        generate: fields.generate,
-        seed: fields.seed,
-        quiet: fields.quiet,
-        test: fields.test,
-        skip_refused: fields.skip_refused,
-        stats: fields.stats || fields.generate.is_some(),
-        unified2: fields.unified2,
-    }))
+    if is_given(matches, "V") {
+        return Some(Command::Version);
+    }
+    match given(matches, "read-unified2") {
+        None => run_by(matches, values),
+        Some(file) => records_of(matches, file),
+    }
 }

@@ -8,9 +8,10 @@
 
 mod asked;
 mod decide;
-mod fields;
+mod given;
 mod read;
 mod syntax;
+mod values;
 
-pub use asked::{ChecksumMode, Command, Definition, Words};
+pub use asked::{ChecksumMode, Command, Definition, Form, Words};
 pub use read::{WordsFault, read_words};

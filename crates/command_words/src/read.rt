@@ -1,12 +1,12 @@
 //! The words of a command, read.
 ghost use Rattle.std.specs.Prelude.{◌≡◌, IfOk, map, option_and_then, option_map, string_bytes};
-ghost use Rattle.clap.specs.Words.{first_of, found_of, rows_of};
-ghost use Rattle.command_words.specs.CommandLine.{asked_by, command_line, values_by};
-ghost use Rattle.command_words.specs.Told.{IsAnswered, asked, values_of};
+ghost use Rattle.clap.specs.Words.{found_of, rows_of};
+ghost use Rattle.command_words.specs.Clap.{asked_in};
+ghost use Rattle.command_words.specs.CommandLine.{command_line};
+ghost use Rattle.command_words.specs.Told.{IsAnswered, asked};
 
 use crate::asked::Command;
 use crate::decide::decide;
-use crate::fields::{Fields, read_fields};
 use crate::syntax::matches;
 use clap::ArgMatches;
 use edge_io::NoMemory;
@@ -21,26 +21,12 @@ pub enum WordsFault {
     CommandLine,
 }
 
-/// What the values ask for, if there are any.
-fn asked_by<'a>(fields: Option<Fields<'a>>) -> Option<Command<'a>>
-    ensures { option_map asked result ≡ option_and_then asked_by (option_map values_of fields.entry) }
-{
-    match fields {
-        None => None,
-        Some(fields) => decide(&fields),
-    }
-}
-
 /// What the matches of the words ask for, if there are any.
 fn asked_in<'a>(matches: Option<ArgMatches<'a>>) -> Option<Command<'a>>
-    ensures { option_map asked result ≡ option_and_then asked_by
-        (option_and_then (λ rows. values_by (λ label. first_of label rows))
-        (option_map (λ m. rows_of (found_of m)) matches.entry)) }
+    ensures { option_map asked result
+        ≡ option_and_then asked_in (option_map (λ m. rows_of (found_of m)) matches.entry) }
 {
-    match matches {
-        None => None,
-        Some(matches) => asked_by(read_fields(&matches)),
-    }
+    decide(&matches?)
 }
 
 /// What the words ask for, None where they are no command line.

@@ -1,76 +1,93 @@
 //! The command as `clap` has it, and the matches of words.
-ghost use Rattle.std.specs.Prelude.{◌≡◌, ◌∷◌, [], false, IfOk, map, option_map, string_bytes};
+ghost use Rattle.std.specs.Prelude.{◌≡◌, false, IfOk, map, option_map, string_bytes};
 ghost use Rattle.clap.specs.Words.{app_of, found_of, rows_of, rule_of};
-ghost use Rattle.command_words.specs.Clap.{clap_rows, rule_for, snort};
-ghost use Rattle.command_words.specs.Table.{letter_flag, letter_option, name_flag, name_option};
+ghost use Rattle.command_words.specs.Clap.{app_with, clap_rows, rule_as, snort};
 
 use clap::error::ErrorKind;
 use clap::{Arg, ArgAction, ArgMatches, Command};
 use edge_io::NoMemory;
 use std::alloc::{AllocError, Global};
 
-/// An option with a letter.
-fn letter_option<'a>(alloc: Global, id: &'a str, letter: char) -> Arg<'a>
-    requires { id.now ≡ letter ∷ [] }
-    ensures rule { rule_of result ≡ rule_for (letter_option letter) }
-    ensures local { result.global ≡ false }
-{
-    Arg::new(alloc, id).short(letter).action(ArgAction::Set)
+/// An option or a flag: its id, by which its matches are found, and what words use it by. An option takes a
+/// value, a flag takes none.
+#[derive(Clone, Copy, Debug)]
+pub(crate) enum Choice {
+    /// An option with a letter.
+    LetterOption(&'static str, char),
+    /// An option with a name, which is its id.
+    NameOption(&'static str),
+    /// A flag with a letter.
+    LetterFlag(&'static str, char),
+    /// A flag with a name, which is its id.
+    NameFlag(&'static str),
 }
 
-/// An option with a name.
-fn name_option<'a>(alloc: Global, name: &'a str) -> Arg<'a>
-    ensures rule { rule_of result ≡ rule_for (name_option name.entry.now) }
+/// The options and flags of the command. What is listed here may be used, and is refused beside
+/// `--read-unified2` as all but `--help` and `-V` is.
+const CHOICES: [Choice; 20] = [
+    Choice::LetterOption("c", 'c'),
+    Choice::LetterOption("r", 'r'),
+    Choice::LetterOption("A", 'A'),
+    Choice::LetterOption("k", 'k'),
+    Choice::LetterOption("n", 'n'),
+    Choice::LetterOption("S", 'S'),
+    Choice::NameOption("host-table"),
+    Choice::NameOption("lanes"),
+    Choice::NameOption("flush-point"),
+    Choice::NameOption("generate"),
+    Choice::NameOption("seed"),
+    Choice::NameOption("read-unified2"),
+    Choice::LetterFlag("q", 'q'),
+    Choice::LetterFlag("U", 'U'),
+    Choice::LetterFlag("T", 'T'),
+    Choice::LetterFlag("V", 'V'),
+    Choice::NameFlag("skip-refused"),
+    Choice::NameFlag("stats"),
+    Choice::NameFlag("unified2"),
+    Choice::NameFlag("help"),
+];
+
+/// An option or a flag as `clap` has it.
+fn argument<'a>(alloc: Global, choice: Choice) -> Arg<'a>
+    ensures rule { rule_of result ≡ rule_as choice }
     ensures local { result.global ≡ false }
 {
-    Arg::new(alloc, name).long(name).action(ArgAction::Set)
+    match choice {
+        Choice::LetterOption(id, letter) => {
+            Arg::new(alloc, id).short(letter).action(ArgAction::Set)
+        }
+        Choice::NameOption(name) => Arg::new(alloc, name).long(name).action(ArgAction::Set),
+        Choice::LetterFlag(id, letter) => {
+            Arg::new(alloc, id).short(letter).action(ArgAction::SetTrue)
+        }
+        Choice::NameFlag(name) => Arg::new(alloc, name).long(name).action(ArgAction::SetTrue),
+    }
 }
 
-/// A flag with a letter.
-fn letter_flag<'a>(alloc: Global, id: &'a str, letter: char) -> Arg<'a>
-    requires { id.now ≡ letter ∷ [] }
-    ensures rule { rule_of result ≡ rule_for (letter_flag letter) }
-    ensures local { result.global ≡ false }
+/// The command with these options and flags more.
+fn with_choices<'a>(
+    alloc: Global,
+    bare: Command<'a>,
+    choices: &[Choice],
+) -> Result<Command<'a>, AllocError>
+    ensures { IfOk result (λ command. app_of command ≡ app_with (app_of bare.entry) choices.now) }
 {
-    Arg::new(alloc, id).short(letter).action(ArgAction::SetTrue)
+    let mut command = bare;
+    for choice in choices {
+        command = command.arg(argument(alloc, *choice))?;
+    }
+    Ok(command)
 }
 
-/// A flag with a name.
-fn name_flag<'a>(alloc: Global, name: &'a str) -> Arg<'a>
-    ensures rule { rule_of result ≡ rule_for (name_flag name.entry.now) }
-    ensures local { result.global ≡ false }
-{
-    Arg::new(alloc, name).long(name).action(ArgAction::SetTrue)
-}
-
-/// The options and flags of the command, in the table's order.
+/// The command, with all of its options and flags.
+#[tactic(auto, unfolding(crate::specs::Clap::snort))]
 fn snort<'a>(alloc: Global) -> Result<Command<'a>, AllocError>
     ensures { IfOk result (λ command. app_of command ≡ snort) }
 {
-    let command = Command::new(alloc, "snort")
+    let bare = Command::new(alloc, "snort")
         .disable_help_flag(true)
         .disable_version_flag(true);
-    let command = command.arg(letter_option(alloc, "c", 'c'))?;
-    let command = command.arg(letter_option(alloc, "r", 'r'))?;
-    let command = command.arg(letter_option(alloc, "A", 'A'))?;
-    let command = command.arg(letter_option(alloc, "k", 'k'))?;
-    let command = command.arg(letter_option(alloc, "n", 'n'))?;
-    let command = command.arg(letter_option(alloc, "S", 'S'))?;
-    let command = command.arg(name_option(alloc, "host-table"))?;
-    let command = command.arg(name_option(alloc, "lanes"))?;
-    let command = command.arg(name_option(alloc, "flush-point"))?;
-    let command = command.arg(name_option(alloc, "generate"))?;
-    let command = command.arg(name_option(alloc, "seed"))?;
-    let command = command.arg(name_option(alloc, "read-unified2"))?;
-    let command = command.arg(letter_flag(alloc, "q", 'q'))?;
-    let command = command.arg(letter_flag(alloc, "U", 'U'))?;
-    let command = command.arg(letter_flag(alloc, "T", 'T'))?;
-    let command = command.arg(letter_flag(alloc, "V", 'V'))?;
-    let command = command.arg(name_flag(alloc, "skip-refused"))?;
-    let command = command.arg(name_flag(alloc, "stats"))?;
-    let command = command.arg(name_flag(alloc, "unified2"))?;
-    let command = command.arg(name_flag(alloc, "help"))?;
-    Ok(command)
+    with_choices(alloc, bare, &CHOICES)
 }
 
 /// The matches of the words, or None where `clap` refuses them.
