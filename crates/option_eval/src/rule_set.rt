@@ -138,7 +138,8 @@ pub fn payload_matches<P: Pattern, L: Ledger>(
     ensures bounded_in_parts { (means : Means) → (chosen : Rule) → (lists : List (List ℕ)) → FindWhatIsMeant P.finds means set.now
         → IsRuleAt set.now rule chosen → HasEachValueList means payload.now chosen.opts lists None
         → visits.new ≤ visits.old + visits_apart (length lists) chosen.opts (length payload.now) }
-    ensures bounded_by_rule { (means : Means) → (chosen : Rule) → FindWhatIsMeant P.finds means set.now → IsRuleAt set.now rule chosen
+    ensures bounded_by_rule { (means : Means) → (chosen : Rule) → FindWhatIsMeant P.finds means set.now
+        → IsRuleAt set.now rule chosen
         → visits.new ≤ visits.old + most_visits chosen.opts (length payload.now) }
 {
     let made = &set.made[rule as usize];

@@ -90,7 +90,8 @@ packet_body swapped packet =
 unfoldable pub ng_text : Bool → Bool → Link → List Caught → List ℕ
 ng_text swapped nanos link packets =
     block_text swapped ng.section_type (section_body swapped)
-    ++ (block_text swapped 1 (interface_body swapped nanos link) ++ flat_map (λ packet. block_text swapped 6 (packet_body swapped packet)) packets)
+    ++ (block_text swapped 1 (interface_body swapped nanos link)
+    ++ flat_map (λ packet. block_text swapped 6 (packet_body swapped packet)) packets)
 
 -- ---- what they hold
 
@@ -126,6 +127,7 @@ IsPcapngOf swapped nanos link packets = ng.ng_records (ng_text swapped nanos lin
 -- a savefile and a pcapng file were read as the same records, of the savefile's link, and both to a clean ending
 abbrev pub AreTwins : Result pcap.Capture CaptureFault → Result ng.Cut NgFault → Type 0
 AreTwins (Ok capture) (Ok cut) =
-    (cut.records ≡ map (on_link capture.head.link) capture.cut.records) × (capture.cut.ending ≡ pcap.Clean) × (cut.ending ≡ ng.Clean)
+    (cut.records ≡ map (on_link capture.head.link) capture.cut.records)
+    × (capture.cut.ending ≡ pcap.Clean) × (cut.ending ≡ ng.Clean)
 AreTwins (Err fault) cut = ⊥
 AreTwins (Ok capture) (Err fault) = ⊥

@@ -146,7 +146,8 @@ fn named_option(
     left: usize,
     value: Option<&[u8]>,
 ) -> Result<(), Stop<Fault>>
-    ensures gives { GivesWith (with_new result draft.new) bits.new (named_option classes.now bits.old draft.old left (option_copied value.entry) name) }
+    ensures gives { GivesWith (with_new result draft.new) bits.new
+        (named_option classes.now bits.old draft.old left (option_copied value.entry) name) }
     ensures begins { Begins bits.old bits.new }
 {
     match name {

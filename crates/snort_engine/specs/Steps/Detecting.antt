@@ -96,7 +96,8 @@ waiting now = record { written = now.written; block = now.inspection.events.bloc
 pub record Runs {A : Type 0} (plan : Plan) (batch : List Sourced) (old new : Running) (outcome : Result A Stop) : Type 0 where
   pub stands : OnOk outcome ((before : List Job) → InspectionStands plan before old.inspection
       → InspectionStands plan (before ++ whats batch) new.inspection)
-  pub emits : EmitsBy (λ (before : EarlierJobs plan old.inspection). jobs_lines plan before.jobs batch) (waiting old) (waiting new) outcome
+  pub emits : EmitsBy (λ (before : EarlierJobs plan old.inspection). jobs_lines plan before.jobs batch)
+      (waiting old) (waiting new) outcome
 
 -- ---- records
 
@@ -150,10 +151,12 @@ pub record EarlierRecords (plan : Plan) (detector : Detector) : Type 0 where
   pub stand : DetectorStands plan records detector
 
 -- whatever records came before: the detector was given these too, and their lines were written, or a part of them
-pub record ShowsRecords {A : Type 0} (plan : Plan) (batch : List LinkedRecord) (old new : Detecting) (outcome : Result A Stop) : Type 0 where
+pub record ShowsRecords {A : Type 0} (plan : Plan) (batch : List LinkedRecord) (old new : Detecting) (outcome : Result A Stop) :
+    Type 0 where
   pub stands : OnOk outcome ((before : List LinkedRecord) → DetectorStands plan before old.detector
       → DetectorStands plan (before ++ batch) new.detector)
-  pub emits : EmitsBy (λ (before : EarlierRecords plan old.detector). lines plan before.records batch Open) (settled old) (settled new) outcome
+  pub emits : EmitsBy (λ (before : EarlierRecords plan old.detector). lines plan before.records batch Open)
+      (settled old) (settled new) outcome
 
 -- no more than a part of their lines was written
 unfoldable pub ShowsRecordsPart : Plan → List LinkedRecord → Detector → Option (List ℕ) → Option (List ℕ) → Type 0
@@ -179,5 +182,6 @@ closing_lines plan records =
 
 -- whatever records came before: they were written, or a part of them, and all was counted
 pub record Closes (plan : Plan) (old : Detecting) (new : Sending) (outcome : Result Counts Stop) : Type 0 where
-  pub counted : IfOk outcome (λ counts. (records : List LinkedRecord) → DetectorStands plan records old.detector → counts ≡ counts_of plan records)
+  pub counted : IfOk outcome (λ counts.
+      (records : List LinkedRecord) → DetectorStands plan records old.detector → counts ≡ counts_of plan records)
   pub emits : EmitsBy (λ (before : EarlierRecords plan old.detector). closing_lines plan before.records) (settled old) new outcome

@@ -36,7 +36,8 @@ pub record Matched (config : Config) (rules : List Rule) (found : Matches) (even
   pub before : Earlier config rules events
 
 -- whatever jobs these are the matches of, all their items are shown
-pub record ShowsMatches {A : Type 0} (form : Form) (config : Config) (rules : List Rule) (source : ℕ → LinkedRecord) (found : Matches)
+pub record ShowsMatches {A : Type 0} (form : Form) (config : Config) (rules : List Rule) (source : ℕ → LinkedRecord)
+    (found : Matches)
     (old new : Showing) (outcome : Result A Stop) : Type 0 where
   pub stands : OnOk outcome ((jobs : List JobHits) → AreMatchesOf jobs found
       → (before : List Hits) → EventsStand config rules before old.events

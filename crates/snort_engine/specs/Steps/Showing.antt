@@ -57,7 +57,8 @@ unfoldable pub places_count : List Rule → ItemHead → List ℕ → ℕ
 places_count rules head places = length (flat_map (event_at rules head) places)
 
 -- their lines are on their way, and were counted
-pub record ShowsPlaces (subject : Subject) (before : ℕ) (places : List ℕ) (old new : Sending) (outcome : Result ℕ Stop) : Type 0 where
+pub record ShowsPlaces (subject : Subject) (before : ℕ) (places : List ℕ) (old new : Sending) (outcome : Result ℕ Stop) :
+    Type 0 where
   pub emits : Emits (places_lines subject before places) old new outcome
   pub counted : IfOk outcome (λ count. count ≡ places_count subject.rules subject.head places)
 
