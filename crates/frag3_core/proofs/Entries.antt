@@ -19,7 +19,7 @@ use Rattle.frag3_core.specs.Parts.{frags_in}
 use Rattle.frag3_core.specs.Trackers.{Trackers, TrackerState, held_count, same_key}
 use Rattle.frag3_core.proofs.Keys.{same_key-equivalence, same_key-refl, same_key-true, one_key}
 
-abbrev frags_of : TrackerState → ℕ
+abbrev pub frags_of : TrackerState → ℕ
 frags_of t = length t.segments
 
 abbrev HasSome : TrackerState → Type 0

@@ -1,5 +1,6 @@
 pub mod Bytes
 pub mod Entries
+pub mod Held
 pub mod Keys
 pub mod Laws
 pub mod Steps

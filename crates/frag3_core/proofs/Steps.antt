@@ -42,7 +42,7 @@ roomy-full : (limit : ℕ) (ts : Trackers) → limit ≤ held_count ts → roomy
 roomy-full limit ts full = ap (λ b. cond b (drop 1 ts) ts) (le_test limit (held_count ts) full)
 
 -- the rule leaves room for one
-with_room-below : (most : ℕ) (ts : Trackers) → 0 < most → held_count (with_room most ts) < most
+pub with_room-below : (most : ℕ) (ts : Trackers) → 0 < most → held_count (with_room most ts) < most
 with_room-below most [] some = omega arith
 with_room-below most (t ∷ ts) some = elim (cases_lt (held_count (t ∷ ts)) most) [
   | inl fits ↦ let same = ap held_count (with_room-fits most (t ∷ ts) fits) in omega (arith, same)

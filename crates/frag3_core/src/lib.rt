@@ -9,6 +9,7 @@
 #![tactic(auto)]
 
 mod answer;
+mod bounds;
 mod frag3;
 mod hashed;
 mod key;
@@ -18,5 +19,6 @@ mod tracker;
 mod trackers;
 
 pub use answer::{Datagram, FragRules, Ignored, Taken};
+pub use bounds::held_fragments_are_few;
 pub use frag3::Frag3;
 pub use key::DatagramKey;

@@ -10,9 +10,11 @@
 mod counted;
 mod direction;
 mod extent;
+mod laws;
 mod limits;
 mod sequence;
 
 pub use direction::Direction;
 pub use extent::Extent;
+pub use laws::held_bytes_are_few;
 pub use limits::{Added, Limits};

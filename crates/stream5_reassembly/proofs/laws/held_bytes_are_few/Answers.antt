@@ -1,0 +1,11 @@
+use Rattle.stream5_reassembly.proofs.Held.{places-few, bytes-few, pieces-few}
+use Rattle.stream5_reassembly.proofs.laws.held_bytes_are_few.Goals as goal
+
+pub returns-clause-places : goal.returns-clause-places
+returns-clause-places c = places-few
+
+pub returns-clause-bytes : goal.returns-clause-bytes
+returns-clause-bytes c = bytes-few
+
+pub returns-clause-pieces : goal.returns-clause-pieces
+returns-clause-pieces c = pieces-few
