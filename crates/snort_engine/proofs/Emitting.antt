@@ -1,6 +1,6 @@
 -- The laws of texts on their way to the sink.
 use Rattle.std.proofs.Common.{◌≡◌, ℕ, ◌≤◌, List, [], ◌++◌, Option, Result, Ok, Err, take, refl, sym, ap, subst, append_assoc, ◌∙◌, arith}
-use Rattle.std.specs.Prelude.{OnOk, OnErr}
+use Rattle.std.specs.Prelude.{⊤, OnOk, OnErr}
 use Rattle.std.proofs.lemmas.Bool.Decides.{nat_tests}
 use Rattle.std.proofs.lemmas.List.{append-nil}
 use Rattle.edge_io.specs.Told.{behind, Rose}
@@ -9,13 +9,10 @@ use Rattle.snort_engine.specs.declared.stop.Stop.{Stop}
 use Rattle.snort_engine.specs.declared.stop.Stop.TheVariants as stop
 use Rattle.snort_engine.specs.Outside.{WritesPart}
 use Rattle.snort_engine.specs.Steps.Gathering.{Gathers, Sending, Emits, EmitsAny, EmitsBy}
+use Rattle.snort_engine.specs.Steps.Stop.{IsShowStop}
 use Rattle.snort_engine.proofs.Prefixes.{WritesPart-behind, WritesPart-longer, WritesPart-none, WritesPart-take}
 
 -- ---- texts that wait in a block
-
--- no text came
-gathers_none : (old : Sending) → Gathers [] old old
-gathers_none old = record { part = []; joined = append-nil old.block; wrote = sym (behind-nil old.written) }
 
 -- a text came behind the block, and waits
 gathers_waits : (text : List ℕ) (old new : Sending) → new.block ≡ old.block ++ text → new.written ≡ old.written → Gathers text old new
@@ -37,10 +34,9 @@ gathers_both first second old middle new one two = record {
 gathers_part : (first second : List ℕ) (old middle : Sending) (new : Option (List ℕ)) → Gathers first old middle → WritesPart middle.written (middle.block ++ second) new
     → WritesPart old.written (old.block ++ (first ++ second)) new
 gathers_part first second old middle new one part =
-    let P : List ℕ → Type 0 = λ x. WritesPart old.written x new in
     let joined : one.part ++ (middle.block ++ second) ≡ old.block ++ (first ++ second) =
     sym (append_assoc one.part middle.block second) ∙ ap (λ (x : List ℕ). x ++ second) (sym one.joined) ∙ append_assoc old.block first second in
-    subst P joined (WritesPart-behind old.written middle.written new one.part (middle.block ++ second) one.wrote part)
+    subst (λ (x : List ℕ). WritesPart old.written x new) joined (WritesPart-behind old.written middle.written new one.part (middle.block ++ second) one.wrote part)
 
 -- where no text waits before and afterwards, it was written
 pub gathers_settled : (text : List ℕ) (old new : Sending) → old.block ≡ [] → new.block ≡ [] → Gathers text old new → new.written ≡ behind old.written text
@@ -48,123 +44,121 @@ gathers_settled text old new before after came =
     came.wrote ∙ ap (behind old.written)
     (sym (append-nil came.part) ∙ ap (λ (x : List ℕ). came.part ++ x) (sym after) ∙ sym came.joined ∙ ap (λ (x : List ℕ). x ++ text) before)
 
--- ---- texts that go by what is known
+-- ---- one step
+
+-- a text is on its way
+wholly : {Known A : Type 0} {text : Known → List ℕ} {old new : Sending} {done : A} → ((known : Known) → Gathers (text known) old new) → new.faults ≡ old.faults → EmitsBy text old new (Ok done)
+wholly whole quiet = record { whole = whole; part = tt; kind = tt; fault = λ is. absurd cc; quiet = quiet; later = omega (arith, quiet) }
+
+-- or a part of it was written
+partly : {Known A : Type 0} {text : Known → List ℕ} {old new : Sending} {why : Stop} → ((known : Known) → WritesPart old.written (old.block ++ text known) new.written) → IsShowStop why
+    → (why ≡ stop.CannotWrite → Rose old.faults new.faults) → old.faults ≤ new.faults → EmitsBy {A = A} text old new (Err why)
+partly part kind fault later = record { whole = tt; part = part; kind = kind; fault = λ is. fault cc; quiet = tt; later = later }
+
+-- a text came behind those that wait
+pub emits_waits : (text : List ℕ) (old new : Sending) → new.block ≡ old.block ++ text → new.written ≡ old.written → new.faults ≡ old.faults → Emits {A = Unit {0}} text old new (Ok tt)
+emits_waits text old new waits written faults = wholly (λ known. gathers_waits text old new waits written) faults
+
+-- no text came
+pub by_none : {Known A : Type 0} {text : Known → List ℕ} {done : A} (old : Sending) → ((known : Known) → text known ≡ []) → EmitsBy text old old (Ok done)
+by_none {text = text} old none =
+    wholly (λ known. gathers_waits (text known) old old (sym (append-nil old.block) ∙ ap (λ (x : List ℕ). old.block ++ x) (sym (none known))) refl) refl
+
+-- nothing was written of a text, for want of memory
+pub by_nothing : {Known A : Type 0} (text : Known → List ℕ) (old new : Sending) → new.written ≡ old.written → new.faults ≡ old.faults → EmitsBy {A = A} text old new (Err stop.NoMemory)
+by_nothing text old new written faults =
+    partly (λ known. subst (λ (x : Option (List ℕ)). WritesPart old.written (old.block ++ text known) x) (sym written) (WritesPart-none old.written (old.block ++ text known)))
+    tt (λ is. absurd cc) (omega (arith, faults))
+
+-- all that waits was offered, and a part of it was written
+pub offered_part : {A : Type 0} (old new : Sending) (count : ℕ) → new.written ≡ behind old.written (take count old.block) → Rose old.faults new.faults → old.faults ≤ new.faults
+    → Emits {A = A} [] old new (Err stop.CannotWrite)
+offered_part old new count wrote rose later =
+    partly (λ known. WritesPart-longer old.written new.written old.block [] (WritesPart-take old.written new.written count old.block wrote)) tt (λ is. rose) later
+
+-- ---- a step and then another one
 
 -- a text came, and then another one, or a part of it
 pub by_then : {Known First Second A B : Type 0} {first : First → List ℕ} {second : Second → List ℕ} {text : Known → List ℕ} {old middle new : Sending} {done : A} {outcome : Result B Stop}
     → EmitsBy first old middle (Ok done) → EmitsBy second middle new outcome
     → ((known : Known) → (i : First) × (j : Second) × (text known ≡ first i ++ second j)) → EmitsBy text old new outcome
-by_then {first = first} {second = second} {text = text} {old = old} {middle = middle} {new = new} {outcome = Ok more} one two joins = record {
-  whole = λ known. let p = joins known in
-      subst (λ (x : List ℕ). Gathers x old new) (sym p.2) (gathers_both (first p.0) (second p.1) old middle new (one.whole p.0) (two.whole p.1));
-  part = tt;
-  kind = tt;
-  fault = λ is. absurd cc;
-  quiet = two.quiet ∙ one.quiet;
-  later = let a = one.later in let b = two.later in omega (arith, a, b);
-}
-by_then {first = first} {second = second} {text = text} {old = old} {middle = middle} {new = new} {outcome = Err why} one two joins = record {
-  whole = tt;
-  part = λ known. let p = joins known in
-      subst (λ (x : List ℕ). WritesPart old.written (old.block ++ x) new.written) (sym p.2) (gathers_part (first p.0) (second p.1) old middle new.written (one.whole p.0) (two.part p.1));
-  kind = two.kind;
-  fault = λ is. let rose = two.fault is in let same = one.quiet in grind (arith, nat_tests, rose, same);
-  quiet = tt;
-  later = let a = one.later in let b = two.later in omega (arith, a, b);
-}
-
--- nothing was written of a text, for want of memory
-pub by_nothing : {Known A : Type 0} (text : Known → List ℕ) (old new : Sending) → new.written ≡ old.written → new.faults ≡ old.faults → EmitsBy {A = A} text old new (Err stop.NoMemory)
-by_nothing text old new written faults = record {
-  whole = tt;
-  part = λ known. subst (λ (x : Option (List ℕ)). WritesPart old.written (old.block ++ text known) x) (sym written) (WritesPart-none old.written (old.block ++ text known));
-  kind = tt;
-  fault = λ is. absurd cc;
-  quiet = tt;
-  later = omega (arith, faults);
-}
+by_then {first = first} {second = second} {old = old} {middle = middle} {new = new} {outcome = Ok more} one two joins =
+    wholly
+    (λ known. let p = joins known in
+    subst (λ (x : List ℕ). Gathers x old new) (sym p.2) (gathers_both (first p.0) (second p.1) old middle new (one.whole p.0) (two.whole p.1)))
+    (two.quiet ∙ one.quiet)
+by_then {first = first} {second = second} {old = old} {middle = middle} {new = new} {outcome = Err why} one two joins =
+    let same = one.quiet in
+    let later = two.later in
+    partly
+    (λ known. let p = joins known in
+    subst (λ (x : List ℕ). WritesPart old.written (old.block ++ x) new.written) (sym p.2) (gathers_part (first p.0) (second p.1) old middle new.written (one.whole p.0) (two.part p.1)))
+    two.kind (λ is. let rose = two.fault (ap Err is) in grind (arith, nat_tests, rose, same)) (omega (arith, same, later))
 
 -- a part of a text is one of a longer text
 pub by_longer : {Known First A B : Type 0} {first : First → List ℕ} {text : Known → List ℕ} {old new : Sending} {why : Stop}
     → EmitsBy {A = A} first old new (Err why) → ((known : Known) → (i : First) × (rest : List ℕ) × (text known ≡ first i ++ rest)) → EmitsBy {A = B} text old new (Err why)
-by_longer {first = first} {text = text} {old = old} {new = new} one joins = record {
-  whole = tt;
-  part = λ known. let p = joins known in
-      subst (λ (x : List ℕ). WritesPart old.written x new.written) (append_assoc old.block (first p.0) p.1 ∙ ap (λ (x : List ℕ). old.block ++ x) (sym p.2))
-      (WritesPart-longer old.written new.written (old.block ++ first p.0) p.1 (one.part p.0));
-  kind = one.kind;
-  fault = λ is. one.fault cc;
-  quiet = tt;
-  later = one.later;
-}
+by_longer {first = first} {old = old} {new = new} one joins =
+    partly
+    (λ known. let p = joins known in
+    subst (λ (x : List ℕ). WritesPart old.written x new.written) (append_assoc old.block (first p.0) p.1 ∙ ap (λ (x : List ℕ). old.block ++ x) (sym p.2))
+    (WritesPart-longer old.written new.written (old.block ++ first p.0) p.1 (one.part p.0)))
+    one.kind (λ is. one.fault (ap Err is)) one.later
 
 -- the same text, said otherwise, and whatever is told with it
 pub by_told : {Known First A B : Type 0} {first : First → List ℕ} {text : Known → List ℕ} {old new : Sending} {done : A} {more : B}
     → EmitsBy first old new (Ok done) → ((known : Known) → (i : First) × (text known ≡ first i)) → EmitsBy text old new (Ok more)
-by_told {old = old} {new = new} one same = record {
-  whole = λ known. let p = same known in subst (λ (x : List ℕ). Gathers x old new) (sym p.1) (one.whole p.0);
-  part = tt;
-  kind = tt;
-  fault = λ is. absurd cc;
-  quiet = one.quiet;
-  later = one.later;
-}
+by_told {new = new} one same = by_then one (by_none {Known = ⊤} {text = λ nothing. []} new (λ nothing. refl)) (λ known. let p = same known in (p.0, tt, p.1 ∙ sym (append-nil _)))
 
 pub by_stopped : {Known First A B : Type 0} {first : First → List ℕ} {text : Known → List ℕ} {old new : Sending} {why : Stop}
     → EmitsBy {A = A} first old new (Err why) → ((known : Known) → (i : First) × (text known ≡ first i)) → EmitsBy {A = B} text old new (Err why)
-by_stopped {old = old} {new = new} one same = record {
-  whole = tt;
-  part = λ known. let p = same known in subst (λ (x : List ℕ). WritesPart old.written (old.block ++ x) new.written) (sym p.1) (one.part p.0);
-  kind = one.kind;
-  fault = λ is. one.fault cc;
-  quiet = tt;
-  later = one.later;
-}
-
--- a text came, and then memory was lacking
-pub by_lacking : {Known First A B : Type 0} {first : First → List ℕ} {text : Known → List ℕ} {old new : Sending} {done : A}
-    → EmitsBy first old new (Ok done) → ((known : Known) → (i : First) × (rest : List ℕ) × (text known ≡ first i ++ rest)) → EmitsBy {A = B} text old new (Err stop.NoMemory)
-by_lacking {text = text} {new = new} one joins =
-    by_then one (by_nothing (λ (rest : List ℕ). rest) new new refl refl) joins
+by_stopped one same = by_longer one (λ known. let p = same known in (p.0, [], p.1 ∙ sym (append-nil _)))
 
 pub by_same : {Known First A : Type 0} {first : First → List ℕ} {text : Known → List ℕ} {old new : Sending} {outcome : Result A Stop}
     → EmitsBy first old new outcome → ((known : Known) → (i : First) × (text known ≡ first i)) → EmitsBy text old new outcome
 by_same {outcome = Ok done} one same = by_told one same
 by_same {outcome = Err why} one same = by_stopped one same
 
--- the same, without the blocks
+-- a text came, and then memory was lacking
+pub by_lacking : {Known First A B : Type 0} {first : First → List ℕ} {text : Known → List ℕ} {old new : Sending} {done : A}
+    → EmitsBy first old new (Ok done) → ((known : Known) → (i : First) × (rest : List ℕ) × (text known ≡ first i ++ rest)) → EmitsBy {A = B} text old new (Err stop.NoMemory)
+by_lacking {new = new} one joins = by_then one (by_nothing (λ (rest : List ℕ). rest) new new refl refl) joins
+
+-- the same of texts that go by nothing else
+pub emits_none : {A : Type 0} {text : List ℕ} {done : A} (old : Sending) → text ≡ [] → Emits text old old (Ok done)
+emits_none old is = by_none old (λ known. is)
+
+pub emits_nothing : {A : Type 0} (text : List ℕ) (old new : Sending) → new.written ≡ old.written → new.faults ≡ old.faults → Emits {A = A} text old new (Err stop.NoMemory)
+emits_nothing text = by_nothing (λ known. text)
+
+pub emits_then : {A B : Type 0} {first second text : List ℕ} {old middle new : Sending} {done : A} {outcome : Result B Stop}
+    → Emits first old middle (Ok done) → Emits second middle new outcome → text ≡ first ++ second → Emits text old new outcome
+emits_then one two is = by_then one two (λ known. (tt, tt, is))
+
+pub emits_longer : {A B : Type 0} {first text : List ℕ} {old new : Sending} {why : Stop} (rest : List ℕ)
+    → Emits {A = A} first old new (Err why) → text ≡ first ++ rest → Emits {A = B} text old new (Err why)
+emits_longer rest one is = by_longer one (λ known. (tt, rest, is))
+
+-- ---- without the blocks
+
 abbrev pub emptied : Sending → Sending
 emptied now = record { written = now.written; block = []; faults = now.faults }
 
--- where none waits before, nor afterwards
+-- where no text waits before, nor afterwards
 pub by_settled : {Known A : Type 0} {text : Known → List ℕ} (outcome : Result A Stop) (old new : Sending) → old.block ≡ [] → OnOk outcome (new.block ≡ [])
     → EmitsBy text old new outcome → EmitsBy text (emptied old) (emptied new) outcome
-by_settled {text = text} (Ok done) old new before after one = record {
-  whole = λ known. let came = one.whole known in record {
-    part = came.part;
-    joined = ap (λ (x : List ℕ). x ++ text known) (sym before) ∙ came.joined ∙ ap (λ (x : List ℕ). came.part ++ x) after;
-    wrote = came.wrote;
-  };
-  part = tt;
-  kind = tt;
-  fault = λ is. absurd cc;
-  quiet = one.quiet;
-  later = one.later;
-}
-by_settled {text = text} (Err why) old new before after one = record {
-  whole = tt;
-  part = λ known. subst (λ (x : List ℕ). WritesPart old.written (x ++ text known) new.written) before (one.part known);
-  kind = one.kind;
-  fault = one.fault;
-  quiet = tt;
-  later = one.later;
-}
+by_settled {text = text} (Ok done) old new before after one =
+    wholly
+    (λ known. let came = one.whole known in
+    record { part = came.part; joined = ap (λ (x : List ℕ). x ++ text known) (sym before) ∙ came.joined ∙ ap (λ (x : List ℕ). came.part ++ x) after; wrote = came.wrote })
+    one.quiet
+by_settled {text = text} (Err why) old new before after one =
+    partly (λ known. subst (λ (x : List ℕ). WritesPart old.written (x ++ text known) new.written) before (one.part known)) one.kind (λ is. one.fault (ap Err is)) one.later
 
--- ---- texts that aren't known
-
+-- how a step ended, whatever its text was
 pub emits_any : {First A : Type 0} {first : First → List ℕ} {old new : Sending} {outcome : Result A Stop} → EmitsBy first old new outcome → EmitsAny (emptied old) (emptied new) outcome
-emits_any {outcome = Ok done} one = record { whole = λ none. absurd none; part = tt; kind = tt; fault = λ is. absurd cc; quiet = one.quiet; later = one.later }
-emits_any {outcome = Err why} one = record { whole = tt; part = λ none. absurd none; kind = one.kind; fault = one.fault; quiet = tt; later = one.later }
+emits_any {outcome = Ok done} one = wholly (λ none. absurd none) one.quiet
+emits_any {outcome = Err why} one = partly (λ none. absurd none) one.kind (λ is. one.fault (ap Err is)) one.later
 
 pub any_then : {A B : Type 0} {old middle new : Sending} {done : A} {outcome : Result B Stop} → EmitsAny old middle (Ok done) → EmitsAny middle new outcome → EmitsAny old new outcome
 any_then one two = by_then one two (λ none. absurd none)
@@ -178,63 +172,16 @@ any_told one = by_told one (λ none. absurd none)
 pub any_stopped : {A B : Type 0} {old new : Sending} {why : Stop} → EmitsAny {A = A} old new (Err why) → EmitsAny {A = B} old new (Err why)
 any_stopped one = by_stopped one (λ none. absurd none)
 
--- ---- texts that go by nothing else
+-- ---- what waits is offered
 
--- nothing came
-pub emits_none : {text : List ℕ} (old : Sending) → text ≡ [] → Emits {A = Unit {0}} text old old (Ok tt)
-emits_none old is = record {
-  whole = λ known. subst (λ (x : List ℕ). Gathers x old old) (sym is) (gathers_none old);
-  part = tt;
-  kind = tt;
-  fault = λ is. absurd cc;
-  quiet = refl;
-  later = omega arith;
-}
-
--- a text came behind those that wait
-pub emits_waits : (text : List ℕ) (old new : Sending) → new.block ≡ old.block ++ text → new.written ≡ old.written → new.faults ≡ old.faults → Emits {A = Unit {0}} text old new (Ok tt)
-emits_waits text old new waits written faults = record {
-  whole = λ known. gathers_waits text old new waits written;
-  part = tt;
-  kind = tt;
-  fault = λ is. absurd cc;
-  quiet = faults;
-  later = omega (arith, faults);
-}
-
--- nothing was written of a text, for want of memory
-pub emits_nothing : {A : Type 0} (text : List ℕ) (old new : Sending) → new.written ≡ old.written → new.faults ≡ old.faults → Emits {A = A} text old new (Err stop.NoMemory)
-emits_nothing text = by_nothing (λ known. text)
-
--- a text came, and then another one, or a part of it
-pub emits_then : {A B : Type 0} {first second text : List ℕ} {old middle new : Sending} {done : A} {outcome : Result B Stop}
-    → Emits first old middle (Ok done) → Emits second middle new outcome → text ≡ first ++ second → Emits text old new outcome
-emits_then one two is = by_then one two (λ known. (tt, tt, is))
-
--- a part of a text is one of a longer text
-pub emits_longer : {A B : Type 0} {first text : List ℕ} {old new : Sending} {why : Stop} (rest : List ℕ)
-    → Emits {A = A} first old new (Err why) → text ≡ first ++ rest → Emits {A = B} text old new (Err why)
-emits_longer rest one is = by_longer one (λ known. (tt, rest, is))
-
--- all that waits was offered, and a part of it was written
-pub offered_part : {A : Type 0} (old new : Sending) (count : ℕ) → new.written ≡ behind old.written (take count old.block) → Rose old.faults new.faults → old.faults ≤ new.faults
-    → Emits {A = A} [] old new (Err stop.CannotWrite)
-offered_part old new count wrote rose later = record {
-  whole = tt;
-  part = λ known. WritesPart-longer old.written new.written old.block [] (WritesPart-take old.written new.written count old.block wrote);
-  kind = tt;
-  fault = λ is. rose;
-  quiet = tt;
-  later = later;
-}
-
--- and all of it was, where the block is empty then
+-- all of it was written, where the block is empty then
 pub offered_whole : {A : Type 0} (outcome : Result A Stop) (old new : Sending) → Emits [] old new outcome → OnOk outcome (new.block ≡ []) → OnOk outcome (new.written ≡ behind old.written old.block)
 offered_whole (Ok done) old new one empty =
     let all = one.whole tt in
     all.wrote ∙ ap (behind old.written) (sym (append-nil all.part) ∙ ap (λ (x : List ℕ). all.part ++ x) (sym empty) ∙ sym all.joined ∙ append-nil old.block)
 offered_whole (Err why) old new one empty = tt
 
+-- or a part of it
 pub offered_some : {A : Type 0} (outcome : Result A Stop) (old new : Sending) → Emits [] old new outcome → OnErr outcome (WritesPart old.written old.block new.written)
 offered_some (Ok done) old new one = tt
 offered_some (Err why) old new one = subst (λ (x : List ℕ). WritesPart old.written x new.written) (append-nil old.block) (one.part tt)

@@ -56,10 +56,6 @@ pub WritesPart-longer : (old new : Option (List ℕ)) (text rest : List ℕ) →
 unfolding WritesPart
 WritesPart-longer old new text rest (part, prefix, e) = (part, IsPrefix-longer part text rest prefix, e)
 
--- a whole text was written, and then nothing of what follows
-pub WritesPart-whole : (old new : Option (List ℕ)) (text rest : List ℕ) → new ≡ behind old text → WritesPart old (text ++ rest) new
-WritesPart-whole old new text rest e = WritesPart-behind old new new text rest e (WritesPart-none new rest)
-
 -- an answer has one stop
 pub same_stop : {T : Type 0} (answer : Result T Stop) (this that : Stop) → answer ≡ Err this → answer ≡ Err that → this ≡ that
 same_stop {T} answer this that is is_too =

@@ -33,7 +33,7 @@ use Rattle.snort_engine.specs.Counts.{hit_count}
 use Rattle.snort_engine.specs.Steps.Gathering.{Sending, Emits}
 use Rattle.snort_engine.specs.Steps.Showing.{Subject, SourcedItem, places_lines, places_count, ShowsPlaces, items_lines, tally_of, EventsStand, Earlier, Showing, sending_of, Shows}
 use Rattle.snort_engine.specs.Steps.Sourcing.{sourced_items}
-use Rattle.snort_engine.proofs.Emitting.{by_lacking, by_longer, by_nothing, by_stopped, by_then, by_told, emits_longer, emits_none, emits_then}
+use Rattle.snort_engine.proofs.Emitting.{by_lacking, by_longer, by_none, by_nothing, by_stopped, by_then, by_told, emits_longer, emits_none, emits_then}
 use Rattle.snort_engine.proofs.Texts.{texts_from-append}
 use Rattle.snort_engine.proofs.Beside.{by_place-append, carried-append, length-carried, whats-append}
 
@@ -99,7 +99,7 @@ place_shown s before place rule old new done is line = record {
 
 pub place_passed : (s : Subject) (before place : ℕ) (old : Sending) → slice_get s.rules place ≡ None → ShowsPlaces s before (place ∷ []) old old (Ok 0)
 place_passed s before place old is = record {
-  emits = by_told (emits_none old (place_lines-none s before place is)) (λ known. (tt, refl));
+  emits = emits_none old (place_lines-none s before place is);
   counted = sym (place_count-none s.rules s.head place is);
 }
 
@@ -111,7 +111,7 @@ place_part s before place rule old new why is line = record { emits = by_stopped
 -- no rule
 pub places_none : (s : Subject) (before : ℕ) (old : Sending) → ShowsPlaces s before [] old old (Ok 0)
 unfolding places_lines places_count
-places_none s before old = record { emits = by_told (emits_none {text = []} old refl) (λ known. (tt, refl)); counted = refl }
+places_none s before old = record { emits = emits_none old refl; counted = refl }
 
 -- the lines so far, and then those of the others
 places_split : (s : Subject) (before : ℕ) (places : List ℕ) (i : ℕ)
@@ -295,7 +295,7 @@ items_lines-none form config rules before = refl
 pub shows_none : (form : Form) (config : Config) (rules : List Rule) (old : Showing) → Shows {A = Unit {0}} form config rules [] old old (Ok tt)
 shows_none form config rules old = record {
   stands = λ before stands. subst (λ (x : List Hits). EventsStand config rules x old.events) (sym (append-nil before)) stands;
-  emits = by_told (emits_none {text = []} (sending_of old) refl) (λ before. (tt, items_lines-none form config rules before.items));
+  emits = by_none (sending_of old) (λ before. items_lines-none form config rules before.items);
 }
 
 -- items came, and then others, or a part of their lines

@@ -1,6 +1,5 @@
 -- What a reader refused, and what stops a write.
-use Rattle.std.proofs.Common.{◌≡◌, Option, Some, Result, Ok, Err, sym, ap, ◌∙◌}
-use Rattle.std.specs.Prelude.{IfErr}
+use Rattle.std.proofs.Common.{◌≡◌, Option, Some, sym, ap, ◌∙◌}
 use Rattle.std.specs.Option.{option_map}
 use Rattle.pcap_input.specs.declared.capture.CaptureFault.{CaptureFault}
 use Rattle.pcap_input.specs.Reader as classic_reader
@@ -25,7 +24,3 @@ blocks_keep new why so is same = ap (λ (r : Option NgFault). option_map of_bloc
 pub write_kind : (why : Stop) → IsWriteStop why → IsShowStop why
 write_kind stop.CannotWrite kind = tt
 write_kind why kind = absurd kind
-
-pub written_kind : (answer : Result (Unit {0}) Stop) → IfErr answer IsWriteStop → IfErr answer IsShowStop
-written_kind (Ok done) kind = tt
-written_kind (Err why) kind = write_kind why kind
