@@ -1,9 +1,12 @@
 -- Laws of quoted texts, as their loops go through them.
-use Rattle.std.proofs.Common.{◌≡◌, ℕ, ◌+◌, ◌<◌, ◌≤◌, ◌==◌, ◌&&◌, ◌++◌, Bool, true, false, not, Option, Some, None, List, [], ◌∷◌, length, drop, get_or, refl, ap, sym, ◌∙◌, append_assoc, arith}
+use Rattle.std.proofs.Common.{◌≡◌, ℕ, ◌+◌, ◌<◌, ◌≤◌, ◌==◌, ◌&&◌, ◌++◌, Bool, true, false, not, Option, Some, None, Ok, List, [], ◌∷◌, length, drop, get_or, refl, ap, sym, ◌∙◌, append_assoc, arith}
 use Rattle.std.proofs.lemmas.List.{at_drop_more, at_drop_all}
 use Rattle.std.specs.Option.{option_map}
+use Rattle.net_lists.specs.Stops.{or_kind}
+use Rattle.rule_parser.specs.declared.fault.Fault.TheVariants.{OptionValue}
 use Rattle.rule_parser.specs.declared.quoted.Style.{Style}
 use Rattle.rule_parser.specs.declared.quoted.Place.{Place}
+use Rattle.rule_parser.specs.declared.quoted.Place.TheVariants.{Plain}
 use Rattle.rule_parser.specs.declared.quoted.Step.{Step}
 use Rattle.rule_parser.specs.Quotes.{closing_len, step_at, bytes_of, end_bytes, meaning}
 
@@ -46,6 +49,23 @@ meaning-stop style place text out i h none =
 -- behind the last byte, what the end gives
 pub meaning-end : (style : Style) (place : Place) (text out : List ℕ) (i : ℕ) → length text ≤ i → in_front out (meaning style place (drop i text)) ≡ in_front out (end_bytes style place)
 meaning-end style place text out i h = at_drop_all (λ rest. in_front out (meaning style place rest)) text i h ∙ meaning-nil style place out
+
+-- the meaning of a text whose bytes were all looked at
+pub meaning-whole : (style : Style) (place : Place) (text out new : List ℕ) (i : ℕ) (found : Option Step) (step : Step)
+    → meaning style Plain text ≡ in_front out (meaning style place (drop i text)) → length text ≤ i
+    → option_map (λ (s : Step). bytes_of s.slash s.byte) found ≡ end_bytes style place → found ≡ Some step → new ≡ out ++ bytes_of step.slash step.byte
+    → or_kind OptionValue (meaning style Plain text) ≡ Ok new
+meaning-whole style place text out new i found step so_far h ends is pushed =
+    ap (or_kind OptionValue) (so_far ∙ meaning-end style place text out i h ∙ ap (in_front out) (sym ends)
+    ∙ ap (λ (f : Option Step). in_front out (option_map (λ (s : Step). bytes_of s.slash s.byte) f)) is) ∙ ap Ok (sym pushed)
+
+-- and of one that is looked at one byte further
+pub meaning-next : (style : Style) (place : Place) (text out new : List ℕ) (i : ℕ) (step : Step)
+    → meaning style Plain text ≡ in_front out (meaning style place (drop i text)) → i < length text
+    → step_at style place (get_or text i 0) ≡ Some step → new ≡ out ++ bytes_of step.slash step.byte
+    → meaning style Plain text ≡ in_front new (meaning style step.place (drop (i + 1) text))
+meaning-next style place text out new i step so_far h some pushed =
+    so_far ∙ meaning-step style place text out i step h some ∙ ap (λ (o : List ℕ). in_front o (meaning style step.place (drop (i + 1) text))) (sym pushed)
 
 -- a place so many bytes later
 abbrev pub shifted : ℕ → Option ℕ → Option ℕ
