@@ -20,8 +20,8 @@ use Rattle.unified2_out.specs.declared.record.U2.{U2}
 use Rattle.unified2_out.specs.declared.record.U2.TheVariants.{Event as an_event, Packet as a_packet}
 use Rattle.unified2_out.specs.Records.{AllFit, event_octets, event_ports, event_words, packet_words, unified2_text}
 use Rattle.unified2_out.specs.Reading.{IsRecord, AreRecordsOf, joined_text}
-use Rattle.snort_engine.specs.declared.form.Form.{Form}
-use Rattle.snort_engine.specs.declared.form.Form.TheVariants as form
+use Rattle.command_words.specs.declared.asked.Form.{Form}
+use Rattle.command_words.specs.declared.asked.Form.TheVariants as form
 use Rattle.snort_engine.specs.Beside.{beside, whats}
 use Rattle.snort_engine.specs.Answer.{capture_answer}
 use Rattle.snort_engine.specs.Course.{Plan, Way, Lists, IsFileWay, most_file_bytes}

@@ -23,7 +23,7 @@ use Rattle.event_filters.specs.Events.{Item, kept}
 use Rattle.event_filters.specs.Standing.{FiltersState, IsGiven, Passes}
 use Rattle.snort_engine.specs.declared.events.Events.{Events}
 use Rattle.snort_engine.specs.declared.events.Tally.{Tally}
-use Rattle.snort_engine.specs.declared.form.Form.{Form}
+use Rattle.command_words.specs.declared.asked.Form.{Form}
 use Rattle.snort_engine.specs.declared.stop.Stop.{Stop}
 use Rattle.snort_engine.specs.declared.stop.Stop.TheVariants as stop
 use Rattle.snort_engine.specs.Beside.{Beside, beside, by_place, carried, whats}

@@ -31,8 +31,7 @@ use Rattle.snort_setup.specs.Answers.{AreRefusedBy}
 use Rattle.snort_setup.specs.Setup.{Halt, Refused, Lacks, Ready, Warned, IsSetup, IsReading, conf_read}
 use Rattle.unified2_out.specs.declared.record.U2.{U2}
 use Rattle.unified2_out.specs.Reading.{AreRecordsOf, IsBadAt}
-use Rattle.snort_engine.specs.declared.form.Form.{Form}
-use Rattle.snort_engine.specs.declared.form.Form.TheVariants as form
+use Rattle.command_words.specs.declared.asked.Form.{Form}
 use Rattle.snort_engine.specs.declared.status.Status.{Status}
 use Rattle.snort_engine.specs.declared.status.Status.TheVariants as status
 use Rattle.snort_engine.specs.Messages.{usage_text, version_text, accepted_text, command_line_text, cannot_read_text}
@@ -93,10 +92,6 @@ checks_of mode.NoTcp = record { ip = true; tcp = false; udp = true; icmp = true 
 checks_of mode.NoUdp = record { ip = true; tcp = true; udp = false; icmp = true }
 checks_of mode.NoIcmp = record { ip = true; tcp = true; udp = true; icmp = false }
 
--- the form of alerts: lines, or Unified2 records under `--unified2`
-abbrev pub form_of : Bool → Form
-form_of unified2 = if unified2 then form.Unified2 else form.Lines
-
 -- the plan for a capture of this name: `-k` stands in place of the configuration's mode
 abbrev pub plan_for : Test → Run → Ready → List ℕ → Plan
 plan_for matches wanted ready source = record {
@@ -108,7 +103,7 @@ plan_for matches wanted ready source = record {
   flush = wanted.flush_point;
   rules = ready.rules;
   matches = matches;
-  form = form_of wanted.unified2;
+  form = wanted.form;
   counted = wanted.stats;
 }
 

@@ -11,8 +11,8 @@ use Rattle.record_jobs.specs.Way.{LinkedRecord}
 use Rattle.snort_engine.specs.Course.{Plan}
 use Rattle.alert_fast.specs.Line.{line_text}
 use Rattle.conf_types.specs.declared.classes.Class.{Class}
-use Rattle.snort_engine.specs.declared.form.Form.{Form}
-use Rattle.snort_engine.specs.declared.form.Form.TheVariants as form
+use Rattle.command_words.specs.declared.asked.Form.{Form}
+use Rattle.command_words.specs.declared.asked.Form.TheVariants as form
 use Rattle.snort_engine.specs.Trace.{Alert, CaptureState, Open, trace}
 use Rattle.snort_engine.specs.Unified2.{records_text}
 

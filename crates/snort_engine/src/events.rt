@@ -8,11 +8,11 @@ ghost use Rattle.snort_engine.specs.Steps.Showing.{EventsStand, Shows, showing};
 ghost use Rattle.snort_engine.specs.Steps.Sourcing.{source_by, sourced_items};
 
 use crate::counts::sum;
-use crate::form::Form;
 use crate::lines::{Subject, show_places};
 use crate::reader::LinkedRecord;
 use crate::sources::Sources;
 use crate::stop::Stop;
+use command_words::Form;
 use conf_parser::Config;
 use edge_io::{NoMemory, Sink};
 use event_filters::Filters;

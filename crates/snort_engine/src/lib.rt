@@ -22,7 +22,6 @@ mod detect;
 mod detector;
 mod events;
 mod fault;
-mod form;
 mod laws;
 mod lines;
 mod listing;

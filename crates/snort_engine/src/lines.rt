@@ -10,11 +10,11 @@ ghost use Rattle.snort_engine.specs.Steps.Stop.{IsWriteStop};
 ghost use Rattle.snort_engine.specs.Steps.Showing.{ShowsPlaces, subject_of};
 
 use crate::counts::sum;
-use crate::form::Form;
 use crate::reader::LinkedRecord;
 use crate::stop::Stop;
 use crate::unified2::push_records;
 use alert_fast::line;
+use command_words::Form;
 use conf_parser::Classes;
 use edge_io::{NoMemory, Sink, write_all};
 use packet_decode::ItemHead;

@@ -3,7 +3,7 @@ ghost use Rattle.record_jobs.specs.Way as ways;
 ghost use Rattle.snort_engine.specs.Trace.{jobs_way_by};
 ghost use Rattle.snort_engine.specs.Steps.Sources.{source_name};
 
-use crate::form::Form;
+use command_words::Form;
 use packet_decode::Checks;
 use record_jobs::FrontConfig;
 use snort_setup::Setup;

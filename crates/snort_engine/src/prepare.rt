@@ -14,7 +14,7 @@ ghost use Rattle.snort_setup.specs.Answers as setup_specs;
 ghost use Rattle.snort_setup.specs.Rules.{most_rules};
 ghost use Rattle.snort_setup.specs.Steps.{grown_by, Grows};
 ghost use Rattle.snort_setup.specs.Whole.{ready_of};
-ghost use Rattle.snort_engine.specs.Course.{IsFileless, IsForMade, setup_words, checks_of, form_of, way_of};
+ghost use Rattle.snort_engine.specs.Course.{IsFileless, IsForMade, setup_words, checks_of, way_of};
 ghost use Rattle.snort_engine.specs.Steps.Preparing.{IsPrepared, IsSetUp, KeepsSetup, HasCause, IsForFaultyWords, StopsFileless};
 ghost use Rattle.snort_engine.specs.Steps.Preparing.{OfWatch, task_way, way_for, told_of, way_by};
 ghost use Rattle.snort_engine.specs.Steps.Stop.{ReadsQuietly};
@@ -22,7 +22,6 @@ ghost use Rattle.edge_io.specs.Frames.{OnlyLoaded};
 ghost use Rattle.snort_engine.specs.Steps.Sources.{IsMade, IsSourceFor};
 ghost use Rattle.snort_engine.specs.Steps.Detecting.{IsRanged};
 
-use crate::form::Form;
 use crate::listing::list_records;
 use crate::plan::{Plan, Source};
 use crate::stop::Stop;
@@ -39,17 +38,6 @@ pub(crate) enum Task<'a, P> {
     Watch(Plan<'a, P>),
     /// To tell the records of a Unified2 file, by these lines.
     Tell(Text),
-}
-
-/// The form of alerts.
-fn form_of(unified2: bool) -> Form
-    ensures { result ≡ form_of unified2 }
-{
-    if unified2 {
-        Form::Unified2
-    } else {
-        Form::Lines
-    }
 }
 
 /// The checksums of a mode.
@@ -190,7 +178,7 @@ fn ready<'a, P: Pattern>(wanted: &Words<'a>, setup: Setup<P>) -> Result<Plan<'a,
         checks: checks_for(wanted, setup.config.checks),
         lanes: wanted.lanes,
         flush: wanted.flush_point,
-        form: form_of(wanted.unified2),
+        form: wanted.form,
         counted: wanted.stats,
         setup,
     })

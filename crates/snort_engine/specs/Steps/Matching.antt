@@ -13,7 +13,7 @@ use Rattle.flow_lanes.specs.declared.answer.Matches.{Matches}
 use Rattle.flow_lanes.specs.ItemHits.{is_matched, matched_entry}
 use Rattle.record_jobs.specs.Way.{LinkedRecord}
 use Rattle.snort_engine.specs.declared.events.Events.{Events}
-use Rattle.snort_engine.specs.declared.form.Form.{Form}
+use Rattle.command_words.specs.declared.asked.Form.{Form}
 use Rattle.snort_engine.specs.declared.stop.Stop.{Stop}
 use Rattle.snort_engine.specs.Beside.{by_place, whats}
 use Rattle.snort_engine.specs.Steps.Gathering.{EmitsBy}

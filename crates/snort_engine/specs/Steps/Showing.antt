@@ -16,7 +16,7 @@ use Rattle.flow_lanes.specs.declared.answer.Hits.{Hits}
 use Rattle.flow_lanes.specs.declared.answer.JobHits.{JobHits}
 use Rattle.event_filters.specs.Standing.{IsGiven}
 use Rattle.record_jobs.specs.Way.{LinkedRecord}
-use Rattle.snort_engine.specs.declared.form.Form.{Form}
+use Rattle.command_words.specs.declared.asked.Form.{Form}
 use Rattle.snort_engine.specs.declared.lines.Subject as code
 use Rattle.snort_engine.specs.declared.events.Events.{Events}
 use Rattle.snort_engine.specs.declared.events.Tally.{Tally}

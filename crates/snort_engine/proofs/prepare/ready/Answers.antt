@@ -17,7 +17,7 @@ returns-in_default-clause-way g c = λ matches.
 
 pub returns-clause-way : goal.returns-clause-way
 returns-clause-way g c = λ matches.
-    rw c.form_of.ensures (ready_way matches (run_of c.args.wanted.now) (ready_of c.args.setup) c.in-Some.source c.checks_for.result c.if-wanted.false c.in-Some.ensures c.checks_for.ensures)
+    ready_way matches (run_of c.args.wanted.now) (ready_of c.args.setup) c.in-Some.source c.checks_for.result c.if-wanted.false c.in-Some.ensures c.checks_for.ensures
 
 pub returns-clause-made : goal.returns-clause-made
 returns-clause-made g c = source_made (run_of c.args.wanted.now) c.in-Some.source c.in-Some.ensures
