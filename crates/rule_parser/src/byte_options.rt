@@ -79,7 +79,9 @@ pub(crate) fn next_part<'a>(part: &LentPart<'a>) -> Result<LentPart<'a>, Fault>
     ensures { MatchResult result (λ next. next_part (seen part.now) ≡ Ok (seen next)) (λ why. next_part (seen part.now)
         ≡ Err why) }
 {
-    let text = part.behind.ok_or(Fault::OptionValue)?;
+    let Some(text) = part.behind else {
+        return Err(Fault::OptionValue);
+    };
     Ok(first_part(part.left_behind, text))
 }
 
@@ -147,11 +149,13 @@ fn byte_jump(names: &Extracted, left: usize, value: &[u8]) -> Result<Opt, Fault>
     ensures { result ≡ byte_jump names.now left value.now }
 {
     let count = first_part(left, value);
-    let bytes = number_in(1, 10, count.text).ok_or(Fault::OptionValue)? as u8;
+    let Some(bytes) = number_in(1, 10, count.text) else {
+        return Err(Fault::OptionValue);
+    };
     let place = next_part(&count)?;
     let offset = offset_of(names, &place)?;
     let words = jump_words(place.behind)?;
-    let fetch = words.fetch(bytes, offset)?;
+    let fetch = words.fetch(bytes as u8, offset)?;
     Ok(words.jump_option(fetch))
 }
 
@@ -202,12 +206,14 @@ fn byte_test(names: &Extracted, left: usize, value: &[u8]) -> Result<Opt, Fault>
     ensures { result ≡ byte_test names.now left value.now }
 {
     let count = first_part(left, value);
-    let bytes = number_in(1, 10, count.text).ok_or(Fault::OptionValue)? as u8;
+    let Some(bytes) = number_in(1, 10, count.text) else {
+        return Err(Fault::OptionValue);
+    };
     let against = comparison_of(names, &count)?;
     let place = next_part(&against.part)?;
     let offset = offset_of(names, &place)?;
     let words = test_words(place.behind)?;
-    let fetch = words.fetch(bytes, offset)?;
+    let fetch = words.fetch(bytes as u8, offset)?;
     Ok(Opt::ByteTest {
         fetch,
         not: against.negated,
@@ -336,12 +342,14 @@ fn byte_extract<'a>(
         (λ why. byte_extract names.now left value.now ≡ Err why) }
 {
     let count = first_part(left, value);
-    let bytes = number_in(1, 10, count.text).ok_or(Fault::OptionValue)? as u8;
+    let Some(bytes) = number_in(1, 10, count.text) else {
+        return Err(Fault::OptionValue);
+    };
     let place = next_part(&count)?;
     let offset = offset_of(names, &place)?;
     let name = next_part(&place)?;
     let words = extract_words(name.text, name.behind)?;
-    let fetch = words.fetch(bytes, offset)?;
+    let fetch = words.fetch(bytes as u8, offset)?;
     Ok(LentExtraction {
         fetch,
         words,

@@ -65,7 +65,9 @@ impl Words {
     fn with_times(self, number: &[u8]) -> Result<Words, Fault>
         ensures { result ≡ with_times self number.now }
     {
-        let times = number_in(0, 65535, number).ok_or(Fault::OptionValue)?;
+        let Some(times) = number_in(0, 65535, number) else {
+            return Err(Fault::OptionValue);
+        };
         Words {
             times: Some(times),
             ..self
@@ -77,7 +79,9 @@ impl Words {
     fn with_post(self, number: &[u8]) -> Result<Words, Fault>
         ensures { result ≡ with_post self number.now }
     {
-        let post = signed_in(-65535, 65535, number).ok_or(Fault::OptionValue)?;
+        let Some(post) = signed_in(-65535, 65535, number) else {
+            return Err(Fault::OptionValue);
+        };
         Words {
             post: Some(post),
             ..self

@@ -296,8 +296,12 @@ fn fast_part(size: usize, value: &[u8]) -> Result<FastMode, Fault>
     let (Some(first), Some(second), None) = (parts.next(), parts.next(), parts.next()) else {
         return Err(Fault::OptionValue);
     };
-    let from = number_in(0, 2048, first).ok_or(Fault::OptionValue)?;
-    let len = number_in(1, 2048, second).ok_or(Fault::OptionValue)?;
+    let Some(from) = number_in(0, 2048, first) else {
+        return Err(Fault::OptionValue);
+    };
+    let Some(len) = number_in(1, 2048, second) else {
+        return Err(Fault::OptionValue);
+    };
     if from as usize + len as usize > size {
         return Err(Fault::OptionValue);
     }

@@ -119,7 +119,9 @@ fn signed_compare(field: Field, text: &[u8]) -> Result<Opt, Fault>
     if !allows(field, sign) {
         return Err(Fault::OptionValue);
     }
-    let number = number_in(0, most_of(field), rest).ok_or(Fault::OptionValue)?;
+    let Some(number) = number_in(0, most_of(field), rest) else {
+        return Err(Fault::OptionValue);
+    };
     Ok(against(field, sign.cmp(), number))
 }
 
@@ -138,8 +140,12 @@ fn end_of(lacking: u32, text: &[u8]) -> Option<u32>
 fn ttl_range(low: &[u8], high: &[u8]) -> Result<Opt, Fault>
     ensures { result ≡ ttl_range low.now high.now }
 {
-    let least = end_of(0, low).ok_or(Fault::OptionValue)?;
-    let most = end_of(u32::MAX, high).ok_or(Fault::OptionValue)?;
+    let Some(least) = end_of(0, low) else {
+        return Err(Fault::OptionValue);
+    };
+    let Some(most) = end_of(u32::MAX, high) else {
+        return Err(Fault::OptionValue);
+    };
     if low.is_empty() && high.is_empty() {
         return Err(Fault::OptionValue);
     }
@@ -155,8 +161,12 @@ fn ttl_range(low: &[u8], high: &[u8]) -> Result<Opt, Fault>
 fn dsize_range(low: &[u8], high: &[u8]) -> Result<Opt, Fault>
     ensures { result ≡ dsize_range low.now high.now }
 {
-    let least = number_in(0, 65535, low).ok_or(Fault::OptionValue)?;
-    let most = number_in(0, 65535, high).ok_or(Fault::OptionValue)?;
+    let Some(least) = number_in(0, 65535, low) else {
+        return Err(Fault::OptionValue);
+    };
+    let Some(most) = number_in(0, 65535, high) else {
+        return Err(Fault::OptionValue);
+    };
     Ok(Opt::Compare {
         field: Field::Dsize,
         cmp: Cmp::Within,

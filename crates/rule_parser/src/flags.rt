@@ -337,7 +337,9 @@ fn mask_of(mut rest: Parts) -> Result<u8, Fault>
     if rest.next().is_some() {
         return Err(Fault::OptionValue);
     }
-    let letters = flag_letters(false, mask).ok_or(Fault::OptionValue)?;
+    let Some(letters) = flag_letters(false, mask) else {
+        return Err(Fault::OptionValue);
+    };
     Ok(letters.bits)
 }
 
@@ -347,8 +349,12 @@ fn flags_of(value: &[u8]) -> Result<Opt, Fault>
     ensures { result ≡ flags_of value.now }
 {
     let mut parts = Parts::commas(value);
-    let first = parts.next().ok_or(Fault::OptionValue)?;
-    let letters = flag_letters(true, first).ok_or(Fault::OptionValue)?;
+    let Some(first) = parts.next() else {
+        return Err(Fault::OptionValue);
+    };
+    let Some(letters) = flag_letters(true, first) else {
+        return Err(Fault::OptionValue);
+    };
     let mask = mask_of(parts)?;
     Ok(Opt::Flags {
         mode: letters.mode.unwrap_or(Mode::Exact),
@@ -369,7 +375,9 @@ pub(crate) fn flags_option(draft: &mut Draft, value: &[u8]) -> Result<(), Stop<F
 pub(crate) fn fragbits_option(draft: &mut Draft, value: &[u8]) -> Result<(), Stop<Fault>>
     ensures { Gives (with_new result draft.new) (fragbits_option draft.old value.now) }
 {
-    let letters = frag_signed(value).ok_or(Fault::OptionValue)?;
+    let Some(letters) = frag_signed(value) else {
+        return Err(Stop::Wrong(Fault::OptionValue));
+    };
     draft.keep(Opt::FragBits {
         mode: letters.mode.unwrap_or(Mode::Exact),
         bits: letters.bits,

@@ -43,7 +43,9 @@ pub(crate) fn text_option(
     if name == TextName::Ignored {
         return Ok(());
     }
-    let value = value.ok_or(Fault::OptionValue)?;
+    let Some(value) = value else {
+        return Err(Stop::Wrong(Fault::OptionValue));
+    };
     match name {
         TextName::Msg => msg_option(alloc, draft, value),
         TextName::Gid => Ok(gid_option(draft, value)?),
@@ -109,7 +111,9 @@ pub(crate) fn session_option(
     if name == SessionName::SameIp {
         return sameip_option(draft, value);
     }
-    let value = value.ok_or(Fault::OptionValue)?;
+    let Some(value) = value else {
+        return Err(Stop::Wrong(Fault::OptionValue));
+    };
     match name {
         SessionName::Flow => flow_option(draft, value),
         SessionName::Flags => flags_option(draft, value),
@@ -154,16 +158,22 @@ fn named_option(
         Name::Text(name) => text_option(alloc, classes, draft, name, value),
         Name::Modifier(name) => Ok(modifier_option(draft, name, left, value)?),
         Name::Payload(name) => {
-            let value = value.ok_or(Fault::OptionValue)?;
+            let Some(value) = value else {
+                return Err(Stop::Wrong(Fault::OptionValue));
+            };
             payload_option(alloc, draft, name, left, value)
         }
         Name::Session(name) => session_option(draft, name, value),
         Name::Field(field) => {
-            let value = value.ok_or(Fault::OptionValue)?;
+            let Some(value) = value else {
+                return Err(Stop::Wrong(Fault::OptionValue));
+            };
             field_option(field, draft, value)
         }
         Name::Flowbits => {
-            let value = value.ok_or(Fault::OptionValue)?;
+            let Some(value) = value else {
+                return Err(Stop::Wrong(Fault::OptionValue));
+            };
             flowbits_option(alloc, bits, draft, value)
         }
     }

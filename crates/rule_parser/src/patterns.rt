@@ -176,8 +176,12 @@ fn pcre(alloc: Global, value: &[u8]) -> Result<Opt, Stop<Fault>>
     ensures { Gives result (pcre value.now) }
 {
     let (negated, rest) = negation(value);
-    let (inside, behind) = quoted(rest).ok_or(Fault::OptionValue)?;
-    let (expression_text, letters) = slashed(inside).ok_or(Fault::OptionValue)?;
+    let Some((inside, behind)) = quoted(rest) else {
+        return Err(Stop::Wrong(Fault::OptionValue));
+    };
+    let Some((expression_text, letters)) = slashed(inside) else {
+        return Err(Stop::Wrong(Fault::OptionValue));
+    };
     let text = expression(alloc, expression_text)?;
     let flags = Flags::read(letters)?;
     if !behind.is_empty() {

@@ -81,7 +81,9 @@ fn stream_size(value: &[u8]) -> Result<Opt, Fault>
     };
     let side = sized_side(first)?;
     let cmp = size_cmp(second)?;
-    let value = number_in(0, u32::MAX, third).ok_or(Fault::OptionValue)?;
+    let Some(value) = number_in(0, u32::MAX, third) else {
+        return Err(Fault::OptionValue);
+    };
     Ok(Opt::StreamSize { side, cmp, value })
 }
 
@@ -138,9 +140,13 @@ fn stream_reassemble(value: &[u8]) -> Result<(bool, Side, bool), Fault>
     ensures { result ≡ reassemble_parts (comma_parts value.now) }
 {
     let mut parts = Parts::commas(value);
-    let first = parts.next().ok_or(Fault::OptionValue)?;
+    let Some(first) = parts.next() else {
+        return Err(Fault::OptionValue);
+    };
     let on = switched(first)?;
-    let second = parts.next().ok_or(Fault::OptionValue)?;
+    let Some(second) = parts.next() else {
+        return Err(Fault::OptionValue);
+    };
     let side = side_of(second)?;
     let noalert = quiet(parts)?;
     Ok((on, side, noalert))

@@ -21,7 +21,9 @@ const MOST_MESSAGE: usize = 1024;
 fn once(before: Option<u32>, least: u32, value: &[u8]) -> Result<u32, Fault>
     ensures { result ≡ once before least value.now }
 {
-    let number = number_in(least, u32::MAX, value).ok_or(Fault::OptionValue)?;
+    let Some(number) = number_in(least, u32::MAX, value) else {
+        return Err(Fault::OptionValue);
+    };
     if before.is_some() {
         return Err(Fault::OptionValue);
     }
@@ -70,7 +72,9 @@ pub(crate) fn quoted_whole(value: &[u8]) -> Result<&[u8], Fault>
     ensures { MatchResult result (λ inside. quoted_whole value.now ≡ Ok inside.now) (λ fault. quoted_whole value.now
         ≡ Err fault) }
 {
-    let (inside, behind) = quoted(value).ok_or(Fault::OptionValue)?;
+    let Some((inside, behind)) = quoted(value) else {
+        return Err(Fault::OptionValue);
+    };
     if !behind.is_empty() {
         return Err(Fault::OptionValue);
     }
