@@ -108,7 +108,9 @@ fn told(alloc: Global, draft: &mut Draft) -> Result<(u32, Option<u32>), Stop<Fau
     ensures gives { Gives result (told draft.old) }
     ensures settles { OnOk result (draft.new ≡ record draft.old { opts = settled draft.old; held = None }) }
 {
-    let sid = draft.sid.ok_or(Fault::MissingSid)?;
+    let Some(sid) = draft.sid else {
+        return Err(Stop::Wrong(Fault::MissingSid));
+    };
     let class = class_of(draft.class)?;
     draft.settle(alloc)?;
     Ok((sid, class))
@@ -179,7 +181,9 @@ fn rule_body(
     ensures gives { GivesWith result bits.new (rule_body classes.now bits.old header text.now) }
     ensures begins { Begins bits.old bits.new }
 {
-    let inside = in_parentheses(text).ok_or(Fault::OptionSyntax)?;
+    let Some(inside) = in_parentheses(text) else {
+        return Err(Stop::Wrong(Fault::OptionSyntax));
+    };
     let draft = rule_options(alloc, classes, bits, inside)?;
     finished(alloc, classes, header, draft)
 }

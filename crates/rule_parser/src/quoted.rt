@@ -230,11 +230,15 @@ pub(crate) fn meaning(alloc: Global, style: Style, text: &[u8]) -> Result<Text, 
     let mut out = Vec::new(alloc);
     let mut place = Place::Plain;
     for byte in text {
-        let step = step_at(style, place, *byte).ok_or(Fault::OptionValue)?;
+        let Some(step) = step_at(style, place, *byte) else {
+            return Err(Stop::Wrong(Fault::OptionValue));
+        };
         push_step(&mut out, step)?;
         place = step.place;
     }
-    let step = end_step(style, place).ok_or(Fault::OptionValue)?;
+    let Some(step) = end_step(style, place) else {
+        return Err(Stop::Wrong(Fault::OptionValue));
+    };
     push_step(&mut out, step)?;
     Ok(Text::from_vec(out))
 }
