@@ -44,7 +44,7 @@ use Rattle.snort_engine.specs.Steps.Matching.{AreMatchesOf, Matched, ShowsMatche
 use Rattle.snort_engine.specs.Steps.Sourcing.{PlacesJobs, Sourced, last_behind, sourced_items}
 use Rattle.snort_engine.specs.Steps.Detecting.{AreTaken, Closes, Detecting, EarlierJobs, EarlierRecords, InspectionStands, IsKnown, IsNewInspection, IsSoundPlan, MakesJobs, Running, Runs, ShowsRecords, closing_lines, counted, jobs_lines, settled, waiting}
 use Rattle.snort_engine.specs.Steps.Watching.{IsTest, plan_of}
-use Rattle.snort_engine.proofs.Emitting.{by_nothing, by_same, by_settled, by_stopped, by_then, by_told, emptied}
+use Rattle.snort_engine.proofs.Emitting.{emits_nothing, emits_same, emits_settled, emits_stopped, emits_then, emits_told, emptied}
 use Rattle.snort_engine.proofs.Beside.{whats-by_place, whats-carried}
 use Rattle.snort_engine.proofs.LinesLaws.{alerts-counted, jobs_lines-closing, jobs_lines-records}
 use Rattle.snort_engine.proofs.Sourcing.{last_of-more, sources_last, sources_made, told_found}
@@ -106,7 +106,7 @@ pub runs_by : (outcome : Result (Unit {0}) Stop) (plan : Plan) (source : ℕ →
     → Runs plan (by_place source 0 batch) old new outcome
 runs_by outcome plan source batch old new out answers tries shows = record {
   stands = by_outcome outcome shows.stands;
-  emits = by_same shows.emits (λ before. (
+  emits = emits_same shows.emits (λ before. (
     known_before plan batch old.inspection out new.inspection.lanes before (answers before.jobs before.stand.lanes),
     found_lines plan source before.jobs batch,
   ));
@@ -131,7 +131,7 @@ runs_by outcome plan source batch old new out answers tries shows = record {
 
 -- or memory was lacking before
 pub runs_nothing : (plan : Plan) (batch : List Sourced) (old new : Running) → new.written ≡ old.written → new.faults ≡ old.faults → Runs {A = Unit {0}} plan batch old new (Err stop.NoMemory)
-runs_nothing plan batch old new written faults = record { stands = tt; emits = by_nothing _ (waiting old) (waiting new) written faults }
+runs_nothing plan batch old new written faults = record { stands = tt; emits = emits_nothing _ (waiting old) (waiting new) written faults }
 
 -- ---- the jobs of records
 
@@ -211,7 +211,7 @@ pub records_stopped : (plan : Plan) (records : List LinkedRecord) (old : Detecti
     → ShowsRecords {A = Unit {0}} plan records old (record { detector = detector; written = middle.written; faults = middle.faults }) (Err why)
 records_stopped plan records old front made places middle detector why makes placed empty run = record {
   stands = tt;
-  emits = by_settled (Err why) (waiting (running_of old)) (waiting middle) empty tt (by_stopped run.emits (taken_lines plan records old front made places makes placed));
+  emits = emits_settled (Err why) (waiting (running_of old)) (waiting middle) empty tt (emits_stopped run.emits (taken_lines plan records old front made places makes placed));
 }
 
 -- it was run, and what waited was offered
@@ -221,8 +221,8 @@ records_offered : (plan : Plan) (records : List LinkedRecord) (old : Detecting) 
     → Runs plan (by_place (source_in records old.detector.inspection.last places) 0 made) (running_of old) middle (Ok done) → Emits [] (waiting middle) end outcome
     → EmitsBy (λ (before : EarlierRecords plan old.detector). lines plan before.records records Open) (settled old) (emptied end) outcome
 records_offered plan records old front made places middle end done outcome makes placed empty emptied_then run offered =
-    by_settled outcome (waiting (running_of old)) end empty emptied_then
-    (by_then run.emits offered (λ before. let own = taken_lines plan records old front made places makes placed before in (own.0, tt, own.1 ∙ sym (append-nil _))))
+    emits_settled outcome (waiting (running_of old)) end empty emptied_then
+    (emits_then run.emits offered (λ before. let own = taken_lines plan records old front made places makes placed before in (own.0, tt, own.1 ∙ sym (append-nil _))))
 
 -- its lines written whole, and its last record kept
 pub records_shown : (plan : Plan) (records : List LinkedRecord) (old : Detecting) (new : Detector) (made : List Job) (places : List ℕ) (middle : Running) (end : Sending) (done told : Unit {0})
@@ -241,7 +241,7 @@ records_shown plan records old new made places middle end done told makes placed
         inspection = stands_made plan source before records new.front made new.inspection taken (on (jobs_of plan before ++ whats (by_place source 0 made)) (run.stands (jobs_of plan before) stands.inspection));
         last = kept ∙ last_of-more before last records stands.last;
       };
-  emits = by_told (records_offered plan records old new.front made places middle end done (Ok told) makes placed empty emptied_then run offered) (λ before. (before, refl));
+  emits = emits_told (records_offered plan records old new.front made places middle end done (Ok told) makes placed empty emptied_then run offered) (λ before. (before, refl));
 }
 
 -- or the writing of them was stopped
@@ -257,7 +257,7 @@ records_part plan records old front made places middle end detector done why mak
 
 -- or memory was lacking before
 pub records_nothing : (plan : Plan) (records : List LinkedRecord) (old new : Detecting) → new.written ≡ old.written → new.faults ≡ old.faults → ShowsRecords {A = Unit {0}} plan records old new (Err stop.NoMemory)
-records_nothing plan records old new written faults = record { stands = tt; emits = by_nothing _ (settled old) (settled new) written faults }
+records_nothing plan records old new written faults = record { stands = tt; emits = emits_nothing _ (settled old) (settled new) written faults }
 
 -- ---- what is known, whatever the host tells
 
@@ -376,7 +376,7 @@ pub closed_stopped : (plan : Plan) (old : Detecting) (made : List Job) (middle :
     → Closes plan old (emptied (waiting middle)) (Err why)
 closed_stopped plan old made middle why gives empty run = record {
   counted = tt;
-  emits = by_stopped (by_settled (Err why) (waiting (running_of old)) (waiting middle) empty tt run.emits) (ended_lines plan old made gives);
+  emits = emits_stopped (emits_settled (Err why) (waiting (running_of old)) (waiting middle) empty tt run.emits) (ended_lines plan old made gives);
 }
 
 -- they were run, and what waited was offered
@@ -385,8 +385,8 @@ closed_offered : (plan : Plan) (old : Detecting) (made : List Job) (middle : Run
     → Runs plan (by_place (source_in [] old.detector.inspection.last []) 0 made) (running_of old) middle (Ok done) → Emits [] (waiting middle) end outcome
     → EmitsBy (λ (before : EarlierRecords plan old.detector). closing_lines plan before.records) (settled old) (emptied end) outcome
 closed_offered plan old made middle end done outcome gives empty emptied_then run offered =
-    by_settled outcome (waiting (running_of old)) end empty emptied_then
-    (by_then run.emits offered (λ before. let own = ended_lines plan old made gives before in (own.0, tt, own.1 ∙ sym (append-nil _))))
+    emits_settled outcome (waiting (running_of old)) end empty emptied_then
+    (emits_then run.emits offered (λ before. let own = ended_lines plan old made gives before in (own.0, tt, own.1 ∙ sym (append-nil _))))
 
 -- their lines written whole
 pub closed_whole : (plan : Plan) (old : Detecting) (made : List Job) (middle : Running) (end : Sending) (last : Inspection) (done told : Unit {0}) (seen : RecordCounts)
@@ -402,7 +402,7 @@ closed_whole plan old made middle end last done told seen gives tells empty empt
       counted_all plan records seen last (tells way records stands.front)
       (subst (λ (x : List Job). InspectionStands plan (jobs_of plan records ++ x) last) (whats-by_place source 0 made ∙ are)
       (on (jobs_of plan records ++ whats (by_place source 0 made)) (run.stands (jobs_of plan records) stands.inspection)));
-  emits = by_told (closed_offered plan old made middle end done (Ok told) gives empty emptied_then run offered) (λ before. (before, refl));
+  emits = emits_told (closed_offered plan old made middle end done (Ok told) gives empty emptied_then run offered) (λ before. (before, refl));
 }
 
 -- or the writing of them was stopped
@@ -412,9 +412,9 @@ pub closed_part : (plan : Plan) (old : Detecting) (made : List Job) (middle : Ru
     → Closes plan old (emptied end) (Err why)
 closed_part plan old made middle end done why gives empty run offered = record {
   counted = tt;
-  emits = by_stopped (closed_offered plan old made middle end done (Err why) gives empty tt run offered) (λ before. (before, refl));
+  emits = emits_stopped (closed_offered plan old made middle end done (Err why) gives empty tt run offered) (λ before. (before, refl));
 }
 
 -- or memory was lacking before
 pub closed_nothing : (plan : Plan) (old : Detecting) → Closes plan old (settled old) (Err stop.NoMemory)
-closed_nothing plan old = record { counted = tt; emits = by_nothing _ (settled old) (settled old) refl refl }
+closed_nothing plan old = record { counted = tt; emits = emits_nothing _ (settled old) (settled old) refl refl }

@@ -60,13 +60,13 @@ pub emits_waits : (text : List ℕ) (old new : Sending) → new.block ≡ old.bl
 emits_waits text old new waits written faults = wholly (λ known. gathers_waits text old new waits written) faults
 
 -- no text came
-pub by_none : {Known A : Type 0} {text : Known → List ℕ} {done : A} (old : Sending) → ((known : Known) → text known ≡ []) → EmitsBy text old old (Ok done)
-by_none {text = text} old none =
+pub emits_none : {Known A : Type 0} {text : Known → List ℕ} {done : A} (old : Sending) → ((known : Known) → text known ≡ []) → EmitsBy text old old (Ok done)
+emits_none {text = text} old none =
     wholly (λ known. gathers_waits (text known) old old (sym (append-nil old.block) ∙ ap (λ (x : List ℕ). old.block ++ x) (sym (none known))) refl) refl
 
 -- nothing was written of a text, for want of memory
-pub by_nothing : {Known A : Type 0} (text : Known → List ℕ) (old new : Sending) → new.written ≡ old.written → new.faults ≡ old.faults → EmitsBy {A = A} text old new (Err stop.NoMemory)
-by_nothing text old new written faults =
+pub emits_nothing : {Known A : Type 0} (text : Known → List ℕ) (old new : Sending) → new.written ≡ old.written → new.faults ≡ old.faults → EmitsBy {A = A} text old new (Err stop.NoMemory)
+emits_nothing text old new written faults =
     partly (λ known. subst (λ (x : Option (List ℕ)). WritesPart old.written (old.block ++ text known) x) (sym written) (WritesPart-none old.written (old.block ++ text known)))
     tt (λ is. absurd cc) (omega (arith, faults))
 
@@ -79,15 +79,15 @@ offered_part old new count wrote rose later =
 -- ---- a step and then another one
 
 -- a text came, and then another one, or a part of it
-pub by_then : {Known First Second A B : Type 0} {first : First → List ℕ} {second : Second → List ℕ} {text : Known → List ℕ} {old middle new : Sending} {done : A} {outcome : Result B Stop}
+pub emits_then : {Known First Second A B : Type 0} {first : First → List ℕ} {second : Second → List ℕ} {text : Known → List ℕ} {old middle new : Sending} {done : A} {outcome : Result B Stop}
     → EmitsBy first old middle (Ok done) → EmitsBy second middle new outcome
     → ((known : Known) → (i : First) × (j : Second) × (text known ≡ first i ++ second j)) → EmitsBy text old new outcome
-by_then {first = first} {second = second} {old = old} {middle = middle} {new = new} {outcome = Ok more} one two joins =
+emits_then {first = first} {second = second} {old = old} {middle = middle} {new = new} {outcome = Ok more} one two joins =
     wholly
     (λ known. let p = joins known in
     subst (λ (x : List ℕ). Gathers x old new) (sym p.2) (gathers_both (first p.0) (second p.1) old middle new (one.whole p.0) (two.whole p.1)))
     (two.quiet ∙ one.quiet)
-by_then {first = first} {second = second} {old = old} {middle = middle} {new = new} {outcome = Err why} one two joins =
+emits_then {first = first} {second = second} {old = old} {middle = middle} {new = new} {outcome = Err why} one two joins =
     let same = one.quiet in
     let later = two.later in
     partly
@@ -96,9 +96,9 @@ by_then {first = first} {second = second} {old = old} {middle = middle} {new = n
     two.kind (λ is. let rose = two.fault (ap Err is) in grind (arith, nat_tests, rose, same)) (omega (arith, same, later))
 
 -- a part of a text is one of a longer text
-pub by_longer : {Known First A B : Type 0} {first : First → List ℕ} {text : Known → List ℕ} {old new : Sending} {why : Stop}
+pub emits_longer : {Known First A B : Type 0} {first : First → List ℕ} {text : Known → List ℕ} {old new : Sending} {why : Stop}
     → EmitsBy {A = A} first old new (Err why) → ((known : Known) → (i : First) × (rest : List ℕ) × (text known ≡ first i ++ rest)) → EmitsBy {A = B} text old new (Err why)
-by_longer {first = first} {old = old} {new = new} one joins =
+emits_longer {first = first} {old = old} {new = new} one joins =
     partly
     (λ known. let p = joins known in
     subst (λ (x : List ℕ). WritesPart old.written x new.written) (append_assoc old.block (first p.0) p.1 ∙ ap (λ (x : List ℕ). old.block ++ x) (sym p.2))
@@ -106,38 +106,32 @@ by_longer {first = first} {old = old} {new = new} one joins =
     one.kind (λ is. one.fault (ap Err is)) one.later
 
 -- the same text, said otherwise, and whatever is told with it
-pub by_told : {Known First A B : Type 0} {first : First → List ℕ} {text : Known → List ℕ} {old new : Sending} {done : A} {more : B}
+pub emits_told : {Known First A B : Type 0} {first : First → List ℕ} {text : Known → List ℕ} {old new : Sending} {done : A} {more : B}
     → EmitsBy first old new (Ok done) → ((known : Known) → (i : First) × (text known ≡ first i)) → EmitsBy text old new (Ok more)
-by_told {new = new} one same = by_then one (by_none {Known = ⊤} {text = λ nothing. []} new (λ nothing. refl)) (λ known. let p = same known in (p.0, tt, p.1 ∙ sym (append-nil _)))
+emits_told {new = new} one same = emits_then one (emits_none {Known = ⊤} {text = λ nothing. []} new (λ nothing. refl)) (λ known. let p = same known in (p.0, tt, p.1 ∙ sym (append-nil _)))
 
-pub by_stopped : {Known First A B : Type 0} {first : First → List ℕ} {text : Known → List ℕ} {old new : Sending} {why : Stop}
+pub emits_stopped : {Known First A B : Type 0} {first : First → List ℕ} {text : Known → List ℕ} {old new : Sending} {why : Stop}
     → EmitsBy {A = A} first old new (Err why) → ((known : Known) → (i : First) × (text known ≡ first i)) → EmitsBy {A = B} text old new (Err why)
-by_stopped one same = by_longer one (λ known. let p = same known in (p.0, [], p.1 ∙ sym (append-nil _)))
+emits_stopped one same = emits_longer one (λ known. let p = same known in (p.0, [], p.1 ∙ sym (append-nil _)))
 
-pub by_same : {Known First A : Type 0} {first : First → List ℕ} {text : Known → List ℕ} {old new : Sending} {outcome : Result A Stop}
+pub emits_same : {Known First A : Type 0} {first : First → List ℕ} {text : Known → List ℕ} {old new : Sending} {outcome : Result A Stop}
     → EmitsBy first old new outcome → ((known : Known) → (i : First) × (text known ≡ first i)) → EmitsBy text old new outcome
-by_same {outcome = Ok done} one same = by_told one same
-by_same {outcome = Err why} one same = by_stopped one same
+emits_same {outcome = Ok done} one same = emits_told one same
+emits_same {outcome = Err why} one same = emits_stopped one same
 
 -- a text came, and then memory was lacking
-pub by_lacking : {Known First A B : Type 0} {first : First → List ℕ} {text : Known → List ℕ} {old new : Sending} {done : A}
+pub emits_lacking : {Known First A B : Type 0} {first : First → List ℕ} {text : Known → List ℕ} {old new : Sending} {done : A}
     → EmitsBy first old new (Ok done) → ((known : Known) → (i : First) × (rest : List ℕ) × (text known ≡ first i ++ rest)) → EmitsBy {A = B} text old new (Err stop.NoMemory)
-by_lacking {new = new} one joins = by_then one (by_nothing (λ (rest : List ℕ). rest) new new refl refl) joins
+emits_lacking {new = new} one joins = emits_then one (emits_nothing (λ (rest : List ℕ). rest) new new refl refl) joins
 
 -- the same of texts that go by nothing else
-pub emits_none : {A : Type 0} {text : List ℕ} {done : A} (old : Sending) → text ≡ [] → Emits text old old (Ok done)
-emits_none old is = by_none old (λ known. is)
-
-pub emits_nothing : {A : Type 0} (text : List ℕ) (old new : Sending) → new.written ≡ old.written → new.faults ≡ old.faults → Emits {A = A} text old new (Err stop.NoMemory)
-emits_nothing text = by_nothing (λ known. text)
-
-pub emits_then : {A B : Type 0} {first second text : List ℕ} {old middle new : Sending} {done : A} {outcome : Result B Stop}
+pub emits_both : {A B : Type 0} {first second text : List ℕ} {old middle new : Sending} {done : A} {outcome : Result B Stop}
     → Emits first old middle (Ok done) → Emits second middle new outcome → text ≡ first ++ second → Emits text old new outcome
-emits_then one two is = by_then one two (λ known. (tt, tt, is))
+emits_both one two is = emits_then one two (λ known. (tt, tt, is))
 
-pub emits_longer : {A B : Type 0} {first text : List ℕ} {old new : Sending} {why : Stop} (rest : List ℕ)
-    → Emits {A = A} first old new (Err why) → text ≡ first ++ rest → Emits {A = B} text old new (Err why)
-emits_longer rest one is = by_longer one (λ known. (tt, rest, is))
+-- and of texts that nobody knows
+pub any_then : {A B : Type 0} {old middle new : Sending} {done : A} {outcome : Result B Stop} → EmitsAny old middle (Ok done) → EmitsAny middle new outcome → EmitsAny old new outcome
+any_then one two = emits_then one two (λ none. absurd none)
 
 -- ---- without the blocks
 
@@ -145,32 +139,20 @@ abbrev pub emptied : Sending → Sending
 emptied now = record { written = now.written; block = []; faults = now.faults }
 
 -- where no text waits before, nor afterwards
-pub by_settled : {Known A : Type 0} {text : Known → List ℕ} (outcome : Result A Stop) (old new : Sending) → old.block ≡ [] → OnOk outcome (new.block ≡ [])
+pub emits_settled : {Known A : Type 0} {text : Known → List ℕ} (outcome : Result A Stop) (old new : Sending) → old.block ≡ [] → OnOk outcome (new.block ≡ [])
     → EmitsBy text old new outcome → EmitsBy text (emptied old) (emptied new) outcome
-by_settled {text = text} (Ok done) old new before after one =
+emits_settled {text = text} (Ok done) old new before after one =
     wholly
     (λ known. let came = one.whole known in
     record { part = came.part; joined = ap (λ (x : List ℕ). x ++ text known) (sym before) ∙ came.joined ∙ ap (λ (x : List ℕ). came.part ++ x) after; wrote = came.wrote })
     one.quiet
-by_settled {text = text} (Err why) old new before after one =
+emits_settled {text = text} (Err why) old new before after one =
     partly (λ known. subst (λ (x : List ℕ). WritesPart old.written (x ++ text known) new.written) before (one.part known)) one.kind (λ is. one.fault (ap Err is)) one.later
 
 -- how a step ended, whatever its text was
 pub emits_any : {First A : Type 0} {first : First → List ℕ} {old new : Sending} {outcome : Result A Stop} → EmitsBy first old new outcome → EmitsAny (emptied old) (emptied new) outcome
 emits_any {outcome = Ok done} one = wholly (λ none. absurd none) one.quiet
 emits_any {outcome = Err why} one = partly (λ none. absurd none) one.kind (λ is. one.fault (ap Err is)) one.later
-
-pub any_then : {A B : Type 0} {old middle new : Sending} {done : A} {outcome : Result B Stop} → EmitsAny old middle (Ok done) → EmitsAny middle new outcome → EmitsAny old new outcome
-any_then one two = by_then one two (λ none. absurd none)
-
-pub any_nothing : {A : Type 0} (old : Sending) → EmitsAny {A = A} old old (Err stop.NoMemory)
-any_nothing old = by_nothing (λ none. []) old old refl refl
-
-pub any_told : {A B : Type 0} {old new : Sending} {done : A} {more : B} → EmitsAny old new (Ok done) → EmitsAny old new (Ok more)
-any_told one = by_told one (λ none. absurd none)
-
-pub any_stopped : {A B : Type 0} {old new : Sending} {why : Stop} → EmitsAny {A = A} old new (Err why) → EmitsAny {A = B} old new (Err why)
-any_stopped one = by_stopped one (λ none. absurd none)
 
 -- ---- what waits is offered
 

@@ -26,7 +26,7 @@ use Rattle.snort_engine.specs.Steps.Matching.{AreMatchesOf, ShowsMatches, matche
 use Rattle.snort_engine.specs.Steps.Showing.{EventsStand, Showing, Shows, SourcedItem, sending_of, items_lines, tally_of}
 use Rattle.snort_engine.specs.Steps.Sourcing.{sourced_items}
 use Rattle.snort_engine.specs.Trace.{event_at, filtered_item, item_events}
-use Rattle.snort_engine.proofs.Emitting.{by_nothing, by_stopped, by_told}
+use Rattle.snort_engine.proofs.Emitting.{emits_nothing, emits_stopped, emits_told}
 use Rattle.snort_engine.proofs.Showing.{same_tally}
 
 -- ---- items that no rule matches
@@ -213,16 +213,16 @@ shows_matches form config rules source found old new done count counted shows = 
       let all : List SourcedItem = sourced_items (by_place source 0 jobs) in
       stands_matched config rules before all old new count (counted ∙ ap (λ (n : ℕ). old.events.tally.items + n) (are.items ∙ sym (length-told source 0 jobs))) stands
       (subst (λ (x : List SourcedItem). EventsStand config rules (before ++ whats x) new.events) (few_of_all source found jobs are) (shows.stands before stands));
-  emits = by_told shows.emits (λ known. (known.before, matches_lines form config rules source found known.before.items known.jobs known.are));
+  emits = emits_told shows.emits (λ known. (known.before, matches_lines form config rules source found known.before.items known.jobs known.are));
 }
 
 pub matches_part : (form : Form) (config : Config) (rules : List Rule) (source : ℕ → LinkedRecord) (found : Matches) (old new : Showing) (why : Stop)
     → Shows {A = Unit {0}} form config rules (sourced_items (by_place source 0 found.hits.items)) old new (Err why) → ShowsMatches {A = Unit {0}} form config rules source found old new (Err why)
 matches_part form config rules source found old new why shows = record {
   stands = tt;
-  emits = by_stopped shows.emits (λ known. (known.before, matches_lines form config rules source found known.before.items known.jobs known.are));
+  emits = emits_stopped shows.emits (λ known. (known.before, matches_lines form config rules source found known.before.items known.jobs known.are));
 }
 
 pub matches_nothing : (form : Form) (config : Config) (rules : List Rule) (source : ℕ → LinkedRecord) (found : Matches) (old : Showing)
     → ShowsMatches {A = Unit {0}} form config rules source found old old (Err stop.NoMemory)
-matches_nothing form config rules source found old = record { stands = tt; emits = by_nothing _ (sending_of old) (sending_of old) refl refl }
+matches_nothing form config rules source found old = record { stands = tt; emits = emits_nothing _ (sending_of old) (sending_of old) refl refl }

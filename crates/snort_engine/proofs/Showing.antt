@@ -33,7 +33,7 @@ use Rattle.snort_engine.specs.Counts.{hit_count}
 use Rattle.snort_engine.specs.Steps.Gathering.{Sending, Emits}
 use Rattle.snort_engine.specs.Steps.Showing.{Subject, SourcedItem, places_lines, places_count, ShowsPlaces, items_lines, tally_of, EventsStand, Earlier, Showing, sending_of, Shows}
 use Rattle.snort_engine.specs.Steps.Sourcing.{sourced_items}
-use Rattle.snort_engine.proofs.Emitting.{by_lacking, by_longer, by_none, by_nothing, by_stopped, by_then, by_told, emits_longer, emits_none, emits_then}
+use Rattle.snort_engine.proofs.Emitting.{emits_both, emits_lacking, emits_longer, emits_none, emits_nothing, emits_stopped, emits_then, emits_told}
 use Rattle.snort_engine.proofs.Texts.{texts_from-append}
 use Rattle.snort_engine.proofs.Beside.{by_place-append, carried-append, length-carried, whats-append}
 
@@ -93,25 +93,25 @@ place_absent rules place (Some rule) found absent = absurd (absent rule refl)
 pub place_shown : {A : Type 0} (s : Subject) (before place : ℕ) (rule : Rule) (old new : Sending) (done : A) → slice_get s.rules place ≡ Some rule
     → Emits (text_by s before (beside s.source (event_of s.head rule))) old new (Ok done) → ShowsPlaces s before (place ∷ []) old new (Ok 1)
 place_shown s before place rule old new done is line = record {
-  emits = by_told line (λ known. (tt, place_lines-some s before place rule is));
+  emits = emits_told line (λ known. (tt, place_lines-some s before place rule is));
   counted = sym (place_count-some s.rules s.head place rule is);
 }
 
 pub place_passed : (s : Subject) (before place : ℕ) (old : Sending) → slice_get s.rules place ≡ None → ShowsPlaces s before (place ∷ []) old old (Ok 0)
 place_passed s before place old is = record {
-  emits = emits_none old (place_lines-none s before place is);
+  emits = emits_none old (λ known. place_lines-none s before place is);
   counted = sym (place_count-none s.rules s.head place is);
 }
 
 -- or it was stopped
 pub place_part : {A : Type 0} (s : Subject) (before place : ℕ) (rule : Rule) (old new : Sending) (why : Stop) → slice_get s.rules place ≡ Some rule
     → Emits {A = A} (text_by s before (beside s.source (event_of s.head rule))) old new (Err why) → ShowsPlaces s before (place ∷ []) old new (Err why)
-place_part s before place rule old new why is line = record { emits = by_stopped line (λ known. (tt, place_lines-some s before place rule is)); counted = tt }
+place_part s before place rule old new why is line = record { emits = emits_stopped line (λ known. (tt, place_lines-some s before place rule is)); counted = tt }
 
 -- no rule
 pub places_none : (s : Subject) (before : ℕ) (old : Sending) → ShowsPlaces s before [] old old (Ok 0)
 unfolding places_lines places_count
-places_none s before old = record { emits = emits_none old refl; counted = refl }
+places_none s before old = record { emits = emits_none old (λ known. refl); counted = refl }
 
 -- the lines so far, and then those of the others
 places_split : (s : Subject) (before : ℕ) (places : List ℕ) (i : ℕ)
@@ -128,7 +128,7 @@ places_more s before places i number lt at =
 pub places_nothing : (s : Subject) (before : ℕ) (places : List ℕ) (i count : ℕ) (old middle : Sending)
     → ShowsPlaces s before (take i places) old middle (Ok count) → ShowsPlaces s before places old middle (Err stop.NoMemory)
 places_nothing s before places i count old middle so_far = record {
-  emits = by_lacking so_far.emits (λ known. (tt, places_lines s (before + places_count s.rules s.head (take i places)) (drop i places), places_split s before places i));
+  emits = emits_lacking so_far.emits (λ known. (tt, places_lines s (before + places_count s.rules s.head (take i places)) (drop i places), places_split s before places i));
   counted = tt;
 }
 
@@ -138,7 +138,7 @@ pub places_step : (s : Subject) (before : ℕ) (places : List ℕ) (i count one 
     → ShowsPlaces s before (take (i + 1) places) old new (Ok (count + one))
 places_step s before places i count one number old middle new lt numbered so_far more =
     let at = numbered ∙ ap (λ (n : ℕ). before + n) so_far.counted in record {
-      emits = by_told (emits_then so_far.emits more.emits (places_more s before places i number lt at)) (λ known. (tt, refl));
+      emits = emits_told (emits_both so_far.emits more.emits (places_more s before places i number lt at)) (λ known. (tt, refl));
       counted =
           let first = so_far.counted in
           let second = more.counted in
@@ -152,7 +152,7 @@ pub places_part : (s : Subject) (before : ℕ) (places : List ℕ) (i count numb
     → ShowsPlaces s before places old new (Err why)
 places_part s before places i count number old middle new why lt numbered so_far more =
     let at = numbered ∙ ap (λ (n : ℕ). before + n) so_far.counted in record {
-      emits = emits_longer _ (emits_then so_far.emits more.emits (places_more s before places i number lt at)) (places_split s before places (i + 1));
+      emits = emits_longer (emits_both so_far.emits more.emits (places_more s before places i number lt at)) (λ known. (tt, _, places_split s before places (i + 1)));
       counted = tt;
     }
 
@@ -259,13 +259,13 @@ shows_one form config rules source hits old new places count size passes shown t
             ∙ ap (λ (n : ℕ). tally_with old.events.tally n count) is
             ∙ tally_of-more config rules before hits count old.events.tally stands.tally (shown.counted ∙ ap (places_count rules hits.head) passed.1);
       };
-  emits = by_told shown.emits (λ before. (tt, item_lines_by form config rules source hits old.events new.events.filters places passes before));
+  emits = emits_told shown.emits (λ before. (tt, item_lines_by form config rules source hits old.events new.events.filters places passes before));
 }
 
 -- memory was lacking before it was shown
 pub shows_nothing : (form : Form) (config : Config) (rules : List Rule) (items : List SourcedItem) (old new : Showing) → new.written ≡ old.written → new.faults ≡ old.faults
     → Shows {A = Unit {0}} form config rules items old new (Err stop.NoMemory)
-shows_nothing form config rules items old new written faults = record { stands = tt; emits = by_nothing _ (sending_of old) (sending_of new) written faults }
+shows_nothing form config rules items old new written faults = record { stands = tt; emits = emits_nothing _ (sending_of old) (sending_of new) written faults }
 
 -- it was stopped
 pub shows_part_of : (form : Form) (config : Config) (rules : List Rule) (source : LinkedRecord) (hits : Hits) (old new : Showing) (after : FiltersState) (places : List ℕ) (why : Stop)
@@ -274,7 +274,7 @@ pub shows_part_of : (form : Form) (config : Config) (rules : List Rule) (source 
     → Shows {A = Unit {0}} form config rules (beside source hits ∷ []) old new (Err why)
 shows_part_of form config rules source hits old new after places why passes shown = record {
   stands = tt;
-  emits = by_stopped shown.emits (λ before. (tt, item_lines_by form config rules source hits old.events after places passes before));
+  emits = emits_stopped shown.emits (λ before. (tt, item_lines_by form config rules source hits old.events after places passes before));
 }
 
 -- its lines came, and it couldn't be counted
@@ -284,7 +284,7 @@ pub shows_uncounted : (form : Form) (config : Config) (rules : List Rule) (sourc
     → Shows {A = Unit {0}} form config rules (beside source hits ∷ []) old new (Err stop.NoMemory)
 shows_uncounted form config rules source hits old new after places count passes shown = record {
   stands = tt;
-  emits = by_lacking shown.emits (λ before. (tt, [], item_lines_by form config rules source hits old.events after places passes before ∙ sym (append-nil _)));
+  emits = emits_lacking shown.emits (λ before. (tt, [], item_lines_by form config rules source hits old.events after places passes before ∙ sym (append-nil _)));
 }
 
 -- no item came
@@ -295,7 +295,7 @@ items_lines-none form config rules before = refl
 pub shows_none : (form : Form) (config : Config) (rules : List Rule) (old : Showing) → Shows {A = Unit {0}} form config rules [] old old (Ok tt)
 shows_none form config rules old = record {
   stands = λ before stands. subst (λ (x : List Hits). EventsStand config rules x old.events) (sym (append-nil before)) stands;
-  emits = by_none (sending_of old) (λ before. items_lines-none form config rules before.items);
+  emits = emits_none (sending_of old) (λ before. items_lines-none form config rules before.items);
 }
 
 -- items came, and then others, or a part of their lines
@@ -303,7 +303,7 @@ pub shows_then : (form : Form) (config : Config) (rules : List Rule) (front back
     → Shows form config rules front old middle (Ok done) → Shows form config rules back middle new outcome → Shows form config rules (front ++ back) old new outcome
 shows_then form config rules front back old middle new done outcome one two = record {
   stands = by_outcome outcome two.stands;
-  emits = by_then one.emits two.emits (λ before. (before, record { items = before.items ++ whats front; stand = one.stands before.items before.stand }, items_lines-append form config rules before.items front back));
+  emits = emits_then one.emits two.emits (λ before. (before, record { items = before.items ++ whats front; stand = one.stands before.items before.stand }, items_lines-append form config rules before.items front back));
 }
   where
     by_outcome : (so : Result (Unit {0}) Stop)
@@ -320,7 +320,7 @@ shows_longer : (form : Form) (config : Config) (rules : List Rule) (front back :
     → Shows {A = Unit {0}} form config rules front old new (Err why) → Shows {A = Unit {0}} form config rules (front ++ back) old new (Err why)
 shows_longer form config rules front back old new why one = record {
   stands = tt;
-  emits = by_longer one.emits (λ before. (before, items_lines form config rules (before.items ++ whats front) back, items_lines-append form config rules before.items front back));
+  emits = emits_longer one.emits (λ before. (before, items_lines form config rules (before.items ++ whats front) back, items_lines-append form config rules before.items front back));
 }
 
 -- ---- the items of a job, beside one record

@@ -28,8 +28,8 @@ pub record Gathers (text : List ℕ) (old new : Sending) : Type 0 where
   pub joined : old.block ++ text ≡ part ++ new.block
   pub wrote : new.written ≡ behind old.written part
 
--- a text is on its way, or a part of it and of what waited was written, and why no more is told: the sink failed, and
--- that was counted, or memory was lacking. The text may go by what is known of the steps before
+-- a text is on its way; or the step was stopped, and a part of what waited and of the text was written. What stopped it
+-- is a fault of the sink, which was counted, or want of memory. The text may go by what is known of earlier steps
 pub record EmitsBy {Known A : Type 0} (text : Known → List ℕ) (old new : Sending) (outcome : Result A Stop) : Type 0 where
   pub whole : OnOk outcome ((known : Known) → Gathers (text known) old new)
   pub part : OnErr outcome ((known : Known) → WritesPart old.written (old.block ++ text known) new.written)
@@ -42,6 +42,6 @@ pub record EmitsBy {Known A : Type 0} (text : Known → List ℕ) (old new : Sen
 abbrev pub Emits : {A : Type 0} → List ℕ → Sending → Sending → Result A Stop → Type 0
 Emits text = EmitsBy {Known = ⊤} (λ known. text)
 
--- or of a text that isn't known: how the step ended is left
+-- the same of a text that nobody knows: what is left is how the step ended
 abbrev pub EmitsAny : {A : Type 0} → Sending → Sending → Result A Stop → Type 0
 EmitsAny = EmitsBy {Known = ⊥} (λ none. [])

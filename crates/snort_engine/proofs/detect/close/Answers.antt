@@ -3,7 +3,7 @@ use Rattle.std.proofs.lemmas.Result.{err_from_is_err_and}
 use Rattle.snort_engine.specs.declared.detect.Inspection.{Inspection}
 use Rattle.snort_engine.specs.Trace.{jobs_way_by}
 use Rattle.snort_engine.specs.Steps.Watching.{plan_of}
-use Rattle.snort_engine.proofs.Emitting.{any_nothing, any_stopped, any_then, any_told, emits_any}
+use Rattle.snort_engine.proofs.Emitting.{any_then, emits_any, emits_nothing, emits_stopped, emits_told}
 use Rattle.snort_engine.proofs.Detecting.{closed_nothing, closed_part, closed_stopped, closed_whole, ready_closing, stands_on}
 use Rattle.snort_engine.proofs.detect.close.Goals as goal
 
@@ -15,7 +15,7 @@ returns-in_err-jobs-clause-closed g c = λ matches test.
 pub returns-in_err-jobs-clause-ends : goal.returns-in_err-jobs-clause-ends
 returns-in_err-jobs-clause-ends g c =
     let p = err_from_is_err_and c.from_residual.result c.from_residual.ensures.1 in
-    rw (p.1, p.2) (any_nothing _)
+    rw (p.1, p.2) (emits_nothing _ _ _ refl refl)
 
 pub run_jobs-requires-clause-ready : goal.run_jobs-requires-clause-ready
 run_jobs-requires-clause-ready g c κs within =
@@ -31,7 +31,7 @@ returns-in_err-run_jobs-clause-closed g c = λ matches test.
 pub returns-in_err-run_jobs-clause-ends : goal.returns-in_err-run_jobs-clause-ends
 returns-in_err-run_jobs-clause-ends g c =
     let p = err_from_is_err_and c.from_residual-in_err-run_jobs.result c.from_residual-in_err-run_jobs.ensures.1 in
-    rw (p.1, p.2) (any_stopped c.in_err-run_jobs.ensures.ends)
+    rw (p.1, p.2) (emits_stopped c.in_err-run_jobs.ensures.ends (λ none. absurd none))
 
 pub returns-in_err-offer-clause-closed : goal.returns-in_err-offer-clause-closed
 returns-in_err-offer-clause-closed g c = λ matches test.
@@ -42,7 +42,7 @@ returns-in_err-offer-clause-closed g c = λ matches test.
 pub returns-in_err-offer-clause-ends : goal.returns-in_err-offer-clause-ends
 returns-in_err-offer-clause-ends g c =
     let p = err_from_is_err_and c.from_residual-in_err-offer.result c.from_residual-in_err-offer.ensures.1 in
-    rw (p.1, p.2) (any_stopped (any_then c.in_ok-run_jobs.ensures.ends (emits_any c.in_err-offer.ensures.emits)))
+    rw (p.1, p.2) (emits_stopped (any_then c.in_ok-run_jobs.ensures.ends (emits_any c.in_err-offer.ensures.emits)) (λ none. absurd none))
 
 pub returns-clause-closed : goal.returns-clause-closed
 returns-clause-closed g c = λ matches test.
@@ -54,4 +54,4 @@ returns-clause-closed g c = λ matches test.
     (λ before stands. stands_on (plan_of matches c.args.context.now.plan.now) before ran last refl refl refl refl stands))
 
 pub returns-clause-ends : goal.returns-clause-ends
-returns-clause-ends g c = any_told (any_then c.in_ok-run_jobs.ensures.ends (emits_any c.in_ok-offer.ensures.emits))
+returns-clause-ends g c = emits_told (any_then c.in_ok-run_jobs.ensures.ends (emits_any c.in_ok-offer.ensures.emits)) (λ none. absurd none)

@@ -3,7 +3,7 @@ use Rattle.std.proofs.lemmas.Result.{err_from_is_err_and}
 use Rattle.snort_engine.specs.Trace.{detection_of}
 use Rattle.snort_engine.specs.Steps.Watching.{plan_of}
 use Rattle.snort_engine.specs.Beside.{by_place, source_in}
-use Rattle.snort_engine.proofs.Emitting.{any_nothing, emits_any}
+use Rattle.snort_engine.proofs.Emitting.{emits_nothing, emits_any}
 use Rattle.snort_engine.proofs.Detecting.{detects_by, runs_by, runs_nothing}
 use Rattle.snort_engine.proofs.detect.run_jobs.Goals as goal
 
@@ -15,7 +15,7 @@ returns-in_err-search-clause-shown g c = λ matches test.
 pub returns-in_err-search-clause-ends : goal.returns-in_err-search-clause-ends
 returns-in_err-search-clause-ends g c =
     let p = err_from_is_err_and c.from_residual.result c.from_residual.ensures.1 in
-    rw (p.1, p.2) (any_nothing _)
+    rw (p.1, p.2) (emits_nothing _ _ _ refl refl)
 
 pub returns-in_err-inspection-clause-shown : goal.returns-in_err-inspection-clause-shown
 returns-in_err-inspection-clause-shown g c = λ matches test.
@@ -25,7 +25,7 @@ returns-in_err-inspection-clause-shown g c = λ matches test.
 pub returns-in_err-inspection-clause-ends : goal.returns-in_err-inspection-clause-ends
 returns-in_err-inspection-clause-ends g c =
     let p = err_from_is_err_and c.from_residual-in_err-inspection.result c.from_residual-in_err-inspection.ensures.1 in
-    rw (p.1, p.2) (any_nothing _)
+    rw (p.1, p.2) (emits_nothing _ _ _ refl refl)
 
 pub returns-clause-shown : goal.returns-clause-shown
 returns-clause-shown g c = λ matches test.

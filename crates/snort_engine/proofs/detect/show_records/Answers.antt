@@ -2,7 +2,7 @@ use Rattle.std.proofs.Common.{refl, arith}
 use Rattle.std.proofs.lemmas.Result.{err_from_is_err_and}
 use Rattle.snort_engine.specs.Trace.{jobs_way_by}
 use Rattle.snort_engine.specs.Steps.Watching.{plan_of}
-use Rattle.snort_engine.proofs.Emitting.{any_nothing, any_then, emits_any}
+use Rattle.snort_engine.proofs.Emitting.{any_then, emits_any, emits_nothing}
 use Rattle.snort_engine.proofs.Detecting.{known_records, ready_records, records_nothing, records_part, records_shown, records_stopped, stands_on}
 use Rattle.snort_engine.proofs.detect.show_records.Goals as goal
 
@@ -14,7 +14,7 @@ returns-in_err-made-clause-shown g c = λ matches test.
 pub returns-in_err-made-clause-ends : goal.returns-in_err-made-clause-ends
 returns-in_err-made-clause-ends g c =
     let p = err_from_is_err_and c.from_residual.result c.from_residual.ensures.1 in
-    rw (p.1, p.2) (any_nothing _)
+    rw (p.1, p.2) (emits_nothing _ _ _ refl refl)
 
 pub run_jobs-requires-clause-ready : goal.run_jobs-requires-clause-ready
 run_jobs-requires-clause-ready g c κs within =

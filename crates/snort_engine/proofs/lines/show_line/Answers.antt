@@ -1,7 +1,7 @@
 use Rattle.std.proofs.Common.{refl, sym}
 use Rattle.std.proofs.lemmas.List.{append-nil}
 use Rattle.std.proofs.lemmas.Result.{err_from_is_err_and}
-use Rattle.snort_engine.proofs.Emitting.{emits_nothing, emits_then, emits_waits}
+use Rattle.snort_engine.proofs.Emitting.{emits_both, emits_nothing, emits_waits}
 use Rattle.snort_engine.proofs.lines.show_line.Goals as goal
 
 pub returns-in_err-push_alert : goal.returns-in_err-push_alert
@@ -10,4 +10,4 @@ returns-in_err-push_alert g c =
     rw (p.1, p.2) (emits_nothing _ _ _ refl refl)
 
 pub returns : goal.returns
-returns g c = emits_then (emits_waits _ _ _ c.in_ok-push_alert.ensures refl refl) c.offer_full.ensures.emits (sym (append-nil _))
+returns g c = emits_both (emits_waits _ _ _ c.in_ok-push_alert.ensures refl refl) c.offer_full.ensures.emits (sym (append-nil _))
