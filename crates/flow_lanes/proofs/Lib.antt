@@ -1,4 +1,5 @@
 pub mod Course
+pub mod Open
 pub mod ItemHits
 pub mod Sessions
 pub mod Jobs

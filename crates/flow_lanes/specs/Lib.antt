@@ -13,6 +13,7 @@ pub mod Flows
 pub mod Detecting
 pub mod Sound
 pub mod Standing
+pub mod Open
 pub mod Batching
 pub mod Course
 pub mod Kept

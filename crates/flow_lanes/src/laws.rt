@@ -1,14 +1,16 @@
 //! Laws about the answers to jobs, for callers.
 
-ghost use Rattle.std.specs.Prelude.{◌≡◌, ℕ, ◌<◌, List, Option, filter, length};
+ghost use Rattle.std.specs.Prelude.{◌≡◌, ℕ, ◌<◌, ◌==◌, ◌&&◌, List, Option, Some, filter, length, slice_get};
 ghost use Rattle.std.specs.List.{flat_map};
 ghost use Rattle.std.specs.List.Sorted.{IsPermutation};
+ghost use Rattle.std.specs.Option.{is_some};
 ghost use Rattle.edge_io.specs.Along.{AscendsBy, along_from, within};
 ghost use Rattle.flow_lanes.specs.declared.answer.JobHits.{JobHits};
 ghost use Rattle.flow_lanes.specs.declared.job.Job.{Job};
 ghost use Rattle.flow_lanes.specs.Flows.{Detection, answer, items, same_flow};
+ghost use Rattle.flow_lanes.specs.Open.{is_open};
 ghost use Rattle.flow_lanes.specs.Sound.{FlowFacts, IsSoundFor};
-ghost use Rattle.flow_lanes.specs.Standing.{AreLaneAnswers, AreShort, answers_of_flow, is_of_flow};
+ghost use Rattle.flow_lanes.specs.Standing.{AreLaneAnswers, AreShort, LaneState, LanesStand, LanesState, answers_of_flow, is_of_flow, kept_of, lane_of};
 
 /// The stream items of a sound job of a flow have at most 16384 bytes, whatever jobs stand before it.
 pub fn stream_items_are_short()
@@ -29,4 +31,12 @@ pub fn lanes_change_nothing()
         → 0 < length parts → AreLaneAnswers d before jobs parts → AscendsBy (λ job. job.number) jobs
         → IsPermutation (flat_map (λ part. part) parts) merged → AscendsBy (λ entry. entry.number) merged
         → merged ≡ along_from (answer d) before jobs }
+{}
+
+/// Lanes that stand for some jobs keep of these the flows that are open, each in its own lane, and nothing of any other
+/// flow: what ended takes no place, however many flows there were.
+pub fn lanes_keep_open_flows()
+    ensures { (d : Detection) (lanes : LanesState) (before : List Job) (place flow : ℕ) (lane : LaneState)
+        → LanesStand d lanes before → slice_get lanes.lanes place ≡ Some lane
+        → is_some (kept_of lane flow) ≡ ((lane_of (length lanes.lanes) (Some flow) == place) && is_open flow before) }
 {}

@@ -38,7 +38,9 @@ pub use batch::Lanes;
 pub use facts::{EndWay, FlowEnds, FlowFacts};
 pub use job::{Job, Toward, Work};
 pub use lane::Lane;
-pub use laws::{lanes_change_nothing, other_flows_change_nothing, stream_items_are_short};
+pub use laws::{
+    lanes_change_nothing, lanes_keep_open_flows, other_flows_change_nothing, stream_items_are_short,
+};
 pub use payload::Payload;
 pub use rule_eval::{
     hits_are_one, matching_is_decided, matching_rules_are_candidates, rule_matches,
