@@ -170,3 +170,14 @@ found-touched max touches key some =
       | false ↦ λ t. ap (touch_at (begun max touches) true) (sym (eviction max touches key (max_for max key.tcp - 1) least t))
     ]) refl
     ∙ ap (λ (f : ℕ). touch_at f (not (is_live max touches key)) (evicted_flow max touches key)) (sym (number_after max touches key))
+
+-- a key whose life a touch ends is the one whose flow it tells
+pub evicted-is : (max : MaxFlows) (touches : List Key) (key other : Key) → 0 < max_for max key.tcp → ends_life max touches key other ≡ true → evicted_flow max touches key ≡ Some (flow_number max touches other)
+evicted-is max touches key other some ends = by_live (is_live max touches key) refl
+  where
+    by_live : (live : Bool) → is_live max touches key ≡ live → evicted_flow max touches key ≡ Some (flow_number max touches other)
+    by_live true live = absurd (false≢true (sym (ends_none max touches key other some live) ∙ ends))
+    by_live false fresh =
+        let room : max_for max key.tcp ≡ suc (max_for max key.tcp - 1) = omega (arith, some) in
+        eviction max touches key (max_for max key.tcp - 1) room fresh
+        ∙ ap (option_map (λ (entry : Key × ℕ). entry.1)) (ended_last max touches key other (max_for max key.tcp - 1) room fresh ends)

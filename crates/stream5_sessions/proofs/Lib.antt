@@ -15,4 +15,5 @@ pub mod CacheSteps
 pub mod Numbered
 pub mod Living
 pub mod NoTouch
+pub mod Lasting
 pub mod Guessed

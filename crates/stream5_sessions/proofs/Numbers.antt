@@ -117,7 +117,7 @@ lookup-all max touches key = lookup-append (same_key key) (kept max true touches
 ]) refl
 
 -- the list has a flow of a key exactly where the key lives and has that flow
-found_all : (max : MaxFlows) (touches : List Key) (key : Key) → lookup (same_key key) (all_kept max touches) ≡ cond (is_live max touches key) (Some (flow_number max touches key)) None
+pub found_all : (max : MaxFlows) (touches : List Key) (key : Key) → lookup (same_key key) (all_kept max touches) ≡ cond (is_live max touches key) (Some (flow_number max touches key)) None
 found_all max touches key = lookup-all max touches key ∙ lookup-kept max touches key
 
 kept_flow : (max : MaxFlows) (touches : List Key) (key : Key) (f : ℕ) → lookup (same_key key) (all_kept max touches) ≡ Some f → (is_live max touches key ≡ true) × (flow_number max touches key ≡ f)
@@ -183,7 +183,7 @@ single_all max touches one other f h g =
     let b = kept_flow max touches other f g in
     flow_number-apart max touches one other (is_touched-live max touches one a.0) (is_touched-live max touches other b.0) (a.1 ∙ sym b.1)
 
-live_flow : (max : MaxFlows) (touches : List Key) (f : ℕ) → (key : Key) → is_live max touches key ≡ true → flow_number max touches key ≡ f → is_live_flow max touches f ≡ true
+pub live_flow : (max : MaxFlows) (touches : List Key) (f : ℕ) → (key : Key) → is_live max touches key ≡ true → flow_number max touches key ≡ f → is_live_flow max touches f ≡ true
 live_flow max touches f key live is = any_key touches (is_touched-live max touches key live)
   where
     test : Key → Bool
@@ -199,7 +199,7 @@ live_flow max touches f key live is = any_key touches (is_touched-live max touch
       | false ↦ λ t h. (elim (is_live max touches first && eqb (flow_number max touches first) f) as (λ b. (b || list_any (λ k. is_live max touches k && eqb (flow_number max touches k) f) keys) ≡ true) [ true ↦ refl | false ↦ any_key keys h ])
     ]) refl h
 
-key_of_flow : (max : MaxFlows) (touches keys : List Key) (f : ℕ) → list_any (λ k. is_live max touches k && eqb (flow_number max touches k) f) keys ≡ true → (key : Key) × (is_live max touches key ≡ true) × (flow_number max touches key ≡ f)
+pub key_of_flow : (max : MaxFlows) (touches keys : List Key) (f : ℕ) → list_any (λ k. is_live max touches k && eqb (flow_number max touches k) f) keys ≡ true → (key : Key) × (is_live max touches key ≡ true) × (flow_number max touches key ≡ f)
 key_of_flow max touches [] f h = absurd (false≢true h)
 key_of_flow max touches (first ∷ keys) f h = (elim (is_live max touches first && eqb (flow_number max touches first) f) as (λ b. (is_live max touches first && eqb (flow_number max touches first) f) ≡ b → (b || list_any (λ k. is_live max touches k && eqb (flow_number max touches k) f) keys) ≡ true → (key : Key) × (is_live max touches key ≡ true) × (flow_number max touches key ≡ f)) [
   | true ↦ λ t h. let parts = two (is_live max touches first) (eqb (flow_number max touches first) f) t in (first, parts.0, eqb-true (flow_number max touches first) f parts.1)

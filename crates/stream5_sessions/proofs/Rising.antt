@@ -64,7 +64,7 @@ Rises-unique (x ∷ xs) (y ∷ ys) r s same =
     let same_x : (f : ℕ) → among (x ∷ xs) f ≡ among (x ∷ ys) f = λ f. same f ∙ ap (λ (z : ℕ). among (z ∷ ys) f) first in
     ap (λ (zs : List ℕ). x ∷ zs) (Rises-unique xs ys r.1 s.1 (tails_are x xs ys r.0 above same_x)) ∙ ap (λ (z : ℕ). z ∷ ys) (sym first)
 
-among_at : (xs : List ℕ) (f d : ℕ) → among xs f ≡ true → (j : ℕ) × (j < length xs) × (get_or xs j d ≡ f)
+pub among_at : (xs : List ℕ) (f d : ℕ) → among xs f ≡ true → (j : ℕ) × (j < length xs) × (get_or xs j d ≡ f)
 among_at [] f d h = absurd (false≢true h)
 among_at (x ∷ xs) f d h = (elim (eqb f x) as (λ b. eqb f x ≡ b → (j : ℕ) × (j < length (x ∷ xs)) × (get_or (x ∷ xs) j d ≡ f)) [
   | true ↦ λ t. (0, omega arith, sym (eqb-true f x t))
@@ -89,7 +89,7 @@ pub among-sorted : (xs sorted : List ℕ) → IsPermutation xs sorted → (f : �
 among-sorted xs sorted moved f = sym (list_any-IsPermutation (eqb f) xs sorted moved)
 
 -- the numbers from the first on that pass
-among-range : (test : ℕ → Bool) (a n f : ℕ) → among (filter test (range_with_len a n)) f ≡ true → (a ≤ f) × (f < a + n) × (test f ≡ true)
+pub among-range : (test : ℕ → Bool) (a n f : ℕ) → among (filter test (range_with_len a n)) f ≡ true → (a ≤ f) × (f < a + n) × (test f ≡ true)
 among-range test a zero f h = absurd (false≢true h)
 among-range test a (suc n) f h = (elim (test a) as (λ b. test a ≡ b → among (cond b (a ∷ filter test (range_with_len (a + 1) n)) (filter test (range_with_len (a + 1) n))) f ≡ true → (a ≤ f) × (f < a + suc n) × (test f ≡ true)) [
   | true ↦ λ t h. (elim (eqb f a) as (λ b. eqb f a ≡ b → (a ≤ f) × (f < a + suc n) × (test f ≡ true)) [
@@ -99,7 +99,7 @@ among-range test a (suc n) f h = (elim (test a) as (λ b. test a ≡ b → among
   | false ↦ λ t h. let on = among-range test (a + 1) n f h in (omega (arith, on.0), omega (arith, on.1), on.2)
 ]) refl h
 
-range-among : (test : ℕ → Bool) (a n f : ℕ) → a ≤ f → f < a + n → test f ≡ true → among (filter test (range_with_len a n)) f ≡ true
+pub range-among : (test : ℕ → Bool) (a n f : ℕ) → a ≤ f → f < a + n → test f ≡ true → among (filter test (range_with_len a n)) f ≡ true
 range-among test a zero f low high h = absurd (omega arith)
 range-among test a (suc n) f low high h = (elim (eqb f a) as (λ b. eqb f a ≡ b → among (filter test (range_with_len a (suc n))) f ≡ true) [
   | true ↦ λ u. let here : test a ≡ true = ap test (sym (eqb-true f a u)) ∙ h in rw (here, u)

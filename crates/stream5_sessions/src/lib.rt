@@ -23,6 +23,6 @@ mod step;
 
 pub use flows::{Flows, Touch};
 pub use key::{End, Key};
-pub use laws::no_touch_no_flow;
+pub use laws::{flows_live_until_told, live_flows_are_few, no_touch_no_flow};
 pub use session::Session;
 pub use step::{SessionRules, Step};

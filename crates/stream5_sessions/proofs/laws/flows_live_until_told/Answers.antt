@@ -1,0 +1,8 @@
+use Rattle.stream5_sessions.proofs.Lasting.{flow-stays, own-lives}
+use Rattle.stream5_sessions.proofs.laws.flows_live_until_told.Goals as goal
+
+pub returns-clause-stays : goal.returns-clause-stays
+returns-clause-stays c = flow-stays
+
+pub returns-clause-own : goal.returns-clause-own
+returns-clause-own c = own-lives
