@@ -7,7 +7,6 @@ use Rattle.snort_engine.specs.declared.reader.RecordReader.{RecordReader}
 use Rattle.snort_engine.specs.declared.stop.Stop.{Stop}
 use Rattle.snort_engine.specs.declared.stop.Stop.TheVariants.{CannotWrite}
 use Rattle.snort_engine.specs.Steps.Reader.{number_of}
-use Rattle.snort_engine.specs.Steps.Stop.{outcome_status, is_uncut}
 use Rattle.snort_engine.specs.Steps.Watching.{plan_of, most_at, room_behind, MayGoOn, Standing}
 use Rattle.snort_engine.proofs.Batches.{more_reached, showing_cuts, within_batch}
 use Rattle.snort_engine.proofs.Prefixes.{same_stop}
