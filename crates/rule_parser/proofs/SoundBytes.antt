@@ -18,8 +18,7 @@ use Rattle.rule_types.specs.declared.option.Base.TheVariants as base
 use Rattle.rule_types.specs.declared.option.Cmp.{Cmp}
 use Rattle.rule_types.specs.declared.option.Num.{Num}
 use Rattle.rule_types.specs.declared.option.Opt.{Opt}
-use Rattle.rule_types.specs.declared.option.Opt.TheVariants as opt
-use Rattle.rule_parser.specs.ByteOptions.{Part, first_part, next_part, no_words, once_only, with_times, with_post, with_multiple, shared_word, jump_word, extract_word, word_of, words_of, lacks_string, fetch_of, jump_of, extract_of, Comparison, comparison_of, operator_of, offset_of, byte_test, byte_test_option, byte_jump, byte_jump_option, Extraction, with_name, byte_extract, with_extraction, byte_extract_option, data_words, parts_behind, isdataat, isdataat_option}
+use Rattle.rule_parser.specs.ByteOptions.{Part, first_part, next_part, no_words, once_only, with_times, with_post, with_multiple, shared_word, jump_word, extract_word, word_of, words_of, lacks_string, fetch_of, extract_of, Comparison, comparison_of, operator_of, offset_of, byte_test, byte_test_option, byte_jump, byte_jump_option, Extraction, with_name, byte_extract, with_extraction, byte_extract_option, data_words, parts_behind, isdataat, isdataat_option}
 use Rattle.rule_parser.specs.Contents.{negation}
 use Rattle.rule_parser.specs.Drafts.{kept_count, kept}
 use Rattle.net_lists.specs.Variables.{is_name}

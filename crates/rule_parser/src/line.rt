@@ -129,42 +129,23 @@ fn finished(
 {
     let (sid, class) = told(alloc, &mut draft)?;
     let class_priority = class_priority(classes, class);
-    let Draft {
-        opts,
-        msg,
-        gid,
-        rev,
-        priority,
-        noalert,
-        period,
-        ..
-    } = draft;
-    let Header {
-        action,
-        proto,
-        src,
-        sports,
-        dst,
-        dports,
-        both,
-    } = header;
     Ok(Rule {
-        action,
-        proto,
-        src,
-        sports,
-        dst,
-        dports,
-        both,
-        opts,
-        msg: msg.unwrap_or(Text::from_vec(Vec::new(alloc))),
-        gid: gid.unwrap_or(1),
+        action: header.action,
+        proto: header.proto,
+        src: header.src,
+        sports: header.sports,
+        dst: header.dst,
+        dports: header.dports,
+        both: header.both,
+        opts: draft.opts,
+        msg: draft.msg.unwrap_or(Text::from_vec(Vec::new(alloc))),
+        gid: draft.gid.unwrap_or(1),
         sid,
-        rev: rev.unwrap_or(0),
+        rev: draft.rev.unwrap_or(0),
         class,
-        priority: priority.unwrap_or(class_priority),
-        noalert,
-        period,
+        priority: draft.priority.unwrap_or(class_priority),
+        noalert: draft.noalert,
+        period: draft.period,
     })
 }
 

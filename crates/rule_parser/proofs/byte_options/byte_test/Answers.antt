@@ -1,5 +1,5 @@
 -- Each part is read, and so the option is.
-use Rattle.std.proofs.Common.{◌≡◌, ◌∙◌, sym, Ok}
+use Rattle.std.proofs.Common.{◌≡◌, sym, Ok}
 use Rattle.rule_types.specs.declared.option.Opt.TheVariants as opt
 use Rattle.rule_parser.specs.ByteOptions.{seen, seen_comparison, byte_test}
 use Rattle.rule_parser.proofs.ByteReading.{test-read}

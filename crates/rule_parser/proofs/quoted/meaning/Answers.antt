@@ -1,5 +1,5 @@
 -- Each byte gives its part, and the end of the text gives the last.
-use Rattle.std.proofs.Common.{◌∙◌, sym, ap, Ok, arith}
+use Rattle.std.proofs.Common.{◌∙◌, sym, arith}
 use Rattle.rule_parser.proofs.Quoting.{meaning-whole, meaning-next}
 use Rattle.rule_parser.proofs.quoted.meaning.Goals as goal
 
