@@ -338,7 +338,7 @@ impl Lanes {
                 self.beside = thought_beside(self.beside, cost_beside(&self.workers, &before));
                 Ok(out)
             }
-            Err(_) => {
+            Err(NoMemory) => {
                 self.failed = true;
                 Err(BatchFault::NoMemory)
             }
@@ -402,7 +402,7 @@ impl Lanes {
                 self.beside = thought_beside(self.beside, cost_beside(&self.workers, &before));
                 Ok(())
             }
-            Err(_) => {
+            Err(NoMemory) => {
                 self.failed = true;
                 Err(BatchFault::NoMemory)
             }
