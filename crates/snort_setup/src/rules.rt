@@ -1,5 +1,5 @@
 //! The rule lines of a configuration, one behind another.
-ghost use Rattle.std.specs.Prelude.{◌≡◌, ◌&&◌, All, IfOk};
+ghost use Rattle.std.specs.Prelude.{◌≡◌, ◌&&◌, false, All, IfOk, OnOk};
 ghost use Rattle.rule_types.specs.Sound.{IsSound};
 ghost use Rattle.option_eval.specs.RuleSet.{FindWhatIsMeant, SameMeaning};
 ghost use Rattle.snort_setup.specs.Setup.{frame_of};
@@ -70,11 +70,15 @@ fn is_skippable(kind: RuleKind) -> bool
     matches!(kind, RuleKind::OutsideProfile | RuleKind::PatternRefused)
 }
 
-/// Whether a line could not be read for want of memory.
-fn is_memory(kind: RuleKind) -> bool
-    ensures { result ≡ is_memory kind }
+/// Why a line is none, where it was read: want of memory is no fault of the line.
+fn line_fault(fault: RuleFault) -> Result<RuleFault, NoMemory>
+    ensures same { IfOk result (λ same. same ≡ fault) }
+    ensures read { OnOk result (is_memory fault.kind ≡ false) }
 {
-    matches!(kind, RuleKind::NoMemory)
+    match fault.kind {
+        RuleKind::NoMemory => Err(NoMemory),
+        _ => Ok(fault),
+    }
 }
 
 /// What stands behind a line that is read: with its rule, or without it, and then the fault for which it is none.
@@ -115,9 +119,7 @@ fn read_line<M: PatternMaker>(
             ))
         }
         Err(fault) => {
-            if is_memory(fault.kind) {
-                return Err(NoMemory);
-            }
+            let fault = line_fault(fault)?;
             Ok((
                 Progress {
                     accepted,
