@@ -1,5 +1,5 @@
-//! What programs of rows share: the files of rows that their words name, the lines of such a file, the files in
-//! memory that a row gives to what it calls, and the count of the rows that passed.
+//! What programs of rows share: the files of rows that their words name, the lines of such a file and their parts, the
+//! files in memory that a row gives to what it calls, and the count of the rows that passed.
 //!
 //! A line `repeat 3 host 5` stands three times, `numbered 2 8 host #` is `host 8` and then `host 9`.
 #![tactic(auto)]
@@ -7,9 +7,11 @@
 mod count;
 mod files;
 mod line;
+mod parts;
 mod words;
 
 pub use count::Count;
 pub use files::Files;
 pub use line::RowLine;
+pub use parts::{Parts, cut, named};
 pub use words::{Words, words_of};
