@@ -1,16 +1,48 @@
 //! The addresses of the rows.
 
 use edge_io::Addr;
+use row_files::Parts;
 use std::net::{Ipv4Addr, Ipv6Addr};
 
-/// The address that a text says, as std reads it, or by its hexadecimal digits behind `0x`.
-pub(crate) fn address(text: &str) -> Option<Addr> {
-    if let Some(digits) = text.strip_prefix("0x") {
-        return Some(Addr::V6(u128::from_str_radix(digits, 16).ok()?));
+/// The address that hexadecimal digits say.
+fn of_digits(parts: &mut Parts<'_>, digits: &str) -> Addr {
+    match u128::from_str_radix(digits, 16) {
+        Ok(bits) => Addr::V6(bits),
+        Err(_) => {
+            parts.refuse();
+            Addr::V6(0)
+        }
     }
-    if text.contains(':') {
-        Some(Addr::V6(text.parse::<Ipv6Addr>().ok()?.to_bits()))
-    } else {
-        Some(Addr::V4(text.parse::<Ipv4Addr>().ok()?.to_bits()))
+}
+
+/// The address of version 6 that a text says, as std reads it.
+fn of_version_6(parts: &mut Parts<'_>, text: &str) -> Addr {
+    match text.parse::<Ipv6Addr>() {
+        Ok(address) => Addr::V6(address.to_bits()),
+        Err(_) => {
+            parts.refuse();
+            Addr::V4(0)
+        }
+    }
+}
+
+/// The address of version 4 that a text says, as std reads it.
+fn of_version_4(parts: &mut Parts<'_>, text: &str) -> Addr {
+    match text.parse::<Ipv4Addr>() {
+        Ok(address) => Addr::V4(address.to_bits()),
+        Err(_) => {
+            parts.refuse();
+            Addr::V4(0)
+        }
+    }
+}
+
+/// The address that the next part says, as std reads it, or by its hexadecimal digits behind `0x`.
+pub(crate) fn address(parts: &mut Parts<'_>) -> Addr {
+    let text = parts.word();
+    match text.strip_prefix("0x") {
+        Some(digits) => of_digits(parts, digits),
+        None if text.contains(':') => of_version_6(parts, text),
+        None => of_version_4(parts, text),
     }
 }

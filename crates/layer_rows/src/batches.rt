@@ -10,13 +10,12 @@ ghost use Rattle.flow_lanes.specs.Course.{AreFrom, IsCourse, IsPlain};
 
 use crate::course::{Course, show_places, stream_of};
 use crate::page::Page;
-use crate::row::Row;
-use crate::setups::ready;
 use edge_io::{Addr, Literal, Moment, NoMemory, OpenGate, Preference, Text};
 use fast_pattern::Groups;
 use flow_lanes::{BatchOut, Job, Lanes, Payload, Toward, Work};
 use option_eval::RuleSet;
 use packet_decode::{Body, IpHead, ItemHead, ItemKind, SessionFacts};
+use row_files::Parts;
 use std::thread::Threads;
 
 /// Bytes that no rule looks for, before the letters of a packet.
@@ -61,9 +60,7 @@ fn packet(number: u64, flow: u64, payload: Payload<'_>) -> Job<'_>
 /// The bytes of a packet: many that no rule looks for, and then these letters.
 fn payload_of(page: &mut Page, letters: &str) -> Text {
     let mut bytes = page.repeated("x", LEAD);
-    if bytes.push_str(letters).is_err() {
-        page.lacks_memory = true;
-    }
+    page.note(bytes.push_str(letters));
     Text::from_vec(bytes.into_bytes())
 }
 
@@ -72,12 +69,10 @@ fn add_job(page: &mut Page, first: u64, word: &str, jobs: &mut Vec<Job<'_>>) -> 
     requires { first < 2 ^ 20 }
     ensures { AreFrom first jobs.old.items → AreFrom first jobs.new.items }
 {
-    let (flow, letters) = word.split_once(':').unwrap_or(("", ""));
-    let Ok(flow) = flow.parse::<u64>() else {
-        return false;
-    };
-    let payload = payload_of(page, letters);
-    if payload.bytes().len() > 65_535 || jobs.len() >= 1000 {
+    let mut parts = Parts::of(word, ':');
+    let flow = parts.long();
+    let payload = payload_of(page, parts.left());
+    if parts.is_wrong() || payload.bytes().len() > 65_535 || jobs.len() >= 1000 {
         return false;
     }
     let number = first + jobs.len() as u64;
@@ -208,8 +203,52 @@ fn run_batches<R: Threads + Sync>(
     page.show(format_args!("tries {}", progress.tries));
 }
 
-/// Shows the answers to batches with these rules, in so many new lanes.
+/// Shows the answers to batches, in so many new lanes.
 #[tactic(auto, using(flow_lanes::proofs::Course::course_begins))]
+fn run_in_lanes<R: Threads + Sync>(
+    rt: &R,
+    page: &mut Page,
+    count: u32,
+    batches: &str,
+    course: Course<'_>,
+)
+    requires some { 1 ≤ count }
+    requires few { count ≤ 64 }
+    requires engines { length course.stream.now.engines ≡ 0 }
+    requires config { IsStreamConfig course.stream.now }
+    requires groups { StandFor course.groups.now course.set.now.rules }
+    requires triable { All IsTriable course.set.now.rules }
+{
+    match Lanes::new(page.alloc, count, 4, false) {
+        Ok(mut lanes) => run_batches(rt, page, &mut lanes, batches, course),
+        Err(NoMemory) => page.lacks_memory = true,
+    }
+}
+
+/// Shows the answers to batches with these rules in groups.
+fn run_grouped<R: Threads + Sync>(
+    rt: &R,
+    page: &mut Page,
+    set: &RuleSet<Literal>,
+    groups: &Groups,
+    count: u32,
+    batches: &str,
+)
+    requires some { 1 ≤ count }
+    requires few { count ≤ 64 }
+    requires groups { StandFor groups.now set.now.rules }
+    requires triable { All IsTriable set.now.rules }
+{
+    let stream = stream_of(page.alloc, false);
+    let course = Course {
+        stream: &stream,
+        set,
+        groups,
+    };
+    run_in_lanes(rt, page, count, batches, course);
+}
+
+/// Shows the answers to batches with these rules, in so many new lanes.
 fn show_batches<R: Threads + Sync>(
     rt: &R,
     page: &mut Page,
@@ -223,29 +262,22 @@ fn show_batches<R: Threads + Sync>(
         return page.put("out of bounds");
     }
     match Groups::build(page.alloc, set.rules()) {
-        Ok(groups) => {
-            let stream = stream_of(page.alloc, false);
-            let course = Course {
-                stream: &stream,
-                set,
-                groups: &groups,
-            };
-            match Lanes::new(page.alloc, count, 4, false) {
-                Ok(mut lanes) => run_batches(rt, page, &mut lanes, batches, course),
-                Err(NoMemory) => page.lacks_memory = true,
-            }
-        }
+        Ok(groups) => run_grouped(rt, page, set, &groups, count, batches),
         Err(NoMemory) => page.lacks_memory = true,
     }
 }
 
 /// `batches LANES BATCHES`: of each job its number and the places of the rules that match its items, and how many
 /// candidates there were.
-pub(crate) fn batches<R: Threads + Sync>(rt: &R, page: &mut Page, row: &Row, given: &str) {
-    let (count, batches) = given.split_once(' ').unwrap_or((given, ""));
-    let count = count.parse::<u32>().unwrap_or(0);
-    match ready(page, row) {
-        Some(setup) => show_batches(rt, page, &setup.set, count, batches),
-        None => (),
-    }
+pub(crate) fn batches<R: Threads + Sync>(
+    rt: &R,
+    page: &mut Page,
+    set: &RuleSet<Literal>,
+    given: &str,
+)
+    requires { All IsTriable set.now.rules }
+{
+    let mut given = Parts::of(given, ' ');
+    let count = given.number();
+    show_batches(rt, page, set, count, given.left());
 }

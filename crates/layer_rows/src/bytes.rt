@@ -11,11 +11,7 @@ pub(crate) const CAPTURE: &str = "p";
 /// Appends the bytes of pairs of digits.
 fn push_digits(page: &mut Page, bytes: &mut Vec<u8>, digits: &[u8]) {
     match hex::decode(page.alloc, digits) {
-        Ok(more) => {
-            if bytes.extend_from_slice(&more).is_err() {
-                page.lacks_memory = true;
-            }
-        }
+        Ok(more) => page.note(bytes.extend_from_slice(&more)),
         Err(fault) => page.debug(&fault),
     }
 }
@@ -51,8 +47,8 @@ pub(crate) fn bytes_of(page: &mut Page, row: &Row, words: &str) -> Vec<u8> {
 pub(crate) fn host_of(page: &mut Page, row: &Row, words: &str) -> MemHost {
     let mut host = row.host(page);
     let bytes = bytes_of(page, row, words);
-    if !words.is_empty() && host.put(CAPTURE, &bytes).is_err() {
-        page.lacks_memory = true;
+    if !words.is_empty() {
+        page.note(host.put(CAPTURE, &bytes));
     }
     host
 }

@@ -4,8 +4,8 @@ use crate::page::Page;
 use crate::row::Row;
 use crate::trial::Answer;
 use crate::{
-    alerts, batches, candidates, captures, commands, configurations, dialogues, events, flows,
-    headers, hosts, lists, outside, packets, payloads, rules, sessions, setups,
+    captures, commands, configurations, fields, flows, hosts, lists, outside, packets, payloads,
+    rules, sessions, setups,
 };
 use std::thread::Threads;
 
@@ -26,24 +26,19 @@ impl Answer for Calls {
             "command" => commands::command(page, given),
             "hosts" => hosts::hosts(page, row),
             "policies" => hosts::policies(page, row, given),
-            "setup" => setups::setup(page, row, given),
-            "events" => events::events(page, row),
-            "alert" => alerts::alert(page, row, given),
             "key" => flows::key(page, given),
             "flows" => flows::flows(page, row, given),
             "session" => sessions::session(page, row, given),
-            "dialogue" => dialogues::dialogue(page, row, given),
-            "batches" => batches::batches(rt, page, row, given),
             _ => {
-                return outside::call(page, row, call, given)
+                return setups::call(rt, page, row, call, given)
+                    || outside::call(page, row, call, given)
                     || lists::call(page, call, given)
                     || configurations::call(page, row, call, given)
                     || rules::call(page, row, call, given)
                     || payloads::call(page, row, call, given)
-                    || candidates::call(page, row, call, given)
                     || captures::call(page, row, call, given)
                     || packets::call(page, row, call, given)
-                    || headers::call(page, row, call, given);
+                    || fields::call(page, row, call, given);
             }
         }
         true

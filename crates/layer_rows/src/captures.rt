@@ -6,6 +6,7 @@ use crate::row::Row;
 use edge_io::{Host, Link, MemHost, NoMemory};
 use pcap_input::{CaptureHead, CaptureReader, Record, make_capture};
 use pcapng_input::{Found, read_up_to};
+use row_files::Parts;
 
 /// Number, nanoseconds, original length and bytes.
 fn show_record(page: &mut Page, record: &Record) {
@@ -98,17 +99,19 @@ fn show_last(page: &mut Page, bytes: &[u8], length: usize) {
 
 /// `made SEED COUNT LENGTH`: the last bytes, so many, of the capture that is made of the seed and so many packets.
 fn made(page: &mut Page, seed: u32, rest: &str) {
-    let (count, length) = rest.split_once(' ').unwrap_or((rest, ""));
-    match make_capture(page.alloc, seed, count.parse::<u32>().unwrap_or(0)) {
-        Ok(bytes) => show_last(page, &bytes, length.parse::<usize>().unwrap_or(0)),
+    let mut rest = Parts::of(rest, ' ');
+    let (count, length) = (rest.number(), rest.number());
+    match make_capture(page.alloc, seed, count) {
+        Ok(bytes) => show_last(page, &bytes, length as usize),
         Err(NoMemory) => page.lacks_memory = true,
     }
 }
 
 /// The calls of captures.
 pub(crate) fn call(page: &mut Page, row: &Row, call: &str, given: &str) -> bool {
-    let (number, rest) = given.split_once(' ').unwrap_or((given, ""));
-    let number = number.parse::<u32>().unwrap_or(0);
+    let mut given = Parts::of(given, ' ');
+    let number = given.number();
+    let rest = given.left();
     match call {
         "pcap" => pcap(page, row, number, rest),
         "resumed" => resumed(page, row, number, rest),

@@ -40,25 +40,33 @@ fn words_of(page: &mut Page, line: &str) -> Vec<String> {
     let mut words = Vec::new(page.alloc);
     for word in line.split(' ') {
         let word = page.copied(word);
-        if words.push(word).is_err() {
-            page.lacks_memory = true;
-        }
+        page.note(words.push(word));
     }
     words
+}
+
+/// Shows what a run is given.
+fn show_run(page: &mut Page, words: &Words) {
+    show_given(page, words);
+    show_numbers(page, words);
+    show_flags(page, words);
+}
+
+/// Shows what words ask for.
+fn show_command(page: &mut Page, command: &Command) {
+    match command {
+        Command::Run(words) => show_run(page, words),
+        Command::Help => page.put("help"),
+        Command::Version => page.put("version"),
+        Command::ReadUnified2(file) => page.show(format_args!("records of {file}")),
+    }
 }
 
 /// `command WORDS`: what they ask for.
 pub(crate) fn command(page: &mut Page, line: &str) {
     let words = words_of(page, line);
     match read_words(page.alloc, words.as_slice()) {
-        Ok(Command::Run(words)) => {
-            show_given(page, &words);
-            show_numbers(page, &words);
-            show_flags(page, &words);
-        }
-        Ok(Command::Help) => page.put("help"),
-        Ok(Command::Version) => page.put("version"),
-        Ok(Command::ReadUnified2(file)) => page.show(format_args!("records of {file}")),
+        Ok(command) => show_command(page, &command),
         Err(WordsFault::CommandLine) => page.put("refused"),
         Err(WordsFault::NoMemory) => page.lacks_memory = true,
     }

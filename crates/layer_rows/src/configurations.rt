@@ -4,8 +4,7 @@ use crate::notation::CONF;
 use crate::page::Page;
 use crate::row::Row;
 use conf_parser::{
-    ConfFault, ConfKind, Config, FragEngine, LoadStop, Loaded, StreamConfig, StreamEngine,
-    Suppress, load,
+    ConfKind, Config, FragEngine, LoadStop, Loaded, StreamConfig, StreamEngine, Suppress, load,
 };
 use edge_io::MemHost;
 use net_lists::{PortList, Vars};
@@ -26,39 +25,36 @@ fn kind_name(kind: &ConfKind) -> &'static str {
     }
 }
 
-/// Loads a file; the answer.
-fn load_file(
-    page: &Page,
-    host: &mut MemHost,
-    name: &str,
-    out: &mut Loaded,
-) -> Result<(), LoadStop> {
-    load(page.alloc, host, name, &mut Vars::new(page.alloc), out)
-}
-
-/// `fine` with the numbers of warnings and rule lines, a kind with its file and line, or `host` with the numbers
-/// of files and warnings.
-fn show_answer(page: &mut Page, answer: &Result<(), LoadStop>, out: &Loaded) {
-    let warnings = out.warnings.as_slice().len();
-    match answer {
-        Ok(()) => page.show(format_args!("fine {warnings} {}", out.rules.as_slice().len())),
-        Err(LoadStop::Conf(ConfFault { file, line, kind })) => {
-            page.show(format_args!("{} {file} {line}", kind_name(kind)))
+/// Shows why a file is refused: a kind with its file and line, or `host` with the numbers of files and warnings.
+fn show_stop(page: &mut Page, stop: &LoadStop, out: &Loaded) {
+    match stop {
+        LoadStop::Conf(fault) => {
+            page.put(kind_name(&fault.kind));
+            page.show(format_args!(" {} {}", fault.file, fault.line));
         }
-        Err(LoadStop::HostFailed { name: _ }) => page.show(format_args!(
-            "host {} {warnings}",
-            out.files.as_slice().len()
-        )),
-        Err(LoadStop::NoMemory) => page.lacks_memory = true,
+        LoadStop::HostFailed { name: _ } => show_sizes(
+            page,
+            "host",
+            out.files.as_slice().len(),
+            out,
+        ),
+        LoadStop::NoMemory => page.lacks_memory = true,
     }
 }
 
-/// `load NAME`: the answer of loading a file.
-fn load_named(page: &mut Page, row: &Row, name: &str) {
-    let mut host = row.host(page);
-    let mut out = Loaded::new(page.alloc);
-    let answer = load_file(page, &mut host, name, &mut out);
-    show_answer(page, &answer, &out);
+/// Shows a word with a number and that of warnings.
+fn show_sizes(page: &mut Page, word: &str, size: usize, out: &Loaded) {
+    let warnings = out.warnings.as_slice().len();
+    page.show(format_args!("{word} {size} {warnings}"));
+}
+
+/// `load`: `fine` with the numbers of warnings and rule lines, or why it is refused.
+fn show_answer(page: &mut Page, answer: &Result<(), LoadStop>, out: &Loaded) {
+    let (warnings, rules) = (out.warnings.as_slice().len(), out.rules.as_slice().len());
+    match answer {
+        Ok(()) => page.show(format_args!("fine {warnings} {rules}")),
+        Err(stop) => show_stop(page, stop, out),
+    }
 }
 
 /// The kind of a refusal, or `fine`.
@@ -69,18 +65,6 @@ fn show_kind(page: &mut Page, answer: &Result<(), LoadStop>) {
         Err(LoadStop::HostFailed { name: _ }) => "host",
         Err(LoadStop::NoMemory) => "no memory",
     });
-}
-
-/// `line LINES`: the kind of the first that is refused, or `fine`, where they stand in the file `c/16`, and `c/0` is
-/// loaded.
-fn load_lines(page: &mut Page, row: &Row, lines: &str) {
-    let mut host = row.host(page);
-    if host.put("c/16", lines.as_bytes()).is_err() {
-        page.lacks_memory = true;
-    }
-    let mut out = Loaded::new(page.alloc);
-    let answer = load_file(page, &mut host, "c/0", &mut out);
-    show_kind(page, &answer);
 }
 
 /// The ports of a list among some.
@@ -163,38 +147,82 @@ fn show_warnings(page: &mut Page, out: &Loaded) {
 }
 
 /// `values`: those of the configuration, and behind them its rules, what was skipped, and how many files it has.
-fn values(page: &mut Page, row: &Row) {
-    let mut host = row.host(page);
-    let mut out = Loaded::new(page.alloc);
-    let answer = load_file(page, &mut host, CONF, &mut out);
+fn show_values(page: &mut Page, answer: &Result<(), LoadStop>, out: &Loaded) {
     if answer.is_err() {
         page.put("refused\n");
     }
     show_config(page, &out.config);
-    show_rules(page, &out);
-    show_warnings(page, &out);
+    show_rules(page, out);
+    show_warnings(page, out);
     page.show(format_args!("files {}\n", out.files.as_slice().len()));
 }
 
 /// `class NAME`: the place of the class.
-fn class(page: &mut Page, row: &Row, name: &str) {
-    let mut host = row.host(page);
-    let mut out = Loaded::new(page.alloc);
-    let answer = load_file(page, &mut host, CONF, &mut out);
+fn show_class(page: &mut Page, answer: &Result<(), LoadStop>, out: &Loaded, name: &str) {
     if answer.is_err() {
         page.put("refused\n");
     }
     page.debug(&out.config.classes.find(name.as_bytes()));
 }
 
-/// The calls of configurations.
-pub(crate) fn call(page: &mut Page, row: &Row, call: &str, given: &str) -> bool {
-    match call {
-        "load" => load_named(page, row, given),
-        "line" => load_lines(page, row, given),
-        "values" => values(page, row),
-        "class" => class(page, row, given),
-        _ => return false,
+/// A host with the row's files, and these lines in the file `c/16`.
+fn host_with(page: &mut Page, row: &Row, lines: &str) -> MemHost {
+    let mut host = row.host(page);
+    if !lines.is_empty() {
+        page.note(host.put("c/16", lines.as_bytes()));
     }
+    host
+}
+
+/// Loads a file; the answer.
+pub(crate) fn load_file(
+    page: &Page,
+    host: &mut MemHost,
+    name: &str,
+    vars: &mut Vars,
+    out: &mut Loaded,
+) -> Result<(), LoadStop> {
+    load(page.alloc, host, name, vars, out)
+}
+
+/// Loads a file without variables; the answer.
+fn load_alone(
+    page: &Page,
+    host: &mut MemHost,
+    name: &str,
+    out: &mut Loaded,
+) -> Result<(), LoadStop> {
+    let mut vars = Vars::new(page.alloc);
+    load_file(page, host, name, &mut vars, out)
+}
+
+/// Shows what a call finds of what is loaded.
+fn show(page: &mut Page, answer: &Result<(), LoadStop>, out: &Loaded, call: &str, given: &str) {
+    match call {
+        "load" => show_answer(page, answer, out),
+        "line" => show_kind(page, answer),
+        "values" => show_values(page, answer, out),
+        _ => show_class(page, answer, out, given),
+    }
+}
+
+/// Loads a file, and shows what the call finds.
+fn ask(page: &mut Page, host: &mut MemHost, file: &str, call: &str, given: &str) {
+    let mut out = Loaded::new(page.alloc);
+    let answer = load_alone(page, host, file, &mut out);
+    show(page, &answer, &out, call, given);
+}
+
+/// The calls of configurations. `load NAME` shows the answer of loading a file. `line LINES` shows the kind of the first
+/// that is refused, or `fine`, where they stand in the file `c/16`, and `c/0` is loaded.
+pub(crate) fn call(page: &mut Page, row: &Row, call: &str, given: &str) -> bool {
+    let (file, lines) = match call {
+        "load" => (given, ""),
+        "line" => ("c/0", given),
+        "values" | "class" => (CONF, ""),
+        _ => return false,
+    };
+    let mut host = host_with(page, row, lines);
+    ask(page, &mut host, file, call, given);
     true
 }

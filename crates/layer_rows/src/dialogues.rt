@@ -7,14 +7,14 @@ ghost use Rattle.rule_types.specs.Sound.{IsTriable};
 ghost use Rattle.layer_rows.specs.Dialogue.{IsDialogue, IsTurnHead, IsTurnJob, tcp_head};
 
 use crate::course::{Course, show_items, stream_of};
+use crate::flags::flags_of;
 use crate::page::Page;
-use crate::row::Row;
-use crate::setups::ready;
 use edge_io::{Addr, Literal, Moment, NoMemory, Preference};
 use fast_pattern::Groups;
 use flow_lanes::{Job, Lane, Payload, Toward, Work};
 use option_eval::RuleSet;
 use packet_decode::{Body, IpHead, ItemHead, ItemKind, SessionFacts, TcpHead};
+use row_files::Parts;
 
 /// How a dialogue goes on.
 #[derive(Clone, Copy)]
@@ -28,21 +28,25 @@ struct Manner {
     needed: bool,
 }
 
+/// Which of two segments an end keeps.
+fn preference_of(word: &str) -> Preference {
+    if word == "last" {
+        Preference::Last
+    } else {
+        Preference::First
+    }
+}
+
 /// What `FLUSH INSERTS PREFERENCE NEEDED` says.
 fn manner_of(text: &str) -> Option<Manner> {
-    let (flush, rest) = text.split_once(' ')?;
-    let (inserts, rest) = rest.split_once(' ')?;
-    let (kept, needed) = rest.split_once(' ')?;
-    Some(Manner {
-        flush: flush.parse::<u32>().ok()?,
-        inserts: inserts == "inserts",
-        preference: if kept == "last" {
-            Preference::Last
-        } else {
-            Preference::First
-        },
-        needed: needed == "handshake",
-    })
+    let mut words = Parts::of(text, ' ');
+    let manner = Manner {
+        flush: words.number(),
+        inserts: words.word() == "inserts",
+        preference: preference_of(words.word()),
+        needed: words.word() == "handshake",
+    };
+    if words.is_read() { Some(manner) } else { None }
 }
 
 /// What a packet of TCP has between its ends.
@@ -111,26 +115,20 @@ fn turn(head: ItemHead, payload: Payload<'_>, manner: Manner) -> Job<'_>
     }
 }
 
-/// The control bits of these letters.
-fn flags_of(letters: &str) -> u8 {
-    let syn = if letters.contains('S') { 2 } else { 0 };
-    let rst = if letters.contains('R') { 4 } else { 0 };
-    let ack = if letters.contains('A') { 16 } else { 0 };
-    syn | rst | ack
-}
-
 /// What `SENDER:FLAGS:SEQ:ACK:DATA` says: whether the client sends it, its numbers and its data.
 fn spoken(step: &str) -> Option<(bool, Numbers, &str)> {
-    let (sender, rest) = step.split_once(':')?;
-    let (letters, rest) = rest.split_once(':')?;
-    let (seq, rest) = rest.split_once(':')?;
-    let (ack, data) = rest.split_once(':')?;
+    let mut parts = Parts::of(step, ':');
+    let is_of_client = parts.word() == "C";
     let numbers = Numbers {
-        flags: flags_of(letters),
-        seq: seq.parse::<u32>().ok()?,
-        ack: ack.parse::<u32>().ok()?,
+        flags: flags_of(parts.word()),
+        seq: parts.number(),
+        ack: parts.number(),
     };
-    Some((sender == "C", numbers, data))
+    if parts.is_wrong() {
+        None
+    } else {
+        Some((is_of_client, numbers, parts.left()))
+    }
 }
 
 /// The job of a step: a packet, or `end` for the end of the flow.
@@ -216,6 +214,40 @@ fn run_steps(page: &mut Page, lane: &mut Lane, manner: Manner, steps: &str, cour
     }
 }
 
+/// Shows the items of the steps, in a new lane.
+fn run_in_lane(page: &mut Page, manner: Manner, steps: &str, course: Course<'_>)
+    requires flush { 1 ≤ manner.flush }
+    requires flush_most { manner.flush ≤ 65536 }
+    requires config { IsStreamConfig course.stream.now }
+    requires groups { StandFor course.groups.now course.set.now.rules }
+    requires triable { All IsTriable course.set.now.rules }
+{
+    let mut lane = Lane::new(page.alloc, manner.flush, manner.inserts);
+    run_steps(page, &mut lane, manner, steps, course);
+}
+
+/// Shows the items of the steps, with these rules in groups.
+fn run_grouped(
+    page: &mut Page,
+    set: &RuleSet<Literal>,
+    groups: &Groups,
+    manner: Manner,
+    steps: &str,
+)
+    requires flush { 1 ≤ manner.flush }
+    requires flush_most { manner.flush ≤ 65536 }
+    requires groups { StandFor groups.now set.now.rules }
+    requires triable { All IsTriable set.now.rules }
+{
+    let stream = stream_of(page.alloc, true);
+    let course = Course {
+        stream: &stream,
+        set,
+        groups,
+    };
+    run_in_lane(page, manner, steps, course);
+}
+
 /// Shows the items of the steps, with these rules.
 fn show_dialogue(page: &mut Page, set: &RuleSet<Literal>, manner: Manner, steps: &str)
     requires { All IsTriable set.now.rules }
@@ -224,28 +256,18 @@ fn show_dialogue(page: &mut Page, set: &RuleSet<Literal>, manner: Manner, steps:
         return page.put("out of bounds");
     }
     match Groups::build(page.alloc, set.rules()) {
-        Ok(groups) => {
-            let stream = stream_of(page.alloc, true);
-            let course = Course {
-                stream: &stream,
-                set,
-                groups: &groups,
-            };
-            let mut lane = Lane::new(page.alloc, manner.flush, manner.inserts);
-            run_steps(page, &mut lane, manner, steps, course);
-        }
+        Ok(groups) => run_grouped(page, set, &groups, manner, steps),
         Err(NoMemory) => page.lacks_memory = true,
     }
 }
 
 /// `dialogue FLUSH INSERTS PREFERENCE NEEDED`: of each step, a packet or the end of the flow, the items, with the places
 /// of the rules that match them.
-pub(crate) fn dialogue(page: &mut Page, row: &Row, given: &str) {
-    let Some(manner) = manner_of(given) else {
-        return page.put("not a manner");
-    };
-    match ready(page, row) {
-        Some(setup) => show_dialogue(page, &setup.set, manner, row.steps.as_str()),
-        None => (),
+pub(crate) fn dialogue(page: &mut Page, set: &RuleSet<Literal>, steps: &str, given: &str)
+    requires { All IsTriable set.now.rules }
+{
+    match manner_of(given) {
+        Some(manner) => show_dialogue(page, set, manner, steps),
+        None => page.put("not a manner"),
     }
 }

@@ -4,12 +4,11 @@ ghost use Rattle.conf_types.specs.Sound.{IsSound};
 
 use crate::items::item_of;
 use crate::page::Page;
-use crate::row::Row;
-use crate::setups::ready;
 use conf_parser::Config;
 use edge_io::{Literal, NoMemory};
 use event_filters::Filters;
 use packet_decode::ItemHead;
+use row_files::cut;
 use rule_parser::Rule;
 use snort_setup::Setup;
 
@@ -17,12 +16,7 @@ use snort_setup::Setup;
 fn places_of(page: &mut Page, words: &str) -> Vec<u32> {
     let mut places = Vec::new(page.alloc);
     for word in words.split_whitespace() {
-        if places
-            .push(word.parse::<u32>().unwrap_or(u32::MAX))
-            .is_err()
-        {
-            page.lacks_memory = true;
-        }
+        page.note(places.push(word.parse::<u32>().unwrap_or(u32::MAX)));
     }
     places
 }
@@ -38,16 +32,15 @@ fn pass(
 ) {
     let hits = places_of(page, words);
     let mut kept = Vec::new(page.alloc);
-    if filters.pass(config, rules, item, &hits, &mut kept).is_err() {
-        page.lacks_memory = true;
-    }
+    let passed = filters.pass(config, rules, item, &hits, &mut kept);
+    page.note(passed);
     page.places(&kept);
     page.put("\n");
 }
 
 /// Shows the rules that are kept of a step, which is an item and, behind a `:`, those that match it.
 fn pass_step(page: &mut Page, setup: &Setup<Literal>, filters: &mut Filters, step: &str) {
-    let (item, hits) = step.split_once(':').unwrap_or((step, ""));
+    let (item, hits) = cut(step, ':');
     match item_of(item) {
         Some(item) => pass(page, &setup.config, setup.set.rules(), filters, &item, hits),
         None => page.put("not an item\n"),
@@ -60,19 +53,12 @@ fn pass_steps(page: &mut Page, setup: &Setup<Literal>, filters: &mut Filters, st
     }
 }
 
-fn show_events(page: &mut Page, setup: &Setup<Literal>, steps: &str)
+/// `events`: of each step the places of the rules that are kept.
+pub(crate) fn events(page: &mut Page, setup: &Setup<Literal>, steps: &str)
     requires { IsSound setup.now.config }
 {
     match Filters::new(page.alloc, &setup.config, setup.set.rules()) {
         Ok(mut filters) => pass_steps(page, setup, &mut filters, steps),
         Err(NoMemory) => page.lacks_memory = true,
-    }
-}
-
-/// `events`: of each step the places of the rules that are kept.
-pub(crate) fn events(page: &mut Page, row: &Row) {
-    match ready(page, row) {
-        Some(setup) => show_events(page, &setup, row.steps.as_str()),
-        None => (),
     }
 }

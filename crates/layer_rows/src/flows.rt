@@ -6,25 +6,27 @@ use crate::addresses::address;
 use crate::page::Page;
 use crate::row::Row;
 use edge_io::NoMemory;
+use row_files::Parts;
 use stream5_sessions::{End, Flows, Key, Touch};
 
-/// What `ADDRESS PORT` says, and what stands behind it.
-fn end_of(text: &str) -> Option<(End, &str)> {
-    let (addr, rest) = text.split_once(' ')?;
-    let (port, rest) = rest.split_once(' ').unwrap_or((rest, ""));
-    let end = End {
-        addr: address(addr)?,
-        port: port.parse::<u16>().ok()?,
-    };
-    Some((end, rest))
+/// What `ADDRESS PORT` says.
+fn end_of(parts: &mut Parts<'_>) -> End {
+    End {
+        addr: address(parts),
+        port: parts.short(),
+    }
 }
 
 /// What `PROTOCOL ADDRESS PORT ADDRESS PORT` says: whether it is TCP, and the two ends.
 fn ends_of(text: &str) -> Option<(bool, End, End)> {
-    let (protocol, rest) = text.split_once(' ')?;
-    let (a, rest) = end_of(rest)?;
-    let (b, _) = end_of(rest)?;
-    Some((protocol == "tcp", a, b))
+    let mut parts = Parts::of(text, ' ');
+    let is_tcp = parts.word() == "tcp";
+    let (a, b) = (end_of(&mut parts), end_of(&mut parts));
+    if parts.is_read() {
+        Some((is_tcp, a, b))
+    } else {
+        None
+    }
 }
 
 /// `key PROTOCOL ADDRESS PORT ADDRESS PORT`: which of the two ends is the low one.
@@ -108,9 +110,8 @@ fn run_steps(page: &mut Page, flows: &mut Flows, steps: &str)
 
 /// `flows TCP UDP`: of each step what it finds, where at most so many flows of each protocol may live.
 pub(crate) fn flows(page: &mut Page, row: &Row, given: &str) {
-    let (tcp, udp) = given.split_once(' ').unwrap_or((given, ""));
-    let tcp = tcp.parse::<u32>().unwrap_or(0);
-    let udp = udp.parse::<u32>().unwrap_or(0);
+    let mut given = Parts::of(given, ' ');
+    let (tcp, udp) = (given.number(), given.number());
     if tcp == 0 || udp == 0 {
         return page.put("not a limit");
     }

@@ -6,7 +6,6 @@
 #![tactic(auto)]
 
 mod addresses;
-mod alerts;
 mod batches;
 mod bytes;
 mod calls;
@@ -19,8 +18,9 @@ mod course;
 mod crossing;
 mod dialogues;
 mod events;
+mod fields;
+mod flags;
 mod flows;
-mod headers;
 mod hosts;
 mod items;
 mod lists;
@@ -33,6 +33,7 @@ mod row;
 mod rules;
 mod sessions;
 mod setups;
+mod shown;
 mod trial;
 
 use crate::calls::Calls;

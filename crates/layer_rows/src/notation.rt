@@ -1,7 +1,7 @@
 //! The lines of a file of rows.
 
 use crate::row::Row;
-use row_files::RowLine;
+use row_files::{RowLine, cut};
 use std::alloc::{AllocError, Global};
 
 /// The name of the configuration.
@@ -42,7 +42,7 @@ pub(crate) fn apply(
 }
 
 fn apply_once(row: &mut Row, line: &str) -> Result<Applied, AllocError> {
-    let (key, rest) = line.split_once(' ').unwrap_or((line, ""));
+    let (key, rest) = cut(line, ' ');
     match key {
         "conf" => append_line(row, CONF, rest),
         "conf-" => append_part(row, CONF, rest),
@@ -69,13 +69,13 @@ fn append_line(row: &mut Row, name: &str, line: &str) -> Result<Applied, AllocEr
 
 /// `NAME TEXT`: a line of the file of this name.
 fn append_file_line(row: &mut Row, rest: &str) -> Result<Applied, AllocError> {
-    let (name, line) = rest.split_once(' ').unwrap_or((rest, ""));
+    let (name, line) = cut(rest, ' ');
     append_line(row, name, line)
 }
 
 /// `NAME TEXT`: a line without its line feed.
 fn append_file_part(row: &mut Row, rest: &str) -> Result<Applied, AllocError> {
-    let (name, text) = rest.split_once(' ').unwrap_or((rest, ""));
+    let (name, text) = cut(rest, ' ');
     append_part(row, name, text)
 }
 

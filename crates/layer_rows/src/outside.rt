@@ -3,6 +3,7 @@
 use crate::page::Page;
 use crate::row::Row;
 use edge_io::{FragPolicy, Pattern, PatternFlags, PatternMaker, Preference, StreamPolicy};
+use row_files::cut;
 
 /// `preference KIND NAME`: the row of the overlap table that the policy of this name for fragments or streams has.
 fn preference(kind: &str, name: &[u8]) -> Option<Preference> {
@@ -26,7 +27,7 @@ fn flags_of(word: &str) -> PatternFlags {
 
 /// `literal FLAGS TEXT~BYTES`: the leftmost match of the text in the bytes, or why there is no such pattern.
 fn literal(page: &mut Page, row: &Row, flags: &str, rest: &str) {
-    let (text, bytes) = rest.split_once('~').unwrap_or((rest, ""));
+    let (text, bytes) = cut(rest, '~');
     let mut maker = row.maker(page);
     match maker.make(page.alloc, text, flags_of(flags)) {
         Ok(pattern) => page.debug(&pattern.find(bytes.as_bytes())),
@@ -36,7 +37,7 @@ fn literal(page: &mut Page, row: &Row, flags: &str, rest: &str) {
 
 /// The calls of policies and plain texts.
 pub(crate) fn call(page: &mut Page, row: &Row, call: &str, given: &str) -> bool {
-    let (word, rest) = given.split_once(' ').unwrap_or((given, ""));
+    let (word, rest) = cut(given, ' ');
     match call {
         "preference" => page.debug(&preference(word, rest.as_bytes())),
         "literal" => literal(page, row, word, rest),

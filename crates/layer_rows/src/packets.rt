@@ -7,6 +7,7 @@ use crate::row::Row;
 use edge_io::{Addr, Link};
 use ipv6_decode::{decode6, decode6_datagram};
 use packet_decode::{Checks, IpHead, IpVersion, Packet, Skip, decode, decode_datagram, link_start};
+use row_files::cut;
 
 fn link_of(name: &str) -> Option<Link> {
     match name {
@@ -37,7 +38,7 @@ fn checks_of(word: &str) -> Checks {
 
 /// `packet LINK CHECKS WORDS`: the packet of the record, or why it is skipped.
 fn packet(page: &mut Page, row: &Row, link: Link, rest: &str) {
-    let (checks, words) = rest.split_once(' ').unwrap_or((rest, ""));
+    let (checks, words) = cut(rest, ' ');
     let bytes = bytes_of(page, row, words);
     page.debug(&decode(link, &bytes, checks_of(checks)));
 }
@@ -73,7 +74,7 @@ fn show_packet(page: &mut Page, answer: Result<Packet<'_>, Skip>) {
 
 /// `packet6 LINK CHECKS WORDS`: the packet of version 6 of the record, or why it is skipped.
 fn packet6(page: &mut Page, row: &Row, link: Link, rest: &str) {
-    let (checks, words) = rest.split_once(' ').unwrap_or((rest, ""));
+    let (checks, words) = cut(rest, ' ');
     let bytes = bytes_of(page, row, words);
     show_packet(page, decode6(link, &bytes, checks_of(checks)));
 }
@@ -104,7 +105,7 @@ fn datagram6(page: &mut Page, row: &Row, words: &str) {
 
 /// The calls of records, which begin with a link.
 fn record_call(page: &mut Page, row: &Row, call: &str, given: &str) -> bool {
-    let (link, rest) = given.split_once(' ').unwrap_or((given, ""));
+    let (link, rest) = cut(given, ' ');
     let Some(link) = link_of(link) else {
         return false;
     };

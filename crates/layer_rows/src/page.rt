@@ -22,6 +22,13 @@ impl Page {
         }
     }
 
+    /// Notes whether memory was lacking where there is a fault.
+    pub fn note<E: Drop>(&mut self, done: Result<(), E>) {
+        if done.is_err() {
+            self.lacks_memory = true;
+        }
+    }
+
     /// Writes a text.
     pub fn put(&mut self, text: &str) {
         if self.text.push_str(text).is_err() {
@@ -61,11 +68,11 @@ impl Page {
 
     /// Writes the places of rules, with blanks between them.
     pub fn places(&mut self, places: &[u32]) {
-        for (number, place) in places.iter().enumerate() {
-            if number > 0 {
-                self.put(" ");
-            }
+        let mut between = "";
+        for place in places {
+            self.put(between);
             self.show(*place);
+            between = " ";
         }
     }
 

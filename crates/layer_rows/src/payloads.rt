@@ -6,9 +6,10 @@ ghost use Rattle.rule_types.specs.Sound.{IsTriable};
 use crate::counted::CountingMaker;
 use crate::page::Page;
 use crate::row::Row;
-use crate::rules::{Given, rule_with};
-use edge_io::{Literal, LiteralMaker, NoMemory, Pattern, PatternMaker};
+use crate::rules::{ANY, Given};
+use edge_io::{LiteralMaker, NoMemory, Pattern, PatternMaker};
 use option_eval::{RuleSet, Steps, payload_matches};
+use row_files::cut;
 use rule_parser::Rule;
 use std::marker::Brand;
 use std::sync::atomic::{AtomicU64, Ordering};
@@ -17,12 +18,7 @@ use std::sync::ledger::{Blank, Ledger};
 /// Appends the bytes of pairs of hexadecimal digits with blanks between them.
 fn push_pairs(page: &mut Page, bytes: &mut Vec<u8>, pairs: &str) {
     for pair in pairs.split(' ') {
-        if bytes
-            .push(u8::from_str_radix(pair, 16).unwrap_or(0))
-            .is_err()
-        {
-            page.lacks_memory = true;
-        }
+        page.note(bytes.push(u8::from_str_radix(pair, 16).unwrap_or(0)));
     }
 }
 
@@ -32,8 +28,8 @@ fn bytes_of(page: &mut Page, written: &str) -> Vec<u8> {
     for (place, part) in written.split('|').enumerate() {
         if place % 2 == 1 {
             push_pairs(page, &mut bytes, part);
-        } else if bytes.extend_from_slice(part.as_bytes()).is_err() {
-            page.lacks_memory = true;
+        } else {
+            page.note(bytes.extend_from_slice(part.as_bytes()));
         }
     }
     bytes
@@ -58,7 +54,14 @@ fn show_match<P: Pattern, L: Ledger>(
     }
 }
 
-/// Adds a rule to a set; what that gives.
+/// Whether the payload matches the rule of a set, if it has one.
+fn show_set<P: Pattern>(page: &mut Page, set: &RuleSet<P>, payload: &[u8]) {
+    if !set.rules().is_empty() {
+        show_match::<P, Brand>(page, set, payload, Blank::new(1));
+    }
+}
+
+/// Adds a rule to a set; why that fails.
 fn push<M: PatternMaker>(page: &mut Page, set: &mut RuleSet<M::Made>, maker: &mut M, rule: Rule)
     requires { IsTriable rule }
 {
@@ -68,25 +71,51 @@ fn push<M: PatternMaker>(page: &mut Page, set: &mut RuleSet<M::Made>, maker: &mu
     }
 }
 
-/// Whether the payload matches the rule.
-fn show_rule<M: PatternMaker>(page: &mut Page, maker: &mut M, rule: Rule, payload: &[u8])
-    requires { IsTriable rule }
-{
-    let mut set = RuleSet::new(page.alloc);
-    push(page, &mut set, maker, rule);
-    if !set.rules().is_empty() {
-        show_match::<M::Made, Brand>(page, &set, payload, Blank::new(1));
+/// Adds the rule of a line to a set; why that fails.
+fn push_line<M: PatternMaker>(
+    page: &mut Page,
+    given: &mut Given,
+    set: &mut RuleSet<M::Made>,
+    maker: &mut M,
+    line: &str,
+) {
+    match given.read(page, line) {
+        Ok(rule) => push(page, set, maker, rule),
+        Err(fault) => page.debug(&fault),
     }
+}
+
+/// Whether the payload matches the rule of a line, behind what a configuration gives.
+fn try_payload<M: PatternMaker>(
+    page: &mut Page,
+    given: &mut Given,
+    maker: &mut M,
+    line: &str,
+    payload: &[u8],
+) {
+    let mut set = RuleSet::new(page.alloc);
+    push_line(page, given, &mut set, maker, line);
+    show_set(page, &set, payload);
+}
+
+/// Whether the payload that is written so matches the rule of a line.
+fn try_written<M: PatternMaker>(
+    page: &mut Page,
+    row: &Row,
+    maker: &mut M,
+    line: &str,
+    written: &str,
+) {
+    let payload = bytes_of(page, written);
+    let mut given = Given::of(page, row);
+    try_payload(page, &mut given, maker, line, &payload);
 }
 
 /// `payload OPTIONS~PAYLOAD`: whether it matches them.
 fn payload<M: PatternMaker>(page: &mut Page, row: &Row, maker: &mut M, text: &str) {
-    let (options, written) = text.split_once('~').unwrap_or((text, ""));
-    let payload = bytes_of(page, written);
-    match rule_with(page, row, options) {
-        Ok(rule) => show_rule(page, maker, rule, &payload),
-        Err(fault) => page.debug(&fault),
-    }
+    let (options, written) = cut(text, '~');
+    let line = page.rule_line(ANY, options, " sid:1;");
+    try_written(page, row, maker, &line, written);
 }
 
 /// `searches OPTIONS~PAYLOAD`: whether it matches them, and how often their patterns were searched.
@@ -97,30 +126,21 @@ fn searches(page: &mut Page, row: &Row, text: &str) {
     page.show(format_args!(" {}", searches.load(Ordering::SeqCst)));
 }
 
-/// Adds the rule of a line to a set.
-fn push_line(
-    page: &mut Page,
-    given: &mut Given,
-    set: &mut RuleSet<Literal>,
-    maker: &mut LiteralMaker,
-    line: &str,
-) {
-    match given.read(page, line) {
-        Ok(rule) => push(page, set, maker, rule),
-        Err(fault) => page.debug(&fault),
+/// Adds the rules of lines to a set; after each how many it has, behind why one was not added.
+fn push_lines(page: &mut Page, row: &Row, given: &mut Given, maker: &mut LiteralMaker) {
+    let mut set = RuleSet::new(page.alloc);
+    for line in row.steps.as_str().lines() {
+        push_line(page, given, &mut set, maker, line);
+        page.show(set.rules().len());
+        page.put("\n");
     }
 }
 
 /// `rule-set`: how many rules a set has after each step's rule was added, behind why one was not.
 fn rule_set(page: &mut Page, row: &Row) {
-    let mut set = RuleSet::new(page.alloc);
     let mut maker = row.maker(page);
     let mut given = Given::of(page, row);
-    for line in row.steps.as_str().lines() {
-        push_line(page, &mut given, &mut set, &mut maker, line);
-        page.show(set.rules().len());
-        page.put("\n");
-    }
+    push_lines(page, row, &mut given, &mut maker);
 }
 
 /// The calls of payloads.

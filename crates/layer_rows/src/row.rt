@@ -66,9 +66,7 @@ impl Row {
     /// A maker of patterns with its failing calls.
     pub fn maker(&self, page: &mut Page) -> LiteralMaker {
         let mut maker = LiteralMaker::new(page.alloc);
-        if maker.fail_calls(&self.maker).is_err() {
-            page.lacks_memory = true;
-        }
+        page.note(maker.fail_calls(&self.maker));
         maker
     }
 }

@@ -1,14 +1,20 @@
-//! Rules: the calls of rule_parser, under the classes, the variables and the rules of the row's configuration.
+//! Rules: the calls of rule_parser, under the classes, the variables and the rules of the row's configuration, and those
+//! of what a rule is tried with. One function owns the rule, since dropping it is dear to prove.
 
 ghost use Rattle.std.specs.Prelude.{IfOk};
-ghost use Rattle.rule_types.specs.Sound.{IsTriable};
+ghost use Rattle.rule_types.specs.Sound.{IsSound, IsTriable};
 
+use crate::configurations::load_file;
 use crate::notation::CONF;
 use crate::page::Page;
 use crate::row::Row;
-use conf_parser::{Loaded, load};
+use crate::shown::show_rule;
+use conf_parser::{Classes, Loaded};
 use net_lists::Vars;
 use rule_parser::{BitNames, Rule, RuleFault, read_rule};
+
+/// A header that all packets have.
+pub(crate) const ANY: &str = "ip any any -> any any";
 
 /// What a configuration gives to the rules that are read behind it.
 #[derive(Drop)]
@@ -35,38 +41,32 @@ impl Given {
 
     fn load(&mut self, page: &mut Page, row: &Row) {
         let mut host = row.host(page);
-        if load(
-            page.alloc,
-            &mut host,
-            CONF,
-            &mut self.vars,
-            &mut self.loaded,
-        )
-        .is_err()
-        {
-            page.put("the configuration is refused: ");
+        match load_file(page, &mut host, CONF, &mut self.vars, &mut self.loaded) {
+            Ok(()) => (),
+            Err(_) => page.put("the configuration is refused: "),
         }
     }
 
     /// Reads the configuration's own rules, for the names of their flowbits.
-    fn read_own(&mut self, page: &mut Page) {
+    fn read_own(&mut self, page: &Page) {
         for line in self.loaded.rules.as_slice() {
-            let _ = read_rule(
-                page.alloc,
+            drop(read_line(
+                page,
                 line.text.bytes(),
                 &self.vars,
                 &self.loaded.config.classes,
                 &mut self.bits,
-            );
+            ));
         }
     }
 
     /// The rule of a line.
     pub fn read(&mut self, page: &Page, line: &str) -> Result<Rule, RuleFault>
-        ensures { IfOk result IsTriable }
+        ensures triable { IfOk result IsTriable }
+        ensures sound { IfOk result (IsSound self.new.loaded.config.classes) }
     {
-        match read_rule(
-            page.alloc,
+        match read_line(
+            page,
             line.as_bytes(),
             &self.vars,
             &self.loaded.config.classes,
@@ -78,76 +78,58 @@ impl Given {
     }
 }
 
-/// The rule of a line, behind the row's configuration.
-pub(crate) fn rule_of(page: &mut Page, row: &Row, line: &str) -> Result<Rule, RuleFault>
-    ensures { IfOk result IsTriable }
+/// The rule of a line, behind these variables, classes and names of bits.
+fn read_line(
+    page: &Page,
+    line: &[u8],
+    vars: &Vars,
+    classes: &Classes,
+    bits: &mut BitNames,
+) -> Result<Rule, RuleFault>
+    ensures { IfOk result (IsSound classes.now) }
 {
-    Given::of(page, row).read(page, line)
+    read_rule(page.alloc, line, vars, classes, bits)
 }
 
-/// The rule with these options, and a `sid` behind them.
-pub(crate) fn rule_with(page: &mut Page, row: &Row, options: &str) -> Result<Rule, RuleFault>
-    ensures { IfOk result IsTriable }
-{
-    let line = page.rule_line("ip any any -> any any", options, " sid:1;");
-    rule_of(page, row, &line)
-}
-
-/// `rule LINE`: the rule's number, how many options it keeps and whether it gives no event; or the kind of the fault,
-/// and the places of what an unknown variable shows.
-fn rule(page: &mut Page, row: &Row, line: &str) {
-    match rule_of(page, row, line) {
-        Ok(rule) => {
-            let kept = rule.opts.as_slice().len();
-            page.show(format_args!("rule {} {kept} {}", rule.sid, rule.noalert));
-        }
-        Err(fault) => page.show(format_args!("{:?} {} {}", fault.kind, fault.from, fault.to)),
+/// Shows why a line is no rule: with `rule` the kind of the fault and the places of what an unknown variable shows, with
+/// `option` the kind alone.
+fn show_fault(page: &mut Page, fault: &RuleFault, call: &str) {
+    match call {
+        "rule" => page.show(format_args!("{:?} {} {}", fault.kind, fault.from, fault.to)),
+        "option" => page.debug(&fault.kind),
+        _ => page.debug(fault),
     }
 }
 
-/// `option OPTIONS`: `read`, or the kind of the fault.
-fn option(page: &mut Page, row: &Row, options: &str) {
-    match rule_with(page, row, options) {
-        Ok(_) => page.put("read"),
-        Err(fault) => page.debug(&fault.kind),
+/// A call on the rule of a line, behind what a configuration gives.
+fn ask_of(page: &mut Page, row: &Row, given: &mut Given, call: &str, line: &str) {
+    match given.read(page, line) {
+        Ok(rule) => show_rule(page, row, &rule, &given.loaded.config.classes, call),
+        Err(fault) => show_fault(page, &fault, call),
     }
 }
 
-/// `options OPTIONS`: those that the rule keeps.
-fn options(page: &mut Page, row: &Row, options: &str) {
-    match rule_with(page, row, options) {
-        Ok(rule) => page.debug(&rule.opts.as_slice()),
-        Err(fault) => page.debug(&fault),
-    }
+/// A call on the rule of a line, behind the row's configuration.
+fn ask(page: &mut Page, row: &Row, call: &str, line: &str) {
+    let mut given = Given::of(page, row);
+    ask_of(page, row, &mut given, call, line);
 }
 
-/// What a rule says of itself: action, protocol, whether source and destination may be exchanged, message, numbers,
-/// class, priority, whether it gives no event, and its filter.
-fn show_head(page: &mut Page, rule: &Rule) {
-    page.show(format_args!("{:?} {:?} {} ", rule.action, rule.proto, rule.both));
-    page.bytes(rule.msg.bytes());
-    page.show(format_args!(" {}:{}:{}", rule.gid, rule.sid, rule.rev));
-    page.show(format_args!(
-        " {:?} {} {} {:?}",
-        rule.class, rule.priority, rule.noalert, rule.period
-    ));
+/// A call on a rule with this header and these options.
+fn ask_with(page: &mut Page, row: &Row, call: &str, header: &str, options: &str, behind: &str) {
+    let line = page.rule_line(header, options, behind);
+    ask(page, row, call, &line);
 }
 
-/// `head LINE`: what the rule says of itself.
-fn head(page: &mut Page, row: &Row, line: &str) {
-    match rule_of(page, row, line) {
-        Ok(rule) => show_head(page, &rule),
-        Err(fault) => page.debug(&fault),
-    }
-}
-
-/// The calls of rules.
+/// The calls of rules: of whole lines, of headers, and of options with a `sid` behind them, but for `alert`.
 pub(crate) fn call(page: &mut Page, row: &Row, call: &str, given: &str) -> bool {
     match call {
-        "rule" => rule(page, row, given),
-        "option" => option(page, row, given),
-        "options" => options(page, row, given),
-        "head" => head(page, row, given),
+        "rule" | "head" => ask(page, row, call, given),
+        "header" => ask_with(page, row, call, given, "", " sid:1;"),
+        "option" | "options" | "choice" | "meets" => {
+            ask_with(page, row, call, ANY, given, " sid:1;")
+        }
+        "alert" => ask_with(page, row, call, ANY, given, ""),
         _ => return false,
     }
     true

@@ -3,10 +3,12 @@
 ghost use Rattle.std.specs.Prelude.{◌≡◌};
 ghost use Rattle.stream5_sessions.specs.Phases.{IsBodyOf};
 
+use crate::flags::flags_of;
 use crate::page::Page;
 use crate::row::Row;
 use edge_io::{Addr, Moment};
 use packet_decode::{Body, IpHead, TcpHead};
+use row_files::{Parts, cut};
 use stream5_sessions::{End, Session, SessionRules, Step};
 
 const CLIENT: End = End {
@@ -27,46 +29,37 @@ struct Sent {
     flags: u8,
     seq: u32,
     ack: u32,
-    len: usize,
+    len: u32,
     second: u64,
 }
 
 /// The ends of a packet that the client sends, or the server, or the client to itself.
-fn ends_of(sender: &str) -> Option<(End, End)> {
-    match sender {
-        "C" => Some((CLIENT, SERVER)),
-        "S" => Some((SERVER, CLIENT)),
-        "I" => Some((CLIENT, CLIENT)),
-        _ => None,
+fn ends_of(parts: &mut Parts<'_>) -> (End, End) {
+    match parts.word() {
+        "C" => (CLIENT, SERVER),
+        "S" => (SERVER, CLIENT),
+        "I" => (CLIENT, CLIENT),
+        _ => {
+            parts.refuse();
+            (CLIENT, SERVER)
+        }
     }
-}
-
-/// The control bits of these letters.
-fn flags_of(letters: &str) -> u8 {
-    let fin = if letters.contains('F') { 1 } else { 0 };
-    let syn = if letters.contains('S') { 2 } else { 0 };
-    let rst = if letters.contains('R') { 4 } else { 0 };
-    let ack = if letters.contains('A') { 16 } else { 0 };
-    fin | syn | rst | ack
 }
 
 /// What `SENDER:FLAGS:SEQ:ACK:LENGTH:SECOND` says.
 fn sent_of(step: &str) -> Option<Sent> {
-    let (sender, rest) = step.split_once(':')?;
-    let (letters, rest) = rest.split_once(':')?;
-    let (seq, rest) = rest.split_once(':')?;
-    let (ack, rest) = rest.split_once(':')?;
-    let (len, second) = rest.split_once(':')?;
-    let (from, to) = ends_of(sender)?;
-    Some(Sent {
+    let mut parts = Parts::of(step, ':');
+    let (from, to) = ends_of(&mut parts);
+    let sent = Sent {
         from,
         to,
-        flags: flags_of(letters),
-        seq: seq.parse::<u32>().ok()?,
-        ack: ack.parse::<u32>().ok()?,
-        len: len.parse::<usize>().ok()?,
-        second: second.parse::<u64>().ok()?,
-    })
+        flags: flags_of(parts.word()),
+        seq: parts.number(),
+        ack: parts.number(),
+        len: parts.number(),
+        second: parts.long(),
+    };
+    if parts.is_read() { Some(sent) } else { None }
 }
 
 /// The head of a packet.
@@ -140,7 +133,7 @@ fn take(page: &mut Page, session: &mut Session, tcp: bool, sent: &Sent, rules: S
     };
     let mut left = *session;
     let stays = left.stay(&ip, &body, moment, rules, &mut Step::default());
-    let step = session.step(&ip, &body, sent.len, moment, rules);
+    let step = session.step(&ip, &body, sent.len as usize, moment, rules);
     show_step(page, &step, stays);
 }
 
@@ -157,7 +150,7 @@ fn take_all(page: &mut Page, row: &Row, tcp: bool, rules: SessionRules) {
 
 /// `session PROTOCOL NEEDED`: of each step, a packet, what it tells of its session. The timeout is 30 seconds.
 pub(crate) fn session(page: &mut Page, row: &Row, given: &str) {
-    let (protocol, needed) = given.split_once(' ').unwrap_or((given, ""));
+    let (protocol, needed) = cut(given, ' ');
     let rules = SessionRules {
         timeout: 30,
         needed: needed == "needed",

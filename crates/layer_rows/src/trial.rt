@@ -3,7 +3,7 @@
 use crate::notation::{Applied, apply, written};
 use crate::page::Page;
 use crate::row::Row;
-use row_files::{Count, RowLine};
+use row_files::{Count, RowLine, cut};
 use std::alloc::{AllocError, Global};
 use std::io;
 use std::thread::Threads;
@@ -35,10 +35,10 @@ struct Call<'a> {
 /// What a line `CALL GIVEN@WANTED@WHAT` says; without an `@` the row's steps have what is wanted.
 fn call_of<'a>(line: &'a str, steps_wanted: &'a str) -> Call<'a> {
     let (call, wanted) = match line.split_once('@') {
-        Some((call, rest)) => (call, rest.split_once('@').unwrap_or((rest, "")).0),
+        Some((call, rest)) => (call, cut(rest, '@').0),
         None => (line, steps_wanted),
     };
-    let (name, given) = call.split_once(' ').unwrap_or((call, ""));
+    let (name, given) = cut(call, ' ');
     Call {
         name,
         given,
