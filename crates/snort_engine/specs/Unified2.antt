@@ -33,10 +33,10 @@ link_number Ethernet = 1
 link_number RawIp = 101
 link_number Cooked = 113
 
--- the class at a place, counted from 1; 0 where there is none
+-- the class at a place, counted from 1, modulo 2^32; 0 where there is none
 abbrev pub class_number : Option ℕ → ℕ
 class_number None = 0
-class_number (Some place) = place + 1
+class_number (Some place) = (place + 1) % 2 ^ 32
 
 -- the ports of a packet or a stream, or the type and the code of an ICMP message
 abbrev pub first_port : Body → ℕ

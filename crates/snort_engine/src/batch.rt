@@ -11,7 +11,7 @@ use crate::fault::ReadFault;
 use crate::reader::{LinkedRecord, RecordReader};
 use crate::stop::Stop;
 use edge_io::Host;
-use std::alloc::Global;
+use std::alloc::{AllocError, AllocFailed, Global};
 
 /// How many records are read before their lines are offered.
 const BATCH: usize = 256;
@@ -48,13 +48,14 @@ fn read_one<H: Host>(
     ensures host { OnlyRead H.Host host.old host.new }
 {
     // Room comes first, so that no record is lost that was taken.
-    if records.reserve(1).is_err() {
-        return Reached::Fault(ReadFault::NoMemory);
+    match records.reserve(1) {
+        Ok(()) => {}
+        Err(AllocError) => return Reached::Fault(ReadFault::NoMemory),
     }
     match reader.next(alloc, host) {
         Ok(Some(given)) => match records.push(given) {
             Ok(()) => Reached::More,
-            Err(_full) => Reached::Fault(ReadFault::NoMemory),
+            Err(AllocFailed { value: _full }) => Reached::Fault(ReadFault::NoMemory),
         },
         Ok(None) => Reached::End,
         Err(why) => Reached::Fault(why),

@@ -11,6 +11,7 @@ use Rattle.unified2_out.specs.declared.record.U2Packet.{U2Packet}
 use Rattle.unified2_out.specs.declared.record.U2.{U2}
 use Rattle.unified2_out.specs.declared.record.U2.TheVariants.{Event, Packet, Other}
 use Rattle.unified2_out.specs.Records.{numbers, address_bytes, event_words, event_ports, event_octets, packet_words, event_body, packet_body, event_kind, event_size, kind_of, body_of, most_body_bytes, AreOfOneVersion, IsInRange, AllFit, FitsEvent}
+use Rattle.unified2_out.specs.Parts.{event_len}
 use Rattle.unified2_out.specs.Reading.{IsRecord}
 use Rattle.unified2_out.specs.Fronts.{IsRecordOf, IsEventOf}
 use Rattle.unified2_out.proofs.Numbers.{AreBytes, bytes-take, bytes-drop, bytes-number, numbers-read, numbers-fit, places, places-rest, all-bytes}
@@ -22,6 +23,14 @@ length-event_body event (V4 first) (V4 second) src_is dst_is one = rw (src_is, d
 length-event_body event (V4 first) (V6 second) src_is dst_is one = absurd one
 length-event_body event (V6 first) (V4 second) src_is dst_is one = absurd one
 length-event_body event (V6 first) (V6 second) src_is dst_is one = rw (src_is, dst_is) refl
+
+-- the same of any addresses
+pub length-any_event : (event : U2Event) (src dst : Addr) → event.src ≡ src → event.dst ≡ dst → length (event_body event) ≡ event_len src dst
+unfolding event_body
+length-any_event event (V4 first) (V4 second) src_is dst_is = rw (src_is, dst_is) refl
+length-any_event event (V4 first) (V6 second) src_is dst_is = rw (src_is, dst_is) refl
+length-any_event event (V6 first) (V4 second) src_is dst_is = rw (src_is, dst_is) refl
+length-any_event event (V6 first) (V6 second) src_is dst_is = rw (src_is, dst_is) refl
 
 -- and that of a packet
 pub length-packet_body : (packet : U2Packet) → length (packet_body packet) ≡ 28 + length packet.bytes

@@ -49,6 +49,12 @@ bytes-above (suc n) high low =
     let rest = bytes-above n (high * 256) low in
     ap (bytes_high_first (suc n)) moved ∙ rw (top, rest) refl
 
+-- nor do they show what a number has above 2^32
+pub words-modulo : (number : ℕ) → bytes_high_first 4 (number % 4294967296) ≡ bytes_high_first 4 number
+words-modulo number =
+    let parts : number / 4294967296 * 256 ^ 4 + number % 4294967296 ≡ number = omega arith in
+    sym (bytes-above 4 (number / 4294967296) (number % 4294967296)) ∙ ap (bytes_high_first 4) parts
+
 -- the bytes of the number that bytes are
 pub bytes-number : (n : ℕ) (bytes : List ℕ) → AreBytes bytes → length bytes ≡ n → bytes_high_first n (big_from 0 n bytes) ≡ bytes
 bytes-number zero [] small size = refl

@@ -102,8 +102,8 @@ pub record IsOtherKind (kind : ℕ) : Type 0 where
   pub no_event : kind ≢ 7
   pub no_event6 : kind ≢ 72
 
--- A record that can be written: an event between addresses of one version, and else a body that is
--- short enough. The numbers of a packet have 28 bytes.
+-- A record that is written so that it is read: an event between addresses of one version, and else a body
+-- that is short enough. The numbers of a packet have 28 bytes.
 abbrev pub IsWritable : U2 → Type 0
 IsWritable (Event event) = AreOfOneVersion event.src event.dst
 IsWritable (Packet packet) = 28 + length packet.bytes ≤ most_body_bytes

@@ -19,6 +19,9 @@ pub(crate) const EVENT_IP6_LEN: usize = 76;
 /// The bytes of an event's nine numbers of four bytes, and with the header before them.
 pub(crate) const EVENT_NUMBERS: usize = 36;
 
+/// The bytes of an event's numbers, but for its addresses.
+pub(crate) const EVENT_OTHERS: u32 = EVENT_NUMBERS as u32 + 8;
+
 pub(crate) const EVENT_HEAD: usize = HEADER + EVENT_NUMBERS;
 
 /// "Unified2 Packet": the kind, and the bytes of its seven numbers.
@@ -27,6 +30,3 @@ pub(crate) const PACKET: u32 = 2;
 pub(crate) const PACKET_NUMBERS: usize = 28;
 
 pub(crate) const PACKET_HEAD: usize = HEADER + PACKET_NUMBERS;
-
-/// The most bytes of a packet.
-pub const MAX_PACKET: usize = MAX_BODY - PACKET_NUMBERS;

@@ -14,7 +14,6 @@ mod read;
 mod record;
 mod write;
 
-pub use kinds::MAX_PACKET;
 pub use read::read_records;
 pub use record::{LentPacket, U2, U2Event, U2Fault, U2Packet};
 pub use write::{write_packet, write_record};

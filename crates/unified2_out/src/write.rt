@@ -1,10 +1,11 @@
 //! Records written as bytes.
 ghost use Rattle.std.specs.Prelude.{◌≡◌, ◌+◌, ◌≤◌, ◌∷◌, ◌++◌, OnOk, OnErr, take, length};
-ghost use Rattle.unified2_out.specs.Records.{numbers, address_bytes, event_kind, event_size, event_words, event_ports, event_octets, frame_text, packet_of, unified2_text, IsWritable, AreOfOneVersion, most_body_bytes};
+ghost use Rattle.byteorder.specs.Endian.{big_bytes};
+ghost use Rattle.unified2_out.specs.Records.{numbers, address_bytes, event_kind, event_words, event_ports, event_octets, frame_text, packet_of, unified2_text};
+ghost use Rattle.unified2_out.specs.Parts.{event_len};
 
 use crate::kinds::{
-    EVENT, EVENT_HEAD, EVENT_IP6, EVENT_IP6_LEN, EVENT_LEN, HEADER, PACKET, PACKET_HEAD,
-    PACKET_NUMBERS,
+    EVENT, EVENT_HEAD, EVENT_IP6, EVENT_OTHERS, HEADER, PACKET, PACKET_HEAD, PACKET_NUMBERS,
 };
 use crate::record::{LentPacket, U2, U2Event, U2Packet};
 use byteorder::{BigEndian, ByteOrder};
@@ -14,20 +15,19 @@ use std::alloc::AllocError;
 /// Appends the bytes of a record: its kind, the length of its body, and the body, all numbers with the
 /// most significant byte first (Snort Users Manual 2.9, "Unified2 File Format").
 ///
-/// An event's addresses have to be of one version, a packet may have 1,048,548 bytes, and any other
-/// record 1,048,576 and a kind that is none of 2, 7 and 72. Where memory is lacking, nothing is
-/// appended.
+/// `read_records` reads it where it `IsWritable`: an event between addresses of one version, a packet of at
+/// most 1,048,548 bytes, or any other record of at most 1,048,576 and a kind that is none of 2, 7 and 72. Of a
+/// longer one the length stands modulo 2^32. Where memory is lacking, nothing is appended.
 pub fn write_record(entry: &U2, out: &mut Vec<u8>) -> Result<(), NoMemory>
-    requires { IsWritable entry.now }
     ensures appended { OnOk result (out.new.items ≡ out.old.items ++ unified2_text entry.now) }
     ensures unchanged { OnErr result (out.new.items ≡ out.old.items) }
 {
     let length = out.len();
     match push_record(entry, out) {
         Ok(()) => Ok(()),
-        Err(AllocError) => {
+        Err(error) => {
             out.truncate(length);
-            Err(NoMemory)
+            Err(error.into())
         }
     }
 }
@@ -35,7 +35,6 @@ pub fn write_record(entry: &U2, out: &mut Vec<u8>) -> Result<(), NoMemory>
 /// Appends the bytes of a packet whose own bytes are lent, as `write_record` does those of a packet. Where
 /// memory is lacking, nothing is appended.
 pub fn write_packet(packet: &LentPacket<'_>, out: &mut Vec<u8>) -> Result<(), NoMemory>
-    requires { IsWritable (U2.Packet (packet_of packet.now)) }
     ensures appended { OnOk result
         (out.new.items ≡ out.old.items ++ unified2_text (U2.Packet (packet_of packet.now))) }
     ensures unchanged { OnErr result (out.new.items ≡ out.old.items) }
@@ -43,16 +42,15 @@ pub fn write_packet(packet: &LentPacket<'_>, out: &mut Vec<u8>) -> Result<(), No
     let length = out.len();
     match push_packet(packet, out) {
         Ok(()) => Ok(()),
-        Err(AllocError) => {
+        Err(error) => {
             out.truncate(length);
-            Err(NoMemory)
+            Err(error.into())
         }
     }
 }
 
 // Where memory is lacking, a part of the record may stand behind what stood there.
 fn push_record(entry: &U2, out: &mut Vec<u8>) -> Result<(), AllocError>
-    requires { IsWritable entry.now }
     ensures appended { OnOk result (out.new.items ≡ out.old.items ++ unified2_text entry.now) }
     ensures kept { OnErr result (take (length out.old.items) out.new.items ≡ out.old.items) }
 {
@@ -65,7 +63,6 @@ fn push_record(entry: &U2, out: &mut Vec<u8>) -> Result<(), AllocError>
 
 // Where memory is lacking, a part of the event may stand behind what stood there.
 fn push_event(event: &U2Event, out: &mut Vec<u8>) -> Result<(), AllocError>
-    requires { AreOfOneVersion event.now.src event.now.dst }
     ensures appended { OnOk result
         (out.new.items ≡ out.old.items ++ unified2_text (U2.Event event.now)) }
     ensures kept { OnErr result (take (length out.old.items) out.new.items ≡ out.old.items) }
@@ -77,20 +74,37 @@ fn push_event(event: &U2Event, out: &mut Vec<u8>) -> Result<(), AllocError>
     Ok(())
 }
 
+/// The kind of an event between such addresses.
+fn kind_of(src: Addr) -> u32
+    ensures { result ≡ event_kind src }
+{
+    match src {
+        Addr::V4(_) => EVENT,
+        Addr::V6(_) => EVENT_IP6,
+    }
+}
+
+/// How many bytes an address has.
+fn address_len(address: Addr) -> u32
+    ensures len { result ≡ length (address_bytes address) }
+    ensures small { result ≤ 16 }
+{
+    match address {
+        Addr::V4(_) => 4,
+        Addr::V6(_) => 16,
+    }
+}
+
 /// What stands before the addresses of an event: its kind, its length, and its numbers of four bytes.
 fn event_head(event: &U2Event) -> [u8; EVENT_HEAD]
     ensures { result ≡ numbers 4
-        (event_kind event.now.src ∷ event_size event.now.src ∷ event_words event.now) }
+        (event_kind event.now.src ∷ event_len event.now.src event.now.dst ∷ event_words event.now) }
 {
-    let (kind, len) = match event.src {
-        Addr::V4(_) => (EVENT, EVENT_LEN as u32),
-        Addr::V6(_) => (EVENT_IP6, EVENT_IP6_LEN as u32),
-    };
     let mut head = [0; EVENT_HEAD];
     BigEndian::write_u32_into(
         &[
-            kind,
-            len,
+            kind_of(event.src),
+            EVENT_OTHERS + address_len(event.src) + address_len(event.dst),
             event.sensor,
             event.id,
             event.second,
@@ -149,20 +163,27 @@ fn lent(packet: &U2Packet) -> LentPacket<'_>
     }
 }
 
+/// The length of so many bytes behind `head` others, modulo 2^32.
+fn length_word(head: u32, count: usize) -> u32
+    ensures { big_bytes 4 result ≡ big_bytes 4 (head + count) }
+{
+    head.wrapping_add((count % (1 << 32)) as u32)
+}
+
 // Where memory is lacking, a part of the packet may stand behind what stood there.
 fn push_packet(packet: &LentPacket<'_>, out: &mut Vec<u8>) -> Result<(), AllocError>
-    requires { 28 + length packet.now.bytes.now ≤ most_body_bytes }
     ensures appended { OnOk result
         (out.new.items ≡ out.old.items ++ unified2_text (U2.Packet (packet_of packet.now))) }
     ensures kept { OnErr result (take (length out.old.items) out.new.items ≡ out.old.items) }
 {
     let bytes = packet.bytes;
-    let count = bytes.len() as u32;
+    let size = length_word(PACKET_NUMBERS as u32, bytes.len());
+    let count = length_word(0, bytes.len());
     let mut head = [0; PACKET_HEAD];
     BigEndian::write_u32_into(
         &[
             PACKET,
-            PACKET_NUMBERS as u32 + count,
+            size,
             packet.sensor,
             packet.id,
             packet.event_second,
@@ -180,12 +201,12 @@ fn push_packet(packet: &LentPacket<'_>, out: &mut Vec<u8>) -> Result<(), AllocEr
 
 // Where memory is lacking, a part of the record may stand behind what stood there.
 fn push_other(kind: u32, body: &[u8], out: &mut Vec<u8>) -> Result<(), AllocError>
-    requires { length body.now ≤ most_body_bytes }
     ensures appended { OnOk result (out.new.items ≡ out.old.items ++ frame_text kind body.now) }
     ensures kept { OnErr result (take (length out.old.items) out.new.items ≡ out.old.items) }
 {
+    let size = length_word(0, body.len());
     let mut head = [0; HEADER];
-    BigEndian::write_u32_into(&[kind, body.len() as u32], &mut head);
+    BigEndian::write_u32_into(&[kind, size], &mut head);
     out.extend_from_slice(&head)?;
     out.extend_from_slice(body)?;
     Ok(())

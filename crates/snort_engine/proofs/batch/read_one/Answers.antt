@@ -8,21 +8,21 @@ use Rattle.snort_engine.proofs.Batches.{reads_record, reads_end, reads_fault, re
 use Rattle.snort_engine.proofs.Seeing.{told_may}
 use Rattle.snort_engine.proofs.batch.read_one.Goals as goal
 
-pub returns-then-is_err-clause-reads : goal.returns-then-is_err-clause-reads
-returns-then-is_err-clause-reads g c = λ seen may.
+pub returns-in-Err-clause-reads : goal.returns-in-Err-clause-reads
+returns-in-Err-clause-reads g c = λ seen may.
     let old : Place = record { reader = c.args.reader.now; records = c.args.records.now.items; left = left_by (g.H.Host.left_of c.args.host.now) seen } in
     let new : Place = record { reader = c.args.reader.now; records = c.reserve.new.self.items; left = left_by (g.H.Host.left_of c.args.host.now) seen } in
     reads_lacking old new c.reserve.ensures.items refl
 
-pub returns-in-Ok-clause-reads : goal.returns-in-Ok-clause-reads
-returns-in-Ok-clause-reads g c = λ seen may.
+pub returns-in-Ok-push-clause-reads : goal.returns-in-Ok-push-clause-reads
+returns-in-Ok-push-clause-reads g c = λ seen may.
     let gives = rw c.in-Ok-Some.field-0-is at (c.in-Ok-Some.ensures.gives seen may) in
     let old : Place = record { reader = c.args.reader.now; records = c.args.records.now.items; left = left_by (g.H.Host.left_of c.args.host.now) seen } in
     let new : Place = record { reader = c.next.new.self; records = c.push.new.self.items; left = left_by (g.H.Host.left_of c.next.new.host) seen } in
-    reads_record old new c.in-Ok-Some.given gives.0 (c.in-Ok.ensures.items ∙ ap (λ records. records ++ c.in-Ok-Some.given ∷ []) c.reserve.ensures.items)
+    reads_record old new c.in-Ok-Some.given gives.0 (c.in-Ok-push.ensures.items ∙ ap (λ records. records ++ c.in-Ok-Some.given ∷ []) c.reserve.ensures.items)
 
-pub returns-in-Ok-clause-next : goal.returns-in-Ok-clause-next
-returns-in-Ok-clause-next g c = λ more.
+pub returns-in-Ok-push-clause-next : goal.returns-in-Ok-push-clause-next
+returns-in-Ok-push-clause-next g c = λ more.
     let may = told_may g.H.Host c.next.new.host (g.met.H.Host.as_told c.next.new.host) in
     let gives = rw c.in-Ok-Some.field-0-is at (c.in-Ok-Some.ensures.gives (g.H.Host.contents c.next.new.host) may) in
     (gives.0.fresh, gives.1)
@@ -34,18 +34,18 @@ returns-in-Ok-None-clause-reads g c = λ seen may.
     let new : Place = record { reader = c.next.new.self; records = c.reserve.new.self.items; left = left_by (g.H.Host.left_of c.next.new.host) seen } in
     reads_end old new c.reserve.ensures.items gives.0 gives.1
 
-pub returns-in-Err-clause-reads : goal.returns-in-Err-clause-reads
-returns-in-Err-clause-reads g c = λ seen may.
+pub returns-in-Err-next-clause-reads : goal.returns-in-Err-next-clause-reads
+returns-in-Err-next-clause-reads g c = λ seen may.
     let old : Place = record { reader = c.args.reader.now; records = c.args.records.now.items; left = left_by (g.H.Host.left_of c.args.host.now) seen } in
     let new : Place = record { reader = c.next.new.self; records = c.reserve.new.self.items; left = left_by (g.H.Host.left_of c.next.new.host) seen } in
-    reads_fault old new c.in-Err.why c.reserve.ensures.items (c.in-Err.ensures.gives seen may).0 (c.in-Err.ensures.gives seen may).1
-
-pub returns-then-is_err-clause-own : goal.returns-then-is_err-clause-own
-returns-then-is_err-clause-own g c = λ why is.
-    let lacking : why ≡ NoMemory = cc in
-    inr (lacking, c.requires)
+    reads_fault old new c.in-Err-next.why c.reserve.ensures.items (c.in-Err-next.ensures.gives seen may).0 (c.in-Err-next.ensures.gives seen may).1
 
 pub returns-in-Err-clause-own : goal.returns-in-Err-clause-own
 returns-in-Err-clause-own g c = λ why is.
-    let same : c.in-Err.why ≡ why = cc in
-    inl (c.in-Err.ensures.refused ∙ ap (λ (f : ReadFault). Some f) same)
+    let lacking : why ≡ NoMemory = cc in
+    inr (lacking, c.requires)
+
+pub returns-in-Err-next-clause-own : goal.returns-in-Err-next-clause-own
+returns-in-Err-next-clause-own g c = λ why is.
+    let same : c.in-Err-next.why ≡ why = cc in
+    inl (c.in-Err-next.ensures.refused ∙ ap (λ (f : ReadFault). Some f) same)

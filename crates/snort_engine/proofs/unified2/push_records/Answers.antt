@@ -11,9 +11,9 @@ pub returns : goal.returns
 unfolding records_text
 returns c =
     let out = c.args.out.now.items in
-    let packet = packet_of c.in_ok-packet_record.field-0 in
-    on_ok_weaker c.push_packet.result
-    (λ e. e ∙ ap (λ (x : List ℕ). x ++ unified2_text (a_packet packet)) c.in_ok-push_event.ensures
-    ∙ append_assoc out (unified2_text (an_event c.in_ok-event_record.field-0)) (unified2_text (a_packet packet))
-    ∙ ap₂ (λ (event : U2Event) (p : U2Packet). out ++ (unified2_text (an_event event) ++ unified2_text (a_packet p))) c.in_ok-event_record.ensures c.in_ok-packet_record.ensures)
-    c.push_packet.ensures
+    let packet = packet_of c.packet_record.result in
+    on_ok_weaker c.write_packet.result
+    (λ e. e ∙ ap (λ (x : List ℕ). x ++ unified2_text (a_packet packet)) c.in_ok-write_record.ensures.appended
+    ∙ append_assoc out (unified2_text (an_event c.event_record.result)) (unified2_text (a_packet packet))
+    ∙ ap₂ (λ (event : U2Event) (p : U2Packet). out ++ (unified2_text (an_event event) ++ unified2_text (a_packet p))) c.event_record.ensures c.packet_record.ensures)
+    c.write_packet.ensures.appended
