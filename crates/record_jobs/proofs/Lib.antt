@@ -11,5 +11,6 @@ pub mod NoRecords
 pub mod Knowing
 pub mod Sounding
 pub mod Running
+pub mod Open
 pub mod Learning
 pub mod Addresses

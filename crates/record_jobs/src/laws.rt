@@ -1,13 +1,17 @@
 //! Laws about the jobs of a capture, for callers.
 
-ghost use Rattle.std.specs.Prelude.{◌≡◌, ℕ, Bool, List, [], ◌++◌, length};
+ghost use Rattle.std.specs.Prelude.{◌≡◌, ℕ, ◌<◌, Bool, true, Contains, List, [], ◌++◌, length};
+ghost use Rattle.edge_io.specs.Along.{trail};
+ghost use Rattle.stream5_sessions.specs.Liveness.{live_flows};
 ghost use Rattle.flow_lanes.specs.declared.job.Job.{Job};
+ghost use Rattle.flow_lanes.specs.Open.{is_open};
 ghost use Rattle.flow_lanes.specs.Standing.{AreNew, LanesState, LearnsBatch};
 ghost use Rattle.record_jobs.specs.Addresses.{KeepEnds};
 ghost use Rattle.record_jobs.specs.Counts.{counts, none_counted};
 ghost use Rattle.record_jobs.specs.Fronts.{FrontState, StandsFor};
-ghost use Rattle.record_jobs.specs.Jobs.{finishes};
+ghost use Rattle.record_jobs.specs.Jobs.{finishes, jobs};
 ghost use Rattle.record_jobs.specs.Ready.{AreInOrder, AreNumbered, AreReady, AreSound, HaveLearnt};
+ghost use Rattle.record_jobs.specs.Touches.{most_flows, touches};
 ghost use Rattle.record_jobs.specs.Way.{LinkedRecord, Way};
 
 /// All jobs of a capture's records are numbered by their places, and where their data are short, as a front
@@ -43,4 +47,12 @@ pub fn lanes_may_run()
 /// A datagram that was put together is between the addresses of its fragments, both of one version.
 pub fn datagrams_keep_addresses()
     ensures { (way : Way) (before : List LinkedRecord) (r : LinkedRecord) → KeepEnds way before r }
+{}
+
+/// A flow that is open behind the jobs of a capture's records lives. So no more flows are open, and kept by lanes, than
+/// may live: `max_tcp` and `max_udp` together.
+pub fn open_flows_live()
+    ensures { (way : Way) (records : List LinkedRecord) (flow : ℕ) → 0 < way.stream.max_tcp → 0 < way.stream.max_udp
+        → is_open flow (trail (jobs way) records) ≡ true
+        → Contains (live_flows (most_flows way.stream) (touches way records)) flow }
 {}

@@ -23,5 +23,5 @@ pub use counts::RecordCounts;
 pub use front::Front;
 pub use laws::{
     datagrams_keep_addresses, jobs_are_in_order, lanes_may_run, no_records_no_jobs,
-    records_are_counted,
+    open_flows_live, records_are_counted,
 };
