@@ -1,0 +1,10 @@
+pub mod FlowLaws
+pub mod Groups
+pub mod Latin
+pub mod Adding
+pub mod OneLine
+pub mod ReadBack
+pub mod AsciiTexts
+pub mod Times
+pub mod Depths
+pub mod Lines

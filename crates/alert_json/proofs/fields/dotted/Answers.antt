@@ -1,0 +1,8 @@
+use Rattle.std.proofs.Common.{◌<◌, ◌^◌, arith}
+use Rattle.alert_json.proofs.AsciiTexts.{IsAscii-dotted}
+use Rattle.alert_json.proofs.fields.dotted.Goals as goal
+
+pub returns-clause-ascii : goal.returns-clause-ascii
+returns-clause-ascii c =
+    let small : c.args.address < 2 ^ 32 = omega arith in
+    rw (c.in_ok-push_address.ensures.appended, c.in_ok-text.ensures.items) (IsAscii-dotted c.args.address small)

@@ -1,0 +1,5 @@
+use Rattle.alert_json.proofs.AsciiTexts.{IsAscii-timestamp}
+use Rattle.alert_json.proofs.stamp.timestamp.Goals as goal
+
+pub returns-clause-ascii : goal.returns-clause-ascii
+returns-clause-ascii c = rw (c.in_ok-push_stamp.ensures, c.in_ok-text.ensures.items) (IsAscii-timestamp c.args.moment.nanos)

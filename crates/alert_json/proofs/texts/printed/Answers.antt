@@ -1,0 +1,5 @@
+use Rattle.alert_json.proofs.AsciiTexts.{IsAscii-printable}
+use Rattle.alert_json.proofs.texts.printed.Goals as goal
+
+pub returns-clause-ascii : goal.returns-clause-ascii
+returns-clause-ascii c = rw c.in_ok-text.ensures (IsAscii-printable c.args.payload.now)

@@ -1,0 +1,7 @@
+pub mod Facts
+pub mod Texts
+pub mod Stamps
+pub mod FlowNumbers
+pub mod Value
+pub mod Reading
+pub mod Tokens

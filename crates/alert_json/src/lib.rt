@@ -1,0 +1,18 @@
+//! Alerts as JSON lines, in the form of the `alert` records of Suricata's EVE output.
+//!
+//! `push_event` appends one line to the caller's buffer: the text of `event_line` (specs/Value), an object
+//! whose members stand in Suricata's order. The text is UTF-8, and as JSON (RFC 8259) it is exactly the
+//! event's value, by the kit's own definition of reading (specs/Reading). A flow's number and its community
+//! ID are those of specs/FlowNumbers. Where memory is lacking the buffer stays as it was.
+#![tactic(auto)]
+
+mod event;
+mod fields;
+mod flow_ids;
+mod line;
+mod members;
+mod stamp;
+mod texts;
+
+pub use event::{Alert, Captured, Event, Flow, Pair, Run};
+pub use line::push_event;
