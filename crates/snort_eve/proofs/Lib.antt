@@ -1,0 +1,6 @@
+pub mod Joining
+pub mod FrontSteps
+pub mod Pieces
+pub mod Copying
+pub mod Running
+pub mod Options

@@ -1,0 +1,6 @@
+pub mod Joins
+pub mod Events
+pub mod Streams
+pub mod Copies
+pub mod Asking
+pub mod Runs

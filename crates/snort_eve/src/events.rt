@@ -1,0 +1,230 @@
+//! What is told of an event of Unified2.
+ghost use Rattle.std.specs.Prelude.{◌≡◌, Option, Some, None, option_map, not};
+ghost use Rattle.alert_json.specs.Facts.{event_facts, run_facts, packet_facts, alert_facts};
+ghost use Rattle.alert_json.specs.Value.{event_line};
+ghost use Rattle.packet_decode.specs.Decoding.{seen, fields_of};
+ghost use Rattle.ipv6_decode.specs.Versions.{record_decoded};
+ghost use Rattle.snort_eve.specs.Joins.{joined_of};
+ghost use Rattle.snort_eve.specs.Events.{link_of, unchecked, packet_of, packet_in, is_fragment, is_part, is_whole, has_pair, pair_by, pair_of, flow_of, class_of, rule_of, captured_of, event_of, nanos_of};
+
+use crate::joins::Teller;
+use alert_json::{Alert, Captured, Event, Flow, Pair, Run, push_event};
+use edge_io::{Link, Moment, NoMemory};
+use ipv6_decode::decode6;
+use packet_decode::{Body, Checks, Packet, Skip, decode};
+use std::alloc::Global;
+use unified2_out::{U2Event, U2Packet};
+
+/// Tells events as JSON lines.
+#[derive(Clone, Copy)]
+pub(crate) struct Lines<'a> {
+    pub(crate) run: Run<'a>,
+}
+
+impl<'a> Teller for Lines<'a> {
+    ghost line = { λ lines it. event_line (event_of it) (run_facts lines.run) };
+
+    fn push_line(
+        &self,
+        alloc: Global,
+        event: &U2Event,
+        packet: Option<&U2Packet>,
+        out: &mut Vec<u8>,
+    ) -> Result<(), NoMemory> {
+        push_event(alloc, &told(event, packet), &self.run, out)
+    }
+}
+
+// No checksum is verified: a packet that was captured on its way out may have none yet.
+const UNCHECKED: Checks = Checks {
+    ip: false,
+    tcp: false,
+    udp: false,
+    icmp: false,
+};
+
+#[tactic(auto, unfolding(crate::specs::Events::link_of))]
+fn link_of(number: u32) -> Option<Link>
+    ensures { result ≡ link_of number }
+{
+    match number {
+        1 => Some(Link::Ethernet),
+        101 => Some(Link::RawIp),
+        113 => Some(Link::Cooked),
+        _ => None,
+    }
+}
+
+#[tactic(auto, unfolding(ipv6_decode::specs::Versions::record_decoded))]
+fn read_record<'a>(link: Link, bytes: &'a [u8]) -> Result<Packet<'a>, Skip>
+    ensures { seen result ≡ record_decoded link bytes.now unchecked }
+{
+    match decode(link, bytes, UNCHECKED) {
+        Ok(packet) => Ok(packet),
+        Err(Skip::OtherProtocol) => decode6(link, bytes, UNCHECKED),
+        Err(skip) => Err(skip),
+    }
+}
+
+fn packet_in(number: u32, bytes: &[u8]) -> Option<Packet<'_>>
+    ensures { option_map fields_of result ≡ packet_in number bytes.now }
+{
+    match link_of(number) {
+        None => None,
+        Some(link) => packet_of(read_record(link, bytes)),
+    }
+}
+
+fn packet_of<'a>(answer: Result<Packet<'a>, Skip>) -> Option<Packet<'a>>
+    ensures { option_map fields_of result ≡ packet_of (seen answer.entry) }
+{
+    match answer {
+        Ok(packet) => Some(packet),
+        Err(_) => None,
+    }
+}
+
+fn is_part(packet: Option<Packet<'_>>) -> bool
+    ensures { result ≡ is_part (option_map fields_of packet.entry) }
+{
+    match packet {
+        None => false,
+        Some(packet) => is_fragment(packet.body),
+    }
+}
+
+fn is_fragment(body: Body) -> bool
+    ensures { result ≡ is_fragment body }
+{
+    match body {
+        Body::Fragment => true,
+        Body::Tcp(_) | Body::Udp { .. } | Body::Icmp { .. } | Body::Other | Body::Stream { .. } => {
+            false
+        }
+    }
+}
+
+fn is_whole(packet: Option<&U2Packet>) -> bool
+    ensures { result ≡ is_whole (option_map (λ p. p.now) packet.entry) }
+{
+    match packet {
+        None => false,
+        Some(packet) => !is_part(packet_in(packet.link, packet.bytes.bytes())),
+    }
+}
+
+#[tactic(auto, unfolding(crate::specs::Events::has_pair))]
+fn has_pair(event: &U2Event, whole: bool) -> bool
+    ensures { result ≡ has_pair event.now whole }
+{
+    (event.sport != 0 || event.dport != 0) || whole
+}
+
+#[tactic(auto, unfolding(crate::specs::Events::pair_by))]
+fn pair_by(protocol: u8, sport: u16, dport: u16) -> Pair
+    ensures { result ≡ pair_by protocol sport dport }
+{
+    if protocol == 6 || protocol == 17 {
+        Pair::Ports { sport, dport }
+    } else if protocol == 1 || protocol == 58 {
+        Pair::Message {
+            kind: sport,
+            code: dport,
+        }
+    } else {
+        Pair::Unknown
+    }
+}
+
+#[tactic(auto, unfolding(crate::specs::Events::pair_of))]
+fn pair_of(event: &U2Event, whole: bool) -> Pair
+    ensures { result ≡ pair_of event.now whole }
+{
+    if has_pair(event, whole) {
+        pair_by(event.protocol, event.sport, event.dport)
+    } else {
+        Pair::Unknown
+    }
+}
+
+fn moment_of(event: &U2Event) -> Moment
+    ensures { result.nanos ≡ nanos_of event.now }
+{
+    Moment {
+        nanos: (event.second as u64 * 1_000_000 + event.micro as u64) * 1_000,
+    }
+}
+
+fn flow_of(event: &U2Event, whole: bool) -> Flow
+    ensures { result ≡ flow_of event.now whole }
+{
+    Flow {
+        protocol: event.protocol,
+        src: event.src,
+        dst: event.dst,
+        pair: pair_of(event, whole),
+    }
+}
+
+#[tactic(auto, unfolding(crate::specs::Events::class_of))]
+fn class_of(number: u32) -> Option<&'static [u8]>
+    ensures { option_map (λ text. text.now) result ≡ class_of number }
+{
+    if number == 0 { None } else { Some(b"") }
+}
+
+fn rule_of(event: &U2Event) -> Alert<'static>
+    ensures { alert_facts result ≡ rule_of event.now }
+{
+    Alert {
+        blocked: event.blocked == 1,
+        gid: event.gid,
+        sid: event.sid,
+        rev: event.rev,
+        msg: b"",
+        class: class_of(event.class),
+        priority: event.priority,
+    }
+}
+
+fn captured_of(packet: &U2Packet) -> Captured<'_>
+    ensures { packet_facts result ≡ captured_of packet.entry.now }
+{
+    let bytes = packet.bytes.bytes();
+    Captured {
+        link: packet.link,
+        bytes,
+        payload: payload_of(packet_in(packet.link, bytes)),
+    }
+}
+
+fn payload_of<'a>(packet: Option<Packet<'a>>) -> Option<&'a [u8]>
+    ensures { option_map (λ b. b.now) result ≡ option_map (λ f. f.payload) (option_map fields_of packet.entry) }
+{
+    match packet {
+        None => None,
+        Some(packet) => Some(packet.payload),
+    }
+}
+
+fn captured<'a>(packet: Option<&'a U2Packet>) -> Option<Captured<'a>>
+    ensures { option_map packet_facts result ≡ option_map captured_of (option_map (λ p. p.now) packet.entry) }
+{
+    match packet {
+        None => None,
+        Some(packet) => Some(captured_of(packet)),
+    }
+}
+
+/// What is told of an event with its packet.
+fn told<'a>(event: &U2Event, packet: Option<&'a U2Packet>) -> Event<'a>
+    ensures { event_facts result ≡ event_of (joined_of event.now (option_map (λ p. p.now) packet.entry)) }
+{
+    Event {
+        moment: moment_of(event),
+        flow: flow_of(event, is_whole(packet)),
+        alert: rule_of(event),
+        packet: captured(packet),
+        count: None,
+    }
+}
