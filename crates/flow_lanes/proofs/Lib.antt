@@ -3,3 +3,4 @@ pub mod Open
 pub mod ItemHits
 pub mod Sessions
 pub mod Jobs
+pub mod Fits

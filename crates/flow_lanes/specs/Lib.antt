@@ -20,3 +20,4 @@ pub mod Kept
 pub mod Staying
 pub mod Whole
 pub mod Spread
+pub mod Fits

@@ -1,12 +1,13 @@
 //! Laws about the answers to jobs, for callers.
 
-ghost use Rattle.std.specs.Prelude.{◌≡◌, ℕ, ◌<◌, ◌==◌, ◌&&◌, List, Option, Some, filter, length, slice_get};
+ghost use Rattle.std.specs.Prelude.{◌≡◌, ℕ, ◌<◌, ◌==◌, ◌&&◌, All, List, Option, Some, filter, length, slice_get};
 ghost use Rattle.std.specs.List.{flat_map};
 ghost use Rattle.std.specs.List.Sorted.{IsPermutation};
 ghost use Rattle.std.specs.Option.{is_some};
 ghost use Rattle.edge_io.specs.Along.{AscendsBy, along_from, within};
 ghost use Rattle.flow_lanes.specs.declared.answer.JobHits.{JobHits};
 ghost use Rattle.flow_lanes.specs.declared.job.Job.{Job};
+ghost use Rattle.flow_lanes.specs.Fits.{FitsHits, FitsJob};
 ghost use Rattle.flow_lanes.specs.Flows.{Detection, answer, items, same_flow};
 ghost use Rattle.flow_lanes.specs.Open.{is_open};
 ghost use Rattle.flow_lanes.specs.Sound.{FlowFacts, IsSoundFor};
@@ -39,4 +40,11 @@ pub fn lanes_keep_open_flows()
     ensures { (d : Detection) (lanes : LanesState) (before : List Job) (place flow : ℕ) (lane : LaneState)
         → LanesStand d lanes before → slice_get lanes.lanes place ≡ Some lane
         → is_some (kept_of lane flow) ≡ ((lane_of (length lanes.lanes) (Some flow) == place) && is_open flow before) }
+{}
+
+/// The items of jobs go between addresses of one version, and their numbers have no more bytes than packets give
+/// them, where this is so of the packets of all jobs until then.
+pub fn items_fit()
+    ensures { (d : Detection) (before : List Job) (job : Job) → All FitsJob before → FitsJob job
+        → All FitsHits (answer d before job).items }
 {}

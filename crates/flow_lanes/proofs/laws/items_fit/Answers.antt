@@ -1,0 +1,5 @@
+use Rattle.flow_lanes.proofs.Fits.{job_fits}
+use Rattle.flow_lanes.proofs.laws.items_fit.Goals as goal
+
+pub returns : goal.returns
+returns c = job_fits
