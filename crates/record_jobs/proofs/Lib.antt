@@ -14,3 +14,6 @@ pub mod Running
 pub mod Open
 pub mod Learning
 pub mod Addresses
+pub mod FitDecoded
+pub mod FitDatagrams
+pub mod FitJobs

@@ -9,3 +9,4 @@ pub mod Ready
 pub mod Fronts
 pub mod Steps
 pub mod Inside
+pub mod Fitting

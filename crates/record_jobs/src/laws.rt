@@ -1,13 +1,15 @@
 //! Laws about the jobs of a capture, for callers.
 
-ghost use Rattle.std.specs.Prelude.{◌≡◌, ℕ, ◌<◌, Bool, true, Contains, List, [], ◌++◌, length};
+ghost use Rattle.std.specs.Prelude.{◌≡◌, ℕ, ◌<◌, All, Bool, true, Contains, List, [], ◌++◌, length};
 ghost use Rattle.edge_io.specs.Along.{trail};
 ghost use Rattle.stream5_sessions.specs.Liveness.{live_flows};
 ghost use Rattle.flow_lanes.specs.declared.job.Job.{Job};
+ghost use Rattle.flow_lanes.specs.Fits.{FitsJob};
 ghost use Rattle.flow_lanes.specs.Open.{is_open};
 ghost use Rattle.flow_lanes.specs.Standing.{AreNew, LanesState, LearnsBatch};
 ghost use Rattle.record_jobs.specs.Addresses.{KeepEnds};
 ghost use Rattle.record_jobs.specs.Counts.{counts, none_counted};
+ghost use Rattle.record_jobs.specs.Fitting.{HoldsBytes};
 ghost use Rattle.record_jobs.specs.Fronts.{FrontState, StandsFor};
 ghost use Rattle.record_jobs.specs.Jobs.{finishes, jobs};
 ghost use Rattle.record_jobs.specs.Ready.{AreInOrder, AreNumbered, AreReady, AreSound, HaveLearnt};
@@ -55,4 +57,12 @@ pub fn open_flows_live()
     ensures { (way : Way) (records : List LinkedRecord) (flow : ℕ) → 0 < way.stream.max_tcp → 0 < way.stream.max_udp
         → is_open flow (trail (jobs way) records) ≡ true
         → Contains (live_flows (most_flows way.stream) (touches way records)) flow }
+{}
+
+/// Where records hold bytes, the packets of their jobs go between addresses of one version, and their numbers have no
+/// more bytes than packets give them.
+pub fn jobs_fit()
+    ensures each { (way : Way) (before : List LinkedRecord) (r : LinkedRecord) → All HoldsBytes before → HoldsBytes r
+        → All FitsJob (jobs way before r) }
+    ensures last { (way : Way) (records : List LinkedRecord) → All FitsJob (finishes way records) }
 {}

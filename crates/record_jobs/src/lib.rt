@@ -22,6 +22,6 @@ pub use config::FrontConfig;
 pub use counts::RecordCounts;
 pub use front::Front;
 pub use laws::{
-    datagrams_keep_addresses, jobs_are_in_order, lanes_may_run, no_records_no_jobs,
+    datagrams_keep_addresses, jobs_are_in_order, jobs_fit, lanes_may_run, no_records_no_jobs,
     open_flows_live, records_are_counted,
 };

@@ -1,0 +1,8 @@
+use Rattle.record_jobs.proofs.FitJobs.{jobs_fit, last_fits}
+use Rattle.record_jobs.proofs.laws.jobs_fit.Goals as goal
+
+pub returns-clause-each : goal.returns-clause-each
+returns-clause-each c = jobs_fit
+
+pub returns-clause-last : goal.returns-clause-last
+returns-clause-last c = last_fits
