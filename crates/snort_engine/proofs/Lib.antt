@@ -25,6 +25,7 @@ pub mod FileWays
 pub mod FitSavefiles
 pub mod FitBlocks
 pub mod FitRecords
+pub mod FitItems
 pub mod ReadBack
 pub mod Loaded
 pub mod Captures

@@ -18,7 +18,7 @@ use Rattle.flow_lanes.specs.declared.answer.Hits.{Hits}
 use Rattle.record_jobs.specs.Way.{LinkedRecord}
 use Rattle.unified2_out.specs.declared.record.U2.{U2}
 use Rattle.unified2_out.specs.declared.record.U2.TheVariants.{Event as an_event, Packet as a_packet}
-use Rattle.unified2_out.specs.Records.{AllFit, event_octets, event_ports, event_words, packet_words, unified2_text}
+use Rattle.unified2_out.specs.Records.{AllFit, AreOfOneVersion, IsInRange, event_octets, event_ports, event_words, packet_words, unified2_text}
 use Rattle.unified2_out.specs.Reading.{IsRecord, AreRecordsOf, joined_text}
 use Rattle.command_words.specs.declared.asked.Form.{Form}
 use Rattle.command_words.specs.declared.asked.Form.TheVariants as form
@@ -30,9 +30,17 @@ use Rattle.snort_engine.specs.RecordLines.{entry_lines}
 use Rattle.snort_engine.specs.Records.{records_of}
 use Rattle.snort_engine.specs.Trace.{Alert, CaptureState, Open, Closed, Event, event_at, event_of, filtered_item, item_events, items_of, closing_items, closing_events, closing_alerts, last_of, no_record, record_alerts, record_events, trace}
 use Rattle.snort_engine.specs.Unified2.{class_number, event_record, first_port, link_number, packet_record, records_text, second_port}
-use Rattle.snort_engine.specs.ReadBack.{FitIn, FitsHead, FitsHits, FitsRecord, FitsRule, entries, entries_from}
+use Rattle.flow_lanes.specs.Fits as of_lanes
+use Rattle.flow_lanes.specs.Fits.{FitsBody, FitsHead, FitsHits, FitsIp}
+use Rattle.packet_decode.specs.declared.packet.Body.{Body}
+use Rattle.packet_decode.specs.declared.packet.Body.TheVariants as body
+use Rattle.packet_decode.specs.Versions.{version_of}
+use Rattle.edge_io.specs.declared.address.Addr.{Addr}
+use Rattle.edge_io.specs.declared.address.Addr.TheVariants.{V4, V6}
+use Rattle.snort_engine.specs.ReadBack.{FitsRecord, FitsRule, entries, entries_from}
 use Rattle.snort_engine.proofs.Beside.{whats-beside, whats-own}
 use Rattle.snort_engine.proofs.FileWays.{file_way-one}
+use Rattle.snort_engine.proofs.FitItems.{items_fit}
 use Rattle.snort_engine.proofs.FitRecords.{records_fit}
 use Rattle.snort_engine.proofs.LinesLaws.{events-items}
 
@@ -111,11 +119,11 @@ all_back : {X : Type 0} (P : X → Type 0) (xs ys : List X) → All P (xs ++ ys)
 all_back {X} P xs ys all = subst (All P) (drop_at xs ys (length xs) refl) (All-drop P (length xs) (xs ++ ys) all)
 
 -- the alerts of records
-open_fit : (plan : Plan) (records : List LinkedRecord) → All FitsRecord records → FitIn plan records → All FitsAlert (trail_from (record_alerts plan) [] records)
-open_fit plan records captured fits =
+open_fit : (plan : Plan) (records : List LinkedRecord) → All FitsRule plan.rules → All FitsRecord records → All FitsAlert (trail_from (record_alerts plan) [] records)
+open_fit plan records rules captured =
     let alerts = trail_from (record_alerts plan) [] records in
-    let items = all_front FitsHits (items_of plan records) (closing_items plan records) fits.items in
-    let events = events_fit plan [] (items_of plan records) fits.rules items in
+    let items = all_front FitsHits (items_of plan records) (closing_items plan records) (items_fit plan records captured) in
+    let events = events_fit plan [] (items_of plan records) rules items in
     let same : whats alerts ≡ trail (item_events plan.config plan.rules) (items_of plan records) =
     whats-own (record_events plan) [] records ∙ sym (events-items plan records) in
     alerts_fit alerts (subst (All FitsEvent) (sym same) events)
@@ -131,22 +139,22 @@ no_record_fits : FitsRecord no_record
 no_record_fits = record { short = omega arith; bytes = All-nil (λ value. value < 256 ^ 1) }
 
 -- those of the flows that end with a capture
-closing_fit : (plan : Plan) (records : List LinkedRecord) → All FitsRecord records → FitIn plan records → All FitsAlert (closing_alerts plan records)
+closing_fit : (plan : Plan) (records : List LinkedRecord) → All FitsRule plan.rules → All FitsRecord records → All FitsAlert (closing_alerts plan records)
 unfolding closing_alerts closing_events
-closing_fit plan records captured fits =
-    let items = all_back FitsHits (items_of plan records) (closing_items plan records) fits.items in
+closing_fit plan records rules captured =
+    let items = all_back FitsHits (items_of plan records) (closing_items plan records) (items_fit plan records captured) in
     let events = trail_from (item_events plan.config plan.rules) (items_of plan records) (closing_items plan records) in
     let last = last_of records in
     let last_fit : FitsRecord last = last_fits no_record records no_record_fits captured in
     alerts_fit (map (beside last) events)
-    (subst (All FitsEvent) (sym (whats-beside last events)) (events_fit plan (items_of plan records) (closing_items plan records) fits.rules items))
+    (subst (All FitsEvent) (sym (whats-beside last events)) (events_fit plan (items_of plan records) (closing_items plan records) rules items))
     (all_map (λ (alert : Alert). FitsRecord alert.source) (beside last) events (λ event. last_fit))
 
-trace_fits : (plan : Plan) (records : List LinkedRecord) (state : CaptureState) → All FitsRecord records → FitIn plan records → All FitsAlert (trace plan [] records state)
+trace_fits : (plan : Plan) (records : List LinkedRecord) (state : CaptureState) → All FitsRule plan.rules → All FitsRecord records → All FitsAlert (trace plan [] records state)
 unfolding trace
-trace_fits plan records Open captured fits = open_fit plan records captured fits
-trace_fits plan records Closed captured fits =
-    All-append FitsAlert (trail_from (record_alerts plan) [] records) (closing_alerts plan records) (open_fit plan records captured fits) (closing_fit plan records captured fits)
+trace_fits plan records Open rules captured = open_fit plan records rules captured
+trace_fits plan records Closed rules captured =
+    All-append FitsAlert (trail_from (record_alerts plan) [] records) (closing_alerts plan records) (open_fit plan records rules captured) (closing_fit plan records rules captured)
 
 -- ---- their records
 
@@ -175,23 +183,41 @@ none = omega arith
 small_word : (value : ℕ) → value < 2 ^ 32 → IsWord value
 small_word value fits = omega (arith, fits)
 
+-- two addresses, and two ports, as an event has them
+one_version : (a b : Addr) → version_of a ≡ version_of b → AreOfOneVersion a b
+one_version (V4 a) (V4 b) same = tt
+one_version (V4 a) (V6 b) same = cc
+one_version (V6 a) (V4 b) same = cc
+one_version (V6 a) (V6 b) same = tt
+
+in_range : (a : Addr) → of_lanes.IsInRange a → IsInRange a
+in_range (V4 a) fits = fits
+in_range (V6 a) fits = fits
+
+ports_fit : (carried : Body) → FitsBody carried → (first_port carried < 256 ^ 2) × (second_port carried < 256 ^ 2)
+ports_fit (body.Tcp head) fits = fits
+ports_fit (body.Udp sport dport) fits = fits
+ports_fit (body.Stream sport dport) fits = fits
+ports_fit (body.Icmp kind code id seq) fits = (omega (arith, fits.0), omega (arith, fits.1))
+ports_fit body.Other fits = (omega arith, omega arith)
+ports_fit body.Fragment fits = (omega arith, omega arith)
+
 event_is : (before : ℕ) (event : Event) → FitsEvent event → IsRecord (an_event (event_record before event))
 event_is before event fits =
-    let head = fits.head in
+    let head = fits.head.0 in
     let rule = fits.rule in
     let moment = timed event.head.moment.nanos in
-    let first : first_port event.head.body < 256 ^ 2 = let a = head.first in omega (arith, a) in
-    let second : second_port event.head.body < 256 ^ 2 = let a = head.second in omega (arith, a) in
+    let ports = ports_fit event.head.body fits.head.1 in
     let protocol : event.head.ip.protocol < 256 ^ 1 = let a = head.protocol in omega (arith, a) in
     let zero_octet : 0 < 256 ^ 1 = omega arith in
     record {
-      writable = head.version;
+      writable = one_version event.head.ip.src event.head.ip.dst head.version;
       fits = record {
         words = All-from_recursion IsWord (event_words (event_record before event))
             (none, (numbered before, (moment.0, (moment.1, (small_word event.rule.sid rule.sid, (small_word event.rule.gid rule.gid, (small_word event.rule.rev rule.rev, (class_fits event.rule.class rule.class, (small_word event.rule.priority rule.priority, tt)))))))));
-        src = head.src;
-        dst = head.dst;
-        ports = All-from_recursion (λ value. value < 256 ^ 2) (event_ports (event_record before event)) (first, (second, tt));
+        src = in_range event.head.ip.src head.src;
+        dst = in_range event.head.ip.dst head.dst;
+        ports = All-from_recursion (λ value. value < 256 ^ 2) (event_ports (event_record before event)) (ports.0, (ports.1, tt));
         octets = All-from_recursion (λ value. value < 256 ^ 1) (event_octets (event_record before event)) (protocol, (zero_octet, (zero_octet, (zero_octet, tt))));
       };
     }
@@ -230,21 +256,21 @@ joined_texts classes before (alert ∷ later) =
 -- ---- the law
 
 -- what is written is the records of the alerts
-pub are_entries : (plan : Plan) (records : List LinkedRecord) (state : CaptureState) → plan.form ≡ form.Unified2 → All FitsRecord records → FitIn plan records
+pub are_entries : (plan : Plan) (records : List LinkedRecord) (state : CaptureState) → plan.form ≡ form.Unified2 → All FitsRule plan.rules → All FitsRecord records
     → AreRecordsOf (lines plan [] records state) (entries plan [] records state)
 unfolding lines entries
-are_entries plan records state is captured fits =
+are_entries plan records state is rules captured =
     let alerts = trace plan [] records state in
     let count = alert_count plan [] in
     record {
-      each = entries_are count alerts (trace_fits plan records state captured fits);
+      each = entries_are count alerts (trace_fits plan records state rules captured);
       joined = joined_texts plan.config.classes count alerts ∙ ap (λ (f : Form). texts_from (text_of f plan.config.classes) count alerts) (sym is);
     }
 
-pub answer_entries : (plan : Plan) (bytes warnings : List ℕ) → plan.form ≡ form.Unified2 → AllFit 1 bytes → FitIn plan (records_of plan bytes).records
+pub answer_entries : (plan : Plan) (bytes warnings : List ℕ) → plan.form ≡ form.Unified2 → All FitsRule plan.rules → AllFit 1 bytes
     → AreRecordsOf (capture_answer plan warnings (Some bytes)).alerts (entries plan [] (records_of plan bytes).records Closed)
 unfolding capture_answer
-answer_entries plan bytes warnings is all fits = are_entries plan (records_of plan bytes).records Closed is (records_fit plan bytes all) fits
+answer_entries plan bytes warnings is rules all = are_entries plan (records_of plan bytes).records Closed is rules (records_fit plan bytes all)
 
 -- and so are its beginnings that end with a record
 pub first_entries : (bytes : List ℕ) (written : List U2) (count : ℕ) → AreRecordsOf bytes written

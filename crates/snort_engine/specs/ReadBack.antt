@@ -2,26 +2,22 @@
 --
 -- Each alert is two records, its event and its packet (`Unified2`). A list of records is read back from its
 -- joined texts where each number fits its bytes, both addresses of an event are of one version, and its packet
--- isn't too long (unified2_out specs/Reading): each of these goes by the rules, the records and the items alone.
+-- isn't too long (unified2_out specs/Reading). All of it follows where the rules' numbers fit, and the records hold
+-- bytes, as those of a capture do.
 -- To try it on: one alert on a packet of 45 bytes is an event of 60 bytes and a packet of 81, which read back as
 -- these two.
 use Rattle.std.specs.Prelude.{ℕ, ◌+◌, ◌^◌, ◌<◌, ◌≤◌, IfSome, List, [], ◌∷◌, ◌++◌, length}
 use Rattle.std.specs.List.{All}
-use Rattle.packet_decode.specs.declared.item.ItemHead.{ItemHead}
-use Rattle.packet_decode.specs.declared.packet.Body.{Body}
-use Rattle.packet_decode.specs.declared.packet.IpHead.{IpHead}
 use Rattle.pcap_input.specs.Savefile.{longest}
 use Rattle.rule_types.specs.declared.rule.Rule.{Rule}
 use Rattle.record_jobs.specs.Way.{LinkedRecord}
-use Rattle.flow_lanes.specs.declared.answer.Hits.{Hits}
 use Rattle.unified2_out.specs.declared.record.U2.{U2}
 use Rattle.unified2_out.specs.declared.record.U2.TheVariants.{Event as an_event, Packet as a_packet}
-use Rattle.unified2_out.specs.Records.{AllFit, AreOfOneVersion, IsInRange}
+use Rattle.unified2_out.specs.Records.{AllFit}
 use Rattle.snort_engine.specs.Course.{Plan}
-use Rattle.snort_engine.specs.Counts.{all_items}
 use Rattle.snort_engine.specs.Lines.{alert_count}
 use Rattle.snort_engine.specs.Trace.{Alert, CaptureState, trace}
-use Rattle.snort_engine.specs.Unified2.{event_record, first_port, packet_record, second_port}
+use Rattle.snort_engine.specs.Unified2.{event_record, packet_record}
 
 -- the records of an alert behind so many: its event, and then the packet
 abbrev pub entries_of : ℕ → Alert → List U2
@@ -52,24 +48,3 @@ pub record FitsRule (rule : Rule) : Type 0 where
 pub record FitsRecord (r : LinkedRecord) : Type 0 where
   pub short : length r.captured.bytes ≤ longest
   pub bytes : AllFit 1 r.captured.bytes
-
--- a packet goes between two addresses of one version, and its numbers have as many bytes as headers give them
-pub record FitsPacket (ip : IpHead) (carried : Body) : Type 0 where
-  pub version : AreOfOneVersion ip.src ip.dst
-  pub src : IsInRange ip.src
-  pub dst : IsInRange ip.dst
-  pub protocol : ip.protocol < 2 ^ 8
-  pub first : first_port carried < 2 ^ 16
-  pub second : second_port carried < 2 ^ 16
-
-abbrev pub FitsHead : ItemHead → Type 0
-FitsHead head = FitsPacket head.ip head.body
-
--- an item by its head
-abbrev pub FitsHits : Hits → Type 0
-FitsHits hits = FitsHead hits.head
-
--- the rules that a plan tries, and the items that a capture's records make
-pub record FitIn (plan : Plan) (records : List LinkedRecord) : Type 0 where
-  pub rules : All FitsRule plan.rules
-  pub items : All FitsHits (all_items plan records)

@@ -12,7 +12,7 @@ ghost use Rattle.snort_engine.specs.Answer.{capture_answer};
 ghost use Rattle.snort_engine.specs.Course.{IsFileWay, Lists, Plan, Way, most_file_bytes};
 ghost use Rattle.snort_engine.specs.CutCaptures.{Holds, IsCutBehind, IsLimited, end_of, unlimited};
 ghost use Rattle.snort_engine.specs.Lines.{lines};
-ghost use Rattle.snort_engine.specs.ReadBack.{FitIn, FitsRecord, entries};
+ghost use Rattle.snort_engine.specs.ReadBack.{FitsRecord, FitsRule, entries};
 ghost use Rattle.snort_engine.specs.RecordLines.{entry_lines};
 ghost use Rattle.snort_engine.specs.Records.{Clean, is_of_blocks, records_in, records_of};
 ghost use Rattle.snort_engine.specs.Trace.{CaptureState, Closed};
@@ -37,18 +37,16 @@ pub fn limits_cut_captures()
         → capture_answer plan warnings (Some bytes) ≡ capture_answer (unlimited plan) warnings (Some bytes) }
 {}
 
-/// The lines of a plan that writes Unified2 are the texts of the records of its alerts, each of which can be read
-/// back (`written`), and so are the alert bytes of its answer on a capture (`answer`), where the rules' numbers and
-/// those of the items fit their bytes: a capture's bytes give records that fit (`captured`). Bytes are of one list of
-/// records (`one`); so a file that holds them tells a line for each of these (`told`), and cut behind any of them it
-/// is those up to there (`first`).
+/// The lines of a plan that writes Unified2, whose rules' numbers have four bytes each, are the texts of the records
+/// of its alerts, each of which can be read back (`written`), and so are the alert bytes of its answer on any capture
+/// (`answer`): bytes give records that fit (`captured`). Bytes are of one list of records (`one`); so a file that
+/// holds them tells a line for each of these (`told`), and cut behind any of them it is those up to there (`first`).
 pub fn written_records_read_back()
     ensures written { (plan : Plan) (records : List LinkedRecord) (state : CaptureState) → plan.form ≡ Unified2
-        → All FitsRecord records → FitIn plan records
+        → All FitsRule plan.rules → All FitsRecord records
         → AreRecordsOf (lines plan [] records state) (entries plan [] records state) }
-    ensures answer { (plan : Plan) (bytes warnings : List ℕ) → plan.form ≡ Unified2 → AllFit 1 bytes
-        → FitIn plan (records_of plan bytes).records
-        → AreRecordsOf (capture_answer plan warnings (Some bytes)).alerts
+    ensures answer { (plan : Plan) (bytes warnings : List ℕ) → plan.form ≡ Unified2 → All FitsRule plan.rules
+        → AllFit 1 bytes → AreRecordsOf (capture_answer plan warnings (Some bytes)).alerts
         (entries plan [] (records_of plan bytes).records Closed) }
     ensures captured { (plan : Plan) (bytes : List ℕ) → AllFit 1 bytes → All FitsRecord (records_of plan bytes).records }
     ensures one { (bytes : List ℕ) (these those : List U2) → AreRecordsOf bytes these → AreRecordsOf bytes those
