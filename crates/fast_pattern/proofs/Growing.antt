@@ -32,6 +32,7 @@ deeper words trie deep more h is = record {
   apart = is.apart;
   levels = is.levels;
   deepest = λ state k. omega (arith, is.deepest state k);
+  few = is.few;
 }
 
 ends-on : (old new : List (List ℕ)) (letters bytes : List ℕ) (end : ℕ) → Extends old new → EndsAt old letters bytes end → EndsAt new letters bytes end

@@ -1,5 +1,6 @@
 -- A move from the place of a state.
 use Rattle.std.proofs.Common.{◌≡◌, ℕ, ◌+◌, ◌-◌, ◌*◌, ◌/◌, ◌%◌, ◌<◌, ◌≤◌, cond, eqb, ltb, List, length, slice_index, sym, ap, subst, ◌∙◌, arith, ⊎_elim}
+use Rattle.std.proofs.Math.Nat.{mul-le-mul_right}
 use Rattle.std.proofs.lemmas.Nat.{div-mul-add, row_fits}
 use Rattle.std.proofs.lemmas.Bool.{cases_lt, cases_eq, lt-ltb, le-ltb, eq-eqb, ne_eqb, cond-true, cond-false}
 use Rattle.fast_pattern.specs.declared.automaton.Automaton.{Automaton}
@@ -27,6 +28,16 @@ state-sparse width at h = cond-false (ltb at sparse) (at / width) (at - sparse) 
 
 whole : (a w : ℕ) → 0 < w → a * w / w ≡ a
 whole a w some = let e : a * w ≡ a * w + 0 = omega arith in ap (λ (x : ℕ). x / w) e ∙ div-mul-add a w 0 some
+
+-- the place of a state leaves room for a flag
+pub place-fits : (width dense state : ℕ) → dense * width ≤ sparse → state < sparse → place_of width dense state < 2147483648
+place-fits width dense state fits few =
+    ⊎_elim
+    (λ low.
+    let below : state ≤ dense = omega arith in
+    omega (arith, place-row width dense state low, mul-le-mul_right width below, fits))
+    (λ high. omega (arith, place-sparse width dense state high, few))
+    (cases_lt state dense)
 
 pub state-place : (width dense state : ℕ) → 0 < width → dense * width ≤ sparse → state_of width (place_of width dense state) ≡ state
 state-place width dense state wide fits = ⊎_elim

@@ -33,6 +33,7 @@ empty-trie trie steps firsts = record {
   apart = λ one other h k e. omega arith;
   levels = λ one other h k. omega (arith, only one (omega arith), only other k);
   deepest = λ state h. omega (arith, only state h);
+  few = omega (arith, ap length steps);
 }
   where
     only : (state : ℕ) → state < 1 → length (word_at ([] ∷ []) state) ≡ 0
@@ -44,7 +45,7 @@ empty-trie trie steps firsts = record {
     first-zero (suc state) h = absurd (omega arith)
 
 -- a state more
-module _ (words : List (List ℕ)) (old new : Trie) (deep state letter : ℕ) (is : IsTrieOf words old deep) (here : state < length words) (wide : letter < old.width) (lacks : (other : ℕ) → other < length words → word_at words other ≡ letter ∷ word_at words state → ⊥) (long : length (word_at words state) + 1 ≡ deep) (steps : new.steps.items ≡ old.steps.items ++ record { up = state; by = letter; same = slice_index old.firsts.items state } ∷ []) (width : new.width ≡ old.width) (firsts : new.firsts.items ≡ set (old.firsts.items ++ 0 ∷ []) state (length words)) where
+module _ (words : List (List ℕ)) (old new : Trie) (deep state letter : ℕ) (is : IsTrieOf words old deep) (here : state < length words) (wide : letter < old.width) (lacks : (other : ℕ) → other < length words → word_at words other ≡ letter ∷ word_at words state → ⊥) (long : length (word_at words state) + 1 ≡ deep) (steps : new.steps.items ≡ old.steps.items ++ record { up = state; by = letter; same = slice_index old.firsts.items state } ∷ []) (width : new.width ≡ old.width) (firsts : new.firsts.items ≡ set (old.firsts.items ++ 0 ∷ []) state (length words)) (few : length new.steps.items < 1073741824) where
   abbrev added : Step
   added = record { up = state; by = letter; same = slice_index old.firsts.items state }
 
@@ -212,6 +213,7 @@ module _ (words : List (List ℕ)) (old new : Trie) (deep state letter : ℕ) (i
     apart = more-apart;
     levels = more-levels;
     deepest = more-deepest;
+    few = few;
   }
 
 -- what `child` says, where the state stands already and where it is added
@@ -226,15 +228,15 @@ has-child trie state letter child is here finds some =
       grown = found.grown some;
     }
 
-pub adds-child : (old new : Trie) (state letter lacking child : ℕ) → IsTrie old (length (word_at (words_of old.steps.items) state) + 1) → state < length (words_of old.steps.items) → letter < old.width → FindsChild old state letter lacking → lacking ≡ 0 → child ≡ length old.steps.items + 1 → new.steps.items ≡ old.steps.items ++ record { up = state; by = letter; same = slice_index old.firsts.items state } ∷ [] → new.firsts.items ≡ set (old.firsts.items ++ 0 ∷ []) state child → new.width ≡ old.width → HasChild old state letter child new
-adds-child old new state letter lacking child is here wide finds none number steps firsts width =
+pub adds-child : (old new : Trie) (state letter lacking child : ℕ) → IsTrie old (length (word_at (words_of old.steps.items) state) + 1) → state < length (words_of old.steps.items) → letter < old.width → FindsChild old state letter lacking → lacking ≡ 0 → child ≡ length old.steps.items + 1 → new.steps.items ≡ old.steps.items ++ record { up = state; by = letter; same = slice_index old.firsts.items state } ∷ [] → new.firsts.items ≡ set (old.firsts.items ++ 0 ∷ []) state child → new.width ≡ old.width → length new.steps.items < 1073741824 → HasChild old state letter child new
+adds-child old new state letter lacking child is here wide finds none number steps firsts width few =
     let words = words_of old.steps.items in
     let last : child ≡ length words = omega (arith, is.count) in
     let firsts_now = firsts ∙ ap (set (old.firsts.items ++ 0 ∷ []) state) last in
     let added : Step = record { up = state; by = letter; same = slice_index old.firsts.items state } in
     let grown : words_of new.steps.items ≡ words ++ (letter ∷ word_at words state) ∷ [] = ap words_of steps ∙ words-push ([] ∷ []) old.steps.items added in
     let lacks = (finds.found words (length (word_at words state) + 1) is here).lacks none in
-    let all = more-trie words old new (length (word_at words state) + 1) state letter is here wide lacks refl steps width firsts_now in
+    let all = more-trie words old new (length (word_at words state) + 1) state letter is here wide lacks refl steps width firsts_now few in
     let P : List (List ℕ) → Type 0 = λ ws. IsTrieOf ws new (length (word_at words state) + 1) in
     record {
       trie = subst P (sym grown) all;

@@ -85,6 +85,7 @@ pub record IsTrieOf (words : List (List ℕ)) (trie : Trie) (deep : ℕ) : Type 
   pub apart : (one other : ℕ) → one < length words → other < length words → word_at words one ≡ word_at words other → one ≡ other
   pub levels : (one other : ℕ) → one ≤ other → other < length words → length (word_at words one) ≤ length (word_at words other)
   pub deepest : (state : ℕ) → state < length words → length (word_at words state) ≤ deep
+  pub few : length trie.steps.items < 1073741824
 
 abbrev pub IsTrie : Trie → ℕ → Type 0
 IsTrie trie deep = IsTrieOf (words_of trie.steps.items) trie deep

@@ -61,12 +61,11 @@ impl Links {
 
     /// Links the states of a trie in their order.
     pub fn of(alloc: Global, trie: &Trie, firsts: &[u32]) -> Result<Links, NoMemory>
+        requires { length trie.now.steps.items < 1073741824 }
         ensures { IfOk result (λ links. IsLinking trie.now firsts.now links.fails.items links.heads.items
             (length trie.now.steps.items + 1)) }
     {
-        let Ok(states) = u32::try_from(trie.steps.len() + 1) else {
-            return Err(NoMemory);
-        };
+        let states = trie.steps.len() as u32 + 1;
         let mut fails = Vec::with_capacity(alloc, states as usize)?;
         let mut heads = Vec::with_capacity(alloc, states as usize)?;
         for state in 0..states {

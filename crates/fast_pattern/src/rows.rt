@@ -1,6 +1,6 @@
 //! The layout of the moves: rows for the first states, and the moves to all states.
 
-ghost use Rattle.std.specs.Prelude.{◌≡◌, ◌+◌, ◌*◌, ◌^◌, ◌<◌, ◌≤◌, IfOk, OnOk};
+ghost use Rattle.std.specs.Prelude.{◌≡◌, ◌+◌, ◌*◌, ◌^◌, ◌<◌, ◌≤◌, ◌==◌, if◌then◌else◌, length, IfOk, OnOk};
 ghost use Rattle.fast_pattern.specs.Rows.{sparse, place_of, entry_of, AreEntries, IsNextEntry, HasRows, IsParent, AreShallow, IsShallow};
 
 use crate::trie::{Trie, place, read, step_at};
@@ -40,14 +40,24 @@ fn place_of(width: u16, dense: u32, state: u32) -> u64
     u64::from(SPARSE) + u64::from(state)
 }
 
+/// Whether a pattern has ended, as a number.
+fn ended_at(head: u32) -> u64
+    ensures value { result ≡ (if head == 0 then 0 else 1) }
+    ensures small { result ≤ 1 }
+{
+    if head == 0 { 0 } else { 1 }
+}
+
 /// The move to a state.
 #[tactic(auto, unfolding(crate::specs::Rows::entry_of))]
-fn entry_of(width: u16, dense: u32, heads: &[u32], state: u32) -> Result<u32, NoMemory>
-    ensures { IfOk result (λ entry. entry ≡ entry_of width dense heads.now state) }
+fn entry_of(width: u16, dense: u32, heads: &[u32], state: u32) -> u32
+    requires fits { dense * width ≤ sparse }
+    requires few { state < sparse }
+    ensures { result ≡ entry_of width dense heads.now state }
 {
-    let ended = u64::from(read(heads, state as usize) != 0);
+    let ended = ended_at(read(heads, state as usize));
     let entry = 2 * place_of(width, dense, state) + ended;
-    u32::try_from(entry).map_err(|_| NoMemory)
+    entry as u32
 }
 
 /// The moves to all states.
@@ -57,12 +67,14 @@ fn entries_of(
     dense: u32,
     heads: &[u32],
     states: u32,
-) -> Result<Vec<u32>, NoMemory>
+) -> Result<Vec<u32>, AllocError>
+    requires fits { dense * width ≤ sparse }
+    requires few { states ≤ sparse }
     ensures { IfOk result (λ entries. AreEntries width dense heads.now entries.items states) }
 {
     let mut entries = Vec::with_capacity(alloc, states as usize)?;
     for state in 0..states {
-        entries.push(entry_of(width, dense, heads, state)?)?;
+        entries.push(entry_of(width, dense, heads, state))?;
     }
     Ok(entries)
 }
@@ -175,11 +187,10 @@ impl Rows {
 
     /// The layout of the moves of these states.
     pub fn of(alloc: Global, trie: &Trie, fails: &[u32], heads: &[u32]) -> Result<Rows, NoMemory>
+        requires { length trie.now.steps.items < 1073741824 }
         ensures { IfOk result (λ rows. IsLayout trie.now fails.now heads.now rows) }
     {
-        let Ok(states) = u32::try_from(trie.steps.len() + 1) else {
-            return Err(NoMemory);
-        };
+        let states = trie.steps.len() as u32 + 1;
         let dense = row_count(trie.width, states as usize);
         let entries = entries_of(alloc, trie.width, dense, heads, states)?;
         let table = table_of(alloc, trie, fails, &entries, dense)?;

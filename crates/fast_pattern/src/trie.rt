@@ -15,6 +15,10 @@ pub struct Step {
     pub same: u32,
 }
 
+/// So many steps there are at most, so that a move to each state has 32 bits. Rules never give so many: they are at
+/// most 65,536, of at most 2,048 letters each.
+const MOST_STEPS: usize = 1_073_741_823;
+
 /// The states. The state 0 is the empty word, and has no step.
 #[derive(Drop)]
 pub struct Trie {
@@ -101,13 +105,13 @@ impl Trie {
             ≡ self.old.steps.items ++ record { up = up; by = by; same = slice_index self.old.firsts.items up } ∷ []) }
         ensures firsts { IfOk result (λ state. self.new.firsts.items ≡ slice_set (self.old.firsts.items ++ 0 ∷ []) up state) }
         ensures width { OnOk result (self.new.width ≡ self.old.width) }
+        ensures few { OnOk result (length self.new.steps.items < 1073741824) }
     {
-        let Ok(earlier) = u32::try_from(self.steps.len()) else {
+        let earlier = self.steps.len();
+        if earlier >= MOST_STEPS {
             return Err(NoMemory);
-        };
-        let Some(state) = earlier.checked_add(1) else {
-            return Err(NoMemory);
-        };
+        }
+        let state = earlier as u32 + 1;
         let same = read(&self.firsts, up as usize);
         self.firsts.push(0)?;
         self.steps.push(Step { up, by, same })?;

@@ -1,0 +1,6 @@
+use Rattle.std.proofs.Common.{arith}
+use Rattle.fast_pattern.proofs.Stepping.{place-fits}
+use Rattle.fast_pattern.proofs.rows.entry_of.Goals as goal
+
+pub overflow_cast-result : goal.overflow_cast-result
+overflow_cast-result c = omega (arith, place-fits c.args.width c.args.dense c.args.state c.requires.fits c.requires.few, c.place_of.ensures.place, c.ended_at-ended.ensures.small)
