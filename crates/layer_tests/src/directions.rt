@@ -2,11 +2,14 @@
 ghost use Rattle.std.specs.Prelude.{◌≤◌, ◌+◌, ◌*◌, ◌^◌};
 ghost use Rattle.stream5_reassembly.specs.Segments.{passed};
 
-use crate::overlaps::{preference_of, runs_text};
+use crate::overlaps::{preference_of, push_runs};
+use edge_io::NoMemory;
+use overlap_core::Run;
+use row_files::{Parts, cut};
 use std::alloc::Global;
 use std::process::Abort;
 use std::test::Fail;
-use stream5_reassembly::{Direction, Extent, Limits};
+use stream5_reassembly::{Added, Direction, Extent, Limits};
 
 /// Bytes of the window, segments, the flush point and preferences; calls, and behind `=` what each gives. Runs are
 /// their starts, counted from the base before, and their bytes. In order:
@@ -37,117 +40,172 @@ const ROWS: &str = "\
 1048576 2621 4 first last bsd bsd-right linux windows solaris: start 4294967290=, add 1 cd=Queued, add 4294967294 ab=Queued, ack 2=yes 4ab 7c, stop=0d
 ";
 
+/// What a row has beside its direction: the text of an answer, and the runs that a call gives.
+#[derive(Drop)]
+struct Given {
+    text: String,
+    runs: Vec<Run>,
+}
+
+/// What the rows call what becomes of a segment.
+fn added_word(added: Added) -> &'static str {
+    match added {
+        Added::Queued => "Queued",
+        Added::Old => "Old",
+        Added::PastWindow => "PastWindow",
+        Added::TooManySegs => "TooManySegs",
+    }
+}
+
+/// Begins at a number.
+fn start(direction: &mut Direction, seq: u32) -> Result<(), NoMemory>
+    ensures { passed direction.new ≤ passed direction.old }
+{
+    direction.start(seq);
+    Ok(())
+}
+
 /// Adds a segment, `SEQ BYTES`: what becomes of it.
-fn add(alloc: Global, direction: &mut Direction, given: &str) -> Result<String, Fail>
+fn add(direction: &mut Direction, parts: &mut Parts<'_>, text: &mut String) -> Result<(), NoMemory>
     requires { passed direction.old ≤ 2 ^ 62 }
     ensures { passed direction.new ≤ passed direction.old }
 {
-    let (seq, bytes) = given.split_once(' ').ok_or("a number")?;
-    let seq = seq.parse::<u32>()?;
+    let seq = parts.number();
+    let bytes = parts.left().as_bytes();
     if !direction.started() || bytes.is_empty() {
-        return Err(Fail::from("no segment"));
+        parts.refuse();
+        return Ok(());
     }
-    let added = direction.add(seq, bytes.as_bytes())?;
-    Ok(format!(in alloc; "{added:?}")?)
+    let added = direction.add(seq, bytes)?;
+    text.push_str(added_word(added))?;
+    Ok(())
 }
 
 /// Acknowledges bytes: whether they are flushed, and the runs.
-fn ack(alloc: Global, direction: &mut Direction, acked: &str) -> Result<String, Fail>
+fn ack(
+    alloc: Global,
+    direction: &mut Direction,
+    acked: u32,
+    given: &mut Given,
+) -> Result<(), NoMemory>
     requires { passed direction.old ≤ 2 ^ 62 }
     ensures { passed direction.new ≤ passed direction.old + 2 ^ 30 }
 {
-    let acked = acked.parse::<u32>()?;
-    let mut runs = Vec::new(alloc);
-    if !direction.ack(alloc, acked, &mut runs)? {
-        return Ok(String::from_str(alloc, "no")?);
-    }
-    let runs = runs_text(alloc, &runs)?;
-    Ok(format!(in alloc; "yes {runs}")?)
-}
-
-/// Flushes all, or stops: the runs.
-fn ended(alloc: Global, direction: &mut Direction, stops: bool) -> Result<String, Fail>
-    requires { passed direction.old ≤ 2 ^ 62 }
-    ensures { passed direction.new ≤ passed direction.old + 2 ^ 30 }
-{
-    let mut runs = Vec::new(alloc);
-    if stops {
-        direction.stop(alloc, &mut runs)?;
-    } else {
-        direction.flush_all(alloc, &mut runs)?;
-    }
-    runs_text(alloc, &runs)
-}
-
-/// Begins at a number: nothing.
-fn start(alloc: Global, direction: &mut Direction, seq: &str) -> Result<String, Fail>
-    ensures { passed direction.new ≤ passed direction.old }
-{
-    direction.start(seq.parse::<u32>()?);
-    Ok(String::new(alloc))
+    let flushed = direction.ack(alloc, acked, &mut given.runs)?;
+    given.text.push_str(if flushed { "yes " } else { "no" })?;
+    Ok(())
 }
 
 /// What a call gives.
-fn answer(alloc: Global, direction: &mut Direction, call: &str) -> Result<String, Fail>
+fn answer(
+    alloc: Global,
+    direction: &mut Direction,
+    name: &str,
+    parts: &mut Parts<'_>,
+    given: &mut Given,
+) -> Result<(), NoMemory>
     requires { passed direction.old ≤ 2 ^ 62 }
     ensures { passed direction.new ≤ passed direction.old + 2 ^ 30 }
 {
-    let (name, given) = call.split_once(' ').unwrap_or((call, ""));
     match name {
-        "start" => start(alloc, direction, given),
-        "add" => add(alloc, direction, given),
-        "ack" => ack(alloc, direction, given),
-        "flush" => ended(alloc, direction, false),
-        "stop" => ended(alloc, direction, true),
-        _ => Err(Fail::from("no such call")),
+        "start" => start(direction, parts.number()),
+        "add" => add(direction, parts, &mut given.text),
+        "ack" => ack(alloc, direction, parts.number(), given),
+        "flush" => direction.flush_all(alloc, &mut given.runs),
+        "stop" => direction.stop(alloc, &mut given.runs),
+        _ => {
+            parts.refuse();
+            Ok(())
+        }
     }
+}
+
+/// Makes a call, and compares its answer.
+fn check_call(
+    rt: &impl Abort,
+    alloc: Global,
+    direction: &mut Direction,
+    step: &str,
+    given: &mut Given,
+) -> Result<(), NoMemory>
+    requires { passed direction.old ≤ 2 ^ 62 }
+    ensures { passed direction.new ≤ passed direction.old + 2 ^ 30 }
+{
+    let (call, want) = cut(step, '=');
+    let (name, parts) = cut(call, ' ');
+    let mut parts = Parts::of(parts, ' ');
+    given.text.clear();
+    given.runs.clear();
+    answer(alloc, direction, name, &mut parts, given)?;
+    push_runs(&mut given.text, &given.runs)?;
+    assert!(rt;
+        !parts.is_wrong() && given.text.trim_end() == want,
+        "{step}"
+    );
+    Ok(())
 }
 
 /// Makes the calls of a row, at most a hundred.
 fn check_calls(
     rt: &impl Abort,
     alloc: Global,
-    mut direction: Direction,
+    direction: &mut Direction,
     calls: &str,
-) -> Result<(), Fail>
-    requires { passed direction ≤ 0 }
+    given: &mut Given,
+) -> Result<(), NoMemory>
+    requires { passed direction.old ≤ 0 }
 {
     let mut done = 0u64;
     for step in calls.split(", ") {
-        let (call, want) = step.split_once('=').ok_or("an answer")?;
         assert!(rt; done < 100);
-        let got = answer(alloc, &mut direction, call)?;
-        assert_eq!(rt; got.trim_end(), want, "{step} of {calls}");
+        check_call(rt, alloc, direction, step, given)?;
         done += 1;
     }
     Ok(())
 }
 
-/// The limits of three numbers, and the preferences behind them.
-fn limits_of(text: &str) -> Option<(Limits, &str)> {
-    let (bytes, rest) = text.split_once(' ')?;
-    let (segs, rest) = rest.split_once(' ')?;
-    let (flush, names) = rest.split_once(' ')?;
-    let limits = Limits {
-        bytes: bytes.parse::<u32>().ok()?,
-        segs: segs.parse::<u32>().ok()?,
-        flush: flush.parse::<u32>().ok()?,
+/// Makes the calls of a row with a new direction of this preference.
+fn check_with(
+    rt: &impl Abort,
+    alloc: Global,
+    limits: Limits,
+    name: &str,
+    calls: &str,
+) -> Result<(), NoMemory>
+    requires bytes { 1024 ≤ limits.bytes }
+    requires most { limits.bytes ≤ 2 ^ 30 }
+    requires segs { 2 ≤ limits.segs }
+    requires flush { 1 ≤ limits.flush }
+{
+    let mut given = Given {
+        text: String::new(alloc),
+        runs: Vec::new(alloc),
     };
-    Some((limits, names))
+    let mut direction = Direction::new(alloc, limits, preference_of(name));
+    check_calls(rt, alloc, &mut direction, calls, &mut given)
+}
+
+/// Makes the calls of a row with each of its preferences.
+fn check_row(rt: &impl Abort, alloc: Global, row: &str) -> Result<(), NoMemory> {
+    let (head, calls) = row.split_once(": ").unwrap_or((row, ""));
+    let mut head = Parts::of(head, ' ');
+    let limits = Limits {
+        bytes: head.number(),
+        segs: head.number(),
+        flush: head.number(),
+    };
+    assert!(rt; 1024 <= limits.bytes && limits.bytes <= 1 << 30);
+    assert!(rt; 2 <= limits.segs && 1 <= limits.flush && !head.is_wrong());
+    for name in head.left().split(' ') {
+        check_with(rt, alloc, limits, name, calls)?;
+    }
+    Ok(())
 }
 
 #[test]
 fn directions_by_rows(rt: HostRuntime) -> Result<(), Fail> {
     for row in ROWS.lines() {
-        let (head, calls) = row.split_once(": ").ok_or("limits")?;
-        let (limits, names) = limits_of(head).ok_or("limits")?;
-        for name in names.split(' ') {
-            let preference = preference_of(name).ok_or("a preference")?;
-            assert!(rt; 1024 <= limits.bytes && limits.bytes <= 1 << 30);
-            assert!(rt; 2 <= limits.segs && 1 <= limits.flush);
-            let direction = Direction::new(rt.alloc(), limits, preference);
-            check_calls(&rt, rt.alloc(), direction, calls)?;
-        }
+        check_row(&rt, rt.alloc(), row)?;
     }
     Ok(())
 }
@@ -163,26 +221,26 @@ const EXTENTS: &str = "- 7 3 3
 0 2147483647 1 0
 ";
 
-/// The size of an extent behind a note.
-fn noted_size(rt: &impl Abort, row: &str) -> Option<u64> {
-    let mut words = row.split(' ');
+/// Compares the size of an extent behind a note.
+fn check_extent(rt: &impl Abort, row: &str) {
+    let (begin, numbers) = cut(row, ' ');
     let mut extent = Extent::new();
-    let begin = words.next()?;
     if begin != "-" {
-        extent.start(begin.parse::<u32>().ok()?);
+        extent.start(Parts::of(begin, ' ').number());
     }
-    let seq = words.next()?.parse::<u32>().ok()?;
-    let len = words.next()?.parse::<u32>().ok()?;
+    let mut numbers = Parts::of(numbers, ' ');
+    let (seq, len) = (numbers.number(), numbers.number());
     assert!(rt; 1 <= len && len <= 65535 && extent.size() == 0);
     extent.note(seq, len);
-    Some(extent.size())
+    assert!(rt;
+        extent.size() == numbers.long() && numbers.is_read(),
+        "{row}"
+    );
 }
 
 #[test]
-fn extents_by_rows(rt: HostRuntime) -> Result<(), Fail> {
+fn extents_by_rows(rt: HostRuntime) {
     for row in EXTENTS.lines() {
-        let (given, size) = row.rsplit_once(' ').ok_or("a size")?;
-        assert_eq!(rt; noted_size(&rt, given), Some(size.parse::<u64>()?), "{row}");
+        check_extent(&rt, row);
     }
-    Ok(())
 }

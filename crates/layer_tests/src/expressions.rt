@@ -43,43 +43,58 @@ struct Row(
     Option<(usize, usize)>,
 );
 
+const ROWS: [Row; 15] = [
+    Row("b+", PLAIN, b"abbabbb", Some((1, 3))),
+    Row("a|ab", PLAIN, b"xab", Some((1, 2))),
+    Row("c", PLAIN, b"ab", None),
+    Row("", PLAIN, b"ab", Some((0, 0))),
+    Row("evil", PLAIN, b"xEvIl", None),
+    Row("evil", NOCASE, b"xEvIl", Some((1, 5))),
+    Row("a.b", PLAIN, b"a\nb", None),
+    Row("a.b", DOT_ALL, b"a\nb", Some((0, 3))),
+    Row("^b$", PLAIN, b"a\nb\nc", None),
+    Row("^b$", MULTI_LINE, b"a\nb\nc", Some((2, 3))),
+    Row("a b", PLAIN, b"ab", None),
+    Row("a b", EXTENDED, b"ab", Some((0, 2))),
+    Row("[^a]", PLAIN, b"a\xe9\xa9", Some((1, 2))),
+    Row(r"\xff.", PLAIN, b"a\xff\xfe", Some((1, 3))),
+    Row("k", NOCASE, b"\xe2\x84\xaa", None),
+];
+
+/// Compares what the pattern of a row finds.
+fn check_row(
+    rt: &impl Abort,
+    alloc: Global,
+    maker: &mut RegexMaker,
+    row: &Row,
+) -> Result<(), Fail> {
+    let pattern = maker.make(alloc, row.0, row.1)?;
+    assert!(rt; ends_of(&pattern, row.2)? == row.3, "{}", row.0);
+    Ok(())
+}
+
 #[test]
 fn patterns_find_the_leftmost_match(rt: HostRuntime) -> Result<(), Fail> {
-    let rows = [
-        Row("b+", PLAIN, b"abbabbb", Some((1, 3))),
-        Row("a|ab", PLAIN, b"xab", Some((1, 2))),
-        Row("c", PLAIN, b"ab", None),
-        Row("", PLAIN, b"ab", Some((0, 0))),
-        Row("evil", PLAIN, b"xEvIl", None),
-        Row("evil", NOCASE, b"xEvIl", Some((1, 5))),
-        Row("a.b", PLAIN, b"a\nb", None),
-        Row("a.b", DOT_ALL, b"a\nb", Some((0, 3))),
-        Row("^b$", PLAIN, b"a\nb\nc", None),
-        Row("^b$", MULTI_LINE, b"a\nb\nc", Some((2, 3))),
-        Row("a b", PLAIN, b"ab", None),
-        Row("a b", EXTENDED, b"ab", Some((0, 2))),
-        Row("[^a]", PLAIN, b"a\xe9\xa9", Some((1, 2))),
-        Row(r"\xff.", PLAIN, b"a\xff\xfe", Some((1, 3))),
-        Row("k", NOCASE, b"\xe2\x84\xaa", None),
-    ];
     let mut maker = RegexMaker::new(rt.alloc());
-    for Row(text, flags, bytes, want) in &rows {
-        let pattern = maker.make(rt.alloc(), text, *flags)?;
-        let found = pattern.find(bytes)?;
-        let ends = found.map(|span: Span| (span.start, span.end));
-        assert_eq!(rt; ends, *want, "{text}");
+    for row in &ROWS {
+        check_row(&rt, rt.alloc(), &mut maker, row)?;
     }
     Ok(())
+}
+
+/// Whether a text is refused.
+fn is_refused(alloc: Global, maker: &mut RegexMaker, text: &str) -> bool {
+    match maker.make(alloc, text, PLAIN) {
+        Ok(_) => false,
+        Err(fault) => fault == MakeFault::Refused,
+    }
 }
 
 #[test]
 fn texts_that_are_refused(rt: HostRuntime) {
     let mut maker = RegexMaker::new(rt.alloc());
     for text in ["a(?=b)", "(?<!a)b", r"(a)\1", "(", "a{1000}{1000}"] {
-        match maker.make(rt.alloc(), text, PLAIN) {
-            Ok(_) => assert!(rt; false, "{text}"),
-            Err(fault) => assert_eq!(rt; fault, MakeFault::Refused, "{text}"),
-        }
+        assert!(rt; is_refused(rt.alloc(), &mut maker, text), "{text}");
     }
 }
 
@@ -107,44 +122,58 @@ fn ends_of(pattern: &RegexPattern, bytes: &[u8]) -> Result<Option<(usize, usize)
 /// Searches one behind the other, which hand their working memory on.
 fn check_turns(rt: &impl Abort, pattern: &RegexPattern) -> Result<(), NoMemory> {
     for Turn(bytes, want) in &TURNS {
-        assert_eq!(rt; ends_of(pattern, bytes)?, *want);
+        assert!(rt; ends_of(pattern, bytes)? == *want);
     }
     Ok(())
+}
+
+/// Searches twice one behind the other.
+fn check_turns_twice(rt: &impl Abort, pattern: &RegexPattern) -> Result<(), NoMemory> {
+    check_turns(rt, pattern)?;
+    check_turns(rt, pattern)
 }
 
 #[test]
 fn no_search_remembers_the_match_before(rt: HostRuntime) -> Result<(), Fail> {
     let mut maker = RegexMaker::new(rt.alloc());
     let pattern = maker.make(rt.alloc(), "[0-9]+[a-z]+(z9)+|[ab]{2,5}[0-9]", PLAIN)?;
-    check_turns(&rt, &pattern)?;
-    check_turns(&rt, &pattern)?;
+    check_turns_twice(&rt, &pattern)?;
     Ok(())
 }
 
-/// Letters a and b without an order, and behind them an a and fourteen letters b.
-fn letters(alloc: Global, count: u32) -> Result<Vec<u8>, NoMemory> {
-    let mut bytes = Vec::new(alloc);
+/// Appends letters a and b without an order, and behind them an a and fourteen letters b.
+fn push_letters(bytes: &mut Vec<u8>, count: u32) -> Result<(), NoMemory> {
     let mut seed: u32 = 1;
     for _ in 0..count {
         seed = seed.wrapping_mul(1_103_515_245).wrapping_add(12345);
         bytes.push(if seed < 0x8000_0000 { b'a' } else { b'b' })?;
     }
     bytes.extend_from_slice(b"abbbbbbbbbbbbbb")?;
-    Ok(bytes)
+    Ok(())
 }
 
-/// The automaton of this expression has more states than its memory holds.
+/// An expression whose automaton has more states than its memory holds.
+const MANY_STATES: &str = "[ab]*a[ab]{14}c";
+
+/// Searches many letters, without the last one of a match and with it.
+fn check_many_states(
+    rt: &impl Abort,
+    pattern: &RegexPattern,
+    bytes: &mut Vec<u8>,
+) -> Result<(), NoMemory> {
+    push_letters(bytes, 100_000)?;
+    assert!(rt; ends_of(pattern, bytes.as_slice())?.is_none());
+    bytes.push(b'c')?;
+    assert!(rt; ends_of(pattern, bytes.as_slice())? == Some((0, bytes.len())));
+    Ok(())
+}
+
 #[test]
 fn patterns_with_too_many_states_are_searched(rt: HostRuntime) -> Result<(), Fail> {
-    let mut bytes = letters(rt.alloc(), 100_000)?;
+    let mut bytes = Vec::new(rt.alloc());
     let mut maker = RegexMaker::new(rt.alloc());
-    let pattern = maker.make(rt.alloc(), "[ab]*a[ab]{14}c", PLAIN)?;
-    assert_eq!(rt; ends_of(&pattern, bytes.as_slice())?, None);
-    bytes.push(b'c')?;
-    assert_eq!(rt;
-        ends_of(&pattern, bytes.as_slice())?,
-        Some((0, bytes.len()))
-    );
+    let pattern = maker.make(rt.alloc(), MANY_STATES, PLAIN)?;
+    check_many_states(&rt, &pattern, &mut bytes)?;
     Ok(())
 }
 
@@ -159,41 +188,64 @@ fn check_search(
     bytes: &[u8],
     most: u64,
 ) -> Result<(), NoMemory> {
-    assert_eq!(rt; ends_of(pattern, bytes)?, Some((0, bytes.len())));
+    assert!(rt; ends_of(pattern, bytes)? == Some((0, bytes.len())));
     assert!(rt; counted(maker).is_some_and(|now| now <= most));
     Ok(())
 }
 
-/// Patterns of one expression, each searched by twice in bytes that have it build a state for each
-/// letter: its literals stand there, so nothing dismisses them.
-fn searched(
+/// Makes patterns of one expression.
+fn make_all(
+    alloc: Global,
+    maker: &mut RegexMaker,
+    patterns: &mut Vec<RegexPattern>,
+) -> Result<(), Fail> {
+    for _ in 0..PATTERNS {
+        patterns.push(maker.make(alloc, MANY_STATES, PLAIN)?)?;
+    }
+    Ok(())
+}
+
+/// Each pattern is searched by twice in bytes that have it build a state for each letter: its literals stand
+/// there, so nothing dismisses them.
+fn search_all(
+    rt: &impl Abort,
+    maker: &RegexMaker,
+    patterns: &[RegexPattern],
+    bytes: &mut Vec<u8>,
+    most: u64,
+) -> Result<(), NoMemory> {
+    push_letters(bytes, 100)?;
+    bytes.push(b'c')?;
+    for pattern in patterns {
+        check_search(rt, maker, pattern, bytes.as_slice(), most)?;
+        check_search(rt, maker, pattern, bytes.as_slice(), most)?;
+    }
+    Ok(())
+}
+
+/// Makes patterns, and searches by them.
+fn search(
     rt: &impl Abort,
     alloc: Global,
     maker: &mut RegexMaker,
+    patterns: &mut Vec<RegexPattern>,
     most: u64,
-) -> Result<Vec<RegexPattern>, Fail> {
-    let mut bytes = letters(alloc, 100)?;
-    bytes.push(b'c')?;
-    let mut patterns = Vec::new(alloc);
-    for _ in 0..PATTERNS {
-        patterns.push(maker.make(alloc, "[ab]*a[ab]{14}c", PLAIN)?)?;
-    }
-    for pattern in &patterns {
-        check_search(rt, maker, pattern, bytes.as_slice(), most)?;
-        check_search(rt, maker, pattern, bytes.as_slice(), most)?;
-    }
-    Ok(patterns)
+) -> Result<(), Fail> {
+    let mut bytes = Vec::new(alloc);
+    make_all(alloc, maker, patterns)?;
+    search_all(rt, maker, patterns, &mut bytes, most)?;
+    Ok(())
 }
 
 /// How many memories patterns keep that may keep so much, and what they are counted for. What comes
 /// off a shelf and is dropped counts no longer.
 fn kept(rt: &impl Abort, alloc: Global, most: u64) -> Result<(usize, u64), Fail> {
     let mut maker = with_most(alloc, most);
-    let patterns = searched(rt, alloc, &mut maker, most)?;
+    let mut patterns = Vec::new(alloc);
+    search(rt, alloc, &mut maker, &mut patterns, most)?;
     let before = counted(&maker);
     let (memories, size) = emptied(&patterns);
-    assert_eq!(rt; before, Some(size));
-    assert_eq!(rt; counted(&maker), Some(0));
+    assert!(rt; before == Some(size) && counted(&maker) == Some(0));
     Ok((memories, size))
 }
 
@@ -203,22 +255,20 @@ fn kept(rt: &impl Abort, alloc: Global, most: u64) -> Result<(usize, u64), Fail>
 fn patterns_keep_no_more_than_they_may(rt: HostRuntime) -> Result<(), Fail> {
     let (all, size) = kept(&rt, rt.alloc(), 1 << 30)?;
     let half = size / 2;
-    assert_eq!(rt; all, PATTERNS);
-    assert_eq!(rt; kept(&rt, rt.alloc(), half)?, (PATTERNS / 2, half));
-    assert_eq!(rt;
-        kept(&rt, rt.alloc(), half.saturating_sub(1))?.0,
-        PATTERNS / 2 - 1
-    );
-    assert_eq!(rt; kept(&rt, rt.alloc(), 0)?, (0, 0));
+    assert!(rt; all == PATTERNS);
+    assert!(rt; kept(&rt, rt.alloc(), half)? == (PATTERNS / 2, half));
+    assert!(rt; kept(&rt, rt.alloc(), half.saturating_sub(1))?.0 == PATTERNS / 2 - 1);
+    assert!(rt; kept(&rt, rt.alloc(), 0)? == (0, 0));
     Ok(())
 }
 
 #[test]
 fn patterns_that_are_dropped_keep_nothing(rt: HostRuntime) -> Result<(), Fail> {
     let mut maker = RegexMaker::new(rt.alloc());
-    let patterns = searched(&rt, rt.alloc(), &mut maker, 1 << 30)?;
+    let mut patterns = Vec::new(rt.alloc());
+    search(&rt, rt.alloc(), &mut maker, &mut patterns, 1 << 30)?;
     assert!(rt; counted(&maker).is_some_and(|now| now > 0));
     drop(patterns);
-    assert_eq!(rt; counted(&maker), Some(0));
+    assert!(rt; counted(&maker) == Some(0));
     Ok(())
 }

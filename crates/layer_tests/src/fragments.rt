@@ -2,9 +2,10 @@
 //! text, so that another one costs nothing to prove.
 
 use crate::overlaps::preference_of;
-use edge_io::{Addr, Moment};
+use edge_io::{Addr, Moment, NoMemory};
 use frag3_core::{Datagram, Frag3, FragRules, Ignored, Taken};
 use packet_decode::IpHead;
+use row_files::Parts;
 use std::alloc::Global;
 use std::process::Abort;
 use std::test::Fail;
@@ -83,26 +84,26 @@ fn head(ttl: u8, offset: u16, more: bool) -> IpHead {
 }
 
 /// The fragment of a word, by the preference of this name unless it names another.
-fn part_of<'a>(word: &'a str, preference: &str) -> Option<Part<'a>> {
-    let mut fields = word.split(':');
-    let offset = fields.next()?.parse::<u16>().ok()?;
-    let more = fields.next()? == "more";
-    let second = fields.next()?.parse::<u64>().ok()?;
-    let bytes = fields.next()?.as_bytes();
-    let ttl = fields.next().unwrap_or("64").parse::<u8>().ok()?;
-    let preference = preference_of(fields.next().unwrap_or(preference))?;
-    Some(Part {
+fn part_of<'a>(word: &'a str, preference: &str) -> Part<'a> {
+    let mut fields = Parts::of(word, ':');
+    let offset = fields.short();
+    let more = fields.word() == "more";
+    let second = fields.number();
+    let bytes = fields.word().as_bytes();
+    let ttl = if fields.is_read() { 64 } else { fields.byte() };
+    let other = fields.word();
+    Part {
         ip: head(ttl, offset, more),
         moment: Moment {
-            nanos: second.wrapping_mul(1_000_000_000),
+            nanos: u64::from(second) * 1_000_000_000,
         },
         bytes,
         rules: FragRules {
-            preference,
+            preference: preference_of(if other.is_empty() { preference } else { other }),
             timeout: 60,
             min_ttl: 10,
         },
-    })
+    }
 }
 
 /// The bytes of a whole datagram, or the name of another answer.
@@ -116,33 +117,46 @@ fn shown(taken: &Taken) -> &[u8] {
     }
 }
 
-/// Whether the answer to a fragment is the one that is wanted.
-fn is_answered(alloc: Global, frag3: &mut Frag3, part: &Part, want: &str) -> Result<bool, Fail> {
+/// Compares the answer to a fragment.
+fn check_answer(
+    rt: &impl Abort,
+    alloc: Global,
+    frag3: &mut Frag3,
+    part: &Part,
+    want: &str,
+) -> Result<(), NoMemory> {
     let taken = frag3.accept(alloc, &part.ip, part.bytes, part.moment, part.rules)?;
-    Ok(shown(&taken) == want.as_bytes())
+    assert!(rt; shown(&taken) == want.as_bytes(), "{want}");
+    Ok(())
+}
+
+/// Takes fragments, and compares their answers.
+fn check_parts(
+    rt: &impl Abort,
+    alloc: Global,
+    frag3: &mut Frag3,
+    preference: &str,
+    parts: &str,
+    answers: &str,
+) -> Result<(), NoMemory> {
+    let mut answers = Parts::of(answers, ' ');
+    for word in parts.split(' ') {
+        let part = part_of(word, preference);
+        check_answer(rt, alloc, frag3, &part, answers.word())?;
+    }
+    assert!(rt; answers.is_read(), "{parts}");
+    Ok(())
 }
 
 /// Takes the fragments of a row, and compares their answers.
-fn check_row(rt: &impl Abort, alloc: Global, row: &str) -> Result<(), Fail> {
-    let (head, rest) = row.split_once(": ").ok_or("a preference")?;
-    let (preference, most) = head.split_once(' ').ok_or("a number")?;
-    let (parts, answers) = rest.split_once(": ").ok_or("fragments")?;
-    let most = most.parse::<u32>()?;
-    assert!(rt; most > 0);
-    assert_eq!(rt;
-        parts.split(' ').count(),
-        answers.split(' ').count(),
-        "{row}"
-    );
+fn check_row(rt: &impl Abort, alloc: Global, row: &str) -> Result<(), NoMemory> {
+    let (head, rest) = row.split_once(": ").unwrap_or((row, ""));
+    let (parts, answers) = rest.split_once(": ").unwrap_or((rest, ""));
+    let mut head = Parts::of(head, ' ');
+    let (preference, most) = (head.word(), head.number());
+    assert!(rt; most > 0 && head.is_read());
     let mut frag3 = Frag3::new(alloc, most);
-    for (word, want) in parts.split(' ').zip(answers.split(' ')) {
-        let part = part_of(word, preference).ok_or("a fragment")?;
-        assert!(rt;
-            is_answered(alloc, &mut frag3, &part, want)?,
-            "{word} in {row}"
-        );
-    }
-    Ok(())
+    check_parts(rt, alloc, &mut frag3, preference, parts, answers)
 }
 
 #[test]

@@ -4,10 +4,9 @@ ghost use Rattle.std.specs.Prelude.{◌≤◌, IfOk};
 
 use edge_io::interrupted::{read_as_file, sink_over};
 use edge_io::{Failed, Sink};
-use std::alloc::Global;
+use row_files::{Parts, cut};
 use std::io;
 use std::io::{ErrorKind, Read, Write};
-use std::test::Fail;
 
 /// A stream that is interrupted so often, and then gives or takes bytes as far as there is room,
 /// or fails.
@@ -63,44 +62,42 @@ const UNSTEADY: &str = "0 9 steady: 4 4
 ";
 
 /// The stream of these words.
-fn stream_of(words: &str) -> Result<Unsteady, Fail> {
-    let (interruptions, rest) = words.split_once(' ').ok_or("a count")?;
-    let (room, kind) = rest.split_once(' ').ok_or("room")?;
-    Ok(Unsteady {
-        interruptions: interruptions.parse::<u32>()?,
-        room: room.parse::<usize>()?,
-        fails: kind == "failing",
-    })
-}
-
-/// What the rows call the answer of one call.
-fn count_word(alloc: Global, answer: Result<usize, Failed>) -> Result<String, Fail> {
-    match answer {
-        Ok(count) => Ok(format!(in alloc; "{count}")?),
-        Err(Failed) => Ok(String::from_str(alloc, "failed")?),
+fn stream_of(words: &str) -> Unsteady {
+    let mut words = Parts::of(words, ' ');
+    Unsteady {
+        interruptions: words.number(),
+        room: words.number() as usize,
+        fails: words.word() == "failing",
     }
 }
 
 /// What reading gives.
-fn given(alloc: Global, words: &str) -> Result<String, Fail> {
-    let mut file = stream_of(words)?;
-    count_word(alloc, read_as_file(&mut file, &mut [0; 4]))
+fn given(words: &str) -> Result<usize, Failed> {
+    let mut file = stream_of(words);
+    read_as_file(&mut file, &mut [0; 4])
 }
 
 /// What writing gives.
-fn taken(alloc: Global, words: &str) -> Result<String, Fail> {
-    let mut sink = sink_over(stream_of(words)?);
-    count_word(alloc, sink.write(b"line"))
+fn taken(words: &str) -> Result<usize, Failed> {
+    let mut sink = sink_over(stream_of(words));
+    sink.write(b"line")
+}
+
+/// Whether an answer is a count, or `failed`.
+fn is_answer(answer: Result<usize, Failed>, want: &str) -> bool {
+    let mut want = Parts::of(want, ' ');
+    match answer {
+        Ok(count) => want.number() as usize == count && want.is_read(),
+        Err(Failed) => want.word() == "failed",
+    }
 }
 
 #[test]
-fn an_interrupted_call_goes_on(rt: HostRuntime) -> Result<(), Fail> {
+fn an_interrupted_call_goes_on(rt: HostRuntime) {
     for row in UNSTEADY.lines() {
-        let (words, want) = row.split_once(": ").ok_or("words")?;
-        let read = given(rt.alloc(), words)?;
-        let written = taken(rt.alloc(), words)?;
-        let got = format!(in rt.alloc(); "{read} {written}")?;
-        assert_eq!(rt; got.as_str(), want, "{row}");
+        let (words, want) = row.split_once(": ").unwrap_or((row, ""));
+        let (read, written) = cut(want, ' ');
+        assert!(rt; is_answer(given(words), read), "{row}");
+        assert!(rt; is_answer(taken(words), written), "{row}");
     }
-    Ok(())
 }

@@ -3,6 +3,7 @@
 ghost use Rattle.std.specs.Prelude.{◌<◌, length};
 
 use edge_io::{FileHost, Gate, Host, LoadFault, OpenGate, Sink, StdSink, write_all};
+use row_files::{Parts, cut};
 use std::alloc::Global;
 use std::fs;
 use std::process::Abort;
@@ -18,16 +19,15 @@ fn load_word(answer: &Result<(), LoadFault>) -> &'static str {
     }
 }
 
-/// What is left of the open capture, read through this buffer.
-fn read_out<H: Host>(alloc: Global, host: &mut H, buf: &mut [u8]) -> Result<Vec<u8>, Fail>
+/// Appends what is left of the open capture, read through this buffer.
+fn read_out<H: Host>(host: &mut H, buf: &mut [u8], read: &mut Vec<u8>) -> Result<(), Fail>
     requires { 0 < length buf.old }
 {
-    let mut read = Vec::new(alloc);
     for _ in 0..8000 {
         let count = host.read(buf)?;
         read.extend_from_slice(&buf[..count])?;
     }
-    Ok(read)
+    Ok(())
 }
 
 /// What the rows call these bytes.
@@ -62,19 +62,23 @@ edge_files/missing 9: failed nothing
 edge_files/folder 9: failed nothing
 ";
 
-/// Loads a real file by its name and limit: the answer, and what was appended.
-fn real_load<H: Host>(
+/// Loads a real file by its name and limit, and compares the answer and what was appended.
+fn check_load<H: Host>(
+    rt: &impl Abort,
     alloc: Global,
     host: &mut H,
-    words: &str,
+    row: &str,
     large: &[u8],
-) -> Result<String, Fail> {
-    let (name, limit) = words.split_once(' ').ok_or("a name")?;
+) -> Result<(), Fail> {
+    let mut words = Parts::of(row, ' ');
+    let (name, limit) = (words.word(), cut(words.word(), ':').0);
+    let (answer, appended) = (words.word(), words.word());
+    let limit = Parts::of(limit, ' ').long();
     let mut out = Vec::from_slice(alloc, b"<")?;
-    let answer = host.load(name, limit.parse::<usize>()?, &mut out);
-    let word = load_word(&answer);
-    let appended = appended_word(out.as_slice(), large);
-    Ok(format!(in alloc; "{word} {appended}")?)
+    let given = host.load(name, limit as usize, &mut out);
+    assert!(rt; load_word(&given) == answer, "{row}");
+    assert!(rt; appended_word(&out, large) == appended, "{row}");
+    Ok(())
 }
 
 /// Names of real files, and the bytes that are read where they can be opened.
@@ -85,35 +89,29 @@ edge_files/missing missing
 edge_files/folder missing
 ";
 
-/// What is read of a real file through this buffer.
-fn real_read<H: Host>(
+/// Compares what is read of a real file through this buffer; where it can't be opened nothing is.
+fn check_read<H: Host>(
+    rt: &impl Abort,
     alloc: Global,
     host: &mut H,
-    name: &str,
+    row: &str,
     buf: &mut [u8],
     large: &[u8],
-) -> Result<&'static str, Fail>
+) -> Result<(), Fail>
     requires { 0 < length buf.old }
 {
+    let (name, want) = cut(row, ' ');
     let is_there = host.open(name).is_ok();
-    let read = read_out(alloc, host, buf)?;
-    let word = bytes_word(read.as_slice(), large);
-    Ok(if is_there || word != "nothing" {
-        word
-    } else {
+    let mut read = Vec::new(alloc);
+    read_out(host, buf, &mut read)?;
+    let given = bytes_word(&read, large);
+    let given = if !is_there && given == "nothing" {
         "missing"
-    })
-}
-
-/// The same through a buffer that is larger than the host's own.
-fn real_read_straight<H: Host>(
-    alloc: Global,
-    host: &mut H,
-    name: &str,
-    large: &[u8],
-) -> Result<&'static str, Fail> {
-    let mut wide = vec![in alloc; 0; 65536]?;
-    real_read(alloc, host, name, wide.as_mut_slice(), large)
+    } else {
+        given
+    };
+    assert!(rt; given == want, "{row}");
+    Ok(())
 }
 
 /// Compares the rows of loads.
@@ -124,37 +122,46 @@ fn check_loads<H: Host>(
     large: &[u8],
 ) -> Result<(), Fail> {
     for row in REAL_LOADS.lines() {
-        let (words, want) = row.split_once(": ").ok_or("words")?;
-        let got = real_load(alloc, host, words, large)?;
-        assert_eq!(rt; got.as_str(), want, "{row}");
+        check_load(rt, alloc, host, row, large)?;
     }
     Ok(())
 }
 
-/// Compares the rows of reads, by the host's buffer and straight.
+/// Compares the rows of reads through a buffer.
 fn check_reads<H: Host>(
+    rt: &impl Abort,
+    alloc: Global,
+    host: &mut H,
+    buf: &mut [u8],
+    large: &[u8],
+) -> Result<(), Fail>
+    requires { 0 < length buf.old }
+{
+    for row in REAL_READS.lines() {
+        check_read(rt, alloc, host, row, buf, large)?;
+    }
+    Ok(())
+}
+
+/// Compares all rows; reads through a small buffer, and through one that is larger than the host's own.
+fn check_files<H: Host>(
     rt: &impl Abort,
     alloc: Global,
     host: &mut H,
     large: &[u8],
 ) -> Result<(), Fail> {
-    for row in REAL_READS.lines() {
-        let (name, want) = row.split_once(' ').ok_or("a name")?;
-        let read = real_read(alloc, host, name, &mut [0; 16], large)?;
-        let straight = real_read_straight(alloc, host, name, large)?;
-        assert!(rt; read == want, "{row}");
-        assert!(rt; straight == want, "{row}, straight");
-    }
-    Ok(())
+    check_loads(rt, alloc, host, large)?;
+    check_reads(rt, alloc, host, &mut [0; 16], large)?;
+    let mut wide = vec![in alloc; 0; 65536]?;
+    check_reads(rt, alloc, host, wide.as_mut_slice(), large)
 }
 
-/// The bytes of the large file.
-fn large_bytes(alloc: Global) -> Result<Vec<u8>, Fail> {
-    let mut large = Vec::new(alloc);
+/// Appends the bytes of the large file.
+fn push_large(large: &mut Vec<u8>) -> Result<(), Fail> {
     for place in 0..100000u32 {
         large.push((place % 251) as u8)?;
     }
-    Ok(large)
+    Ok(())
 }
 
 /// Writes the real files.
@@ -168,23 +175,22 @@ fn make_files(rt: &HostRuntime, large: &[u8]) -> Result<(), Fail> {
 
 #[test]
 fn real_files_are_loaded_and_read(rt: HostRuntime) -> Result<(), Fail> {
-    let large = large_bytes(rt.alloc())?;
+    let mut large = Vec::new(rt.alloc());
+    push_large(&mut large)?;
     make_files(&rt, large.as_slice())?;
     let mut host = FileHost::new(rt.alloc(), rt)?;
-    check_loads(&rt, rt.alloc(), &mut host, large.as_slice())?;
-    check_reads(&rt, rt.alloc(), &mut host, large.as_slice())?;
+    check_files(&rt, rt.alloc(), &mut host, large.as_slice())?;
     fs::remove_dir_all(&rt, "edge_files")?;
     Ok(())
 }
 
 #[test]
-fn standard_streams_take_what_is_written(rt: HostRuntime) -> Result<(), Fail> {
+fn standard_streams_take_what_is_written(rt: HostRuntime) {
     let mut output = StdSink::output(rt.stdout());
     let mut errors = StdSink::errors(rt.stderr());
-    assert_eq!(rt; output.write(b"a"), Ok(1));
-    assert_eq!(rt; write_all(&mut output, b"n alert\n"), Ok(()));
-    assert_eq!(rt; write_all(&mut errors, b"a message\n"), Ok(()));
-    Ok(())
+    assert!(rt; output.write(b"a") == Ok(1));
+    assert!(rt; write_all(&mut output, b"n alert\n").is_ok());
+    assert!(rt; write_all(&mut errors, b"a message\n").is_ok());
 }
 
 /// A gate that says no more than it must.

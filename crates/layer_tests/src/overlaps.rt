@@ -1,22 +1,12 @@
 //! The overlap table worked out by hand, and each call once. The rows are text, so that another one costs nothing
 //! to prove.
+ghost use Rattle.std.specs.Prelude.{◌≤◌, ◌^◌};
 
-use edge_io::{Preference, Text};
-use overlap_core::{Bounds, Queue, Run, wins};
+use edge_io::{NoMemory, Preference, Text};
+use overlap_core::{Bounds, Piece, Queue, Run, wins};
 use std::alloc::Global;
 use std::process::Abort;
 use std::test::Fail;
-
-/// The preferences by their names.
-const PREFERENCES: [(&str, Preference); 7] = [
-    ("first", Preference::First),
-    ("last", Preference::Last),
-    ("bsd", Preference::Bsd),
-    ("bsd-right", Preference::BsdRight),
-    ("linux", Preference::Linux),
-    ("windows", Preference::Windows),
-    ("solaris", Preference::Solaris),
-];
 
 /// Preferences, segments in their order, each as the place of its first byte and its bytes, and the bytes that
 /// they leave from place 0 on, a dot for a place without a byte.
@@ -52,48 +42,48 @@ first bsd windows solaris: 0WWWWWWWW 8XXXXXXXX 8YYYYYYYYYYYYYYYYYYYYYYYY 8ZZZZZZ
 last bsd-right linux: 0WWWWWWWW 8XXXXXXXX 8YYYYYYYYYYYYYYYYYYYYYYYY 8ZZZZZZZZZZZZZZZZZZZZZZZZ: WWWWWWWWZZZZZZZZZZZZZZZZZZZZZZZZ
 ";
 
-/// The preference of a name.
-pub(crate) fn preference_of(name: &str) -> Option<Preference> {
-    for (word, preference) in PREFERENCES.iter() {
-        if *word == name {
-            return Some(*preference);
-        }
-    }
-    None
-}
-
-/// A segment: the place of its first byte, a digit, and its bytes.
-fn segment(word: &str) -> Option<(u64, &[u8])> {
-    match word.as_bytes() {
-        [place @ b'0'..=b'9', bytes @ ..] => Some((u64::from(*place - b'0'), bytes)),
-        _ => None,
+/// The preference of a name; `first` is that of any other.
+pub(crate) fn preference_of(name: &str) -> Preference {
+    match name {
+        "last" => Preference::Last,
+        "bsd" => Preference::Bsd,
+        "bsd-right" => Preference::BsdRight,
+        "linux" => Preference::Linux,
+        "windows" => Preference::Windows,
+        "solaris" => Preference::Solaris,
+        _ => Preference::First,
     }
 }
 
-/// A queue of these segments, under the preference of this name.
-fn queue_of(
-    rt: &impl Abort,
-    alloc: Global,
-    preference: &str,
-    segments: &str,
-) -> Result<Queue, Fail> {
-    let preference = preference_of(preference).ok_or("a preference")?;
-    let mut queue = Queue::new(alloc, preference, 0);
+/// Adds a segment: the place of its first byte, a digit, and its bytes.
+fn insert(rt: &impl Abort, queue: &mut Queue, word: &str) -> Result<(), NoMemory> {
+    let bytes = word.as_bytes();
+    assert!(rt; 1 < bytes.len() && b'0' <= bytes[0] && bytes[0] <= b'9');
+    queue.insert(u64::from(bytes[0] - b'0'), &bytes[1..])
+}
+
+/// Adds segments.
+fn insert_all(rt: &impl Abort, queue: &mut Queue, segments: &str) -> Result<(), NoMemory> {
     for word in segments.split(' ') {
-        let (start, bytes) = segment(word).ok_or("a segment")?;
-        assert!(rt; start < 100 && !bytes.is_empty());
-        queue.insert(start, bytes)?;
+        insert(rt, queue, word)?;
     }
-    Ok(queue)
+    Ok(())
 }
 
-/// So many bytes of the queue, from place 0 on, a dot for a place without a byte.
-fn kept_bytes(alloc: Global, queue: &Queue, count: u64) -> Result<Vec<u8>, Fail> {
-    let mut kept = Vec::new(alloc);
+/// Writes so many bytes of the queue, from place 0 on, a dot for a place without a byte.
+fn push_kept(queue: &Queue, count: u64, kept: &mut Vec<u8>) -> Result<(), NoMemory> {
     for place in 0..count {
         kept.push(queue.byte(place).unwrap_or(b'.'))?;
     }
-    Ok(kept)
+    Ok(())
+}
+
+/// Compares what a queue has from place 0 on.
+fn check_bytes(rt: &impl Abort, alloc: Global, queue: &Queue, want: &str) -> Result<(), NoMemory> {
+    let mut kept = Vec::new(alloc);
+    push_kept(queue, want.len() as u64, &mut kept)?;
+    assert!(rt; kept.as_slice() == want.as_bytes(), "{want}");
+    Ok(())
 }
 
 /// Compares what the segments of a row leave under a preference.
@@ -103,36 +93,36 @@ fn check_kept(
     name: &str,
     segments: &str,
     want: &str,
-) -> Result<(), Fail> {
-    let queue = queue_of(rt, alloc, name, segments)?;
-    let kept = kept_bytes(alloc, &queue, want.len() as u64)?;
-    assert!(rt;
-        kept.as_slice() == want.as_bytes(),
-        "{name}: {segments}: {kept:?}"
-    );
+) -> Result<(), NoMemory> {
+    let mut queue = Queue::new(alloc, preference_of(name), 0);
+    insert_all(rt, &mut queue, segments)?;
+    check_bytes(rt, alloc, &queue, want)
+}
+
+/// Compares what the segments of a row leave under each of its preferences.
+fn check_row(rt: &impl Abort, alloc: Global, row: &str) -> Result<(), NoMemory> {
+    let (names, rest) = row.split_once(": ").unwrap_or((row, ""));
+    let (segments, want) = rest.split_once(": ").unwrap_or((rest, ""));
+    for name in names.split(' ') {
+        check_kept(rt, alloc, name, segments, want)?;
+    }
     Ok(())
 }
 
 #[test]
 fn segments_by_the_table(rt: HostRuntime) -> Result<(), Fail> {
     for row in ROWS.lines() {
-        let (names, rest) = row.split_once(": ").ok_or("preferences")?;
-        let (segments, want) = rest.split_once(": ").ok_or("segments")?;
-        for name in names.split(' ') {
-            check_kept(&rt, rt.alloc(), name, segments, want)?;
-        }
+        check_row(&rt, rt.alloc(), row)?;
     }
     Ok(())
 }
 
-/// A queue with the floor 1, of three segments.
-fn small_queue(alloc: Global) -> Result<Queue, Fail> {
-    let mut queue = Queue::new(alloc, Preference::Last, 1);
+/// Adds three segments to a queue with the floor 1.
+fn fill_small(queue: &mut Queue) -> Result<(), NoMemory> {
     queue.reserve(0, 2)?;
     queue.insert_reserved(0, b"ab");
     queue.insert(5, b"e")?;
-    queue.insert(2, b"cd")?;
-    Ok(queue)
+    queue.insert(2, b"cd")
 }
 
 /// The bytes as text.
@@ -140,131 +130,187 @@ fn shown(bytes: &[u8]) -> &str {
     str::from_utf8(bytes).unwrap_or("no text")
 }
 
-/// So many bytes from the queue's floor on, or that one of them is lacking.
-fn filled_text(
-    rt: &impl Abort,
-    alloc: Global,
-    queue: &Queue,
-    count: usize,
-) -> Result<String, Fail> {
-    let mut bytes = vec![in alloc; 0; count]?;
-    assert!(rt; queue.floor() < 100 && bytes.len() < 100);
-    if queue.fill(bytes.as_mut_slice()) {
-        Ok(String::from_str(alloc, shown(bytes.as_slice()))?)
-    } else {
-        Ok(String::from_str(alloc, "lacking")?)
-    }
+/// Whether a queue is filled from its floor on with just these bytes.
+fn is_filled(rt: &impl Abort, queue: &Queue, want: &[u8; 6]) -> bool {
+    let mut bytes = [0; 6];
+    assert!(rt; queue.floor() < 100);
+    queue.fill(&mut bytes) && bytes == *want
+}
+
+/// Compares what a small queue gives: three bytes from its floor on can be had, and four can't.
+fn check_small(rt: &impl Abort, queue: &Queue) {
+    let (mut three, mut four) = ([0; 3], [0; 4]);
+    assert!(rt; queue.floor() == 1 && queue.covered_end() == 6);
+    assert!(rt; queue.fill(&mut three) && three == *b"bcd" && !queue.fill(&mut four));
 }
 
 #[test]
 fn queues_give_bytes(rt: HostRuntime) -> Result<(), Fail> {
     let (old, new) = (Bounds { start: 4, end: 8 }, Bounds { start: 2, end: 8 });
     assert!(rt; wins(Preference::Solaris, old, new) && !wins(Preference::Windows, old, new));
-    let queue = small_queue(rt.alloc())?;
-    assert!(rt; queue.floor() == 1 && queue.covered_end() == 6);
-    let kept = kept_bytes(rt.alloc(), &queue, 6)?;
-    assert_eq!(rt; kept.as_slice(), b".bcd.e".as_slice());
-    let three = filled_text(&rt, rt.alloc(), &queue, 3)?;
-    let four = filled_text(&rt, rt.alloc(), &queue, 4)?;
-    assert!(rt; three.as_str() == "bcd" && four.as_str() == "lacking");
+    let mut queue = Queue::new(rt.alloc(), Preference::Last, 1);
+    fill_small(&mut queue)?;
+    check_small(&rt, &queue);
+    check_bytes(&rt, rt.alloc(), &queue, ".bcd.e")?;
     Ok(())
 }
 
-/// Takes the runs below a place, and gives what is kept behind them of the first six places.
-fn kept_behind(
+/// Writes a number.
+fn push_place(text: &mut String, place: u64) -> Result<(), NoMemory> {
+    if write!(text, "{place}").is_err() {
+        return Err(NoMemory);
+    }
+    Ok(())
+}
+
+/// Writes the first places and the bytes of runs.
+pub(crate) fn push_runs(text: &mut String, runs: &[Run]) -> Result<(), NoMemory> {
+    for run in runs {
+        push_place(text, run.start)?;
+        text.push_str(shown(run.bytes.bytes()))?;
+        text.push_str(" ")?;
+    }
+    Ok(())
+}
+
+/// Takes the runs below a place, and compares what is kept behind them of the first six places.
+fn check_behind(
     rt: &impl Abort,
     alloc: Global,
     queue: &mut Queue,
     below: u64,
     runs: &mut Vec<Run>,
-) -> Result<Vec<u8>, Fail> {
+    want: &str,
+) -> Result<(), NoMemory> {
     assert!(rt; queue.floor() <= below);
     queue.take_runs(alloc, below, runs)?;
-    kept_bytes(alloc, queue, 6)
+    check_bytes(rt, alloc, queue, want)
 }
 
-/// The first places and the bytes of runs.
-pub(crate) fn runs_text(alloc: Global, runs: &[Run]) -> Result<String, Fail> {
-    let mut text = String::new(alloc);
-    for run in runs {
-        let bytes = shown(run.bytes.bytes());
-        write!(text, "{}{bytes} ", run.start)?;
-    }
-    Ok(text)
+/// Takes all of a small queue in two steps, behind a run that was there before.
+fn check_taken(
+    rt: &impl Abort,
+    alloc: Global,
+    queue: &mut Queue,
+    runs: &mut Vec<Run>,
+    text: &mut String,
+) -> Result<(), NoMemory> {
+    fill_small(queue)?;
+    runs.push(Run {
+        start: 9,
+        bytes: Text::copy(alloc, b"z")?,
+    })?;
+    check_behind(rt, alloc, queue, 3, runs, "...d.e")?;
+    check_behind(rt, alloc, queue, 9, runs, "......")?;
+    assert!(rt; queue.floor() == 9 && queue.covered_end() == 9);
+    push_runs(text, runs.as_slice())?;
+    assert!(rt; text.as_str() == "9z 1bc 3d 5e ");
+    Ok(())
 }
 
 #[test]
 fn queues_give_runs(rt: HostRuntime) -> Result<(), Fail> {
-    let mut queue = small_queue(rt.alloc())?;
-    let mut runs = Vec::new(rt.alloc());
-    runs.push(Run {
-        start: 9,
-        bytes: Text::copy(rt.alloc(), b"z")?,
-    })?;
-    let kept = kept_behind(&rt, rt.alloc(), &mut queue, 3, &mut runs)?;
-    assert_eq!(rt; kept.as_slice(), b"...d.e".as_slice());
-    let kept = kept_behind(&rt, rt.alloc(), &mut queue, 9, &mut runs)?;
-    assert_eq!(rt; kept.as_slice(), b"......".as_slice());
-    assert!(rt; queue.floor() == 9 && queue.covered_end() == 9);
-    let taken = runs_text(rt.alloc(), runs.as_slice())?;
-    assert_eq!(rt; taken.as_str(), "9z 1bc 3d 5e ");
+    let alloc = rt.alloc();
+    let mut queue = Queue::new(alloc, Preference::Last, 1);
+    let mut runs = Vec::new(alloc);
+    let mut text = String::new(alloc);
+    check_taken(&rt, alloc, &mut queue, &mut runs, &mut text)?;
     Ok(())
 }
 
-/// Each place of the pieces, with the whole bounds of the segment that its byte came in.
-fn whole_text(alloc: Global, queue: &Queue) -> Result<String, Fail> {
-    let mut text = String::new(alloc);
-    for piece in queue.pieces().iter() {
-        let Bounds { start, end } = piece.whole();
-        for (place, _byte) in piece.bytes().iter().enumerate() {
-            let place = piece.start().saturating_add(place as u64);
-            write!(text, "{place}:{start}-{end} ")?;
+/// Writes each place of a piece, with the whole bounds of the segment that its byte came in.
+fn push_whole(text: &mut String, piece: &Piece) -> Result<(), NoMemory> {
+    let Bounds { start, end } = piece.whole();
+    for (place, _byte) in piece.bytes().iter().enumerate() {
+        let place = piece.start().saturating_add(place as u64);
+        if write!(text, "{place}:{start}-{end} ").is_err() {
+            return Err(NoMemory);
         }
     }
-    Ok(text)
+    Ok(())
 }
 
-/// What a queue of three segments is filled with under two preferences.
-const KEPT: &str = "linux: ccccbb
-bsd: aaaabb
-";
+/// Compares the whole bounds of all pieces.
+fn check_whole(rt: &impl Abort, queue: &Queue, text: &mut String) -> Result<(), NoMemory> {
+    for piece in queue.pieces().iter() {
+        push_whole(text, piece)?;
+    }
+    assert!(rt; text.as_str() == "0:0-4 1:0-4 2:0-4 3:0-4 4:2-6 5:2-6 ");
+    Ok(())
+}
+
+/// Compares what a queue of three segments is filled with under a preference, and the bounds of its pieces.
+fn check_pieces(
+    rt: &impl Abort,
+    alloc: Global,
+    preference: Preference,
+    want: &[u8; 6],
+) -> Result<(), NoMemory> {
+    let mut queue = Queue::new(alloc, preference, 0);
+    let mut text = String::new(alloc);
+    insert_all(rt, &mut queue, "0aaaa 2bbbb 0cccc")?;
+    assert!(rt; is_filled(rt, &queue, want));
+    check_whole(rt, &queue, &mut text)
+}
 
 /// Pieces keep the whole bounds of the segment that stands, under either preference.
 #[test]
 fn pieces_keep_whole_bounds(rt: HostRuntime) -> Result<(), Fail> {
-    for row in KEPT.lines() {
-        let (preference, want) = row.split_once(": ").ok_or("a preference")?;
-        let queue = queue_of(&rt, rt.alloc(), preference, "0aaaa 2bbbb 0cccc")?;
-        let filled = filled_text(&rt, rt.alloc(), &queue, 6)?;
-        assert_eq!(rt; filled.as_str(), want);
-        let whole = whole_text(rt.alloc(), &queue)?;
-        assert_eq!(rt; whole.as_str(), "0:0-4 1:0-4 2:0-4 3:0-4 4:2-6 5:2-6 ");
+    check_pieces(&rt, rt.alloc(), Preference::Linux, b"ccccbb")?;
+    check_pieces(&rt, rt.alloc(), Preference::Bsd, b"aaaabb")?;
+    Ok(())
+}
+
+/// Adds so many segments of four bytes, in order.
+fn insert_in_order(queue: &mut Queue, count: u64) -> Result<(), NoMemory>
+    requires { count ≤ 2 ^ 32 }
+{
+    for number in 0..count {
+        queue.insert(number * 4, b"abcd")?;
     }
+    Ok(())
+}
+
+/// Takes the runs below ten places, in order.
+fn take_in_order(alloc: Global, queue: &mut Queue, runs: &mut Vec<Run>) -> Result<(), NoMemory> {
+    for number in 0..10u64 {
+        let below = (number + 1) * 40_000;
+        if queue.floor() <= below {
+            queue.take_runs(alloc, below, runs)?;
+        }
+    }
+    Ok(())
+}
+
+/// How many bytes runs have.
+fn bytes_in(runs: &[Run]) -> usize {
+    let mut total = 0usize;
+    for run in runs {
+        total = total.saturating_add(run.bytes.bytes().len());
+    }
+    total
+}
+
+/// Adds many segments, and takes their runs.
+fn check_many(
+    rt: &impl Abort,
+    alloc: Global,
+    queue: &mut Queue,
+    runs: &mut Vec<Run>,
+) -> Result<(), NoMemory> {
+    insert_in_order(queue, 100_000)?;
+    take_in_order(alloc, queue, runs)?;
+    assert!(rt; runs.len() == 10 && bytes_in(runs.as_slice()) == 400_000);
+    assert!(rt; queue.covered_end() == 400_000 && queue.pieces().iter().next().is_none());
     Ok(())
 }
 
 /// In order inserted and taken, in time linear in their number.
 #[test]
 fn many_segments_in_order(rt: HostRuntime) -> Result<(), Fail> {
-    let mut queue = Queue::new(rt.alloc(), Preference::First, 0);
-    for number in 0..100_000u64 {
-        queue.insert(number * 4, b"abcd")?;
-    }
-    let mut runs = Vec::new(rt.alloc());
-    for number in 0..10u64 {
-        let below = (number + 1) * 40_000;
-        if queue.floor() <= below {
-            queue.take_runs(rt.alloc(), below, &mut runs)?;
-        }
-    }
-    let mut total = 0usize;
-    for run in &runs {
-        total = total.saturating_add(run.bytes.bytes().len());
-    }
-    assert_eq!(rt;
-        (runs.len(), total, queue.covered_end()),
-        (10, 400_000, 400_000)
-    );
-    assert!(rt; queue.pieces().iter().next().is_none());
+    let alloc = rt.alloc();
+    let mut queue = Queue::new(alloc, Preference::First, 0);
+    let mut runs = Vec::new(alloc);
+    check_many(&rt, alloc, &mut queue, &mut runs)?;
     Ok(())
 }

@@ -4,8 +4,10 @@
 ghost use Rattle.std.specs.Prelude.{◌<◌};
 ghost use Rattle.unified2_out.specs.Records.{AreOfOneVersion};
 
-use edge_io::{Addr, Text};
-use std::alloc::{AllocError, Global};
+use edge_io::{Addr, NoMemory, Text};
+use row_files::Parts;
+use std::alloc::Global;
+use std::process::Abort;
 use std::test::Fail;
 use unified2_out::{U2, U2Event, U2Packet, read_records, write_record};
 
@@ -21,6 +23,9 @@ const EVENT: &str = "00000007 00000034
 
 const PACKET: &str = "00000002 00000049
     00000000 00000001 00000000 00000000 00000000 00000001 0000002d";
+
+/// The record of a kind that isn't known.
+const OTHER: &str = "00000063 00000002 6162";
 
 /// An event of version 6 in which each field has a value of its own.
 const EVENT_IP6: &str = "00000048 0000004c
@@ -88,27 +93,40 @@ fn digit(byte: u8) -> u8
     }
 }
 
-/// The bytes of words in hexadecimal digits; behind a word, `*6` writes it six times.
-fn bytes_of(alloc: Global, text: &str) -> Result<Vec<u8>, AllocError> {
-    let mut bytes = Vec::new(alloc);
-    for part in text.split_whitespace() {
-        let (word, times) = part.split_once('*').unwrap_or((part, "1"));
-        for _ in 0..times.parse::<u32>().unwrap_or(0) {
-            for pair in word.as_bytes().chunks(2) {
-                if let [high, low] = pair {
-                    bytes.push(digit(*high) * 16 + digit(*low))?;
-                }
-            }
+/// Appends the bytes of a word in hexadecimal digits.
+fn push_word(bytes: &mut Vec<u8>, word: &str) -> Result<(), NoMemory> {
+    for pair in word.as_bytes().chunks(2) {
+        if let [high, low] = pair {
+            bytes.push(digit(*high) * 16 + digit(*low))?;
         }
     }
-    Ok(bytes)
+    Ok(())
 }
 
-#[test]
-fn records_are_written_as_these_bytes(rt: HostRuntime) -> Result<(), Fail> {
-    let alloc = rt.alloc();
-    let mut out = Vec::new(alloc);
-    write_record(&U2::Event(event()), &mut out)?;
+/// Appends the bytes of words in hexadecimal digits; behind a word, `*6` writes it six times.
+fn push_words(bytes: &mut Vec<u8>, text: &str) -> Result<(), NoMemory> {
+    for part in text.split_whitespace() {
+        let mut part = Parts::of(part, '*');
+        let word = part.word();
+        let times = if part.is_read() { 1 } else { part.number() };
+        for _ in 0..times {
+            push_word(bytes, word)?;
+        }
+    }
+    Ok(())
+}
+
+/// Appends the bytes of all records.
+fn push_all(bytes: &mut Vec<u8>) -> Result<(), NoMemory> {
+    push_words(bytes, EVENT)?;
+    push_words(bytes, PACKET)?;
+    bytes.extend_from_slice(FRAME)?;
+    push_words(bytes, EVENT_IP6)?;
+    push_words(bytes, OTHER)
+}
+
+/// Writes the packet.
+fn write_packet(alloc: Global, out: &mut Vec<u8>) -> Result<(), NoMemory> {
     let packet = U2Packet {
         sensor: 0,
         id: 1,
@@ -116,62 +134,94 @@ fn records_are_written_as_these_bytes(rt: HostRuntime) -> Result<(), Fail> {
         second: 0,
         micro: 0,
         link: 1,
-        bytes: Text::from_vec(FRAME.to_vec(alloc)?),
+        bytes: Text::copy(alloc, FRAME)?,
     };
-    write_record(&U2::Packet(packet), &mut out)?;
-    let mut want = bytes_of(alloc, EVENT)?;
-    want.extend_from_slice(&bytes_of(alloc, PACKET)?)?;
-    want.extend_from_slice(FRAME)?;
-    assert_eq!(rt; out, want);
+    write_record(&U2::Packet(packet), out)
+}
 
-    let mut out = Vec::new(alloc);
-    write_record(&U2::Event(event_ip6()), &mut out)?;
-    assert_eq!(rt; out, bytes_of(alloc, EVENT_IP6)?);
+/// Writes a record of a kind that isn't known.
+fn write_other(alloc: Global, out: &mut Vec<u8>) -> Result<(), NoMemory> {
+    let bytes = Text::copy(alloc, b"ab")?;
+    write_record(&U2::Other { kind: 99, bytes }, out)
+}
 
-    let mut out = Vec::new(alloc);
-    let other = U2::Other {
-        kind: 99,
-        bytes: Text::from_vec(b"ab".to_vec(alloc)?),
-    };
-    write_record(&other, &mut out)?;
-    assert_eq!(rt; out, bytes_of(alloc, "00000063 00000002 6162")?);
+/// Writes all records.
+fn write_all(alloc: Global, out: &mut Vec<u8>) -> Result<(), NoMemory> {
+    write_record(&U2::Event(event()), out)?;
+    write_packet(alloc, out)?;
+    write_record(&U2::Event(event_ip6()), out)?;
+    write_other(alloc, out)
+}
+
+/// Compares what is written with the bytes.
+fn check_written(
+    rt: &impl Abort,
+    alloc: Global,
+    out: &mut Vec<u8>,
+    want: &mut Vec<u8>,
+) -> Result<(), NoMemory> {
+    write_all(alloc, out)?;
+    push_all(want)?;
+    assert!(rt; out.as_slice() == want.as_slice());
     Ok(())
 }
 
 #[test]
-fn bytes_are_read_as_these_records(rt: HostRuntime) -> Result<(), Fail> {
-    let alloc = rt.alloc();
-    let mut bytes = bytes_of(alloc, EVENT)?;
-    bytes.extend_from_slice(&bytes_of(alloc, PACKET)?)?;
-    bytes.extend_from_slice(FRAME)?;
-    bytes.extend_from_slice(&bytes_of(alloc, EVENT_IP6)?)?;
-    bytes.extend_from_slice(&bytes_of(alloc, "00000063 00000002 6162")?)?;
-    let mut entries = Vec::new(alloc);
-    read_records(alloc, &bytes, &mut entries)?;
-    assert_eq!(rt; entries.len(), 4);
-    match entries.as_slice() {
+fn records_are_written_as_these_bytes(rt: HostRuntime) -> Result<(), Fail> {
+    let mut out = Vec::new(rt.alloc());
+    let mut want = Vec::new(rt.alloc());
+    check_written(&rt, rt.alloc(), &mut out, &mut want)?;
+    Ok(())
+}
+
+/// Whether this is the packet.
+fn is_packet(packet: &U2Packet) -> bool {
+    let numbers = [
+        packet.sensor,
+        packet.id,
+        packet.event_second,
+        packet.second,
+        packet.micro,
+        packet.link,
+    ];
+    numbers == [0, 1, 0, 0, 0, 1] && packet.bytes.bytes() == FRAME.as_slice()
+}
+
+/// Whether these are all records.
+fn are_all(entries: &[U2]) -> bool {
+    match entries {
         [
             U2::Event(first),
             U2::Packet(packet),
             U2::Event(second),
             U2::Other { kind, bytes },
         ] => {
-            assert_eq!(rt; *first, event());
-            let numbers = [
-                packet.sensor,
-                packet.id,
-                packet.event_second,
-                packet.second,
-                packet.micro,
-                packet.link,
-            ];
-            assert_eq!(rt; numbers, [0, 1, 0, 0, 0, 1]);
-            assert_eq!(rt; packet.bytes.bytes(), FRAME.as_slice());
-            assert_eq!(rt; *second, event_ip6());
-            assert_eq!(rt; *kind, 99);
-            assert_eq!(rt; bytes.bytes(), b"ab".as_slice());
+            *first == event()
+                && is_packet(packet)
+                && *second == event_ip6()
+                && *kind == 99
+                && bytes.bytes() == b"ab".as_slice()
         }
-        _ => assert!(rt; false, "records of other kinds"),
+        _ => false,
     }
+}
+
+/// Compares what is read with the records.
+fn check_read(
+    rt: &impl Abort,
+    alloc: Global,
+    bytes: &mut Vec<u8>,
+    entries: &mut Vec<U2>,
+) -> Result<(), Fail> {
+    push_all(bytes)?;
+    read_records(alloc, bytes.as_slice(), entries)?;
+    assert!(rt; are_all(entries.as_slice()));
     Ok(())
+}
+
+#[test]
+fn bytes_are_read_as_these_records(rt: HostRuntime) -> Result<(), Fail> {
+    let mut bytes = Vec::new(rt.alloc());
+    let mut entries = Vec::new(rt.alloc());
+    check_read(&rt, rt.alloc(), &mut bytes, &mut entries)
 }

@@ -1,7 +1,7 @@
 //! What a value is behind a refused allocation: as its contract says, and the call then succeeds when it is made
 //! again. With ample memory nothing is refused, and then the calls are compared alone. `rt try --test --fail-alloc N`
 //! refuses the Nth allocation, and tools/faults.py each of the built test in turn.
-ghost use Rattle.std.specs.Prelude.{◌≤◌, ◌+◌, ◌^◌, OnOk};
+ghost use Rattle.std.specs.Prelude.{◌≤◌, ◌<◌, ◌+◌, ◌^◌, OnOk};
 ghost use Rattle.stream5_reassembly.specs.Segments.{passed};
 
 use edge_io::{Addr, Moment, NoMemory, Preference};
@@ -50,8 +50,8 @@ macro_rules! again {
 }
 
 /// Compares runs with what is left, cut at place 12, and with the places of their first bytes.
-fn compare_runs(rt: &impl Abort, runs: &Vec<Run>, left: &[u8; 32], second: u64) {
-    assert_eq!(rt; runs.len(), 2);
+fn compare_runs(rt: &impl Abort, runs: &[Run], left: &[u8; 32], second: u64) {
+    assert!(rt; runs.len() == 2);
     for (run, (start, bytes)) in runs.iter().zip([(0, &left[..12]), (second, &left[12..])]) {
         assert!(rt; run.start == start && run.bytes.bytes() == bytes);
     }
@@ -117,7 +117,29 @@ fn take_runs(
     Ok(())
 }
 
-/// A queue's segments are put in one after another, and its runs taken in two steps.
+/// Segments are put in one after another.
+fn insert_parts(rt: &impl Abort, queue: &mut Queue) -> Result<(), NoMemory> {
+    for (start, bytes) in PARTS.iter() {
+        insert(rt, queue, *start, bytes)?;
+    }
+    Ok(())
+}
+
+/// A queue's segments are put in, and its runs taken in two steps.
+fn compare_parts(
+    rt: &impl Abort,
+    alloc: Global,
+    queue: &mut Queue,
+    runs: &mut Vec<Run>,
+    left: &[u8; 32],
+) -> Result<(), NoMemory> {
+    insert_parts(rt, queue)?;
+    take_runs(rt, alloc, queue, 12, runs)?;
+    take_runs(rt, alloc, queue, 32, runs)?;
+    compare_runs(rt, runs.as_slice(), left, 12);
+    Ok(())
+}
+
 fn compare_queue(
     rt: &impl Abort,
     alloc: Global,
@@ -125,14 +147,8 @@ fn compare_queue(
     left: &[u8; 32],
 ) -> Result<(), NoMemory> {
     let mut queue = Queue::new(alloc, preference, 0);
-    for (start, bytes) in PARTS.iter() {
-        insert(rt, &mut queue, *start, bytes)?;
-    }
     let mut runs = Vec::new(alloc);
-    take_runs(rt, alloc, &mut queue, 12, &mut runs)?;
-    take_runs(rt, alloc, &mut queue, 32, &mut runs)?;
-    compare_runs(rt, &runs, left, 12);
-    Ok(())
+    compare_parts(rt, alloc, &mut queue, &mut runs, left)
 }
 
 /// Makes nodes spare. What the list holds, and its place, stay.
@@ -148,15 +164,20 @@ fn reserve(rt: &impl Abort, list: &mut PieceList<u8>, nodes: usize) -> Result<()
     Ok(())
 }
 
-fn compare_list(rt: &impl Abort, alloc: Global) -> Result<(), NoMemory> {
-    let mut list = PieceList::new(alloc);
-    reserve(rt, &mut list, 2)?;
+/// Elements are added where nodes are spare.
+fn compare_nodes(rt: &impl Abort, list: &mut PieceList<u8>) -> Result<(), NoMemory> {
+    reserve(rt, list, 2)?;
     list.push_back(1);
     list.push_back(3);
-    reserve(rt, &mut list, 1)?;
+    reserve(rt, list, 1)?;
     list.insert_here(2);
     assert!(rt; list.iter().copied().eq([1, 2, 3]));
     Ok(())
+}
+
+fn compare_list(rt: &impl Abort, alloc: Global) -> Result<(), NoMemory> {
+    let mut list = PieceList::new(alloc);
+    compare_nodes(rt, &mut list)
 }
 
 /// What becomes of a byte with this sequence number, where the direction is started. Where it isn't queued, nothing
@@ -201,7 +222,7 @@ fn add(rt: &impl Abort, direction: &mut Direction, start: u16, bytes: &str) -> R
         direction.add(seq, bytes),
         stands_at(direction, 0) && direction.started()
     );
-    assert_eq!(rt; added, Added::Queued);
+    assert!(rt; added == Added::Queued);
     Ok(())
 }
 
@@ -226,7 +247,55 @@ fn ack(
     Ok(())
 }
 
+/// All segments are added to a direction, and fill it.
+fn add_parts(rt: &impl Abort, direction: &mut Direction) -> Result<(), NoMemory>
+    requires { passed direction.old ≤ 2 ^ 62 }
+    ensures { passed direction.new ≤ passed direction.old }
+{
+    let [(at, w), (x_at, x), (y_at, y), (z_at, z)] = PARTS;
+    add(rt, direction, at, w)?;
+    add(rt, direction, x_at, x)?;
+    add(rt, direction, y_at, y)?;
+    add(rt, direction, z_at, z)?;
+    assert!(rt; is_full_at(direction, 0));
+    Ok(())
+}
+
+/// What is left of a direction with the base 12 is given.
+fn flush_rest(
+    rt: &impl Abort,
+    alloc: Global,
+    direction: &mut Direction,
+    runs: &mut Vec<Run>,
+    left: &[u8; 32],
+) -> Result<(), NoMemory>
+    requires { passed direction.old ≤ 2 ^ 62 }
+{
+    again!(
+        rt,
+        direction.flush_all(alloc, runs),
+        stands_at(direction, 12) && is_first(runs.as_slice(), left)
+    );
+    Ok(())
+}
+
 /// A direction's segments are added, and given in two steps. The second step's place counts from the first.
+fn compare_segments(
+    rt: &impl Abort,
+    alloc: Global,
+    direction: &mut Direction,
+    runs: &mut Vec<Run>,
+    left: &[u8; 32],
+) -> Result<(), NoMemory>
+    requires { passed direction.old ≤ 2 ^ 32 }
+{
+    add_parts(rt, direction)?;
+    ack(rt, alloc, direction, 12, runs)?;
+    flush_rest(rt, alloc, direction, runs, left)?;
+    compare_runs(rt, runs.as_slice(), left, 0);
+    Ok(())
+}
+
 fn compare_direction(
     rt: &impl Abort,
     alloc: Global,
@@ -234,22 +303,9 @@ fn compare_direction(
     left: &[u8; 32],
 ) -> Result<(), NoMemory> {
     let mut direction = Direction::new(alloc, LIMITS, preference);
-    direction.start(0);
-    let [(at, w), (x_at, x), (y_at, y), (z_at, z)] = PARTS;
-    add(rt, &mut direction, at, w)?;
-    add(rt, &mut direction, x_at, x)?;
-    add(rt, &mut direction, y_at, y)?;
-    add(rt, &mut direction, z_at, z)?;
-    assert!(rt; is_full_at(&mut direction, 0));
     let mut runs = Vec::new(alloc);
-    ack(rt, alloc, &mut direction, 12, &mut runs)?;
-    again!(
-        rt,
-        direction.flush_all(alloc, &mut runs),
-        stands_at(&mut direction, 12) && is_first(&runs, left)
-    );
-    compare_runs(rt, &runs, left, 0);
-    Ok(())
+    direction.start(0);
+    compare_segments(rt, alloc, &mut direction, &mut runs, left)
 }
 
 /// The header of a fragment from 10.0.0.1 to 10.0.0.2 with this place in bytes.
@@ -262,7 +318,38 @@ fn head(place: u16, more: bool) -> IpHead {
     }
 }
 
-/// A datagram's fragments are taken: three are held, and the last makes it whole.
+/// Whether an answer is that of the fragment of this number: three are held, and the last makes the datagram whole.
+fn is_answer(taken: &Taken, number: usize, left: &[u8; 32]) -> bool {
+    match taken {
+        Taken::Held => number < 3,
+        Taken::Whole(Datagram { ip: _, bytes }) => number == 3 && bytes.bytes() == left.as_slice(),
+        Taken::Ignored(_) => false,
+    }
+}
+
+/// A fragment is taken.
+fn accept(
+    rt: &impl Abort,
+    alloc: Global,
+    frag3: &mut Frag3,
+    number: usize,
+    rules: FragRules,
+    left: &[u8; 32],
+) -> Result<(), NoMemory>
+    requires { number < 4 }
+{
+    let (place, part) = PARTS[number];
+    let (ip, part) = (head(place, number < 3), part.as_bytes());
+    let moment = Moment { nanos: 0 };
+    let taken = match frag3.accept(alloc, &ip, part, moment, rules) {
+        Ok(taken) => taken,
+        Err(NoMemory) => frag3.accept(alloc, &ip, part, moment, rules)?,
+    };
+    assert!(rt; is_answer(&taken, number, left));
+    Ok(())
+}
+
+/// A datagram's fragments are taken.
 ///
 /// What is held is seen by the answers alone. No more fragments are held than there are: if one stayed behind a call
 /// that lacked memory, the datagram would be dropped for room, and the last fragment wouldn't make it whole.
@@ -277,21 +364,9 @@ fn compare_datagram(
         timeout: 60,
         min_ttl: 1,
     };
-    let moment = Moment { nanos: 0 };
     let mut frag3 = Frag3::new(alloc, PARTS.len() as u32);
-    for (number, (place, part)) in PARTS.iter().enumerate() {
-        let (ip, part) = (head(*place, number < 3), part.as_bytes());
-        let taken = match frag3.accept(alloc, &ip, part, moment, rules) {
-            Ok(taken) => taken,
-            Err(NoMemory) => frag3.accept(alloc, &ip, part, moment, rules)?,
-        };
-        match &taken {
-            Taken::Held => assert!(rt; number < 3),
-            Taken::Whole(Datagram { ip: _, bytes }) => assert!(rt;
-                bytes.bytes() == left.as_slice()
-            ),
-            Taken::Ignored(_) => assert!(rt; false),
-        }
+    for number in 0..4 {
+        accept(rt, alloc, &mut frag3, number, rules, left)?;
     }
     Ok(())
 }

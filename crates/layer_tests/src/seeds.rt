@@ -40,7 +40,7 @@ fn keys_of_fragments_spread(rt: HostRuntime) {
     let first = chosen_key(0);
     for host in 1..64u64 {
         let key = chosen_key(host);
-        assert_eq!(rt; hasher.hash_one(key), hasher.hash_one(first));
+        assert!(rt; hasher.hash_one(key) == hasher.hash_one(first));
         assert!(rt; seed.hash_one(key) != seed.hash_one(first));
         assert!(rt; seed.hash_one(key) != later.hash_one(key));
     }
@@ -52,7 +52,7 @@ fn keys_of_windows_spread(rt: HostRuntime) {
     let first = chosen_host(0);
     for host in 1..64u64 {
         let host = chosen_host(host);
-        assert_eq!(rt; usual_hash(host), usual_hash(first));
+        assert!(rt; usual_hash(host) == usual_hash(first));
         assert!(rt; seeded_hash(host) != seeded_hash(first));
     }
 }
