@@ -8,6 +8,7 @@ pub mod Kinds
 pub mod Next
 pub mod Walks
 pub mod Values
+pub mod Trying
 pub mod Kept
 pub mod States
 pub mod Absent

@@ -3,14 +3,14 @@
 //! An option that counts from the payload's start and reads no value leads from each state to the same places.
 //! Where there are several states, what was asked from one of them is kept for those that come.
 
-ghost use Rattle.std.specs.Prelude.{◌≡◌, ℕ, ◌+◌, ◌<◌, ◌≤◌, ◌==◌, ◌⊎◌, Bool, true, false, Some, None, length, IfOk, if◌then◌else◌};
+ghost use Rattle.std.specs.Prelude.{◌≡◌, ℕ, ◌+◌, ◌<◌, ◌≤◌, ◌==◌, ◌⊎◌, true, false, Some, None, length, IfOk, if◌then◌else◌};
 ghost use Rattle.option_eval.specs.Kinds.{needs_place};
 ghost use Rattle.option_eval.specs.Known.{known_at, is_free, IsKnown, LeadsAlike, AreRising};
-ghost use Rattle.option_eval.specs.Next.{next_set, RisesTo};
-ghost use Rattle.option_eval.specs.Places.{Means, is_payload_option, is_extract};
-ghost use Rattle.option_eval.specs.Ready.{IsReady, pattern_of};
-ghost use Rattle.option_eval.specs.RuleSet.{IsMade};
-ghost use Rattle.option_eval.specs.Sets.{IsRising, Gathers, IsLedTo, LeadsFrom};
+ghost use Rattle.option_eval.specs.Next.{RisesTo};
+ghost use Rattle.option_eval.specs.Places.{is_payload_option, is_extract};
+ghost use Rattle.option_eval.specs.Ready.{IsReady};
+ghost use Rattle.option_eval.specs.Sets.{IsRising};
+ghost use Rattle.option_eval.specs.Trying.{OfMadeOne, LeadsTo, beginning};
 
 use crate::Steps;
 use crate::asked::Asked;
@@ -114,14 +114,13 @@ pub(crate) fn next_known<P: Pattern, L: Ledger>(
     requires asked { 0 < length at.now.places.now }
     requires rising { IsRising 0 at.now.places.now (length at.now.payload.now + 1) }
     requires known_rising { AreRising (length at.now.payload.now + 1) known.old }
-    ensures found { (means : Means) → IsMade P.finds means option.now (pattern_of made.now)
-        → IsKnown means at.now.payload.now option.now (needs_place later.now) (known_at known.old (length later.now))
-        → IfOk result (λ next. Gathers (needs_place later.now)
-        (IsLedTo (LeadsFrom means at.now.payload.now at.now.values.now option.now) at.now.places.now)
-        (next_set next at.now.places.now)) }
-    ensures alike { (means : Means) → IsMade P.finds means option.now (pattern_of made.now)
-        → IsKnown means at.now.payload.now option.now (needs_place later.now) (known_at known.old (length later.now))
-        → is_free option.now ≡ true → IfOk result (LeadsAlike means at.now.payload.now option.now (needs_place later.now)) }
+    ensures found { OfMadeOne P.finds option.now made.now (λ means.
+        IsKnown means at.now.payload.now option.now (needs_place later.now) (known_at known.old (length later.now))
+        → IfOk result (LeadsTo means option.now (needs_place later.now)
+        (beginning at.now.payload.now at.now.values.now at.now.places.now))) }
+    ensures alike { OfMadeOne P.finds option.now made.now (λ means.
+        IsKnown means at.now.payload.now option.now (needs_place later.now) (known_at known.old (length later.now))
+        → is_free option.now ≡ true → IfOk result (LeadsAlike means at.now.payload.now option.now (needs_place later.now))) }
     ensures rising { IfOk result (RisesTo (length at.now.payload.now + 1)) }
     ensures taken { (left : ℕ) → known_at known.new left ≡ (if left == length later.now then None else known_at known.old left) }
     ensures bounded { visits.new ≤ visits.old + (if is_payload_option option.now then length at.now.payload.now + 1 else 0) }

@@ -1,12 +1,12 @@
 //! Laws about what a rule can extract, for callers: they bound its work by its own options and the payload's length.
 
-ghost use Rattle.std.specs.Prelude.{◌≡◌, ℕ, ◌*◌, ◌^◌, ◌<◌, ◌≤◌, All, List, Some, length};
+ghost use Rattle.std.specs.Prelude.{◌≡◌, ℕ, ◌*◌, ◌^◌, ◌<◌, ◌≤◌, All, List, length};
 ghost use Rattle.std.specs.List.{count_by};
 ghost use Rattle.rule_types.specs.declared.option.Opt.{Opt};
-ghost use Rattle.option_eval.specs.Numbers.{Standing};
 ghost use Rattle.option_eval.specs.Places.{is_extract, Means};
-ghost use Rattle.option_eval.specs.Values.{list_count, most_visits, standing_count};
-ghost use Rattle.option_eval.specs.Walks.{HasEachValueList, visits_of};
+ghost use Rattle.option_eval.specs.Trying.{HasFewValues};
+ghost use Rattle.option_eval.specs.Values.{list_count, most_visits};
+ghost use Rattle.option_eval.specs.Walks.{visits_of};
 
 /// A rule extracts few values from a payload of n bytes, whatever its patterns find: all lists of its two names'
 /// values that any way through its options keeps stand in `lists`, all standings behind its extractions in `listed`,
@@ -21,8 +21,7 @@ ghost use Rattle.option_eval.specs.Walks.{HasEachValueList, visits_of};
 ///   that is still read (`standing_count`).
 pub fn extracted_values_are_few()
     ensures { (means : Means) (payload : List ℕ) (options : List Opt) → All (λ byte. byte < 256) payload
-        → (lists : List (List ℕ)) × (listed : List Standing) × HasEachValueList means payload options lists (Some listed)
-        × (length lists ≤ list_count options (length payload)) × (length listed ≤ standing_count options (length payload)) }
+        → HasFewValues means payload options }
 {}
 
 /// The most visits of a rule in a payload of n bytes, `most_visits`, are no more than k (n + 1) times the e-th power

@@ -6,15 +6,15 @@
 //! rest of the options is tried from those that there are, and they are forgotten before there are more. So
 //! memory is bounded; states of two such parts may be the same, and are then gone on from twice.
 
-ghost use Rattle.std.specs.Prelude.{◌≡◌, ℕ, ◌+◌, ◌*◌, ◌<◌, ◌≤◌, ◌↔◌, ◌⊎◌, [], ◌∷◌, List, Option, Some, None, length, map, IsTrue, IfOk, IfSome, IfNone, MatchBool};
+ghost use Rattle.std.specs.Prelude.{◌≡◌, ℕ, ◌+◌, ◌*◌, ◌<◌, ◌≤◌, ◌↔◌, ◌⊎◌, [], ◌∷◌, List, Option, Some, None, length, map, IsTrue, IfOk, IfSome, IfNone};
 ghost use Rattle.std.specs.List.{AllZip};
 ghost use Rattle.edge_io.specs.declared.pattern.Span.{Span};
 ghost use Rattle.option_eval.specs.Known.{known_at};
-ghost use Rattle.option_eval.specs.Numbers.{Standing};
 ghost use Rattle.option_eval.specs.Places.{Means};
 ghost use Rattle.option_eval.specs.Ready.{IsReady, pattern_of};
 ghost use Rattle.option_eval.specs.RuleSet.{IsMade};
 ghost use Rattle.option_eval.specs.States.{places_at, AreAmong, AreWithin, HaveValues, MatchesFromSome};
+ghost use Rattle.option_eval.specs.Trying.{OfMade, OfFewValues, OfAllValues, IsPartPassed};
 ghost use Rattle.option_eval.specs.Walks.{MatchesFromOne, ExtractsNothing, HasEachValueList, visits_of, visits_apart, part_standings, behind_extraction};
 
 use crate::Steps;
@@ -39,17 +39,15 @@ pub(crate) fn is_passed<P: Pattern, L: Ledger>(
     visits: &mut Steps<L>,
 ) -> Result<bool, NoMemory>
     requires ready { AllZip IsReady options.now made.now }
-    ensures right { (means : Means) → AllZip (IsMade P.finds means) options.now (map pattern_of made.now)
-        → IfOk result (λ passed. IsTrue passed ↔ MatchesFromOne means payload.now options.now (0 ∷ 0 ∷ []) (0 ∷ [])) }
+    ensures right { OfMade P.finds options.now made.now (λ means. IfOk result (λ passed. IsTrue passed
+        ↔ MatchesFromOne means payload.now options.now (0 ∷ 0 ∷ []) (0 ∷ []))) }
     ensures bounded { ExtractsNothing options.now → visits.new ≤ visits.old + visits_of options.now (length payload.now) }
-    ensures bounded_by_values { (means : Means) → (lists : List (List ℕ)) → (listed : List Standing)
-        → AllZip (IsMade P.finds means) options.now (map pattern_of made.now)
-        → HasEachValueList means payload.now options.now lists (Some listed) → length listed ≤ part_standings
-        → visits.new ≤ visits.old + length lists * visits_of options.now (length payload.now) }
-    ensures bounded_in_parts { (means : Means) → (lists : List (List ℕ))
-        → AllZip (IsMade P.finds means) options.now (map pattern_of made.now)
-        → HasEachValueList means payload.now options.now lists None
-        → visits.new ≤ visits.old + visits_apart (length lists) options.now (length payload.now) }
+    ensures bounded_by_values { OfMade P.finds options.now made.now (λ means.
+        OfFewValues (HasEachValueList means payload.now options.now)
+        (λ lists. visits.new ≤ visits.old + lists * visits_of options.now (length payload.now))) }
+    ensures bounded_in_parts { OfMade P.finds options.now made.now (λ means.
+        OfAllValues (HasEachValueList means payload.now options.now)
+        (λ lists. visits.new ≤ visits.old + visits_apart lists options.now (length payload.now))) }
 {
     let mut behind = Behind {
         states: States::new(alloc),
@@ -79,18 +77,15 @@ fn is_passed_behind<P: Pattern, L: Ledger>(
     requires ready { AllZip IsReady options.now made.now }
     requires inside { AreWithin (length payload.now) states }
     requires nowhere { ExtractsNothing options.now → (values : List ℕ) → places_at states values ≡ None }
-    ensures right { (means : Means) → AllZip (IsMade P.finds means) options.now (map pattern_of made.now)
-        → IfOk result (λ passed. IsTrue passed ↔ MatchesFromSome means payload.now (behind_extraction options.now) states) }
+    ensures right { OfMade P.finds options.now made.now (λ means. IfOk result (λ passed. IsTrue passed
+        ↔ MatchesFromSome means payload.now (behind_extraction options.now) states)) }
     ensures unvisited { ExtractsNothing options.now → visits.new ≡ visits.old }
-    ensures bounded { (means : Means) → (lists : List (List ℕ)) → (listed : List Standing)
-        → AllZip (IsMade P.finds means) options.now (map pattern_of made.now)
-        → HaveValues means payload.now lists (Some listed) (behind_extraction options.now) states → length listed ≤ part_standings
-        → visits.new ≤ visits.old + length lists * visits_of (behind_extraction options.now) (length payload.now) }
-    ensures bounded_in_parts { (means : Means) → (lists : List (List ℕ))
-        → AllZip (IsMade P.finds means) options.now (map pattern_of made.now)
-        → HaveValues means payload.now lists None (behind_extraction options.now) states
-        → visits.new ≤ visits.old + length lists * visits_apart (length lists) (behind_extraction options.now)
-        (length payload.now) }
+    ensures bounded { OfMade P.finds options.now made.now (λ means.
+        OfFewValues (λ lists listed. HaveValues means payload.now lists listed (behind_extraction options.now) states)
+        (λ lists. visits.new ≤ visits.old + lists * visits_of (behind_extraction options.now) (length payload.now))) }
+    ensures bounded_in_parts { OfMade P.finds options.now made.now (λ means.
+        OfAllValues (λ lists listed. HaveValues means payload.now lists listed (behind_extraction options.now) states)
+        (λ lists. visits.new ≤ visits.old + lists * visits_apart lists (behind_extraction options.now) (length payload.now))) }
 {
     let Some((later, made_later)) = behind_extraction(options, made) else {
         return Ok(false);
@@ -110,16 +105,14 @@ fn is_passed_from<P: Pattern, L: Ledger>(
 ) -> Result<bool, NoMemory>
     requires ready { AllZip IsReady options.now made.now }
     requires inside { AreWithin (length payload.now) states }
-    ensures right { (means : Means) → AllZip (IsMade P.finds means) options.now (map pattern_of made.now)
-        → IfOk result (λ passed. IsTrue passed ↔ MatchesFromSome means payload.now options.now states) }
-    ensures bounded { (means : Means) → (lists : List (List ℕ)) → (listed : List Standing)
-        → AllZip (IsMade P.finds means) options.now (map pattern_of made.now)
-        → HaveValues means payload.now lists (Some listed) options.now states → length listed ≤ part_standings
-        → visits.new ≤ visits.old + length lists * visits_of options.now (length payload.now) }
-    ensures bounded_in_parts { (means : Means) → (lists : List (List ℕ))
-        → AllZip (IsMade P.finds means) options.now (map pattern_of made.now)
-        → HaveValues means payload.now lists None options.now states
-        → visits.new ≤ visits.old + length lists * visits_apart (length lists) options.now (length payload.now) }
+    ensures right { OfMade P.finds options.now made.now (λ means. IfOk result (λ passed. IsTrue passed
+        ↔ MatchesFromSome means payload.now options.now states)) }
+    ensures bounded { OfMade P.finds options.now made.now (λ means.
+        OfFewValues (λ lists listed. HaveValues means payload.now lists listed options.now states)
+        (λ lists. visits.new ≤ visits.old + lists * visits_of options.now (length payload.now))) }
+    ensures bounded_in_parts { OfMade P.finds options.now made.now (λ means.
+        OfAllValues (λ lists listed. HaveValues means payload.now lists listed options.now states)
+        (λ lists. visits.new ≤ visits.old + lists * visits_apart lists options.now (length payload.now))) }
 {
     let known = nothing_known(alloc, &states, options)?;
     let mut behind = Behind {
@@ -154,21 +147,16 @@ fn is_part_passed<P: Pattern, L: Ledger>(
     requires ready { AllZip IsReady options.now made.now }
     requires inside { AreWithin (length payload.now) states.old }
     requires nowhere { ExtractsNothing options.now → (values : List ℕ) → places_at states.old values ≡ None }
-    ensures right { (means : Means) → AllZip (IsMade P.finds means) options.now (map pattern_of made.now)
-        → IfOk result (λ passed. MatchBool passed (MatchesFromSome means payload.now (behind_extraction options.now) states.old)
-        (MatchesFromSome means payload.now (behind_extraction options.now) states.old
-        → MatchesFromSome means payload.now (behind_extraction options.now) states.new)) }
+    ensures right { OfMade P.finds options.now made.now (λ means.
+        IfOk result (IsPartPassed means payload.now (behind_extraction options.now) states.old states.new)) }
     ensures among { IfOk result (λ passed. AreAmong states.new states.old) }
     ensures few { IfOk result (λ passed. states.new.place_count ≤ 2 * part_standings) }
-    ensures bounded { (means : Means) → (lists : List (List ℕ)) → (listed : List Standing)
-        → HaveValues means payload.now lists (Some listed) (behind_extraction options.now) states.old
-        → length listed ≤ part_standings
-        → visits.new ≡ visits.old }
-    ensures bounded_in_parts { (means : Means) → (lists : List (List ℕ))
-        → AllZip (IsMade P.finds means) options.now (map pattern_of made.now)
-        → HaveValues means payload.now lists None (behind_extraction options.now) states.old
-        → visits.new ≤ visits.old + length lists * visits_apart (length lists) (behind_extraction options.now)
-        (length payload.now) }
+    ensures bounded { (means : Means)
+        → OfFewValues (λ lists listed. HaveValues means payload.now lists listed (behind_extraction options.now) states.old)
+        (λ lists. visits.new ≡ visits.old) }
+    ensures bounded_in_parts { OfMade P.finds options.now made.now (λ means.
+        OfAllValues (λ lists listed. HaveValues means payload.now lists listed (behind_extraction options.now) states.old)
+        (λ lists. visits.new ≤ visits.old + lists * visits_apart lists (behind_extraction options.now) (length payload.now))) }
     ensures forgotten { IfOk result (λ passed. (visits.new ≡ visits.old)
         ⊎ ((values : List ℕ) → places_at states.new values ≡ None)) }
 {

@@ -1,12 +1,12 @@
 //! Rules in their order, with what was made of them.
 
-ghost use Rattle.std.specs.Prelude.{◌≡◌, ℕ, ◌+◌, ◌*◌, ◌<◌, ◌≤◌, ◌↔◌, List, Some, None, length, IsTrue, IfOk};
+ghost use Rattle.std.specs.Prelude.{◌≡◌, ◌+◌, ◌*◌, ◌<◌, ◌≤◌, ◌↔◌, length, IsTrue, IfOk};
 ghost use Rattle.rule_types.specs.declared.rule.Rule.{Rule};
-ghost use Rattle.option_eval.specs.Numbers.{Standing};
-ghost use Rattle.option_eval.specs.Places.{Means, PayloadMatches};
+ghost use Rattle.option_eval.specs.Places.{PayloadMatches};
 ghost use Rattle.option_eval.specs.RuleSet.{FindWhatIsMeant, IsRuleAt};
+ghost use Rattle.option_eval.specs.Trying.{OfRule, OfFewValues, OfAllValues};
 ghost use Rattle.option_eval.specs.Values.{most_visits};
-ghost use Rattle.option_eval.specs.Walks.{ExtractsNothing, HasEachValueList, visits_of, visits_apart, part_standings};
+ghost use Rattle.option_eval.specs.Walks.{ExtractsNothing, HasEachValueList, visits_of, visits_apart};
 
 use crate::Steps;
 use crate::made::Made;
@@ -127,20 +127,18 @@ pub fn payload_matches<P: Pattern, L: Ledger>(
     visits: &mut Steps<L>,
 ) -> Result<bool, NoMemory>
     requires { rule < length set.now.rules }
-    ensures right { (means : Means) → (chosen : Rule) → FindWhatIsMeant P.finds means set.now → IsRuleAt set.now rule chosen
-        → IfOk result (λ matches. IsTrue matches ↔ PayloadMatches means chosen payload.now) }
+    ensures right { OfRule P.finds set.now rule (λ means chosen.
+        IfOk result (λ matches. IsTrue matches ↔ PayloadMatches means chosen payload.now)) }
     ensures bounded { (chosen : Rule) → IsRuleAt set.now rule chosen → ExtractsNothing chosen.opts
         → visits.new ≤ visits.old + visits_of chosen.opts (length payload.now) }
-    ensures bounded_by_values { (means : Means) → (chosen : Rule) → (lists : List (List ℕ)) → (listed : List Standing)
-        → FindWhatIsMeant P.finds means set.now → IsRuleAt set.now rule chosen
-        → HasEachValueList means payload.now chosen.opts lists (Some listed) → length listed ≤ part_standings
-        → visits.new ≤ visits.old + length lists * visits_of chosen.opts (length payload.now) }
-    ensures bounded_in_parts { (means : Means) → (chosen : Rule) → (lists : List (List ℕ)) → FindWhatIsMeant P.finds means set.now
-        → IsRuleAt set.now rule chosen → HasEachValueList means payload.now chosen.opts lists None
-        → visits.new ≤ visits.old + visits_apart (length lists) chosen.opts (length payload.now) }
-    ensures bounded_by_rule { (means : Means) → (chosen : Rule) → FindWhatIsMeant P.finds means set.now
-        → IsRuleAt set.now rule chosen
-        → visits.new ≤ visits.old + most_visits chosen.opts (length payload.now) }
+    ensures bounded_by_values { OfRule P.finds set.now rule (λ means chosen.
+        OfFewValues (HasEachValueList means payload.now chosen.opts)
+        (λ lists. visits.new ≤ visits.old + lists * visits_of chosen.opts (length payload.now))) }
+    ensures bounded_in_parts { OfRule P.finds set.now rule (λ means chosen.
+        OfAllValues (HasEachValueList means payload.now chosen.opts)
+        (λ lists. visits.new ≤ visits.old + visits_apart lists chosen.opts (length payload.now))) }
+    ensures bounded_by_rule { OfRule P.finds set.now rule (λ means chosen.
+        visits.new ≤ visits.old + most_visits chosen.opts (length payload.now)) }
 {
     let made = &set.made[rule as usize];
     let rule = &set.rules[rule as usize];

@@ -3,16 +3,15 @@
 //! An extraction leaves states behind it, and a walk adds its own to those that are there. So a value list and
 //! a place are gone on from once, whichever ways lead there.
 
-ghost use Rattle.std.specs.Prelude.{◌≡◌, ℕ, ◌+◌, ◌<◌, ◌≤◌, Contains, length, map, IfOk, MatchBool};
+ghost use Rattle.std.specs.Prelude.{◌≡◌, ℕ, ◌+◌, ◌<◌, ◌≤◌, Contains, length, IfOk};
 ghost use Rattle.std.specs.List.{AllZip};
 ghost use Rattle.option_eval.specs.Known.{known_at, AreKnown, AreRising};
-ghost use Rattle.option_eval.specs.Next.{next_set, RisesTo};
-ghost use Rattle.option_eval.specs.Places.{Means};
-ghost use Rattle.option_eval.specs.Ready.{IsReady, pattern_of};
-ghost use Rattle.option_eval.specs.RuleSet.{IsMade};
+ghost use Rattle.option_eval.specs.Next.{next_set};
+ghost use Rattle.option_eval.specs.Ready.{IsReady};
 ghost use Rattle.option_eval.specs.Sets.{IsRising};
-ghost use Rattle.option_eval.specs.States.{AreWithin, Leaves};
-ghost use Rattle.option_eval.specs.Walks.{MatchesFromOne, ExtractsNothing, visits_of, upto_extraction};
+ghost use Rattle.option_eval.specs.States.{AreWithin};
+ghost use Rattle.option_eval.specs.Trying.{OfMade, IsWalked, beginning};
+ghost use Rattle.option_eval.specs.Walks.{ExtractsNothing, visits_of, upto_extraction};
 
 use crate::Steps;
 use crate::asked::Asked;
@@ -49,17 +48,17 @@ pub(crate) fn is_state_walked<P: Pattern, L: Ledger>(
     requires ready { AllZip IsReady options.now made.now }
     requires inside { (p : ℕ) → Contains state.places.items p → p ≤ length payload.now }
     requires known_rising { AreRising (length payload.now + 1) behind.old.known }
-    ensures right { (means : Means) → AllZip (IsMade P.finds means) options.now (map pattern_of made.now)
-        → AreKnown means payload.now options.now behind.old.known
-        → IfOk result (λ walked. MatchBool walked (MatchesFromOne means payload.now options.now state.values state.places.items)
-        (Leaves means payload.now options.now state.values state.places.items behind.old.states behind.new.states)) }
+    ensures right { OfMade P.finds options.now made.now (λ means.
+        AreKnown means payload.now options.now behind.old.known
+        → IfOk result (IsWalked means options.now (beginning payload.now state.values state.places.items)
+        behind.old.states behind.new.states)) }
     ensures inside { AreWithin (length payload.now) behind.old.states
         → IfOk result (λ walked. AreWithin (length payload.now) behind.new.states) }
     ensures nowhere { ExtractsNothing options.now → behind.new.states ≡ behind.old.states }
     ensures bounded { visits.new ≤ visits.old + visits_of (upto_extraction options.now) (length payload.now) }
-    ensures known { (means : Means) → AllZip (IsMade P.finds means) options.now (map pattern_of made.now)
-        → AreKnown means payload.now options.now behind.old.known
-        → IfOk result (λ walked. AreKnown means payload.now options.now behind.new.known) }
+    ensures known { OfMade P.finds options.now made.now (λ means.
+        AreKnown means payload.now options.now behind.old.known
+        → IfOk result (λ walked. AreKnown means payload.now options.now behind.new.known)) }
     ensures known_rising { IfOk result (λ walked. AreRising (length payload.now + 1) behind.new.known) }
 {
     let places = rising(alloc, sorted(state.places).as_slice())?;
@@ -88,18 +87,17 @@ pub(crate) fn is_walked<P: Pattern, L: Ledger>(
     requires asked { 0 < length at.now.places.now }
     requires rising { IsRising 0 at.now.places.now (length at.now.payload.now + 1) }
     requires known_rising { AreRising (length at.now.payload.now + 1) behind.old.known }
-    ensures right { (means : Means) → AllZip (IsMade P.finds means) options.now (map pattern_of made.now)
-        → AreKnown means at.now.payload.now options.now behind.old.known
-        → IfOk result (λ walked. MatchBool walked (MatchesFromOne means at.now.payload.now options.now at.now.values.now
-        at.now.places.now)
-        (Leaves means at.now.payload.now options.now at.now.values.now at.now.places.now behind.old.states behind.new.states)) }
+    ensures right { OfMade P.finds options.now made.now (λ means.
+        AreKnown means at.now.payload.now options.now behind.old.known
+        → IfOk result (IsWalked means options.now (beginning at.now.payload.now at.now.values.now at.now.places.now)
+        behind.old.states behind.new.states)) }
     ensures inside { AreWithin (length at.now.payload.now) behind.old.states
         → IfOk result (λ walked. AreWithin (length at.now.payload.now) behind.new.states) }
     ensures nowhere { ExtractsNothing options.now → behind.new.states ≡ behind.old.states }
     ensures bounded { visits.new ≤ visits.old + visits_of (upto_extraction options.now) (length at.now.payload.now) }
-    ensures known { (means : Means) → AllZip (IsMade P.finds means) options.now (map pattern_of made.now)
-        → AreKnown means at.now.payload.now options.now behind.old.known
-        → IfOk result (λ walked. AreKnown means at.now.payload.now options.now behind.new.known) }
+    ensures known { OfMade P.finds options.now made.now (λ means.
+        AreKnown means at.now.payload.now options.now behind.old.known
+        → IfOk result (λ walked. AreKnown means at.now.payload.now options.now behind.new.known)) }
     ensures known_rising { IfOk result (λ walked. AreRising (length at.now.payload.now + 1) behind.new.known) }
     ensures others { IfOk result (λ walked. (left : ℕ) → length options.now ≤ left
         → known_at behind.new.known left ≡ known_at behind.old.known left) }
@@ -148,19 +146,18 @@ fn is_walked_from<P: Pattern, L: Ledger>(
     requires asked { 0 < length at.now.places.now }
     requires rising { IsRising 0 (next_set next.now at.now.places.now) (length at.now.payload.now + 1) }
     requires known_rising { AreRising (length at.now.payload.now + 1) behind.old.known }
-    ensures right { (means : Means) → AllZip (IsMade P.finds means) options.now (map pattern_of made.now)
-        → AreKnown means at.now.payload.now options.now behind.old.known
-        → IfOk result (λ walked. MatchBool walked
-        (MatchesFromOne means at.now.payload.now options.now at.now.values.now (next_set next.now at.now.places.now))
-        (Leaves means at.now.payload.now options.now at.now.values.now (next_set next.now at.now.places.now)
+    ensures right { OfMade P.finds options.now made.now (λ means.
+        AreKnown means at.now.payload.now options.now behind.old.known
+        → IfOk result (IsWalked means options.now
+        (beginning at.now.payload.now at.now.values.now (next_set next.now at.now.places.now))
         behind.old.states behind.new.states)) }
     ensures inside { AreWithin (length at.now.payload.now) behind.old.states
         → IfOk result (λ walked. AreWithin (length at.now.payload.now) behind.new.states) }
     ensures nowhere { ExtractsNothing options.now → behind.new.states ≡ behind.old.states }
     ensures bounded { visits.new ≤ visits.old + visits_of (upto_extraction options.now) (length at.now.payload.now) }
-    ensures known { (means : Means) → AllZip (IsMade P.finds means) options.now (map pattern_of made.now)
-        → AreKnown means at.now.payload.now options.now behind.old.known
-        → IfOk result (λ walked. AreKnown means at.now.payload.now options.now behind.new.known) }
+    ensures known { OfMade P.finds options.now made.now (λ means.
+        AreKnown means at.now.payload.now options.now behind.old.known
+        → IfOk result (λ walked. AreKnown means at.now.payload.now options.now behind.new.known)) }
     ensures known_rising { IfOk result (λ walked. AreRising (length at.now.payload.now + 1) behind.new.known) }
     ensures others { IfOk result (λ walked. (left : ℕ) → length options.now ≤ left
         → known_at behind.new.known left ≡ known_at behind.old.known left) }

@@ -18,18 +18,18 @@ is_passed_behind-returns-clause-right g t c = λ means made.
     (c.is_passed_from.ensures.right means (c.in-Some.ensures.made g.P.Pattern.finds means made))
 
 pub is_passed_behind-returns-clause-bounded : goal.is_passed_behind-returns-clause-bounded
-is_passed_behind-returns-clause-bounded g t c = λ means lists listed made have few.
+is_passed_behind-returns-clause-bounded g t c = λ means made lists listed have few.
     let is = c.in-Some.ensures.options in
     let have_later = subst (λ (os : List Opt). HaveValues means c.args.payload.now lists (Some listed) os c.args.states) (sym is) have in
     subst (λ (os : List Opt). c.is_passed_from.new.visits ≤ c.args.visits.now + length lists * visits_of os (length c.args.payload.now)) is
-    (c.is_passed_from.ensures.bounded means lists listed (c.in-Some.ensures.made g.P.Pattern.finds means made) have_later few)
+    (c.is_passed_from.ensures.bounded means (c.in-Some.ensures.made g.P.Pattern.finds means made) lists listed have_later few)
 
 pub is_passed_behind-returns-clause-bounded_in_parts : goal.is_passed_behind-returns-clause-bounded_in_parts
-is_passed_behind-returns-clause-bounded_in_parts g t c = λ means lists made have.
+is_passed_behind-returns-clause-bounded_in_parts g t c = λ means made lists have.
     let is = c.in-Some.ensures.options in
     let have_later = subst (λ (os : List Opt). HaveValues means c.args.payload.now lists None os c.args.states) (sym is) have in
     subst (λ (os : List Opt). c.is_passed_from.new.visits ≤ c.args.visits.now + length lists * visits_apart (length lists) os (length c.args.payload.now)) is
-    (c.is_passed_from.ensures.bounded_in_parts means lists (c.in-Some.ensures.made g.P.Pattern.finds means made) have_later)
+    (c.is_passed_from.ensures.bounded_in_parts means (c.in-Some.ensures.made g.P.Pattern.finds means made) lists have_later)
 
 pub is_part_passed-taken_part-requires : goal.is_part_passed-taken_part-requires
 is_part_passed-taken_part-requires g t c = record { small = each_weaker c.args.states.now (λ v. ⊤) (λ v. ⊤) (λ v p. p ≤ length c.args.payload.now) (λ v p. p < 2 ^ 63) (λ v key. tt) (λ v p below. omega arith) c.requires.inside }
@@ -73,9 +73,9 @@ is_part_passed-returns-in-Some-clause-bounded g t c = λ means lists listed have
     absurd (omega (arith, many, few))
 
 pub is_part_passed-returns-in-Some-clause-bounded_in_parts : goal.is_part_passed-returns-in-Some-clause-bounded_in_parts
-is_part_passed-returns-in-Some-clause-bounded_in_parts g t c = λ means lists made have.
+is_part_passed-returns-in-Some-clause-bounded_in_parts g t c = λ means made lists have.
     let same = rw c.in-Some.is at c.in_ok-part.ensures.part in
-    c.is_passed_behind.ensures.bounded_in_parts means lists made
+    c.is_passed_behind.ensures.bounded_in_parts means made lists
     (each_among c.in-Some.taken c.args.states.now same.1 (Contains lists) (λ v p. IsListed None v p × HasValues means c.args.payload.now lists None (behind_extraction c.args.options.now) (standing v p)) have)
 
 pub is_part_passed-returns-in-Some-clause-forgotten : goal.is_part_passed-returns-in-Some-clause-forgotten
@@ -90,8 +90,8 @@ is_passed_from-loop-state-init g t c = record {
   nowhere = λ nothing. c.new.ensures.nowhere;
   known = λ means made. known_nothing means c.args.payload.now c.args.options.now c.in_ok-known.known c.in_ok-known.ensures;
   known_rising = rising_nothing c.in_ok-known.known (length c.args.payload.now + 1) c.in_ok-known.ensures;
-  together = λ means lists listed made have few. counted_first (visits_of (upto_extraction c.args.options.now) (length c.args.payload.now)) lists c.args.states (λ v p. IsListed (Some listed) v p × HasValues means c.args.payload.now lists (Some listed) c.args.options.now (standing v p)) c.args.visits.now have;
-  owing = λ means lists made have. owing_first (visits_apart (length lists) c.args.options.now (length c.args.payload.now)) (length lists * visits_apart (length lists) (behind_extraction c.args.options.now) (length c.args.payload.now)) lists c.args.states c.new.result (λ v p. IsListed None v p × HasValues means c.args.payload.now lists None c.args.options.now (standing v p)) c.args.visits.now c.new.ensures.nowhere have;
+  together = λ means made lists listed have few. counted_first (visits_of (upto_extraction c.args.options.now) (length c.args.payload.now)) lists c.args.states (λ v p. IsListed (Some listed) v p × HasValues means c.args.payload.now lists (Some listed) c.args.options.now (standing v p)) c.args.visits.now have;
+  owing = λ means made lists have. owing_first (visits_apart (length lists) c.args.options.now (length c.args.payload.now)) (length lists * visits_apart (length lists) (behind_extraction c.args.options.now) (length c.args.payload.now)) lists c.args.states c.new.result (λ v p. IsListed None v p × HasValues means c.args.payload.now lists None c.args.options.now (standing v p)) c.args.visits.now c.new.ensures.nowhere have;
 }
 
 pub is_passed_from-is_state_walked-requires-clause-inside : goal.is_passed_from-is_state_walked-requires-clause-inside
@@ -117,16 +117,16 @@ is_passed_from-loop-state-preserved g t c =
       nowhere = λ nothing. nowhere_among c.is_part_passed.new.states c.is_state_walked.new.behind.states c.in_ok-passed.ensures.among (subst (λ (s : States). (q : List ℕ) → places_at s q ≡ None) (sym (c.is_state_walked.ensures.nowhere nothing)) (old.nowhere nothing));
       known = λ means made. c.in_ok-walked.ensures.known means made (old.known means made);
       known_rising = c.in_ok-walked.ensures.known_rising;
-      together = λ means lists listed made have few.
+      together = λ means made lists listed have few.
           let gone = gone_next means c.args.payload.now c.args.options.now c.args.states c.loop-state.left c.take_first.new.self c.loop-state.behind.states c.is_state_walked.new.behind.states c.in-Some.state.values c.in-Some.state.places.items c.loop-state.invariant.left_was c.in-Some.ensures.taken c.in-Some.ensures.left (c.loop-state.invariant.gone means made)
           (match_false _ _ _ c.if-walked.false (c.in_ok-walked.ensures.right means made (c.loop-state.invariant.known means made))) in
           subst (λ (n : ℕ). Counted (visits_of (upto_extraction c.args.options.now) (length c.args.payload.now)) lists c.take_first.new.self c.args.visits.now n) (sym (c.is_part_passed.ensures.bounded means lists listed (gone.have lists (Some listed) have) few))
-          (counted_next (visits_of (upto_extraction c.args.options.now) (length c.args.payload.now)) lists c.loop-state.left c.take_first.new.self c.in-Some.state.values c.in-Some.state.places.items c.args.visits.now c.loop-state.visits c.is_state_walked.new.visits c.in-Some.ensures.taken c.in-Some.ensures.left c.is_state_walked.ensures.bounded (c.loop-state.invariant.together means lists listed made have few));
-      owing = λ means lists made have.
+          (counted_next (visits_of (upto_extraction c.args.options.now) (length c.args.payload.now)) lists c.loop-state.left c.take_first.new.self c.in-Some.state.values c.in-Some.state.places.items c.args.visits.now c.loop-state.visits c.is_state_walked.new.visits c.in-Some.ensures.taken c.in-Some.ensures.left c.is_state_walked.ensures.bounded (c.loop-state.invariant.together means made lists listed have few));
+      owing = λ means made lists have.
           let gone = gone_next means c.args.payload.now c.args.options.now c.args.states c.loop-state.left c.take_first.new.self c.loop-state.behind.states c.is_state_walked.new.behind.states c.in-Some.state.values c.in-Some.state.places.items c.loop-state.invariant.left_was c.in-Some.ensures.taken c.in-Some.ensures.left (c.loop-state.invariant.gone means made)
           (match_false _ _ _ c.if-walked.false (c.in_ok-walked.ensures.right means made (c.loop-state.invariant.known means made))) in
-          owing_parted (visits_apart (length lists) c.args.options.now (length c.args.payload.now)) (length lists * visits_apart (length lists) (behind_extraction c.args.options.now) (length c.args.payload.now)) lists c.take_first.new.self c.is_part_passed.new.states c.args.visits.now c.is_state_walked.new.visits c.is_part_passed.new.visits (c.is_part_passed.ensures.bounded_in_parts means lists made (gone.have lists None have)) c.in_ok-passed.ensures.forgotten
-          (owing_walked (visits_apart (length lists) c.args.options.now (length c.args.payload.now)) (length lists * visits_apart (length lists) (behind_extraction c.args.options.now) (length c.args.payload.now)) lists (visits_of (upto_extraction c.args.options.now) (length c.args.payload.now)) c.loop-state.left c.take_first.new.self c.loop-state.behind.states c.in-Some.state.values c.in-Some.state.places.items c.args.visits.now c.loop-state.visits c.is_state_walked.new.visits (apart_split (length lists) c.args.options.now (length c.args.payload.now)) c.in-Some.ensures.taken c.in-Some.ensures.left c.is_state_walked.ensures.bounded (c.loop-state.invariant.owing means lists made have));
+          owing_parted (visits_apart (length lists) c.args.options.now (length c.args.payload.now)) (length lists * visits_apart (length lists) (behind_extraction c.args.options.now) (length c.args.payload.now)) lists c.take_first.new.self c.is_part_passed.new.states c.args.visits.now c.is_state_walked.new.visits c.is_part_passed.new.visits (c.is_part_passed.ensures.bounded_in_parts means made lists (gone.have lists None have)) c.in_ok-passed.ensures.forgotten
+          (owing_walked (visits_apart (length lists) c.args.options.now (length c.args.payload.now)) (length lists * visits_apart (length lists) (behind_extraction c.args.options.now) (length c.args.payload.now)) lists (visits_of (upto_extraction c.args.options.now) (length c.args.payload.now)) c.loop-state.left c.take_first.new.self c.loop-state.behind.states c.in-Some.state.values c.in-Some.state.places.items c.args.visits.now c.loop-state.visits c.is_state_walked.new.visits (apart_split (length lists) c.args.options.now (length c.args.payload.now)) c.in-Some.ensures.taken c.in-Some.ensures.left c.is_state_walked.ensures.bounded (c.loop-state.invariant.owing means made lists have));
     }
 
 pub is_passed_from-returns-then-walked-clause-right : goal.is_passed_from-returns-then-walked-clause-right
@@ -137,23 +137,23 @@ is_passed_from-returns-then-walked-clause-right g t c = λ means made. (
 )
 
 pub is_passed_from-returns-then-walked-clause-bounded : goal.is_passed_from-returns-then-walked-clause-bounded
-is_passed_from-returns-then-walked-clause-bounded g t c = λ means lists listed made have few.
+is_passed_from-returns-then-walked-clause-bounded g t c = λ means made lists listed have few.
     part_of_lists (length lists) (visits_of (upto_extraction c.args.options.now) (length c.args.payload.now)) (visits_of (behind_extraction c.args.options.now) (length c.args.payload.now)) (visits_of c.args.options.now (length c.args.payload.now)) c.args.visits.now c.is_state_walked.new.visits (visits_split c.args.options.now (length c.args.payload.now))
-    (counted_end (visits_of (upto_extraction c.args.options.now) (length c.args.payload.now)) lists c.take_first.new.self c.args.visits.now c.is_state_walked.new.visits (counted_next (visits_of (upto_extraction c.args.options.now) (length c.args.payload.now)) lists c.loop-state.left c.take_first.new.self c.in-Some.state.values c.in-Some.state.places.items c.args.visits.now c.loop-state.visits c.is_state_walked.new.visits c.in-Some.ensures.taken c.in-Some.ensures.left c.is_state_walked.ensures.bounded (c.loop-state.invariant.together means lists listed made have few)))
+    (counted_end (visits_of (upto_extraction c.args.options.now) (length c.args.payload.now)) lists c.take_first.new.self c.args.visits.now c.is_state_walked.new.visits (counted_next (visits_of (upto_extraction c.args.options.now) (length c.args.payload.now)) lists c.loop-state.left c.take_first.new.self c.in-Some.state.values c.in-Some.state.places.items c.args.visits.now c.loop-state.visits c.is_state_walked.new.visits c.in-Some.ensures.taken c.in-Some.ensures.left c.is_state_walked.ensures.bounded (c.loop-state.invariant.together means made lists listed have few)))
 
 pub is_passed_from-returns-then-walked-clause-bounded_in_parts : goal.is_passed_from-returns-then-walked-clause-bounded_in_parts
-is_passed_from-returns-then-walked-clause-bounded_in_parts g t c = λ means lists made have.
-    let spent = owing_spent (visits_apart (length lists) c.args.options.now (length c.args.payload.now)) (length lists * visits_apart (length lists) (behind_extraction c.args.options.now) (length c.args.payload.now)) lists c.take_first.new.self c.args.visits.now c.is_state_walked.new.visits (owing_walked (visits_apart (length lists) c.args.options.now (length c.args.payload.now)) (length lists * visits_apart (length lists) (behind_extraction c.args.options.now) (length c.args.payload.now)) lists (visits_of (upto_extraction c.args.options.now) (length c.args.payload.now)) c.loop-state.left c.take_first.new.self c.loop-state.behind.states c.in-Some.state.values c.in-Some.state.places.items c.args.visits.now c.loop-state.visits c.is_state_walked.new.visits (apart_split (length lists) c.args.options.now (length c.args.payload.now)) c.in-Some.ensures.taken c.in-Some.ensures.left c.is_state_walked.ensures.bounded (c.loop-state.invariant.owing means lists made have)) in
+is_passed_from-returns-then-walked-clause-bounded_in_parts g t c = λ means made lists have.
+    let spent = owing_spent (visits_apart (length lists) c.args.options.now (length c.args.payload.now)) (length lists * visits_apart (length lists) (behind_extraction c.args.options.now) (length c.args.payload.now)) lists c.take_first.new.self c.args.visits.now c.is_state_walked.new.visits (owing_walked (visits_apart (length lists) c.args.options.now (length c.args.payload.now)) (length lists * visits_apart (length lists) (behind_extraction c.args.options.now) (length c.args.payload.now)) lists (visits_of (upto_extraction c.args.options.now) (length c.args.payload.now)) c.loop-state.left c.take_first.new.self c.loop-state.behind.states c.in-Some.state.values c.in-Some.state.places.items c.args.visits.now c.loop-state.visits c.is_state_walked.new.visits (apart_split (length lists) c.args.options.now (length c.args.payload.now)) c.in-Some.ensures.taken c.in-Some.ensures.left c.is_state_walked.ensures.bounded (c.loop-state.invariant.owing means made lists have)) in
     omega (arith, spent)
 
 pub is_passed_from-returns-in_err-walked-clause-bounded : goal.is_passed_from-returns-in_err-walked-clause-bounded
-is_passed_from-returns-in_err-walked-clause-bounded g t c = λ means lists listed made have few.
+is_passed_from-returns-in_err-walked-clause-bounded g t c = λ means made lists listed have few.
     part_of_lists (length lists) (visits_of (upto_extraction c.args.options.now) (length c.args.payload.now)) (visits_of (behind_extraction c.args.options.now) (length c.args.payload.now)) (visits_of c.args.options.now (length c.args.payload.now)) c.args.visits.now c.is_state_walked.new.visits (visits_split c.args.options.now (length c.args.payload.now))
-    (counted_end (visits_of (upto_extraction c.args.options.now) (length c.args.payload.now)) lists c.take_first.new.self c.args.visits.now c.is_state_walked.new.visits (counted_next (visits_of (upto_extraction c.args.options.now) (length c.args.payload.now)) lists c.loop-state.left c.take_first.new.self c.in-Some.state.values c.in-Some.state.places.items c.args.visits.now c.loop-state.visits c.is_state_walked.new.visits c.in-Some.ensures.taken c.in-Some.ensures.left c.is_state_walked.ensures.bounded (c.loop-state.invariant.together means lists listed made have few)))
+    (counted_end (visits_of (upto_extraction c.args.options.now) (length c.args.payload.now)) lists c.take_first.new.self c.args.visits.now c.is_state_walked.new.visits (counted_next (visits_of (upto_extraction c.args.options.now) (length c.args.payload.now)) lists c.loop-state.left c.take_first.new.self c.in-Some.state.values c.in-Some.state.places.items c.args.visits.now c.loop-state.visits c.is_state_walked.new.visits c.in-Some.ensures.taken c.in-Some.ensures.left c.is_state_walked.ensures.bounded (c.loop-state.invariant.together means made lists listed have few)))
 
 pub is_passed_from-returns-in_err-walked-clause-bounded_in_parts : goal.is_passed_from-returns-in_err-walked-clause-bounded_in_parts
-is_passed_from-returns-in_err-walked-clause-bounded_in_parts g t c = λ means lists made have.
-    let spent = owing_spent (visits_apart (length lists) c.args.options.now (length c.args.payload.now)) (length lists * visits_apart (length lists) (behind_extraction c.args.options.now) (length c.args.payload.now)) lists c.take_first.new.self c.args.visits.now c.is_state_walked.new.visits (owing_walked (visits_apart (length lists) c.args.options.now (length c.args.payload.now)) (length lists * visits_apart (length lists) (behind_extraction c.args.options.now) (length c.args.payload.now)) lists (visits_of (upto_extraction c.args.options.now) (length c.args.payload.now)) c.loop-state.left c.take_first.new.self c.loop-state.behind.states c.in-Some.state.values c.in-Some.state.places.items c.args.visits.now c.loop-state.visits c.is_state_walked.new.visits (apart_split (length lists) c.args.options.now (length c.args.payload.now)) c.in-Some.ensures.taken c.in-Some.ensures.left c.is_state_walked.ensures.bounded (c.loop-state.invariant.owing means lists made have)) in
+is_passed_from-returns-in_err-walked-clause-bounded_in_parts g t c = λ means made lists have.
+    let spent = owing_spent (visits_apart (length lists) c.args.options.now (length c.args.payload.now)) (length lists * visits_apart (length lists) (behind_extraction c.args.options.now) (length c.args.payload.now)) lists c.take_first.new.self c.args.visits.now c.is_state_walked.new.visits (owing_walked (visits_apart (length lists) c.args.options.now (length c.args.payload.now)) (length lists * visits_apart (length lists) (behind_extraction c.args.options.now) (length c.args.payload.now)) lists (visits_of (upto_extraction c.args.options.now) (length c.args.payload.now)) c.loop-state.left c.take_first.new.self c.loop-state.behind.states c.in-Some.state.values c.in-Some.state.places.items c.args.visits.now c.loop-state.visits c.is_state_walked.new.visits (apart_split (length lists) c.args.options.now (length c.args.payload.now)) c.in-Some.ensures.taken c.in-Some.ensures.left c.is_state_walked.ensures.bounded (c.loop-state.invariant.owing means made lists have)) in
     omega (arith, spent)
 
 pub is_passed_from-returns-then-passed-clause-right : goal.is_passed_from-returns-then-passed-clause-right
@@ -166,34 +166,34 @@ is_passed_from-returns-then-passed-clause-right g t c = λ means made. (
 )
 
 pub is_passed_from-returns-then-passed-clause-bounded : goal.is_passed_from-returns-then-passed-clause-bounded
-is_passed_from-returns-then-passed-clause-bounded g t c = λ means lists listed made have few.
+is_passed_from-returns-then-passed-clause-bounded g t c = λ means made lists listed have few.
     let gone = gone_next means c.args.payload.now c.args.options.now c.args.states c.loop-state.left c.take_first.new.self c.loop-state.behind.states c.is_state_walked.new.behind.states c.in-Some.state.values c.in-Some.state.places.items c.loop-state.invariant.left_was c.in-Some.ensures.taken c.in-Some.ensures.left (c.loop-state.invariant.gone means made)
     (match_false _ _ _ c.if-walked.false (c.in_ok-walked.ensures.right means made (c.loop-state.invariant.known means made))) in
     subst (λ (n : ℕ). n ≤ c.args.visits.now + length lists * (visits_of c.args.options.now (length c.args.payload.now))) (sym (c.is_part_passed.ensures.bounded means lists listed (gone.have lists (Some listed) have) few))
     (part_of_lists (length lists) (visits_of (upto_extraction c.args.options.now) (length c.args.payload.now)) (visits_of (behind_extraction c.args.options.now) (length c.args.payload.now)) (visits_of c.args.options.now (length c.args.payload.now)) c.args.visits.now c.is_state_walked.new.visits (visits_split c.args.options.now (length c.args.payload.now))
-    (counted_end (visits_of (upto_extraction c.args.options.now) (length c.args.payload.now)) lists c.take_first.new.self c.args.visits.now c.is_state_walked.new.visits (counted_next (visits_of (upto_extraction c.args.options.now) (length c.args.payload.now)) lists c.loop-state.left c.take_first.new.self c.in-Some.state.values c.in-Some.state.places.items c.args.visits.now c.loop-state.visits c.is_state_walked.new.visits c.in-Some.ensures.taken c.in-Some.ensures.left c.is_state_walked.ensures.bounded (c.loop-state.invariant.together means lists listed made have few))))
+    (counted_end (visits_of (upto_extraction c.args.options.now) (length c.args.payload.now)) lists c.take_first.new.self c.args.visits.now c.is_state_walked.new.visits (counted_next (visits_of (upto_extraction c.args.options.now) (length c.args.payload.now)) lists c.loop-state.left c.take_first.new.self c.in-Some.state.values c.in-Some.state.places.items c.args.visits.now c.loop-state.visits c.is_state_walked.new.visits c.in-Some.ensures.taken c.in-Some.ensures.left c.is_state_walked.ensures.bounded (c.loop-state.invariant.together means made lists listed have few))))
 
 pub is_passed_from-returns-then-passed-clause-bounded_in_parts : goal.is_passed_from-returns-then-passed-clause-bounded_in_parts
-is_passed_from-returns-then-passed-clause-bounded_in_parts g t c = λ means lists made have.
+is_passed_from-returns-then-passed-clause-bounded_in_parts g t c = λ means made lists have.
     let gone = gone_next means c.args.payload.now c.args.options.now c.args.states c.loop-state.left c.take_first.new.self c.loop-state.behind.states c.is_state_walked.new.behind.states c.in-Some.state.values c.in-Some.state.places.items c.loop-state.invariant.left_was c.in-Some.ensures.taken c.in-Some.ensures.left (c.loop-state.invariant.gone means made)
     (match_false _ _ _ c.if-walked.false (c.in_ok-walked.ensures.right means made (c.loop-state.invariant.known means made))) in
-    let spent = owing_spent (visits_apart (length lists) c.args.options.now (length c.args.payload.now)) (length lists * visits_apart (length lists) (behind_extraction c.args.options.now) (length c.args.payload.now)) lists c.take_first.new.self c.args.visits.now c.is_state_walked.new.visits (owing_walked (visits_apart (length lists) c.args.options.now (length c.args.payload.now)) (length lists * visits_apart (length lists) (behind_extraction c.args.options.now) (length c.args.payload.now)) lists (visits_of (upto_extraction c.args.options.now) (length c.args.payload.now)) c.loop-state.left c.take_first.new.self c.loop-state.behind.states c.in-Some.state.values c.in-Some.state.places.items c.args.visits.now c.loop-state.visits c.is_state_walked.new.visits (apart_split (length lists) c.args.options.now (length c.args.payload.now)) c.in-Some.ensures.taken c.in-Some.ensures.left c.is_state_walked.ensures.bounded (c.loop-state.invariant.owing means lists made have)) in
-    omega (arith, spent, c.is_part_passed.ensures.bounded_in_parts means lists made (gone.have lists None have))
+    let spent = owing_spent (visits_apart (length lists) c.args.options.now (length c.args.payload.now)) (length lists * visits_apart (length lists) (behind_extraction c.args.options.now) (length c.args.payload.now)) lists c.take_first.new.self c.args.visits.now c.is_state_walked.new.visits (owing_walked (visits_apart (length lists) c.args.options.now (length c.args.payload.now)) (length lists * visits_apart (length lists) (behind_extraction c.args.options.now) (length c.args.payload.now)) lists (visits_of (upto_extraction c.args.options.now) (length c.args.payload.now)) c.loop-state.left c.take_first.new.self c.loop-state.behind.states c.in-Some.state.values c.in-Some.state.places.items c.args.visits.now c.loop-state.visits c.is_state_walked.new.visits (apart_split (length lists) c.args.options.now (length c.args.payload.now)) c.in-Some.ensures.taken c.in-Some.ensures.left c.is_state_walked.ensures.bounded (c.loop-state.invariant.owing means made lists have)) in
+    omega (arith, spent, c.is_part_passed.ensures.bounded_in_parts means made lists (gone.have lists None have))
 
 pub is_passed_from-returns-in_err-passed-clause-bounded : goal.is_passed_from-returns-in_err-passed-clause-bounded
-is_passed_from-returns-in_err-passed-clause-bounded g t c = λ means lists listed made have few.
+is_passed_from-returns-in_err-passed-clause-bounded g t c = λ means made lists listed have few.
     let gone = gone_next means c.args.payload.now c.args.options.now c.args.states c.loop-state.left c.take_first.new.self c.loop-state.behind.states c.is_state_walked.new.behind.states c.in-Some.state.values c.in-Some.state.places.items c.loop-state.invariant.left_was c.in-Some.ensures.taken c.in-Some.ensures.left (c.loop-state.invariant.gone means made)
     (match_false _ _ _ c.if-walked.false (c.in_ok-walked.ensures.right means made (c.loop-state.invariant.known means made))) in
     subst (λ (n : ℕ). n ≤ c.args.visits.now + length lists * (visits_of c.args.options.now (length c.args.payload.now))) (sym (c.is_part_passed.ensures.bounded means lists listed (gone.have lists (Some listed) have) few))
     (part_of_lists (length lists) (visits_of (upto_extraction c.args.options.now) (length c.args.payload.now)) (visits_of (behind_extraction c.args.options.now) (length c.args.payload.now)) (visits_of c.args.options.now (length c.args.payload.now)) c.args.visits.now c.is_state_walked.new.visits (visits_split c.args.options.now (length c.args.payload.now))
-    (counted_end (visits_of (upto_extraction c.args.options.now) (length c.args.payload.now)) lists c.take_first.new.self c.args.visits.now c.is_state_walked.new.visits (counted_next (visits_of (upto_extraction c.args.options.now) (length c.args.payload.now)) lists c.loop-state.left c.take_first.new.self c.in-Some.state.values c.in-Some.state.places.items c.args.visits.now c.loop-state.visits c.is_state_walked.new.visits c.in-Some.ensures.taken c.in-Some.ensures.left c.is_state_walked.ensures.bounded (c.loop-state.invariant.together means lists listed made have few))))
+    (counted_end (visits_of (upto_extraction c.args.options.now) (length c.args.payload.now)) lists c.take_first.new.self c.args.visits.now c.is_state_walked.new.visits (counted_next (visits_of (upto_extraction c.args.options.now) (length c.args.payload.now)) lists c.loop-state.left c.take_first.new.self c.in-Some.state.values c.in-Some.state.places.items c.args.visits.now c.loop-state.visits c.is_state_walked.new.visits c.in-Some.ensures.taken c.in-Some.ensures.left c.is_state_walked.ensures.bounded (c.loop-state.invariant.together means made lists listed have few))))
 
 pub is_passed_from-returns-in_err-passed-clause-bounded_in_parts : goal.is_passed_from-returns-in_err-passed-clause-bounded_in_parts
-is_passed_from-returns-in_err-passed-clause-bounded_in_parts g t c = λ means lists made have.
+is_passed_from-returns-in_err-passed-clause-bounded_in_parts g t c = λ means made lists have.
     let gone = gone_next means c.args.payload.now c.args.options.now c.args.states c.loop-state.left c.take_first.new.self c.loop-state.behind.states c.is_state_walked.new.behind.states c.in-Some.state.values c.in-Some.state.places.items c.loop-state.invariant.left_was c.in-Some.ensures.taken c.in-Some.ensures.left (c.loop-state.invariant.gone means made)
     (match_false _ _ _ c.if-walked.false (c.in_ok-walked.ensures.right means made (c.loop-state.invariant.known means made))) in
-    let spent = owing_spent (visits_apart (length lists) c.args.options.now (length c.args.payload.now)) (length lists * visits_apart (length lists) (behind_extraction c.args.options.now) (length c.args.payload.now)) lists c.take_first.new.self c.args.visits.now c.is_state_walked.new.visits (owing_walked (visits_apart (length lists) c.args.options.now (length c.args.payload.now)) (length lists * visits_apart (length lists) (behind_extraction c.args.options.now) (length c.args.payload.now)) lists (visits_of (upto_extraction c.args.options.now) (length c.args.payload.now)) c.loop-state.left c.take_first.new.self c.loop-state.behind.states c.in-Some.state.values c.in-Some.state.places.items c.args.visits.now c.loop-state.visits c.is_state_walked.new.visits (apart_split (length lists) c.args.options.now (length c.args.payload.now)) c.in-Some.ensures.taken c.in-Some.ensures.left c.is_state_walked.ensures.bounded (c.loop-state.invariant.owing means lists made have)) in
-    omega (arith, spent, c.is_part_passed.ensures.bounded_in_parts means lists made (gone.have lists None have))
+    let spent = owing_spent (visits_apart (length lists) c.args.options.now (length c.args.payload.now)) (length lists * visits_apart (length lists) (behind_extraction c.args.options.now) (length c.args.payload.now)) lists c.take_first.new.self c.args.visits.now c.is_state_walked.new.visits (owing_walked (visits_apart (length lists) c.args.options.now (length c.args.payload.now)) (length lists * visits_apart (length lists) (behind_extraction c.args.options.now) (length c.args.payload.now)) lists (visits_of (upto_extraction c.args.options.now) (length c.args.payload.now)) c.loop-state.left c.take_first.new.self c.loop-state.behind.states c.in-Some.state.values c.in-Some.state.places.items c.args.visits.now c.loop-state.visits c.is_state_walked.new.visits (apart_split (length lists) c.args.options.now (length c.args.payload.now)) c.in-Some.ensures.taken c.in-Some.ensures.left c.is_state_walked.ensures.bounded (c.loop-state.invariant.owing means made lists have)) in
+    omega (arith, spent, c.is_part_passed.ensures.bounded_in_parts means made lists (gone.have lists None have))
 
 pub is_passed_from-returns-clause-right : goal.is_passed_from-returns-clause-right
 is_passed_from-returns-clause-right g t c = λ means made.
@@ -206,17 +206,17 @@ is_passed_from-returns-clause-right g t c = λ means made.
     (c.is_passed_behind.ensures.right means made)
 
 pub is_passed_from-returns-clause-bounded : goal.is_passed_from-returns-clause-bounded
-is_passed_from-returns-clause-bounded g t c = λ means lists listed made have few.
+is_passed_from-returns-clause-bounded g t c = λ means made lists listed have few.
     let gone = c.loop-state.invariant.gone means made in
     sum_of_lists (length lists) (visits_of (upto_extraction c.args.options.now) (length c.args.payload.now)) (visits_of (behind_extraction c.args.options.now) (length c.args.payload.now)) (visits_of c.args.options.now (length c.args.payload.now)) c.args.visits.now c.loop-state.visits c.is_passed_behind.new.visits (visits_split c.args.options.now (length c.args.payload.now))
-    (counted_end (visits_of (upto_extraction c.args.options.now) (length c.args.payload.now)) lists c.loop-state.left c.args.visits.now c.loop-state.visits (c.loop-state.invariant.together means lists listed made have few))
-    (c.is_passed_behind.ensures.bounded means lists listed made (gone.have lists (Some listed) have) few)
+    (counted_end (visits_of (upto_extraction c.args.options.now) (length c.args.payload.now)) lists c.loop-state.left c.args.visits.now c.loop-state.visits (c.loop-state.invariant.together means made lists listed have few))
+    (c.is_passed_behind.ensures.bounded means made lists listed (gone.have lists (Some listed) have) few)
 
 pub is_passed_from-returns-clause-bounded_in_parts : goal.is_passed_from-returns-clause-bounded_in_parts
-is_passed_from-returns-clause-bounded_in_parts g t c = λ means lists made have.
+is_passed_from-returns-clause-bounded_in_parts g t c = λ means made lists have.
     let gone = c.loop-state.invariant.gone means made in
     let alone : ((q : List ℕ) → places_at c.loop-state.behind.states q ≡ None) → c.is_passed_behind.new.visits ≤ c.loop-state.visits = λ none.
-    let spent = c.is_passed_behind.ensures.bounded_in_parts means [] made (each_nowhere (Contains []) (λ v p. IsListed None v p × HasValues means c.args.payload.now [] None (behind_extraction c.args.options.now) (standing v p)) c.loop-state.behind.states none) in
+    let spent = c.is_passed_behind.ensures.bounded_in_parts means made [] (each_nowhere (Contains []) (λ v p. IsListed None v p × HasValues means c.args.payload.now [] None (behind_extraction c.args.options.now) (standing v p)) c.loop-state.behind.states none) in
     omega (arith, spent)
     in
-    owing_end (visits_apart (length lists) c.args.options.now (length c.args.payload.now)) (length lists * visits_apart (length lists) (behind_extraction c.args.options.now) (length c.args.payload.now)) lists c.loop-state.left c.loop-state.behind.states c.args.visits.now c.loop-state.visits c.is_passed_behind.new.visits (c.is_passed_behind.ensures.bounded_in_parts means lists made (gone.have lists None have)) alone (c.loop-state.invariant.owing means lists made have)
+    owing_end (visits_apart (length lists) c.args.options.now (length c.args.payload.now)) (length lists * visits_apart (length lists) (behind_extraction c.args.options.now) (length c.args.payload.now)) lists c.loop-state.left c.loop-state.behind.states c.args.visits.now c.loop-state.visits c.is_passed_behind.new.visits (c.is_passed_behind.ensures.bounded_in_parts means made lists (gone.have lists None have)) alone (c.loop-state.invariant.owing means made lists have)

@@ -29,10 +29,11 @@ invariant-is_passed_from-loop-state g l = record {
   nowhere : ExtractsNothing l.options → (values : List ℕ) → places_at l.behind.states values ≡ None;
   known : (means : Means) → AllZip (IsMade g.P.Pattern.finds means) l.options (map pattern_of l.made) → AreKnown means l.payload l.options l.behind.known;
   known_rising : AreRising (length l.payload + 1) l.behind.known;
-  together : (means : Means) (lists : List (List ℕ)) (listed : List Standing) → AllZip (IsMade g.P.Pattern.finds means) l.options (map pattern_of l.made)
-      → HaveValues means l.payload lists (Some listed) l.options l.fn.states → length listed ≤ part_standings
+  together : (means : Means) → AllZip (IsMade g.P.Pattern.finds means) l.options (map pattern_of l.made)
+      → (lists : List (List ℕ)) (listed : List Standing) → HaveValues means l.payload lists (Some listed) l.options l.fn.states → length listed ≤ part_standings
       → Counted (visits_of (upto_extraction l.options) (length l.payload)) lists l.left l.fn.visits l.visits;
-  owing : (means : Means) (lists : List (List ℕ)) → AllZip (IsMade g.P.Pattern.finds means) l.options (map pattern_of l.made) → HaveValues means l.payload lists None l.options l.fn.states
+  owing : (means : Means) → AllZip (IsMade g.P.Pattern.finds means) l.options (map pattern_of l.made)
+      → (lists : List (List ℕ)) → HaveValues means l.payload lists None l.options l.fn.states
       → Owing (visits_apart (length lists) l.options (length l.payload)) (length lists * visits_apart (length lists) (behind_extraction l.options) (length l.payload)) lists l.left l.behind.states l.fn.visits l.visits;
 }
 

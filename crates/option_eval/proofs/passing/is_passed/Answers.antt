@@ -17,7 +17,7 @@ returns-in_err-is_walked-clause-bounded g c = λ nothing.
     subst (λ (os : List Opt). c.is_walked.new.visits ≤ c.args.visits.now + visits_of os (length c.args.payload.now)) (upto_nothing c.args.options.now nothing) c.is_walked.ensures.bounded
 
 pub returns-in_err-is_walked-clause-bounded_by_values : goal.returns-in_err-is_walked-clause-bounded_by_values
-returns-in_err-is_walked-clause-bounded_by_values g c = λ means lists listed made each few.
+returns-in_err-is_walked-clause-bounded_by_values g c = λ means made lists listed each few.
     let size = length c.args.payload.now in
     one_of_lists lists start.values (visits_of c.args.options.now size) c.args.visits.now c.is_walked.new.visits each.0 (omega (arith, c.is_walked.ensures.bounded, visits_split c.args.options.now size))
 
@@ -32,7 +32,7 @@ returns-then-branch-clause-bounded g c = λ nothing.
     subst (λ (os : List Opt). c.is_walked.new.visits ≤ c.args.visits.now + visits_of os (length c.args.payload.now)) (upto_nothing c.args.options.now nothing) c.is_walked.ensures.bounded
 
 pub returns-then-branch-clause-bounded_by_values : goal.returns-then-branch-clause-bounded_by_values
-returns-then-branch-clause-bounded_by_values g c = λ means lists listed made each few.
+returns-then-branch-clause-bounded_by_values g c = λ means made lists listed each few.
     let size = length c.args.payload.now in
     one_of_lists lists start.values (visits_of c.args.options.now size) c.args.visits.now c.is_walked.new.visits each.0 (omega (arith, c.is_walked.ensures.bounded, visits_split c.args.options.now size))
 
@@ -64,31 +64,31 @@ returns-clause-bounded g c = λ nothing.
     omega (arith, first, c.is_passed_behind.ensures.unvisited nothing)
 
 pub returns-clause-bounded_by_values : goal.returns-clause-bounded_by_values
-returns-clause-bounded_by_values g c = λ means lists listed made each few.
+returns-clause-bounded_by_values g c = λ means made lists listed each few.
     let payload = c.args.payload.now in
     let size = length payload in
     let options = c.args.options.now in
     let left : Leaves means payload options (0 ∷ 0 ∷ []) (0 ∷ []) c.new.result c.is_walked.new.behind.states = match_false _ _ _ c.if-branch.false (c.in_ok-is_walked.ensures.right means made (known_nothing means c.args.payload.now c.args.options.now c.nothing.result c.nothing.ensures)) in
     let none = each_nowhere (Contains lists) (λ v p. IsListed (Some listed) v p × HasValues means payload lists (Some listed) (behind_extraction options) (standing v p)) c.new.result c.new.ensures.nowhere in
     let from : (p : ℕ) → Contains (0 ∷ []) p → HasValues means payload lists (Some listed) options (standing (0 ∷ 0 ∷ []) p) = λ p has. subst (λ (q : ℕ). HasValues means payload lists (Some listed) options (standing (0 ∷ 0 ∷ []) q)) (sym (contains_one 0 p has)) each.1 in
-    let second = c.is_passed_behind.ensures.bounded means lists listed made (left.have lists (Some listed) from none) few in
+    let second = c.is_passed_behind.ensures.bounded means made lists listed (left.have lists (Some listed) from none) few in
     let first = one_of_lists lists start.values (visits_of (upto_extraction options) size) c.args.visits.now c.is_walked.new.visits each.0 c.is_walked.ensures.bounded in
     sum_of_lists (length lists) (visits_of (upto_extraction options) size) (visits_of (behind_extraction options) size) (visits_of options size) c.args.visits.now c.is_walked.new.visits c.is_passed_behind.new.visits (visits_split options size) first second
 
 pub returns-in_err-is_walked-clause-bounded_in_parts : goal.returns-in_err-is_walked-clause-bounded_in_parts
-returns-in_err-is_walked-clause-bounded_in_parts g c = λ means lists made each.
+returns-in_err-is_walked-clause-bounded_in_parts g c = λ means made lists each.
     omega (arith, c.is_walked.ensures.bounded, apart_split (length lists) c.args.options.now (length c.args.payload.now))
 
 pub returns-then-branch-clause-bounded_in_parts : goal.returns-then-branch-clause-bounded_in_parts
-returns-then-branch-clause-bounded_in_parts g c = λ means lists made each.
+returns-then-branch-clause-bounded_in_parts g c = λ means made lists each.
     omega (arith, c.is_walked.ensures.bounded, apart_split (length lists) c.args.options.now (length c.args.payload.now))
 
 pub returns-clause-bounded_in_parts : goal.returns-clause-bounded_in_parts
-returns-clause-bounded_in_parts g c = λ means lists made each.
+returns-clause-bounded_in_parts g c = λ means made lists each.
     let payload = c.args.payload.now in
     let options = c.args.options.now in
     let left : Leaves means payload options (0 ∷ 0 ∷ []) (0 ∷ []) c.new.result c.is_walked.new.behind.states = match_false _ _ _ c.if-branch.false (c.in_ok-is_walked.ensures.right means made (known_nothing means c.args.payload.now c.args.options.now c.nothing.result c.nothing.ensures)) in
     let none = each_nowhere (Contains lists) (λ v p. IsListed None v p × HasValues means payload lists None (behind_extraction options) (standing v p)) c.new.result c.new.ensures.nowhere in
     let from : (p : ℕ) → Contains (0 ∷ []) p → HasValues means payload lists None options (standing (0 ∷ 0 ∷ []) p) = λ p has. subst (λ (q : ℕ). HasValues means payload lists None options (standing (0 ∷ 0 ∷ []) q)) (sym (contains_one 0 p has)) each.1 in
-    let second = c.is_passed_behind.ensures.bounded_in_parts means lists made (left.have lists None from none) in
+    let second = c.is_passed_behind.ensures.bounded_in_parts means made lists (left.have lists None from none) in
     omega (arith, c.is_walked.ensures.bounded, second, apart_split (length lists) options (length payload))

@@ -33,7 +33,7 @@ returns-clause-right g c = λ means chosen finds at.
     rw (is, ← c.as_slice.ensures) (IfOk-weaker c.is_passed.result _ _ (λ passed h. (λ yes. from.1 (h.0 yes), λ way. h.1 (from.0 way))) (c.is_passed.ensures.right means served))
 
 pub returns-clause-bounded_by_values : goal.returns-clause-bounded_by_values
-returns-clause-bounded_by_values g c = λ means chosen lists listed finds at each few.
+returns-clause-bounded_by_values g c = λ means chosen finds at lists listed each few.
     let same = ap (λ (s : Rules g.row.P.Denot). length s.rules) c.set.view_is in
     let below : c.args.rule < length c.set.inside.rules.items = omega (arith, c.requires) in
     let finds' = subst (λ (s : Rules g.row.P.Denot). AllZip (AreMade g.P.Pattern.finds means) s.rules s.patterns) (sym c.set.view_is) finds in
@@ -42,10 +42,10 @@ returns-clause-bounded_by_values g c = λ means chosen lists listed finds at eac
     let is = same_at c.set.inside.rules.items c.args.rule chosen c.index-rule.result.now below at' c.index-rule.ensures in
     let served = rw (← c.as_slice.ensures, ← c.deref.ensures.value) at made in
     let had = rw (is, ← c.as_slice.ensures) at each in
-    rw (is, ← c.as_slice.ensures) (c.is_passed.ensures.bounded_by_values means lists listed served had few)
+    rw (is, ← c.as_slice.ensures) (c.is_passed.ensures.bounded_by_values means served lists listed had few)
 
 pub returns-clause-bounded_in_parts : goal.returns-clause-bounded_in_parts
-returns-clause-bounded_in_parts g c = λ means chosen lists finds at each.
+returns-clause-bounded_in_parts g c = λ means chosen finds at lists each.
     let same = ap (λ (s : Rules g.row.P.Denot). length s.rules) c.set.view_is in
     let below : c.args.rule < length c.set.inside.rules.items = omega (arith, c.requires) in
     let finds' = subst (λ (s : Rules g.row.P.Denot). AllZip (AreMade g.P.Pattern.finds means) s.rules s.patterns) (sym c.set.view_is) finds in
@@ -54,11 +54,11 @@ returns-clause-bounded_in_parts g c = λ means chosen lists finds at each.
     let is = same_at c.set.inside.rules.items c.args.rule chosen c.index-rule.result.now below at' c.index-rule.ensures in
     let served = rw (← c.as_slice.ensures, ← c.deref.ensures.value) at made in
     let had = rw (is, ← c.as_slice.ensures) at each in
-    rw (is, ← c.as_slice.ensures) (c.is_passed.ensures.bounded_in_parts means lists served had)
+    rw (is, ← c.as_slice.ensures) (c.is_passed.ensures.bounded_in_parts means served lists had)
 
 pub returns-clause-bounded_by_rule : goal.returns-clause-bounded_by_rule
 returns-clause-bounded_by_rule g c = λ means chosen finds at.
     visits_few means c.args.payload.now chosen.opts c.args.visits.now c.is_passed.new.visits
     (λ k d h. omega (arith, c.type_inv.payload k, get_or_default c.args.payload.now k d 0 h))
-    (λ lists listed each few. returns-clause-bounded_by_values g c means chosen lists listed finds at each few)
-    (λ lists each. returns-clause-bounded_in_parts g c means chosen lists finds at each)
+    (λ lists listed each few. returns-clause-bounded_by_values g c means chosen finds at lists listed each few)
+    (λ lists each. returns-clause-bounded_in_parts g c means chosen finds at lists each)
