@@ -69,7 +69,7 @@ impl<R: Files> Host for HeardHost<R> {
         let start = out.len();
         match self.host.load(name, limit, out) {
             Ok(()) => {
-                self.heard = self.heard.then(&Note::Loaded(name, &out[start..]));
+                self.heard = self.heard.then(&Note::Loaded(name, out, start));
                 Ok(())
             }
             Err(LoadFault::TooLarge) => {
@@ -123,7 +123,7 @@ impl<R: Files> Host for HeardHost<R> {
     {
         match self.host.read(buf) {
             Ok(count) => {
-                self.heard = self.heard.then(&Note::Gave(&buf[..count]));
+                self.heard = self.heard.then(&Note::Gave(buf, count));
                 Ok(count)
             }
             Err(Failed) => Err(Failed),
