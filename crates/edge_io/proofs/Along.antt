@@ -1,14 +1,13 @@
--- The laws of answers along a list: joined inputs, beginnings, maps, stages one behind the other, and
--- the inputs of one class.
+-- The laws of answers along a list: joined inputs, maps, stages one behind the other, and the inputs of one
+-- class.
 use Rattle.std.proofs.Common.{◌≡◌, Bool, true, false, cond, List, [], ◌∷◌, ◌++◌, length, map, refl, sym, ap, ◌∙◌, append_assoc, arith}
 use Rattle.std.proofs.lemmas.List.{append-nil, map-append}
 use Rattle.std.proofs.lemmas.List.Elements.{filter-append}
 use Rattle.std.proofs.lemmas.Grind.{flat_map-append}
 use Rattle.std.specs.List.{filter, flat_map}
-use mathlib.Core.List.{IsPrefix}
 use Rattle.edge_io.specs.Along.{along_from, along, trail_from, trail, chained, within, IsLocal, IsByClass, told}
 
--- ---- joined inputs, and beginnings of inputs
+-- ---- joined inputs
 
 -- one answer an input
 pub length-along_from : {X A : Type 0} (f : List X → X → A) (before xs : List X) → length (along_from f before xs) ≡ length xs
@@ -34,15 +33,6 @@ trail_from-append f before (x ∷ xs) ys =
 pub trail-append : {X A : Type 0} (f : List X → X → List A) (xs ys : List X) → trail f (xs ++ ys) ≡ trail f xs ++ trail_from f xs ys
 trail-append f xs ys = trail_from-append f [] xs ys
 
--- a beginning of the inputs has a beginning of the answers
-pub along_from-prefix : {X A : Type 0} (f : List X → X → A) (before xs ys : List X) → IsPrefix xs ys → IsPrefix (along_from f before xs) (along_from f before ys)
-along_from-prefix f before xs ys front =
-    (along_from f (before ++ xs) front.0, sym (along_from-append f before xs front.0) ∙ ap (along_from f before) front.1)
-
-pub trail_from-prefix : {X A : Type 0} (f : List X → X → List A) (before xs ys : List X) → IsPrefix xs ys → IsPrefix (trail_from f before xs) (trail_from f before ys)
-trail_from-prefix f before xs ys front =
-    (trail_from f (before ++ xs) front.0, sym (trail_from-append f before xs front.0) ∙ ap (trail_from f before) front.1)
-
 -- a batch more: what stood before it and what it gives is what all of it gives
 pub pipe_more : {X A : Type 0} (f : List X → X → List A) (before rs : List X) → trail f before ++ trail_from f before rs ≡ trail f (before ++ rs)
 pipe_more f before rs = sym (trail-append f before rs)
@@ -60,17 +50,13 @@ along_from-map h f before [] = refl
 along_from-map h f before (x ∷ xs) =
     ap (λ rest. f (map h before) (h x) ∷ rest) (ap (λ front. along_from f front (map h xs)) (sym (map-append h before (x ∷ []))) ∙ along_from-map h f (before ++ x ∷ []) xs)
 
--- a list of answers to each answer
-pub flat_map-along_from : {X A B : Type 0} (h : A → List B) (f : List X → X → A) (before xs : List X) → flat_map h (along_from f before xs) ≡ trail_from (λ b x. h (f b x)) before xs
-flat_map-along_from h f before [] = refl
-flat_map-along_from h f before (x ∷ xs) = ap (λ rest. h (f before x) ++ rest) (flat_map-along_from h f (before ++ x ∷ []) xs)
-
--- the same behind lists of answers, and before them
+-- a list made of each answer, along lists of answers
 pub flat_map-trail_from : {X A B : Type 0} (h : A → List B) (f : List X → X → List A) (before xs : List X) → flat_map h (trail_from f before xs) ≡ trail_from (λ b x. flat_map h (f b x)) before xs
 flat_map-trail_from h f before [] = refl
 flat_map-trail_from h f before (x ∷ xs) =
     flat_map-append h (f before x) (trail_from f (before ++ x ∷ []) xs) ∙ ap (λ rest. flat_map h (f before x) ++ rest) (flat_map-trail_from h f (before ++ x ∷ []) xs)
 
+-- lists of answers along inputs that a function gives
 pub trail_from-map : {X Y A : Type 0} (h : X → Y) (f : List Y → Y → List A) (before xs : List X) → trail_from f (map h before) (map h xs) ≡ trail_from (λ b x. f (map h b) (h x)) before xs
 trail_from-map h f before [] = refl
 trail_from-map h f before (x ∷ xs) =
@@ -112,11 +98,6 @@ trail_from-chained g f before (x ∷ xs) =
 
 pub trail-chained : {X B A : Type 0} (g : List B → B → List A) (f : List X → X → List B) (xs : List X) → trail g (trail f xs) ≡ trail (chained g f) xs
 trail-chained g f xs = trail_from-chained g f [] xs
-
--- a batch through a stage that answers each of its inputs, and what is made of each answer
-pub pipe_batch : {X J A B : Type 0} (h : A → List B) (g : List J → J → A) (f : List X → X → List J) (before rs : List X)
-    → flat_map h (along_from g (trail f before) (trail_from f before rs)) ≡ trail_from (chained (λ b j. h (g b j)) f) before rs
-pipe_batch h g f before rs = flat_map-along_from h g (trail f before) (trail_from f before rs) ∙ trail_from-chained (λ b j. h (g b j)) f before rs
 
 -- ---- inputs of one class
 

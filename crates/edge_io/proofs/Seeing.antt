@@ -42,11 +42,6 @@ pub told_seen : (contents : Option Files) (left : Option (List ℕ)) (agrees : F
 told_seen None left agrees left_of law = refl
 told_seen (Some files) left agrees left_of law = law.agree
 
--- files that a host tells agree
-pub told_agrees : (contents : Option Files) (left : Option (List ℕ)) (agrees : Files → Type 0) (left_of : Files → Option (List ℕ)) (files : Files) → AsTold contents left agrees left_of
-    → contents ≡ Some files → agrees files
-told_agrees contents left agrees left_of files law is = subst (MaySee contents agrees) is (told_seen contents left agrees left_of law)
-
 -- a name that a host tells to lack, what may be seen of it lacks
 pub seen_lacks : (contents : Option Files) (left : Option (List ℕ)) (agrees : Files → Type 0) (left_of : Files → Option (List ℕ)) (name : List ℕ) (seen : Option Files)
     → AsTold contents left agrees left_of → MaySee contents agrees seen → Lacks contents name → Lacks seen name

@@ -57,17 +57,17 @@ AreNext None bytes = bytes ≡ []
 AreNext (Some rest) bytes = (rest ≡ bytes ++ drop (length bytes) rest) × (bytes ≡ [] → rest ≡ [])
 
 -- these files give this answer, where so much of the open capture is left
-abbrev pub Gives : Files → Option (List ℕ) → Answer → Type 0
-Gives files left (loaded name bytes) = get files name ≡ Some bytes
-Gives files left (longer name limit) = IsLonger (Some files) name limit
-Gives files left (opened name) = IsSome (get files name)
-Gives files left closed = ⊤
-Gives files left (gave bytes) = AreNext left bytes
+abbrev pub GivesAnswer : Files → Option (List ℕ) → Answer → Type 0
+GivesAnswer files left (loaded name bytes) = get files name ≡ Some bytes
+GivesAnswer files left (longer name limit) = IsLonger (Some files) name limit
+GivesAnswer files left (opened name) = IsSome (get files name)
+GivesAnswer files left closed = ⊤
+GivesAnswer files left (gave bytes) = AreNext left bytes
 
 -- these files give all of these answers
 abbrev pub Agree : List Answer → Files → Type 0
 Agree [] files = ⊤
-Agree (answer ∷ earlier) files = Agree earlier files × Gives files (left_behind earlier files) answer
+Agree (answer ∷ earlier) files = Agree earlier files × GivesAnswer files (left_behind earlier files) answer
 
 -- the bytes that a sink took, by its answers
 abbrev pub taken_of : List Answer → List ℕ

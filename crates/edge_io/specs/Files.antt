@@ -31,11 +31,6 @@ abbrev pub IsOpened : Option Files → List ℕ → Option (List ℕ) → Type 0
 IsOpened None name left = ⊤
 IsOpened (Some files) name left = (left ≡ get files name) × IsSome left
 
--- what is left of a capture is told only where contents are
-abbrev pub LeftIsTold : Option Files → Option (List ℕ) → Type 0
-LeftIsTold None left = left ≡ None
-LeftIsTold (Some files) left = ⊤
-
 -- contents are told, and nothing is open
 abbrev pub IsUnopened : Option Files → Option (List ℕ) → Type 0
 IsUnopened None left = ⊥

@@ -43,8 +43,6 @@ impl<R: Files> Host for HeardHost<R> {
 
     ghost opens = { λ h. h.host.opens };
 
-    ghost left_is_told = { λ _. refl };
-
     ghost as_told = { λ _. refl };
 
     fn load(&mut self, name: &str, limit: usize, out: &mut Vec<u8>) -> Result<(), LoadFault>

@@ -1,7 +1,7 @@
 ghost use Rattle.std.specs.Prelude.{◌≡◌, ℕ, ◌+◌, ◌<◌, ◌≤◌, ◌++◌, ◌⊎◌, Option, None, Some, List, length, take, drop, vec_len, IfOk, OnOk, OnErr, IsErrOf};
 ghost use Rattle.std.specs.FinMap.{get};
 ghost use Rattle.edge_io.specs.Told.{before, NothingLeft, one_more, Rose};
-ghost use Rattle.edge_io.specs.Files.{Files, AsTold, Holds, Lacks, IsLonger, IsOpened, IsUnopened, LeftIsTold};
+ghost use Rattle.edge_io.specs.Files.{Files, AsTold, Holds, Lacks, IsLonger, IsOpened, IsUnopened};
 
 use crate::Failed;
 use std::alloc::AllocError;
@@ -96,8 +96,6 @@ pub trait Host {
         ensures earlier { (files : Files) → agrees self.new files → agrees self.old files }
         ensures same_opens { opens self.new ≡ opens self.old }
         ensures later { faults self.old ≤ faults self.new };
-
-    ghost left_is_told: { (host : Self) → LeftIsTold (contents host) (left host) };
 
     ghost as_told: { (host : Self) → AsTold (contents host) (left host) (agrees host) (left_of host) };
 }

@@ -175,8 +175,6 @@ impl Host for MemHost {
 
     ghost opens = { λ host. host.opens };
 
-    ghost left_is_told = { λ host. tt };
-
     ghost as_told = { λ host. record { agree = refl; alone = λ _ same. same; left_is = refl } };
 
     fn load(&mut self, name: &str, limit: usize, out: &mut Vec<u8>) -> Result<(), LoadFault>

@@ -28,8 +28,6 @@ impl<H: Host> Host for Poor<H> {
 
     ghost opens = { λ poor. H.opens poor.host };
 
-    ghost left_is_told = { λ poor. H.left_is_told poor.host };
-
     ghost as_told = { λ poor. H.as_told poor.host };
 
     fn load(&mut self, _name: &str, _limit: usize, _out: &mut Vec<u8>) -> Result<(), LoadFault> {

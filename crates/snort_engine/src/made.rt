@@ -67,8 +67,6 @@ impl Host for MadeCapture<'_> {
 
     ghost opens = { λ made. made.opens };
 
-    ghost left_is_told = { λ _. tt };
-
     ghost as_told = { λ _. record { agree = refl; alone = λ _ same. same; left_is = refl } };
 
     fn load(&mut self, _name: &str, _limit: usize, _out: &mut Vec<u8>) -> Result<(), LoadFault> {
