@@ -1,10 +1,10 @@
 -- What is returned is what the law of the calls says.
-use Rattle.std.proofs.Common.{◌≡◌, ℕ, ◌+◌, ◌<◌, ◌≤◌, ◌⊎◌, List, [], ◌∷◌, ◌++◌, Option, Some, None, Ok, Err, length, sym, ap, subst, inl, inr, ◌∙◌, arith}
+use Rattle.std.proofs.Common.{◌≡◌, ℕ, ◌+◌, ◌<◌, ◌≤◌, ◌⊎◌, List, [], ◌∷◌, ◌++◌, Option, Some, None, Ok, Err, length, sym, ap, subst, inl, inr, ◌∙◌}
 use Rattle.std.proofs.lemmas.List.{length-append}
 use Rattle.std.proofs.lemmas.Option.{none-some}
-use Rattle.std.proofs.lemmas.Bool.Decides.{nat_tests}
 use Rattle.edge_io.specs.Files.{Files}
 use Rattle.edge_io.specs.Told.{Rose}
+use Rattle.edge_io.proofs.Told.{rose-since}
 use Rattle.pcapng_input.specs.declared.capture.NgRecord.{NgRecord}
 use Rattle.pcapng_input.specs.declared.capture.NgFault.{NgFault}
 use Rattle.pcapng_input.specs.declared.capture.NgFault.TheVariants as fault
@@ -78,10 +78,6 @@ held-refused contents name limit records reader new why left left_new read below
     })
 
 -- ---- why the host failed
-
--- a count that rose from later on rose from earlier on
-rose-since : (old middle new : ℕ) → old ≤ middle → Rose middle new → Rose old new
-rose-since old middle new later rose = grind (arith, nat_tests)
 
 -- the host failed at the last call, and not before
 pub failed-last : (old middle new : ℕ) (refused : Option NgFault) (lacks : Type 0) → old ≤ middle → refused ≡ None

@@ -1,5 +1,6 @@
-ghost use Rattle.std.specs.Prelude.{◌≡◌, ◌+◌, ◌≤◌, Option, IfOk, IfErr, IsErrOf};
+ghost use Rattle.std.specs.Prelude.{◌≡◌, ◌+◌, Option, IfOk, IfErr, IsErrOf};
 ghost use Rattle.edge_io.specs.Files.{Files, MaySee, left_by};
+ghost use Rattle.edge_io.specs.Frames.{OnlyRead};
 ghost use Rattle.edge_io.specs.Told.{Rose};
 ghost use Rattle.pcapng_input.specs.Steps.{TakesLess, TakesLast};
 
@@ -24,12 +25,8 @@ pub fn is_closed<H: Host>(
         → IfErr result (λ why. TakesLess at (count + 4) why
         (left_by (H.left_of host.old) seen) (left_by (H.left_of host.new) seen)) }
     ensures failed { IsErrOf result NgFault.Failed → Rose (H.faults host.old) (H.faults host.new) }
-    ensures same_contents { H.contents host.new ≡ H.contents host.old }
-    ensures earlier { (seen : Option Files) → MaySee (H.contents host.new) (H.agrees host.new) seen
-        → MaySee (H.contents host.old) (H.agrees host.old) seen }
-    ensures same_opens { H.opens host.new ≡ H.opens host.old }
     ensures quiet { (IsErrOf result NgFault.Failed → ⊥) → H.faults host.new ≡ H.faults host.old }
-    ensures later { H.faults host.old ≤ H.faults host.new }
+    ensures only_read { OnlyRead H.Host host.old host.new }
 {
     skip(host, at, count)?;
     let mut last = [0; 4];

@@ -1,5 +1,6 @@
-ghost use Rattle.std.specs.Prelude.{◌≡◌, ◌≤◌, Option, length, IfOk, IfErr, OnOk, IsErrOf};
+ghost use Rattle.std.specs.Prelude.{◌≡◌, Option, length, IfOk, IfErr, OnOk, IsErrOf};
 ghost use Rattle.edge_io.specs.Files.{Files, MaySee, left_by};
+ghost use Rattle.edge_io.specs.Frames.{OnlyRead};
 ghost use Rattle.edge_io.specs.Told.{before, Rose};
 ghost use Rattle.pcapng_input.specs.Steps.{TakesLess, TakesBytes};
 
@@ -19,12 +20,8 @@ pub fn read_piece<H: Host>(host: &mut H, at: u64, piece: &mut [u8]) -> Result<()
         → IfErr result (λ why. TakesLess at (length piece.old) why
         (left_by (H.left_of host.old) seen) (left_by (H.left_of host.new) seen)) }
     ensures failed { IsErrOf result NgFault.Failed → Rose (H.faults host.old) (H.faults host.new) }
-    ensures same_contents { H.contents host.new ≡ H.contents host.old }
-    ensures earlier { (seen : Option Files) → MaySee (H.contents host.new) (H.agrees host.new) seen
-        → MaySee (H.contents host.old) (H.agrees host.old) seen }
-    ensures same_opens { H.opens host.new ≡ H.opens host.old }
     ensures quiet { (IsErrOf result NgFault.Failed → ⊥) → H.faults host.new ≡ H.faults host.old }
-    ensures later { H.faults host.old ≤ H.faults host.new }
+    ensures only_read { OnlyRead H.Host host.old host.new }
 {
     let Ok(count) = fill(host, piece) else {
         return Err(NgFault::Failed);
@@ -48,12 +45,8 @@ pub fn read_bytes<H: Host>(
     ensures partial { (seen : Option Files) → MaySee (H.contents host.new) (H.agrees host.new) seen
         → IfErr result (λ why. TakesLess at len why (left_by (H.left_of host.old) seen) (left_by (H.left_of host.new) seen)) }
     ensures failed { IsErrOf result NgFault.Failed → Rose (H.faults host.old) (H.faults host.new) }
-    ensures same_contents { H.contents host.new ≡ H.contents host.old }
-    ensures earlier { (seen : Option Files) → MaySee (H.contents host.new) (H.agrees host.new) seen
-        → MaySee (H.contents host.old) (H.agrees host.old) seen }
-    ensures same_opens { H.opens host.new ≡ H.opens host.old }
     ensures quiet { (IsErrOf result NgFault.Failed → ⊥) → H.faults host.new ≡ H.faults host.old }
-    ensures later { H.faults host.old ≤ H.faults host.new }
+    ensures only_read { OnlyRead H.Host host.old host.new }
 {
     let mut bytes = resized(memory, len as usize)?;
     let Ok(count) = fill(host, &mut bytes) else {
@@ -72,12 +65,8 @@ pub fn skip<H: Host>(host: &mut H, at: u64, count: u32) -> Result<(), NgFault>
     ensures partial { (seen : Option Files) → MaySee (H.contents host.new) (H.agrees host.new) seen
         → IfErr result (λ why. TakesLess at count why (left_by (H.left_of host.old) seen) (left_by (H.left_of host.new) seen)) }
     ensures failed { IsErrOf result NgFault.Failed → Rose (H.faults host.old) (H.faults host.new) }
-    ensures same_contents { H.contents host.new ≡ H.contents host.old }
-    ensures earlier { (seen : Option Files) → MaySee (H.contents host.new) (H.agrees host.new) seen
-        → MaySee (H.contents host.old) (H.agrees host.old) seen }
-    ensures same_opens { H.opens host.new ≡ H.opens host.old }
     ensures quiet { (IsErrOf result NgFault.Failed → ⊥) → H.faults host.new ≡ H.faults host.old }
-    ensures later { H.faults host.old ≤ H.faults host.new }
+    ensures only_read { OnlyRead H.Host host.old host.new }
 {
     let mut piece = [0; PIECE];
     let mut left = count as usize;

@@ -1,4 +1,5 @@
 ghost use Rattle.std.specs.Prelude.{◌≡◌, ◌≤◌, ◌⊎◌, List, ℕ, Option, None, Some, IfOk, IfErr, IfSome, IfNone, Err, IsErrOf};
+ghost use Rattle.edge_io.specs.Frames.{OnlyRead};
 ghost use Rattle.edge_io.specs.Told.{one_more, Rose};
 ghost use Rattle.edge_io.specs.Files.{Files, Lacks, IsUnopened, MaySee, left_by};
 ghost use Rattle.pcapng_input.specs.Blocks.{Clean, Ends, opening, first_walk, next_of};
@@ -207,12 +208,8 @@ impl NgReader {
 
         ensures failed { IsErrOf result NgFault.Failed
             → Rose (H.faults host.old) (H.faults host.new) ⊎ (self.old.refused ≡ Some NgFault.Failed) }
-        ensures same_contents { H.contents host.new ≡ H.contents host.old }
-        ensures earlier { (seen : Option Files) → MaySee (H.contents host.new) (H.agrees host.new) seen
-            → MaySee (H.contents host.old) (H.agrees host.old) seen }
-        ensures same_opens { H.opens host.new ≡ H.opens host.old }
         ensures quiet { (IsErrOf result NgFault.Failed → ⊥) → H.faults host.new ≡ H.faults host.old }
-        ensures later { H.faults host.old ≤ H.faults host.new }
+        ensures only_read { OnlyRead H.Host host.old host.new }
     {
         if let Some(why) = self.refused {
             return Err(why);
@@ -239,12 +236,8 @@ fn read_first<H: Host>(
         → Shows opening walk.new result (left_by (H.left_of host.old) seen) (left_by (H.left_of host.new) seen) }
     ensures kinds { IsHeadAnswer result }
     ensures failed { IsErrOf result NgFault.Failed → Rose (H.faults host.old) (H.faults host.new) }
-    ensures same_contents { H.contents host.new ≡ H.contents host.old }
-    ensures earlier { (seen : Option Files) → MaySee (H.contents host.new) (H.agrees host.new) seen
-        → MaySee (H.contents host.old) (H.agrees host.old) seen }
-    ensures same_opens { H.opens host.new ≡ H.opens host.old }
     ensures quiet { (IsErrOf result NgFault.Failed → ⊥) → H.faults host.new ≡ H.faults host.old }
-    ensures later { H.faults host.old ≤ H.faults host.new }
+    ensures only_read { OnlyRead H.Host host.old host.new }
 {
     let mut first = [0; 8];
     let Ok(count) = fill(host, &mut first) else {
@@ -287,12 +280,8 @@ fn read_next<H: Host>(
     ensures unopened { (seen : Option Files) → MaySee (H.contents host.new) (H.agrees host.new) seen
         → IsUnopened seen (left_by (H.left_of host.old) seen) → IsNothing result }
     ensures failed { IsErrOf result NgFault.Failed → Rose (H.faults host.old) (H.faults host.new) }
-    ensures same_contents { H.contents host.new ≡ H.contents host.old }
-    ensures earlier { (seen : Option Files) → MaySee (H.contents host.new) (H.agrees host.new) seen
-        → MaySee (H.contents host.old) (H.agrees host.old) seen }
-    ensures same_opens { H.opens host.new ≡ H.opens host.old }
     ensures quiet { (IsErrOf result NgFault.Failed → ⊥) → H.faults host.new ≡ H.faults host.old }
-    ensures later { H.faults host.old ≤ H.faults host.new }
+    ensures only_read { OnlyRead H.Host host.old host.new }
 {
     'each: loop {
         let block = read_block(walk, spares, alloc, host)?;

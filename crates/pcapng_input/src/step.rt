@@ -1,5 +1,6 @@
 ghost use Rattle.std.specs.Prelude.{◌≡◌, ◌<◌, ◌≤◌, Option, IsTrue, length, IfOk, IsErrOf};
 ghost use Rattle.edge_io.specs.Files.{Files, IsUnopened, MaySee, left_by};
+ghost use Rattle.edge_io.specs.Frames.{OnlyRead};
 ghost use Rattle.edge_io.specs.Told.{Rose};
 ghost use Rattle.pcapng_input.specs.declared.content.Content.TheVariants as content;
 ghost use Rattle.pcapng_input.specs.Blocks.{is_sized, inner_length, order_of, closing, known, section_begun, begun, step_of};
@@ -59,12 +60,8 @@ fn pass_over<H: Host>(walk: &mut Walk, host: &mut H, block: Block) -> Result<Blo
         → Shows (closing walk.old block content.Skipped) walk.new result
         (left_by (H.left_of host.old) seen) (left_by (H.left_of host.new) seen) }
     ensures failed { IsErrOf result NgFault.Failed → Rose (H.faults host.old) (H.faults host.new) }
-    ensures same_contents { H.contents host.new ≡ H.contents host.old }
-    ensures earlier { (seen : Option Files) → MaySee (H.contents host.new) (H.agrees host.new) seen
-        → MaySee (H.contents host.old) (H.agrees host.old) seen }
-    ensures same_opens { H.opens host.new ≡ H.opens host.old }
     ensures quiet { (IsErrOf result NgFault.Failed → ⊥) → H.faults host.new ≡ H.faults host.old }
-    ensures later { H.faults host.old ≤ H.faults host.new }
+    ensures only_read { OnlyRead H.Host host.old host.new }
 {
     let swapped = walk.section.swapped;
     let closed = is_closed(host, walk.at, block.inner(), swapped, block.total)?;
@@ -90,12 +87,8 @@ fn read_interface<H: Host>(
         → Shows (closing walk.old block (content.Interface link snaplen)) walk.new result
         (left_by (H.left_of host.old) seen) (left_by (H.left_of host.new) seen) }
     ensures failed { IsErrOf result NgFault.Failed → Rose (H.faults host.old) (H.faults host.new) }
-    ensures same_contents { H.contents host.new ≡ H.contents host.old }
-    ensures earlier { (seen : Option Files) → MaySee (H.contents host.new) (H.agrees host.new) seen
-        → MaySee (H.contents host.old) (H.agrees host.old) seen }
-    ensures same_opens { H.opens host.new ≡ H.opens host.old }
     ensures quiet { (IsErrOf result NgFault.Failed → ⊥) → H.faults host.new ≡ H.faults host.old }
-    ensures later { H.faults host.old ≤ H.faults host.new }
+    ensures only_read { OnlyRead H.Host host.old host.new }
 {
     let swapped = walk.section.swapped;
     let options = read_bytes(host, walk.at, block.inner(), Vec::new(alloc))?;
@@ -134,12 +127,8 @@ fn read_packet<H: Host>(
         → Shows (closing walk.old block (content.Packet packet)) walk.new result
         (left_by (H.left_of host.old) seen) (left_by (H.left_of host.new) seen) }
     ensures failed { IsErrOf result NgFault.Failed → Rose (H.faults host.old) (H.faults host.new) }
-    ensures same_contents { H.contents host.new ≡ H.contents host.old }
-    ensures earlier { (seen : Option Files) → MaySee (H.contents host.new) (H.agrees host.new) seen
-        → MaySee (H.contents host.old) (H.agrees host.old) seen }
-    ensures same_opens { H.opens host.new ≡ H.opens host.old }
     ensures quiet { (IsErrOf result NgFault.Failed → ⊥) → H.faults host.new ≡ H.faults host.old }
-    ensures later { H.faults host.old ≤ H.faults host.new }
+    ensures only_read { OnlyRead H.Host host.old host.new }
 {
     let bytes = read_bytes(host, walk.at, packet.captured, spares.pop(alloc))?;
     let behind = block.inner() - packet.captured;
@@ -178,12 +167,8 @@ fn read_closing<H: Host>(
         → Shows (closing walk.old block told) walk.new result
         (left_by (H.left_of host.old) seen) (left_by (H.left_of host.new) seen) }
     ensures failed { IsErrOf result NgFault.Failed → Rose (H.faults host.old) (H.faults host.new) }
-    ensures same_contents { H.contents host.new ≡ H.contents host.old }
-    ensures earlier { (seen : Option Files) → MaySee (H.contents host.new) (H.agrees host.new) seen
-        → MaySee (H.contents host.old) (H.agrees host.old) seen }
-    ensures same_opens { H.opens host.new ≡ H.opens host.old }
     ensures quiet { (IsErrOf result NgFault.Failed → ⊥) → H.faults host.new ≡ H.faults host.old }
-    ensures later { H.faults host.old ≤ H.faults host.new }
+    ensures only_read { OnlyRead H.Host host.old host.new }
 {
     match told {
         Content::Skipped => pass_over(walk, host, block),
@@ -206,12 +191,8 @@ pub fn read_known<H: Host>(
     ensures shows { (seen : Option Files) → MaySee (H.contents host.new) (H.agrees host.new) seen
         → Shows (known walk.old block) walk.new result (left_by (H.left_of host.old) seen) (left_by (H.left_of host.new) seen) }
     ensures failed { IsErrOf result NgFault.Failed → Rose (H.faults host.old) (H.faults host.new) }
-    ensures same_contents { H.contents host.new ≡ H.contents host.old }
-    ensures earlier { (seen : Option Files) → MaySee (H.contents host.new) (H.agrees host.new) seen
-        → MaySee (H.contents host.old) (H.agrees host.old) seen }
-    ensures same_opens { H.opens host.new ≡ H.opens host.old }
     ensures quiet { (IsErrOf result NgFault.Failed → ⊥) → H.faults host.new ≡ H.faults host.old }
-    ensures later { H.faults host.old ≤ H.faults host.new }
+    ensures only_read { OnlyRead H.Host host.old host.new }
 {
     let sized = block.is_sized();
     if !sized {
@@ -238,12 +219,8 @@ fn read_section<H: Host>(
         → Shows (section_begun walk.old first.now) walk.new result
         (left_by (H.left_of host.old) seen) (left_by (H.left_of host.new) seen) }
     ensures failed { IsErrOf result NgFault.Failed → Rose (H.faults host.old) (H.faults host.new) }
-    ensures same_contents { H.contents host.new ≡ H.contents host.old }
-    ensures earlier { (seen : Option Files) → MaySee (H.contents host.new) (H.agrees host.new) seen
-        → MaySee (H.contents host.old) (H.agrees host.old) seen }
-    ensures same_opens { H.opens host.new ≡ H.opens host.old }
     ensures quiet { (IsErrOf result NgFault.Failed → ⊥) → H.faults host.new ≡ H.faults host.old }
-    ensures later { H.faults host.old ≤ H.faults host.new }
+    ensures only_read { OnlyRead H.Host host.old host.new }
 {
     let mut magic = [0; 4];
     read_piece(host, walk.at, &mut magic)?;
@@ -274,12 +251,8 @@ fn read_begun<H: Host>(
         → Shows (begun walk.old first.now) walk.new result
         (left_by (H.left_of host.old) seen) (left_by (H.left_of host.new) seen) }
     ensures failed { IsErrOf result NgFault.Failed → Rose (H.faults host.old) (H.faults host.new) }
-    ensures same_contents { H.contents host.new ≡ H.contents host.old }
-    ensures earlier { (seen : Option Files) → MaySee (H.contents host.new) (H.agrees host.new) seen
-        → MaySee (H.contents host.old) (H.agrees host.old) seen }
-    ensures same_opens { H.opens host.new ≡ H.opens host.old }
     ensures quiet { (IsErrOf result NgFault.Failed → ⊥) → H.faults host.new ≡ H.faults host.old }
-    ensures later { H.faults host.old ≤ H.faults host.new }
+    ensures only_read { OnlyRead H.Host host.old host.new }
 {
     let kind = u32_at(false, first, 0);
     if kind == SECTION {
@@ -305,12 +278,8 @@ pub fn read_block<H: Host>(
     ensures unopened { (seen : Option Files) → MaySee (H.contents host.new) (H.agrees host.new) seen
         → IsUnopened seen (left_by (H.left_of host.old) seen) → IsAtEnd result }
     ensures failed { IsErrOf result NgFault.Failed → Rose (H.faults host.old) (H.faults host.new) }
-    ensures same_contents { H.contents host.new ≡ H.contents host.old }
-    ensures earlier { (seen : Option Files) → MaySee (H.contents host.new) (H.agrees host.new) seen
-        → MaySee (H.contents host.old) (H.agrees host.old) seen }
-    ensures same_opens { H.opens host.new ≡ H.opens host.old }
     ensures quiet { (IsErrOf result NgFault.Failed → ⊥) → H.faults host.new ≡ H.faults host.old }
-    ensures later { H.faults host.old ≤ H.faults host.new }
+    ensures only_read { OnlyRead H.Host host.old host.new }
 {
     let mut first = [0; 8];
     let Ok(count) = fill(host, &mut first) else {

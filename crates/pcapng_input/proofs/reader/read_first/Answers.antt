@@ -39,7 +39,7 @@ returns-then-count-lt8-clause-shows g c = λ seen may.
 pub returns-in_err-read_piece-clause-shows : goal.returns-in_err-read_piece-clause-shows
 returns-in_err-read_piece-clause-shows g c = λ seen may.
     let p = err_from_is_err_and c.from_residual.result c.from_residual.ensures.1 in
-    let took = (c.in-Ok.ensures.seen_taken seen (c.in_err-read_piece.ensures.earlier seen may)) ∙ ap (λ first. before first (left_by (g.H.Host.left_of c.fill.new.host) seen)) (take_all c.in-Ok.count c.fill.new.buf (omega (arith, c.in-Ok.ensures.within))) in
+    let took = (c.in-Ok.ensures.seen_taken seen (c.in_err-read_piece.ensures.only_read.earlier seen may)) ∙ ap (λ first. before first (left_by (g.H.Host.left_of c.fill.new.host) seen)) (take_all c.in-Ok.count c.fill.new.buf (omega (arith, c.in-Ok.ensures.within))) in
     rw (p.1, p.2) (first_less c.args.walk.now c.fill.new.buf c.in_err-read_piece.field-0.0 (left_by (g.H.Host.left_of c.args.host.now) seen) (left_by (g.H.Host.left_of c.fill.new.host) seen) (left_by (g.H.Host.left_of c.read_piece.new.host) seen)
     (omega arith) (sym c.u32_at-kind.ensures ∙ c.if-kind-ne-SECTION.false) took (c.in_err-read_piece.ensures.partial seen may))
 
@@ -52,16 +52,16 @@ returns-in_err-read_piece-clause-kinds g c =
 
 pub returns-in-None-clause-shows : goal.returns-in-None-clause-shows
 returns-in-None-clause-shows g c = λ seen may.
-    let took = (c.in-Ok.ensures.seen_taken seen (c.in_ok-read_piece.ensures.earlier seen may)) ∙ ap (λ first. before first (left_by (g.H.Host.left_of c.fill.new.host) seen)) (take_all c.in-Ok.count c.fill.new.buf (omega (arith, c.in-Ok.ensures.within))) in
+    let took = (c.in-Ok.ensures.seen_taken seen (c.in_ok-read_piece.ensures.only_read.earlier seen may)) ∙ ap (λ first. before first (left_by (g.H.Host.left_of c.fill.new.host) seen)) (take_all c.in-Ok.count c.fill.new.buf (omega (arith, c.in-Ok.ensures.within))) in
     first_none c.args.walk.now c.fill.new.buf c.read_piece.new.piece (left_by (g.H.Host.left_of c.args.host.now) seen) (left_by (g.H.Host.left_of c.fill.new.host) seen) (left_by (g.H.Host.left_of c.read_piece.new.host) seen)
     (omega arith) (sym c.u32_at-kind.ensures ∙ c.if-kind-ne-SECTION.false) (omega arith) (sym c.in-None.ensures) took (c.in_ok-read_piece.ensures.whole seen may)
 
 pub returns-in-Some-clause-shows : goal.returns-in-Some-clause-shows
 returns-in-Some-clause-shows g c = λ seen may.
-    let took = (c.in-Ok.ensures.seen_taken seen (c.in_ok-read_piece.ensures.earlier seen (c.read_known.ensures.earlier seen may))) ∙ ap (λ first. before first (left_by (g.H.Host.left_of c.fill.new.host) seen)) (take_all c.in-Ok.count c.fill.new.buf (omega (arith, c.in-Ok.ensures.within))) in
+    let took = (c.in-Ok.ensures.seen_taken seen (c.in_ok-read_piece.ensures.only_read.earlier seen (c.read_known.ensures.only_read.earlier seen may))) ∙ ap (λ first. before first (left_by (g.H.Host.left_of c.fill.new.host) seen)) (take_all c.in-Ok.count c.fill.new.buf (omega (arith, c.in-Ok.ensures.within))) in
     let made : ℕ → Block = λ n. record { kind = kind.Section; total = n } in
     first_on c.read_known.new.walk c.fill.new.buf c.read_piece.new.piece c.in-Some.swapped c.read_known.result (left_by (g.H.Host.left_of c.args.host.now) seen) (left_by (g.H.Host.left_of c.fill.new.host) seen) (left_by (g.H.Host.left_of c.read_piece.new.host) seen) (left_by (g.H.Host.left_of c.read_known.new.host) seen)
-    (omega arith) (sym c.u32_at-kind.ensures ∙ c.if-kind-ne-SECTION.false) (omega arith) (sym c.in-Some.ensures) took (c.in_ok-read_piece.ensures.whole seen (c.read_known.ensures.earlier seen may))
+    (omega arith) (sym c.u32_at-kind.ensures ∙ c.if-kind-ne-SECTION.false) (omega arith) (sym c.in-Some.ensures) took (c.in_ok-read_piece.ensures.whole seen (c.read_known.ensures.only_read.earlier seen may))
     (known_at c.begin_section.new.self (new_section first_walk c.in-Some.swapped) c.read_known.new.walk (made c.u32_at.result) (section_block c.in-Some.swapped c.fill.new.buf) c.read_known.result (left_by (g.H.Host.left_of c.read_piece.new.host) seen) (left_by (g.H.Host.left_of c.read_known.new.host) seen)
     (c.begin_section.ensures ∙ ap (λ (w : Walk). new_section w c.in-Some.swapped) c.requires) (ap made c.u32_at.ensures) (c.read_known.ensures.shows seen may))
 

@@ -35,6 +35,6 @@ read_begun-requires-clause-room g c = room_has c.args.walk.now (sym c.is_full-fu
 
 pub returns-clause-shows : goal.returns-clause-shows
 returns-clause-shows g c = λ seen may.
-    let took = (c.in-Ok.ensures.seen_taken seen (c.read_begun.ensures.earlier seen may)) ∙ ap (λ first. before first (left_by (g.H.Host.left_of c.fill.new.host) seen)) (take_all c.in-Ok.count c.fill.new.buf (omega (arith, c.in-Ok.ensures.within))) in
+    let took = (c.in-Ok.ensures.seen_taken seen (c.read_begun.ensures.only_read.earlier seen may)) ∙ ap (λ first. before first (left_by (g.H.Host.left_of c.fill.new.host) seen)) (take_all c.in-Ok.count c.fill.new.buf (omega (arith, c.in-Ok.ensures.within))) in
     step_on c.args.walk.now c.read_begun.new.walk c.fill.new.buf c.read_begun.result (left_by (g.H.Host.left_of c.args.host.now) seen) (left_by (g.H.Host.left_of c.fill.new.host) seen) (left_by (g.H.Host.left_of c.read_begun.new.host) seen)
     (omega arith) (sym c.is_full-full.ensures ∙ c.if-full.false) took (c.read_begun.ensures.shows seen may)

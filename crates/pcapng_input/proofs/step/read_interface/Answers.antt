@@ -19,7 +19,7 @@ returns-in_err-options-clause-shows g c = λ seen may.
 pub returns-in_err-closed-clause-shows : goal.returns-in_err-closed-clause-shows
 returns-in_err-closed-clause-shows g c = λ seen may.
     let p = err_from_is_err_and c.from_residual-in_err-closed.result c.from_residual-in_err-closed.ensures.1 in
-    let whole = (c.in_ok-options.ensures.whole seen (c.in_err-closed.ensures.earlier seen may)) in
+    let whole = (c.in_ok-options.ensures.whole seen (c.in_err-closed.ensures.only_read.earlier seen may)) in
     rw (p.1, p.2) (closing_less c.args.walk.now c.args.walk.now c.args.block (content.Interface c.args.link c.args.snaplen) (inner_length c.args.block + 4) c.in_err-closed.field-0.0 (left_by (g.H.Host.left_of c.args.host.now) seen) (left_by (g.H.Host.left_of c.is_closed.new.host) seen)
     (omega arith)
     (less_behind c.args.walk.now.at 4 (inner_length c.args.block + 4) c.in_err-closed.field-0.0 c.in_ok-options.options.items (left_by (g.H.Host.left_of c.args.host.now) seen) (left_by (g.H.Host.left_of c.read_bytes.new.host) seen) (left_by (g.H.Host.left_of c.is_closed.new.host) seen)
@@ -27,7 +27,7 @@ returns-in_err-closed-clause-shows g c = λ seen may.
 
 pub returns-then-not-closed-clause-shows : goal.returns-then-not-closed-clause-shows
 returns-then-not-closed-clause-shows g c = λ seen may.
-    let whole = (c.in_ok-options.ensures.whole seen (c.in_ok-closed.ensures.earlier seen may)) in
+    let whole = (c.in_ok-options.ensures.whole seen (c.in_ok-closed.ensures.only_read.earlier seen may)) in
     let last = last_same _ _ _ _ false _ _ c.if-not-closed.true (c.in_ok-closed.ensures.whole seen may) in
     rw c.bad_block.ensures (closing_differs c.args.walk.now c.args.walk.now c.args.block (content.Interface c.args.link c.args.snaplen) c.in_ok-options.options.items (left_by (g.H.Host.left_of c.args.host.now) seen) (left_by (g.H.Host.left_of c.is_closed.new.host) seen)
     (whole_front c.args.walk.now c.args.block (content.Interface c.args.link c.args.snaplen) false c.in_ok-options.options.items (left_by (g.H.Host.left_of c.args.host.now) seen) (left_by (g.H.Host.left_of c.read_bytes.new.host) seen) (left_by (g.H.Host.left_of c.is_closed.new.host) seen)
@@ -35,7 +35,7 @@ returns-then-not-closed-clause-shows g c = λ seen may.
 
 pub returns-in-None-clause-shows : goal.returns-in-None-clause-shows
 returns-in-None-clause-shows g c = λ seen may.
-    let whole = (c.in_ok-options.ensures.whole seen (c.in_ok-closed.ensures.earlier seen may)) in
+    let whole = (c.in_ok-options.ensures.whole seen (c.in_ok-closed.ensures.only_read.earlier seen may)) in
     let last = last_same _ _ _ _ true _ _ c.if-not-closed.false (c.in_ok-closed.ensures.whole seen may) in
     let none : resolution_told c.args.walk.now.section.swapped c.in_ok-options.options.items ≡ None = ap (resolution_told c.args.walk.now.section.swapped) (sym c.as_slice.ensures.value) ∙ sym c.in-None.ensures in
     rw c.bad_block-in-None.ensures (closing_refused c.args.walk.now c.args.walk.now c.args.block (content.Interface c.args.link c.args.snaplen) c.in_ok-options.options.items _ (left_by (g.H.Host.left_of c.args.host.now) seen) (left_by (g.H.Host.left_of c.is_closed.new.host) seen)
@@ -46,7 +46,7 @@ returns-in-None-clause-shows g c = λ seen may.
 pub returns-in_err-push-in-Some-clause-shows : goal.returns-in_err-push-in-Some-clause-shows
 returns-in_err-push-in-Some-clause-shows g c = λ seen may.
     let p = err_from_is_err_and c.from_residual-in_err-push-in-Some.result c.from_residual-in_err-push-in-Some.ensures.1 in
-    let whole = (c.in_ok-options.ensures.whole seen (c.in_ok-closed.ensures.earlier seen may)) in
+    let whole = (c.in_ok-options.ensures.whole seen (c.in_ok-closed.ensures.only_read.earlier seen may)) in
     let last = last_same _ _ _ _ true _ _ c.if-not-closed.false (c.in_ok-closed.ensures.whole seen may) in
     let some : resolution_told c.args.walk.now.section.swapped c.in_ok-options.options.items ≡ Some c.in-Some.resolution = ap (resolution_told c.args.walk.now.section.swapped) (sym c.as_slice.ensures.value) ∙ sym c.in-Some.ensures in
     rw (p.1, p.2) (closing_lacking c.args.walk.now _ _ c.args.block (content.Interface c.args.link c.args.snaplen) c.in_ok-options.options.items (left_by (g.H.Host.left_of c.args.host.now) seen) (left_by (g.H.Host.left_of c.is_closed.new.host) seen)
@@ -56,7 +56,7 @@ returns-in_err-push-in-Some-clause-shows g c = λ seen may.
 
 pub returns-clause-shows : goal.returns-clause-shows
 returns-clause-shows g c = λ seen may.
-    let whole = (c.in_ok-options.ensures.whole seen (c.in_ok-closed.ensures.earlier seen may)) in
+    let whole = (c.in_ok-options.ensures.whole seen (c.in_ok-closed.ensures.only_read.earlier seen may)) in
     let last = last_same _ _ _ _ true _ _ c.if-not-closed.false (c.in_ok-closed.ensures.whole seen may) in
     let some : resolution_told c.args.walk.now.section.swapped c.in_ok-options.options.items ≡ Some c.in-Some.resolution = ap (resolution_told c.args.walk.now.section.swapped) (sym c.as_slice.ensures.value) ∙ sym c.in-Some.ensures in
     rw (c.from.ensures, c.in_ok-push-in-Some.ensures.pushed) (closing_skipped c.args.walk.now (behind_interface c.args.walk.now c.args.block (record { link = c.args.link; snaplen = c.args.snaplen; resolution = c.in-Some.resolution })) c.args.block (content.Interface c.args.link c.args.snaplen) c.in_ok-options.options.items (left_by (g.H.Host.left_of c.args.host.now) seen) (left_by (g.H.Host.left_of c.is_closed.new.host) seen)

@@ -27,7 +27,7 @@ returns-in_err-told-clause-shows g c = λ seen may.
 pub returns-clause-shows : goal.returns-clause-shows
 returns-clause-shows g c = λ seen may.
     known_closing c.args.walk.now c.read_closing.new.walk c.args.block c.read_piece.new.piece c.in_ok-told.told c.read_closing.result (left_by (g.H.Host.left_of c.args.host.now) seen) (left_by (g.H.Host.left_of c.read_piece.new.host) seen) (left_by (g.H.Host.left_of c.read_closing.new.host) seen)
-    (sym c.is_sized-sized.ensures ∙ c.if-not-sized.false) (omega (arith, length-take {A = ℕ}, c.front_length.ensures, front_short c.args.block.kind)) (sym c.in_ok-told.ensures.told) (c.in_ok-read_piece.ensures.whole seen (c.read_closing.ensures.earlier seen may)) (c.read_closing.ensures.shows seen may)
+    (sym c.is_sized-sized.ensures ∙ c.if-not-sized.false) (omega (arith, length-take {A = ℕ}, c.front_length.ensures, front_short c.args.block.kind)) (sym c.in_ok-told.ensures.told) (c.in_ok-read_piece.ensures.whole seen (c.read_closing.ensures.only_read.earlier seen may)) (c.read_closing.ensures.shows seen may)
 
 pub returns-in_err-told-clause-failed : goal.returns-in_err-told-clause-failed
 returns-in_err-told-clause-failed g c =

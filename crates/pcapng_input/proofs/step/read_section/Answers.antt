@@ -19,4 +19,4 @@ pub returns-in-Some-clause-shows : goal.returns-in-Some-clause-shows
 returns-in-Some-clause-shows g c = λ seen may.
     let shown = (c.read_known.ensures.shows seen may) in
     section_on c.args.walk.now c.read_known.new.walk c.args.first.now c.read_piece.new.piece c.in-Some.swapped c.read_known.result (left_by (g.H.Host.left_of c.args.host.now) seen) (left_by (g.H.Host.left_of c.read_piece.new.host) seen) (left_by (g.H.Host.left_of c.read_known.new.host) seen)
-    (omega arith) (sym c.in-Some.ensures) (c.in_ok-read_piece.ensures.whole seen (c.read_known.ensures.earlier seen may)) (rw (← c.begin_section.ensures, ← c.u32_at.ensures) shown)
+    (omega arith) (sym c.in-Some.ensures) (c.in_ok-read_piece.ensures.whole seen (c.read_known.ensures.only_read.earlier seen may)) (rw (← c.begin_section.ensures, ← c.u32_at.ensures) shown)

@@ -11,28 +11,28 @@ pub returns-clause-gives : goal.returns-clause-gives
 returns-clause-gives g c =
     told g.H.Host g.met.H.Host.as_told c.args.host.now c.next_seen.new.host
     (λ contents old new. c.args.self.now.refused ≡ None → (rest : List ℕ) → old ≡ Some rest → Answers c.next_seen.result (next_of c.args.self.now.walk rest))
-    c.next_seen.ensures.same_contents c.next_seen.ensures.gives
+    c.next_seen.ensures.only_read.files c.next_seen.ensures.gives
 
 pub returns-clause-unopened : goal.returns-clause-unopened
 returns-clause-unopened g c =
     told g.H.Host g.met.H.Host.as_told c.args.host.now c.next_seen.new.host
     (λ contents old new. c.args.self.now.refused ≡ None → IsUnopened contents old → Answers c.next_seen.result (Ends Clean))
-    c.next_seen.ensures.same_contents c.next_seen.ensures.unopened
+    c.next_seen.ensures.only_read.files c.next_seen.ensures.unopened
 
 pub returns-clause-takes : goal.returns-clause-takes
 returns-clause-takes g c =
     told g.H.Host g.met.H.Host.as_told c.args.host.now c.next_seen.new.host
     (λ contents old new. IfOk c.next_seen.result (λ given. IfSome given (λ r. TakesRecord c.args.self.now c.next_seen.new.self r old new)))
-    c.next_seen.ensures.same_contents c.next_seen.ensures.takes
+    c.next_seen.ensures.only_read.files c.next_seen.ensures.takes
 
 pub returns-clause-ended : goal.returns-clause-ended
 returns-clause-ended g c =
     told g.H.Host g.met.H.Host.as_told c.args.host.now c.next_seen.new.host
     (λ contents old new. IfOk c.next_seen.result (λ given. IfNone given (TakesBlocks c.args.self.now c.next_seen.new.self old new)))
-    c.next_seen.ensures.same_contents c.next_seen.ensures.ended
+    c.next_seen.ensures.only_read.files c.next_seen.ensures.ended
 
 pub returns-clause-partial : goal.returns-clause-partial
 returns-clause-partial g c =
     told g.H.Host g.met.H.Host.as_told c.args.host.now c.next_seen.new.host
     (λ contents old new. c.args.self.now.refused ≡ None → IfErr c.next_seen.result (λ why. TakesNone c.args.self.now why old new))
-    c.next_seen.ensures.same_contents c.next_seen.ensures.partial
+    c.next_seen.ensures.only_read.files c.next_seen.ensures.partial
