@@ -8,8 +8,10 @@ use Rattle.byteorder.specs.Endian.{big_from, little_from}
 use Rattle.byteorder.specs.Numbers.{big_from-take, little_from-take}
 use Rattle.pcap_input.specs.declared.capture.CaptureHead.{CaptureHead}
 use Rattle.pcap_input.specs.declared.capture.Record.{Record}
+use Rattle.pcap_input.specs.declared.capture.CaptureFault.{CaptureFault}
 use Rattle.pcap_input.specs.declared.capture.CaptureFault.TheVariants.{Truncated, TooLong, TooMany}
-use Rattle.pcap_input.specs.Savefile.{number_at, head_behind, head_of, captured_length, record_of, Ending, Clean, Refused, Next, Ends, Stands, next_behind, next_of}
+use Rattle.pcap_input.specs.Cut.{Ending, Clean, Refused}
+use Rattle.pcap_input.specs.Savefile.{number_at, head_behind, head_of, captured_length, record_of, Next, Ends, Stands, next_behind, next_of}
 
 -- a number depends on its own bytes alone
 pub number_at-append : (swapped : Bool) (place count : ℕ) (front back : List ℕ) → place + count ≤ length front
@@ -47,7 +49,7 @@ head_of-append front back long =
     rw (longer, as_long, least, most, a, b, c, d) refl
 
 -- where a record stands, a test that ends the capture doesn't hold
-not_ended : (test : Bool) (ending : Ending) (next : Next) (given : Record) (rest : List ℕ) → (if test then Ends ending else next) ≡ Stands given rest → (test ≡ false) × (next ≡ Stands given rest)
+not_ended : (test : Bool) (ending : Ending CaptureFault) (next : Next) (given : Record) (rest : List ℕ) → (if test then Ends ending else next) ≡ Stands given rest → (test ≡ false) × (next ≡ Stands given rest)
 not_ended true ending next given rest is = cc
 not_ended false ending next given rest is = (refl, is)
 
@@ -156,13 +158,13 @@ next_of_truncated head number place bytes some fewer few =
     rw (one, two, three) refl
 
 -- fewer bytes than a header hold no record
-pub next_of_few : (head : CaptureHead) (number place : ℕ) (bytes : List ℕ) → length bytes < 16 → (ending : Ending) × (next_of head number place bytes ≡ Ends ending)
+pub next_of_few : (head : CaptureHead) (number place : ℕ) (bytes : List ℕ) → length bytes < 16 → (ending : Ending CaptureFault) × (next_of head number place bytes ≡ Ends ending)
 unfolding next_of
 next_of_few head number place bytes fewer =
     let three : nat_lt (length bytes) 16 ≡ true = grind (arith, nat_tests) in
-    elim (length bytes == 0) as (λ test. (ending : Ending) × ((if test then Ends Clean else if nat_le 4294967295 number then Ends (Refused TooMany) else if nat_lt (length bytes) 16 then Ends (Refused (Truncated place)) else next_behind head number place (take 16 bytes) (drop 16 bytes)) ≡ Ends ending)) [
+    elim (length bytes == 0) as (λ test. (ending : Ending CaptureFault) × ((if test then Ends Clean else if nat_le 4294967295 number then Ends (Refused TooMany) else if nat_lt (length bytes) 16 then Ends (Refused (Truncated place)) else next_behind head number place (take 16 bytes) (drop 16 bytes)) ≡ Ends ending)) [
       | true ↦ (Clean, refl)
-      | false ↦ elim (nat_le 4294967295 number) as (λ test. (ending : Ending) × ((if test then Ends (Refused TooMany) else if nat_lt (length bytes) 16 then Ends (Refused (Truncated place)) else next_behind head number place (take 16 bytes) (drop 16 bytes)) ≡ Ends ending)) [
+      | false ↦ elim (nat_le 4294967295 number) as (λ test. (ending : Ending CaptureFault) × ((if test then Ends (Refused TooMany) else if nat_lt (length bytes) 16 then Ends (Refused (Truncated place)) else next_behind head number place (take 16 bytes) (drop 16 bytes)) ≡ Ends ending)) [
         | true ↦ (Refused TooMany, refl)
         | false ↦ (Refused (Truncated place), rw three refl)
       ]

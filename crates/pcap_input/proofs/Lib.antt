@@ -1,3 +1,4 @@
+pub mod Cuts
 pub mod Filling
 pub mod Told
 pub mod Laws

@@ -3,9 +3,12 @@ use Rattle.std.proofs.Common.{◌≡◌, ℕ, zero, suc, ◌+◌, ◌^◌, ◌<�
 use Rattle.std.specs.Prelude.{codes, if◌then◌else◌}
 use Rattle.std.proofs.lemmas.List.{length-drop, drop_at}
 use Rattle.byteorder.specs.Numbers.{little_number-reads_back}
-use Rattle.pcap_input.specs.Savefile.{Cut, Clean, Stands, captured_length, head_behind, head_of, head_with, most_records, number_at, next_of, place_behind, records_left, record_of}
+use Rattle.pcap_input.specs.declared.capture.Record.{Record}
+use Rattle.pcap_input.specs.declared.capture.CaptureFault.{CaptureFault}
+use Rattle.pcap_input.specs.Cut.{Cut, Clean, IsWhole}
+use Rattle.pcap_input.specs.Savefile.{Stands, captured_length, head_behind, head_of, head_with, most_records, number_at, next_of, place_behind, records_left, record_of}
 use Rattle.pcap_input.specs.Frames.{ip_fields, ip_header, tcp_fields, tcp_header, udp_header, frame, tcp_frame, udp_frame}
-use Rattle.pcap_input.specs.Generated.{IsWholeCut, capture_of, draw, first_traffic, frames, generated, has_payload, header_bytes, letters, made, made_cut, made_datagram, made_head, made_of_session, made_segment, marked, payload_at, payload_drawn, record_bytes, record_fields, records_from, step, text_drawn, with_state}
+use Rattle.pcap_input.specs.Generated.{capture_of, draw, first_traffic, frames, generated, has_payload, header_bytes, letters, made, made_cut, made_datagram, made_head, made_of_session, made_segment, marked, payload_at, payload_drawn, record_bytes, record_fields, records_from, step, text_drawn, with_state}
 use Rattle.pcap_input.proofs.Laws.{bytes_stand, head_of-append, next_of_header, next_of_nothing}
 use Rattle.pcap_input.proofs.Making.{text-short}
 use Rattle.pcap_input.proofs.Records.{records_left-ends, records_left-stands}
@@ -90,11 +93,11 @@ record_stands number place millis bytes more few short =
     ∙ next_of_header made_head number place fields (bytes ++ more) (fields_long millis (length bytes)) few
     ∙ bytes_stand made_head number place fields bytes more (captured millis (length bytes) (omega arith)) (omega arith)
 
-records_whole : (count number place millis : ℕ) (traffic : _) → number + count ≤ 4294967295 → IsWholeCut count (records_left made_head number place (records_from millis (frames count traffic)))
+records_whole : (count number place millis : ℕ) (traffic : _) → number + count ≤ 4294967295 → IsWhole count (records_left made_head number place (records_from millis (frames count traffic)))
 unfolding frames records_from
 records_whole zero number place millis traffic few =
     let none = records_left-ends made_head number place [] Clean (next_of_nothing made_head number place) in
-    record { count_is = ap (λ (cut : Cut). length cut.records) none; clean = ap (λ (cut : Cut). cut.ending) none }
+    record { count_is = ap (λ (cut : Cut Record CaptureFault). length cut.records) none; clean = ap (λ (cut : Cut Record CaptureFault). cut.ending) none }
 records_whole (suc count) number place millis traffic few =
     let bytes = (made traffic).frame in
     let more = records_from (millis + 1) (frames count (made traffic).behind) in
@@ -102,14 +105,14 @@ records_whole (suc count) number place millis traffic few =
     let is = records_left-stands made_head number place (record_bytes millis bytes ++ more) first more (record_stands number place millis bytes more (omega arith) (made_short traffic)) in
     let later = records_whole count (number + 1) (place_behind place first) (millis + 1) (made traffic).behind (omega arith) in
     record {
-      count_is = ap (λ (cut : Cut). length cut.records) is ∙ ap suc later.count_is;
-      clean = ap (λ (cut : Cut). cut.ending) is ∙ later.clean;
+      count_is = ap (λ (cut : Cut Record CaptureFault). length cut.records) is ∙ ap suc later.count_is;
+      clean = ap (λ (cut : Cut Record CaptureFault). cut.ending) is ∙ later.clean;
     }
 
 -- behind the file header so many records stand, up to a clean ending
-pub made_cut-whole : (seed count : ℕ) → count ≤ most_records → IsWholeCut count (made_cut seed count)
+pub made_cut-whole : (seed count : ℕ) → count ≤ most_records → IsWhole count (made_cut seed count)
 unfolding generated capture_of
 made_cut-whole seed count few =
     let frames_are = frames count (first_traffic seed) in
     let behind : drop 24 (generated seed count) ≡ records_from 0 frames_are = drop_at header_bytes (records_from 0 frames_are) 24 refl in
-    subst (λ (rest : List ℕ). IsWholeCut count (records_left made_head 0 24 rest)) (sym behind) (records_whole count 0 24 0 (first_traffic seed) (omega arith))
+    subst (λ (rest : List ℕ). IsWhole count (records_left made_head 0 24 rest)) (sym behind) (records_whole count 0 24 0 (first_traffic seed) (omega arith))

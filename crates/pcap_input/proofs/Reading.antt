@@ -1,17 +1,19 @@
 -- The steps of reading several records, one lemma for each answer of `next`, and what follows from them.
-use Rattle.std.proofs.Common.{◌≡◌, ℕ, List, [], ◌∷◌, ◌++◌, Option, Some, None, Ok, Err, take, drop, refl, sym, ap, subst, append_assoc, ◌∙◌}
+use Rattle.std.proofs.Common.{◌≡◌, ℕ, List, [], ◌∷◌, ◌++◌, Option, Some, None, Ok, Err, refl, sym, ap, subst, append_assoc, ◌∙◌}
 use Rattle.std.proofs.lemmas.List.{append-nil}
 use Rattle.edge_io.specs.Told.{before}
 use Rattle.edge_io.proofs.Told.{before-nil, before-before}
 use Rattle.pcap_input.specs.declared.capture.Record.{Record}
 use Rattle.pcap_input.specs.declared.capture.CaptureFault.{CaptureFault}
 use Rattle.pcap_input.specs.declared.capture.CaptureFault.TheVariants as fault
-use Rattle.pcap_input.specs.Savefile.{Cut, Ending, Clean, Refused, Next, Ends, next_of, with_first}
+use Rattle.pcap_input.specs.Cut.{Cut, Ending, Clean, Refused, with_front}
+use Rattle.pcap_input.specs.Savefile.{Ends, next_of}
 use Rattle.pcap_input.specs.Reader.{Reading, after_next, Gives, TakesRecord, TakesNone}
-use Rattle.pcap_input.specs.Reading.{cut_for, with_front, HasRead, AreWhole, EndsWith, IsRefusedBy}
+use Rattle.pcap_input.specs.Reading.{cut_for, HasRead, AreWhole, EndsWith, IsRefusedBy}
+use Rattle.pcap_input.proofs.Cuts.{front_of_front, front_of_none}
 use Rattle.pcap_input.proofs.Laws.{next_of_nothing}
 use Rattle.pcap_input.proofs.Records.{records_left-ends, records_left-stands, shows_ending}
-use Rattle.pcap_input.proofs.Told.{Split, split_told}
+use Rattle.pcap_input.proofs.Told.{split_told}
 
 -- nothing was read yet
 pub reading-start : (reader : Reading) (left : Option (List ℕ)) → reader.refused ≡ None → HasRead reader reader [] left left
@@ -29,7 +31,7 @@ reading-joined first middle last front back left_first left_middle left_last one
       ap (cut_for first) (append_assoc one.taken two.taken more)
       ∙ one.cut (two.taken ++ more)
       ∙ ap (with_front front) (two.cut more)
-      ∙ ap (λ (records : List Record). record { records = records; ending = (cut_for last more).ending }) (sym (append_assoc front back (cut_for last more).records));
+      ∙ front_of_front front back (cut_for last more);
 }
 
 -- one record was given
@@ -60,12 +62,12 @@ reading-told first reader given left_first left whole so_far told =
     (split.rest, split.still, ap (cut_for first) split.joined ∙ so_far.cut split.rest)
 
 -- no record stands next behind them
-front_ends : (first reader : Reading) (given : List Record) (left_first left : Option (List ℕ)) (so_far : HasRead first reader given left_first left) (rest : List ℕ) (ending : Ending)
+front_ends : (first reader : Reading) (given : List Record) (left_first left : Option (List ℕ)) (so_far : HasRead first reader given left_first left) (rest : List ℕ) (ending : Ending CaptureFault)
     → next_of reader.head reader.number reader.at rest ≡ Ends ending → cut_for first (so_far.taken ++ rest) ≡ record { records = given; ending = ending }
 front_ends first reader given left_first left so_far rest ending ends =
     so_far.cut rest
     ∙ ap (with_front given) (records_left-ends reader.head reader.number reader.at rest ending ends)
-    ∙ ap (λ (records : List Record). let cut : Cut = record { records = records; ending = ending } in cut) (append-nil given)
+    ∙ front_of_none given ending
 
 -- the records that were given so far are those that are whole within what was taken
 pub reading-whole : (first reader : Reading) (given : List Record) (left_first left : Option (List ℕ)) → HasRead first reader given left_first left → AreWhole first given left_first left
@@ -73,7 +75,7 @@ reading-whole first reader given left_first left so_far = record {
   taken = so_far.taken;
   took = so_far.took;
   are = ap (λ (bytes : List ℕ). (cut_for first bytes).records) (sym (append-nil so_far.taken))
-      ∙ ap (λ (cut : Cut). cut.records) (front_ends first reader given left_first left so_far [] Clean (next_of_nothing reader.head reader.number reader.at));
+      ∙ ap (λ (cut : Cut Record CaptureFault). cut.records) (front_ends first reader given left_first left so_far [] Clean (next_of_nothing reader.head reader.number reader.at));
 }
 
 -- reading was refused, failed or lacked memory: no further record is whole within what was taken
@@ -84,11 +86,11 @@ reading-stopped first reader given why left_first left left_next so_far takes =
     record {
       taken = so_far.taken ++ takes.taken;
       took = so_far.took ∙ ap (before so_far.taken) takes.took ∙ before-before so_far.taken takes.taken left_next;
-      are = ap (λ (cut : Cut). cut.records) (front_ends first reader given left_first left so_far takes.taken shown.0 shown.1);
+      are = ap (λ (cut : Cut Record CaptureFault). cut.records) (front_ends first reader given left_first left so_far takes.taken shown.0 shown.1);
     }
 
 -- what stands next for the reader, where that is told, is this ending
-ends_with : (first reader : Reading) (given : List Record) (left_first left : Option (List ℕ)) (ending : Ending)
+ends_with : (first reader : Reading) (given : List Record) (left_first left : Option (List ℕ)) (ending : Ending CaptureFault)
     → HasRead first reader given left_first left → ((rest : List ℕ) → left ≡ Some rest → next_of reader.head reader.number reader.at rest ≡ Ends ending) → EndsWith first given left_first ending
 ends_with first reader given left_first left ending so_far ends whole told =
     let split = split_told left_first left so_far.taken whole so_far.took told in

@@ -6,7 +6,8 @@ use Rattle.pcap_input.specs.declared.capture.CaptureHead.{CaptureHead}
 use Rattle.pcap_input.specs.declared.capture.Record.{Record}
 use Rattle.pcap_input.specs.declared.capture.CaptureFault.{CaptureFault}
 use Rattle.pcap_input.specs.declared.capture.CaptureFault.TheVariants.{NotPcap, LinkType, Truncated, TooLong, TooMany, Failed, NoMemory}
-use Rattle.pcap_input.specs.Savefile.{captured_length, record_of, Ending, Refused, Next, Ends, Stands, next_of, Cut, no_more, with_first, place_behind, cut_up, records_left}
+use Rattle.pcap_input.specs.Cut.{Ending, Refused, Cut, no_more, with_first}
+use Rattle.pcap_input.specs.Savefile.{captured_length, record_of, Next, Ends, Stands, next_of, place_behind, cut_up, records_left}
 use Rattle.pcap_input.specs.Reader.{Shows}
 use Rattle.pcap_input.proofs.Laws.{behind_means, bytes_stand, next_means, next_of_header}
 
@@ -54,7 +55,7 @@ stands_parts head number place bytes given rest is =
     }
 
 -- one more step of a cut
-cut_on : ℕ → CaptureHead → ℕ → ℕ → Next → Cut
+cut_on : ℕ → CaptureHead → ℕ → ℕ → Next → Cut Record CaptureFault
 cut_on most head number place (Ends ending) = no_more ending
 cut_on most head number place (Stands first more) = with_first first (cut_up most head (number + 1) (place_behind place first) more)
 
@@ -87,7 +88,7 @@ enough (suc some) (suc more_steps) head number place rest fits fits_more =
     ∙ sym (cut_up-suc more_steps head number place rest next refl)
 
 -- what is left is the ending where that stands next
-pub records_left-ends : (head : CaptureHead) (number place : ℕ) (rest : List ℕ) (ending : Ending) → next_of head number place rest ≡ Ends ending
+pub records_left-ends : (head : CaptureHead) (number place : ℕ) (rest : List ℕ) (ending : Ending CaptureFault) → next_of head number place rest ≡ Ends ending
     → records_left head number place rest ≡ no_more ending
 unfolding records_left cut_on
 records_left-ends head number place rest ending is =
@@ -106,7 +107,7 @@ records_left-stands head number place rest first more is =
     ∙ ap (with_first first) (enough (length rest) (length more + 1) head (number + 1) (place_behind place first) more (omega arith) (omega arith))
 
 -- bytes that hold a refusal, or that memory lacked for or a host failed at, hold no record
-pub shows_ending : (why : CaptureFault) (next : Next) → Shows why next → (ending : Ending) × (next ≡ Ends ending)
+pub shows_ending : (why : CaptureFault) (next : Next) → Shows why next → (ending : Ending CaptureFault) × (next ≡ Ends ending)
 shows_ending NotPcap next shows = (Refused NotPcap, shows)
 shows_ending (LinkType link_type) next shows = (Refused (LinkType link_type), shows)
 shows_ending (Truncated at) next shows = (Refused (Truncated at), shows)

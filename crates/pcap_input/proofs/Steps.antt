@@ -8,7 +8,8 @@ use Rattle.pcap_input.specs.declared.capture.Record.{Record}
 use Rattle.pcap_input.specs.declared.capture.CaptureFault.{CaptureFault}
 use Rattle.pcap_input.specs.declared.capture.CaptureFault.TheVariants.{NotPcap, LinkType, Truncated, TooLong, TooMany, Failed, NoMemory}
 use Rattle.edge_io.specs.declared.moment.Moment.{Moment}
-use Rattle.pcap_input.specs.Savefile.{number_at, moment_of, captured_length, record_of, Clean, Refused, Next, Ends, Stands, next_behind, next_of}
+use Rattle.pcap_input.specs.Cut.{Clean, Refused}
+use Rattle.pcap_input.specs.Savefile.{number_at, moment_of, captured_length, record_of, Next, Ends, Stands, next_behind, next_of}
 use Rattle.pcap_input.specs.Reader.{reader_at, Gives, Shows, TakesRecord, TakesNone}
 use Rattle.pcap_input.specs.Pieces.{GivesOne, TakesBytes, TakesFewer, TakesLess}
 use Rattle.pcap_input.proofs.Told.{split_told, all_taken, none_taken}

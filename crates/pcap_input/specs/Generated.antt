@@ -13,7 +13,9 @@ use Rattle.std.specs.Prelude.{◌≡◌, ℕ, zero, suc, ◌+◌, ◌*◌, ◌/�
 use Rattle.std.specs.List.{range_with_len}
 use Rattle.byteorder.specs.Endian.{little_bytes}
 use Rattle.edge_io.specs.declared.link.Link.TheVariants.{Ethernet}
+use Rattle.pcap_input.specs.declared.capture.CaptureFault.{CaptureFault}
 use Rattle.pcap_input.specs.declared.capture.CaptureHead.{CaptureHead}
+use Rattle.pcap_input.specs.declared.capture.Record.{Record}
 use Rattle.pcap_input.specs.declared.frames.Endpoint.{Endpoint}
 use Rattle.pcap_input.specs.declared.frames.Segment.{Segment}
 use Rattle.pcap_input.specs.declared.traffic.Session.{Session}
@@ -21,7 +23,8 @@ use Rattle.pcap_input.specs.declared.traffic.Traffic.{Traffic}
 use Rattle.pcap_input.specs.declared.traffic.Turn.{Turn}
 use Rattle.pcap_input.specs.declared.traffic.Turn.TheVariants.{Syn, SynAck, Established, Data, DataAck}
 use Rattle.pcap_input.specs.Frames.{tcp_frame, udp_frame}
-use Rattle.pcap_input.specs.Savefile.{Clean, Cut, file_header, records_left}
+use Rattle.pcap_input.specs.Cut.{Cut}
+use Rattle.pcap_input.specs.Savefile.{file_header, records_left}
 
 -- the state behind this one
 abbrev pub step : ℕ → ℕ
@@ -218,10 +221,5 @@ abbrev pub made_head : CaptureHead
 made_head = record { link = Ethernet; swapped = false; nanos = false }
 
 -- what stands behind its file header
-abbrev pub made_cut : ℕ → ℕ → Cut
+abbrev pub made_cut : ℕ → ℕ → Cut Record CaptureFault
 made_cut seed count = records_left made_head 0 file_header (drop file_header (generated seed count))
-
--- so many records, and a clean ending
-pub record IsWholeCut (count : ℕ) (cut : Cut) : Type 0 where
-  pub count_is : length cut.records ≡ count
-  pub clean : cut.ending ≡ Clean

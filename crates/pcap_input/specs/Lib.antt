@@ -1,3 +1,4 @@
+pub mod Cut
 pub mod Savefile
 pub mod Reader
 pub mod Pieces

@@ -8,7 +8,8 @@ use Rattle.pcap_input.specs.declared.capture.CaptureHead.{CaptureHead}
 use Rattle.pcap_input.specs.declared.capture.Record.{Record}
 use Rattle.pcap_input.specs.declared.capture.CaptureFault.{CaptureFault}
 use Rattle.pcap_input.specs.declared.capture.CaptureFault.TheVariants as fault
-use Rattle.pcap_input.specs.Savefile.{file_header, head_of, Refused, Next, Ends, Stands, next_behind}
+use Rattle.pcap_input.specs.Cut.{Refused}
+use Rattle.pcap_input.specs.Savefile.{file_header, head_of, Next, Ends, Stands, next_behind}
 use Rattle.pcap_input.specs.Reader.{Shows}
 
 -- the answer is the head or its refusal, unless the host failed

@@ -13,7 +13,8 @@ use Rattle.pcap_input.specs.declared.capture.CaptureHead.{CaptureHead}
 use Rattle.pcap_input.specs.declared.capture.Record.{Record}
 use Rattle.pcap_input.specs.declared.capture.CaptureFault.{CaptureFault}
 use Rattle.pcap_input.specs.declared.capture.CaptureFault.TheVariants as fault
-use Rattle.pcap_input.specs.Savefile.{file_header, record_header, head_of, Ending, Clean, Refused, Next, Ends, Stands, next_of, place_behind}
+use Rattle.pcap_input.specs.Cut.{Ending, Clean, Refused}
+use Rattle.pcap_input.specs.Savefile.{file_header, record_header, head_of, Next, Ends, Stands, next_of, place_behind}
 
 -- a reader: its head, how many records it has given, where it stands, and what it has refused
 pub record Reading : Type 0 where
@@ -93,8 +94,8 @@ pub record TakesRecord (reader : Reading) (given : Record) (old new : Option (Li
 
 -- these bytes alone show the refusal; where memory lacked or the host failed, they hold no record
 abbrev pub Shows : CaptureFault → Next → Type 0
-Shows fault.NoMemory next = (ending : Ending) × (next ≡ Ends ending)
-Shows fault.Failed next = (ending : Ending) × (next ≡ Ends ending)
+Shows fault.NoMemory next = (ending : Ending CaptureFault) × (next ≡ Ends ending)
+Shows fault.Failed next = (ending : Ending CaptureFault) × (next ≡ Ends ending)
 Shows why next = next ≡ Ends (Refused why)
 
 -- no record is whole within the bytes that were taken, and they show the refusal

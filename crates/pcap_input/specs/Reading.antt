@@ -10,16 +10,13 @@ use Rattle.edge_io.specs.Told.{before}
 use Rattle.pcap_input.specs.declared.capture.Record.{Record}
 use Rattle.pcap_input.specs.declared.capture.CaptureFault.{CaptureFault}
 use Rattle.pcap_input.specs.declared.capture.CaptureFault.TheVariants as fault
-use Rattle.pcap_input.specs.Savefile.{Cut, Ending, Refused, records_left}
+use Rattle.pcap_input.specs.Cut.{Cut, Ending, Refused, with_front}
+use Rattle.pcap_input.specs.Savefile.{records_left}
 use Rattle.pcap_input.specs.Reader.{Reading}
 
 -- the records and the ending that these bytes hold for a reader
-abbrev pub cut_for : Reading → List ℕ → Cut
+abbrev pub cut_for : Reading → List ℕ → Cut Record CaptureFault
 cut_for reader rest = records_left reader.head reader.number reader.at rest
-
--- some records, and then what is cut up behind them
-abbrev pub with_front : List Record → Cut → Cut
-with_front given cut = record { records = given ++ cut.records; ending = cut.ending }
 
 -- The first reader has become the second, and has not refused: it took some bytes and gave these
 -- records; whatever follows, the rest of the records and the ending are the second one's.
@@ -37,7 +34,7 @@ pub record AreWhole (first : Reading) (given : List Record) (left_first left : O
   pub are : (cut_for first taken).records ≡ given
 
 -- where the bytes that were left are told, these are all their records, and this is their ending
-abbrev pub EndsWith : Reading → List Record → Option (List ℕ) → Ending → Type 0
+abbrev pub EndsWith : Reading → List Record → Option (List ℕ) → Ending CaptureFault → Type 0
 EndsWith first given left_first ending = (whole : List ℕ) → left_first ≡ Some whole
     → cut_for first whole ≡ record { records = given; ending = ending }
 

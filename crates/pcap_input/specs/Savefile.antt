@@ -9,13 +9,14 @@
 -- head Ethernet, least significant byte first, microseconds, no record and a clean ending; with one
 -- byte behind them the ending is Truncated at 24; without the last of them the head is refused as
 -- Truncated at 0.
-use Rattle.std.specs.Prelude.{◌≤◌, ℕ, zero, suc, ◌+◌, ◌*◌, ◌%◌, ◌==◌, nat_lt, nat_le, Bool, true, false, if◌then◌else◌, List, [], ◌∷◌, length, take, drop, Option, Some, None, Result, Ok, Err}
+use Rattle.std.specs.Prelude.{◌≤◌, ℕ, zero, suc, ◌+◌, ◌*◌, ◌%◌, ◌==◌, nat_lt, nat_le, Bool, true, false, if◌then◌else◌, List, length, take, drop, Option, Result, Ok, Err}
 use Rattle.byteorder.specs.Endian.{big_from, little_from}
 use Rattle.edge_io.specs.declared.link.Link.TheVariants.{Ethernet, RawIp, Cooked}
 use Rattle.pcap_input.specs.declared.capture.CaptureHead.{CaptureHead}
 use Rattle.pcap_input.specs.declared.capture.Record.{Record}
 use Rattle.pcap_input.specs.declared.capture.CaptureFault.{CaptureFault}
 use Rattle.pcap_input.specs.declared.capture.CaptureFault.TheVariants.{NotPcap, LinkType, Truncated, TooLong, TooMany, Failed, NoMemory}
+use Rattle.pcap_input.specs.Cut.{Ending, Clean, Refused, Cut, no_more, with_first, first_records}
 
 -- the bytes of the file header
 abbrev pub file_header : ℕ
@@ -89,14 +90,9 @@ record_of head number header bytes = record {
   bytes = bytes;
 }
 
--- how a capture ends: at its end or at a limit, or at what can't be read
-pub data Ending : Type 0 where
-  Clean : Ending
-  Refused : CaptureFault → Ending
-
 -- what stands at a place: the ending, or a record and the bytes behind it
 pub data Next : Type 0 where
-  Ends : Ending → Next
+  Ends : Ending CaptureFault → Next
   Stands : Record → List ℕ → Next
 
 -- what stands where these bytes of a record header stand at `place`, before these bytes
@@ -114,25 +110,12 @@ next_of head number place rest =
     if nat_lt (length rest) record_header then Ends (Refused (Truncated place)) else
     next_behind head number place (take record_header rest) (drop record_header rest)
 
--- records in order, and the ending behind them
-pub record Cut : Type 0 where
-  pub records : List Record
-  pub ending : Ending
-
--- no record, and this ending
-abbrev pub no_more : Ending → Cut
-no_more ending = record { records = []; ending = ending }
-
--- a record, and then these
-abbrev pub with_first : Record → Cut → Cut
-with_first first cut = record { records = first ∷ cut.records; ending = cut.ending }
-
 -- the place behind a record that begins at this place
 abbrev pub place_behind : ℕ → Record → ℕ
 place_behind place record_here = place + record_header + length record_here.bytes
 
 -- at most `most` records, one behind the other, and then the ending
-unfoldable pub cut_up : ℕ → CaptureHead → ℕ → ℕ → List ℕ → Cut
+unfoldable pub cut_up : ℕ → CaptureHead → ℕ → ℕ → List ℕ → Cut Record CaptureFault
 cut_up zero head number place rest = no_more Clean
 cut_up (suc most) head number place rest =
     elim (next_of head number place rest) [
@@ -142,19 +125,13 @@ cut_up (suc most) head number place rest =
 
 -- the records and the ending of these bytes, which stand behind `number` records at `place`: there
 -- are fewer records than bytes, so all of them
-unfoldable pub records_left : CaptureHead → ℕ → ℕ → List ℕ → Cut
+unfoldable pub records_left : CaptureHead → ℕ → ℕ → List ℕ → Cut Record CaptureFault
 records_left head number place rest = cut_up (length rest + 1) head number place rest
-
--- the first records where there is a limit, which is then a clean ending; all where it isn't reached
-unfoldable pub first_records : Option ℕ → Cut → Cut
-first_records None cut = cut
-first_records (Some limit) cut =
-    if nat_le limit (length cut.records) then record { records = take limit cut.records; ending = Clean } else cut
 
 -- a whole capture
 pub record Capture : Type 0 where
   pub head : CaptureHead
-  pub cut : Cut
+  pub cut : Cut Record CaptureFault
 
 -- the capture that these bytes are, up to the limit where there is one, or why its head is refused
 unfoldable pub savefile : List ℕ → Option ℕ → Result Capture CaptureFault

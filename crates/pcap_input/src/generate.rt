@@ -1,5 +1,6 @@
 ghost use Rattle.std.specs.Prelude.{◌≡◌, ℕ, ◌++◌, ◌<◌, ◌≤◌, length, IfOk, Ok};
-ghost use Rattle.pcap_input.specs.Generated.{record_fields, record_bytes, generated, IsWholeCut, made_cut, made_head};
+ghost use Rattle.pcap_input.specs.Cut.{IsWhole};
+ghost use Rattle.pcap_input.specs.Generated.{record_fields, record_bytes, generated, made_cut, made_head};
 ghost use Rattle.pcap_input.specs.Savefile.{head_of, most_records};
 
 use crate::header::{FILE_HEADER, RECORD_HEADER};
@@ -35,7 +36,7 @@ pub fn make_capture(alloc: Global, seed: u32, count: u32) -> Result<Vec<u8>, NoM
 /// significant byte first; behind its file header stand as many records as were asked for, up to a clean ending.
 pub fn made_captures_are_whole()
     ensures head { (seed count : ℕ) → head_of (generated seed count) ≡ Ok made_head }
-    ensures whole { (seed count : ℕ) → count ≤ most_records → IsWholeCut count (made_cut seed count) }
+    ensures whole { (seed count : ℕ) → count ≤ most_records → IsWhole count (made_cut seed count) }
 {}
 
 /// The header of the record of a frame of `size` bytes at so many milliseconds.

@@ -2,7 +2,8 @@ ghost use Rattle.std.specs.Prelude.{◌≡◌, ◌+◌, ◌*◌, ◌<◌, ◌≤
 ghost use Rattle.edge_io.specs.Frames.{OnlyRead};
 ghost use Rattle.edge_io.specs.Told.{before, one_more, Rose};
 ghost use Rattle.edge_io.specs.Files.{Files, Lacks, IsUnopened, MaySee, left_by};
-ghost use Rattle.pcap_input.specs.Savefile.{file_header, record_header, longest, most_records, IsReachable, Clean, Ends, head_of, next_of, next_behind};
+ghost use Rattle.pcap_input.specs.Cut.{Clean};
+ghost use Rattle.pcap_input.specs.Savefile.{file_header, record_header, longest, most_records, IsReachable, Ends, head_of, next_of, next_behind};
 ghost use Rattle.pcap_input.specs.Reader.{reader_at, after_next, after_refusal, Opens, Tells, TakesHead, IsOfHead, Gives, TakesRecord, TakesNone};
 ghost use Rattle.pcap_input.specs.Pieces.{Reads, TakesFileHeader, GivesOne, TakesBytes, TakesFewer, TakesLess};
 

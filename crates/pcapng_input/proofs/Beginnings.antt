@@ -12,7 +12,8 @@ use Rattle.pcapng_input.specs.declared.content.Content.TheVariants as content
 use Rattle.pcapng_input.specs.declared.resolution.Resolution.{Resolution}
 use Rattle.pcapng_input.specs.declared.walk.Walk.{Walk}
 use Rattle.pcapng_input.specs.Options.{resolution_told}
-use Rattle.pcapng_input.specs.Blocks.{section_type, Ending, Step, Stops, Skips, Gives, Clean, front_length, is_sized, inner_length, order_of, new_section, content_of, given_by, closing, fronted, known, section_block, other_block, section_begun, begun, is_full, step_of, Next, Ends, Stands, next_along, next_of, records_left}
+use Rattle.pcap_input.specs.Cut.{Ending, Clean}
+use Rattle.pcapng_input.specs.Blocks.{section_type, Step, Stops, Skips, Gives, front_length, is_sized, inner_length, order_of, new_section, content_of, given_by, closing, fronted, known, section_block, other_block, section_begun, begun, is_full, step_of, Next, Ends, Stands, next_along, next_of, records_left}
 use Rattle.pcapng_input.proofs.Stages.{IsBehind}
 use Rattle.pcapng_input.proofs.Closing.{closing_cuts, closing_whole, given-interface, given-no_resolution}
 use Rattle.pcapng_input.proofs.Begins.{fronted-err, fronted-ok, known_bad, known_cuts, known_fronted, section_cuts, section_none, section_known, begun_section, begun_other, step_nothing, step_full, step_cut, step_begun}
@@ -37,7 +38,7 @@ local_behind : (stage next : List ℕ → Step) (front rest whole : List ℕ) �
 local_behind stage next front rest whole is joined local =
     subst (IsLocal stage whole) (sym (ap stage joined ∙ is rest)) (local_by stage next front rest whole (next rest) is joined local)
 
-local_ends : (stage : List ℕ → Step) (whole : List ℕ) (ending : Ending) → stage whole ≡ Stops ending → IsLocal stage whole (stage whole)
+local_ends : (stage : List ℕ → Step) (whole : List ℕ) (ending : Ending NgFault) → stage whole ≡ Stops ending → IsLocal stage whole (stage whole)
 local_ends stage whole ending is = subst (IsLocal stage whole) (sym is) tt
 
 -- where a stage gives this behind its own bytes, whatever follows

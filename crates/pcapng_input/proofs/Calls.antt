@@ -1,19 +1,20 @@
 -- What the calls of a reader give, one after another, is what the capture's bytes hold.
-use Rattle.std.proofs.Common.{◌≡◌, ℕ, List, [], ◌∷◌, ◌++◌, Option, Some, None, Result, Ok, Err, length, refl, sym, ap, append_assoc, ◌∙◌, ⊎_elim}
+use Rattle.std.proofs.Common.{◌≡◌, ℕ, List, [], ◌∷◌, ◌++◌, Option, Some, None, Result, Ok, Err, length, refl, sym, ap, ◌∙◌, ⊎_elim}
 use Rattle.std.specs.Prelude.{IsErrOf}
-use Rattle.std.proofs.lemmas.List.{append-nil}
 use Rattle.edge_io.specs.Files.{Files}
+use Rattle.pcap_input.proofs.Cuts.{first_records-none, first_records-reached, front_of_front, front_of_none}
 use Rattle.pcap_input.proofs.Told.{split_told}
 use Rattle.pcapng_input.specs.declared.capture.NgRecord.{NgRecord}
 use Rattle.pcapng_input.specs.declared.capture.NgFault.{NgFault}
 use Rattle.pcapng_input.specs.declared.capture.NgFault.TheVariants as fault
-use Rattle.pcapng_input.specs.Blocks.{Ending, Clean, opening, Next, Ends, Stands, next_of, Cut, records_left, first_records, ng_records}
+use Rattle.pcap_input.specs.Cut.{Ending, Clean, Cut, first_records, with_front}
+use Rattle.pcapng_input.specs.Blocks.{opening, Next, Ends, Stands, next_of, records_left, ng_records}
 use Rattle.pcap_input.specs.Reader.{Tells}
 use Rattle.pcapng_input.specs.Reader.{Reading, Opens, TakesHead, Answers}
 use Rattle.pcapng_input.specs.Calls.{IsOpenCall, IsNextCall, IsOfBytes, IsEnding, HasGiven, none, one_more, HasRead, IsBelow, IsLastCall, ReadsCut, ReadsAll, ReadsFirst}
 use Rattle.pcapng_input.proofs.Heads.{tells_opened}
 use Rattle.pcapng_input.proofs.Records.{records_left-ends, records_left-stands}
-use Rattle.pcapng_input.proofs.Endings.{with_front, first_records-none, first_records-reached, first_records-below, ng_records-skips, ng_records-refused}
+use Rattle.pcapng_input.proofs.Endings.{below_limit, ng_records-skips, ng_records-refused}
 
 -- ---- a call of `open`
 
@@ -82,13 +83,13 @@ goes_on first left_first whole fresh told given last left (one_more {given = fro
       still = split.still;
       cut = before.cut
           ∙ ap (with_front front) (records_left-stands old.walk before.rest newest last.walk split.rest stands)
-          ∙ ap (λ (records : List NgRecord). let c : Cut = record { records = records; ending = behind.ending } in c) (sym (append_assoc front (newest ∷ []) behind.records));
+          ∙ front_of_front front (newest ∷ []) behind;
     }
 
 -- ---- the end
 
 -- an answer that is an ending
-next_ends : (answer : Result (Option NgRecord) NgFault) (next : Next) (ending : Ending) → IsEnding answer ending
+next_ends : (answer : Result (Option NgRecord) NgFault) (next : Next) (ending : Ending NgFault) → IsEnding answer ending
     → Answers answer next → next ≡ Ends ending
 next_ends (Ok None) next ending is answers = answers ∙ ap Ends (sym is)
 next_ends (Ok (Some given)) next ending is answers = absurd is
@@ -102,17 +103,17 @@ next_ends (Err fault.Failed) next ending is answers = absurd is.0
 next_ends (Err fault.NoMemory) next ending is answers = absurd is.0
 
 -- the limit was reached behind these records
-reached : (first : Reading) (whole : List ℕ) (cut : Cut) (last : Reading) (left : Option (List ℕ)) (limit : Option ℕ)
+reached : (first : Reading) (whole : List ℕ) (cut : Cut NgRecord NgFault) (last : Reading) (left : Option (List ℕ)) (limit : Option ℕ)
     → GoesOn first whole cut.records last left
     → limit ≡ Some (length cut.records) → cut.ending ≡ Clean → first_records limit (records_left first.walk whole) ≡ cut
 reached first whole cut last left limit on is clean =
     ap (λ (l : Option ℕ). first_records l (records_left first.walk whole)) is
     ∙ ap (first_records (Some (length cut.records))) on.cut
     ∙ first_records-reached cut.records (records_left last.walk on.rest)
-    ∙ ap (λ (ending : Ending). let c : Cut = record { records = cut.records; ending = ending } in c) (sym clean)
+    ∙ ap (λ (ending : Ending NgFault). let c : Cut NgRecord NgFault = record { records = cut.records; ending = ending } in c) (sym clean)
 
 -- one more call gave the ending
-ended : (first : Reading) (whole : List ℕ) (cut : Cut) (last : Reading) (left : Option (List ℕ)) (limit : Option ℕ)
+ended : (first : Reading) (whole : List ℕ) (cut : Cut NgRecord NgFault) (last : Reading) (left : Option (List ℕ)) (limit : Option ℕ)
     → GoesOn first whole cut.records last left
     → IsBelow limit (length cut.records) → IsLastCall last left cut.ending
     → first_records limit (records_left first.walk whole) ≡ cut
@@ -120,8 +121,8 @@ ended first whole cut last left limit on below ends =
     let none_next = next_ends ends.answer (next_of last.walk on.rest) cut.ending ends.ends (ends.call.gives on.fresh on.rest on.still) in
     let all : records_left first.walk whole ≡ cut =
     on.cut ∙ ap (with_front cut.records) (records_left-ends last.walk on.rest cut.ending none_next)
-    ∙ ap (λ (records : List NgRecord). let c : Cut = record { records = records; ending = cut.ending } in c) (append-nil cut.records) in
-    ap (first_records limit) all ∙ first_records-below limit cut below
+    ∙ front_of_none cut.records cut.ending in
+    ap (first_records limit) all ∙ below_limit limit cut below
 
 -- ---- a capture that was opened and read
 
@@ -140,7 +141,7 @@ read-more contents name given old new last left_old left_new read call =
 
 -- ---- the laws
 
-all_cut : (contents : Option Files) (name bytes : List ℕ) (limit : Option ℕ) (cut : Cut) → Tells contents name bytes
+all_cut : (contents : Option Files) (name bytes : List ℕ) (limit : Option ℕ) (cut : Cut NgRecord NgFault) → Tells contents name bytes
     → ReadsCut contents name limit cut → ng_records bytes limit ≡ Ok cut
 all_cut contents name bytes limit cut tells reads =
     let first = reads.read.first in
@@ -167,5 +168,5 @@ reads_first contents name bytes given reader left tells read =
       records_left first.walk behind.rest,
       (records_left reader.walk on.rest).records,
       behind.all None ∙ ap Ok (first_records-none (records_left first.walk behind.rest)),
-      ap (λ (cut : Cut). cut.records) on.cut,
+      ap (λ (cut : Cut NgRecord NgFault). cut.records) on.cut,
     )

@@ -15,7 +15,8 @@ use Rattle.pcapng_input.proofs.Openings.{opening_short, opening_other, opening_c
 use Rattle.pcapng_input.specs.declared.walk.Walk.{Walk}
 use Rattle.pcapng_input.specs.declared.step.BlockRead.{BlockRead}
 use Rattle.pcapng_input.specs.declared.step.BlockRead.TheVariants as read
-use Rattle.pcapng_input.specs.Blocks.{section_type, Clean, Refused, Step, Stops, Skips, Gives, refused, truncated, bad_block, is_sized, inner_length, order_of, first_walk, new_section, section_of, content_of, given_by, closing, fronted, known, section_block, opening}
+use Rattle.pcap_input.specs.Cut.{Clean, Refused}
+use Rattle.pcapng_input.specs.Blocks.{section_type, Step, Stops, Skips, Gives, refused, truncated, bad_block, is_sized, inner_length, order_of, first_walk, new_section, section_of, content_of, given_by, closing, fronted, known, section_block, opening}
 use Rattle.pcapng_input.specs.Steps.{TakesLess, EndsBy, Shows}
 use Rattle.pcap_input.specs.Reader.{Tells}
 use Rattle.pcapng_input.specs.Reader.{reader_at, Opens, ShowsHead, TakesHead, IsOfHead, IsHeadAnswer}

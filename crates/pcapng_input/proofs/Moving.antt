@@ -13,7 +13,8 @@ use Rattle.pcapng_input.specs.declared.content.Content.TheVariants as content
 use Rattle.pcapng_input.specs.declared.resolution.Resolution.{Resolution}
 use Rattle.pcapng_input.specs.declared.walk.Walk.{Walk}
 use Rattle.pcapng_input.specs.Options.{resolution_told}
-use Rattle.pcapng_input.specs.Blocks.{last_place, section_type, Ending, Clean, Step, Stops, Skips, Gives, refused, truncated, bad_block, front_length, is_sized, inner_length, order_of, new_section, content_of, given_by, closing, fronted, known, section_block, other_block, section_begun, begun, is_full, step_of}
+use Rattle.pcap_input.specs.Cut.{Ending, Clean}
+use Rattle.pcapng_input.specs.Blocks.{last_place, section_type, Step, Stops, Skips, Gives, refused, truncated, bad_block, front_length, is_sized, inner_length, order_of, new_section, content_of, given_by, closing, fronted, known, section_block, other_block, section_begun, begun, is_full, step_of}
 use Rattle.pcapng_input.proofs.Sizes.{sized_fits}
 use Rattle.pcapng_input.proofs.Begins.{fronted-err, fronted-ok}
 
@@ -98,7 +99,7 @@ pub gives_on : (walk : Walk) (rest : List ℕ) (given : NgRecord) (behind : Walk
 gives_on walk rest given behind more is = subst (Moves walk.at (length rest)) is (step_moves walk rest)
 
 -- where a test that ends the capture stands before a block that is skipped, it doesn't hold
-not_ended : (test : Bool) (ending : Ending) (step : Step) (behind : Walk) (more : List ℕ) → (if test then Stops ending else step) ≡ Skips behind more → (test ≡ false) × (step ≡ Skips behind more)
+not_ended : (test : Bool) (ending : Ending NgFault) (step : Step) (behind : Walk) (more : List ℕ) → (if test then Stops ending else step) ≡ Skips behind more → (test ≡ false) × (step ≡ Skips behind more)
 not_ended true ending step behind more is = cc
 not_ended false ending step behind more is = (refl, is)
 

@@ -2,7 +2,9 @@
 use Rattle.std.proofs.Common.{◌≡◌, ℕ, zero, suc, ◌+◌, ◌<◌, List, [], length, refl, sym, ap, ◌∙◌, arith}
 use Rattle.pcapng_input.specs.declared.capture.NgRecord.{NgRecord}
 use Rattle.pcapng_input.specs.declared.walk.Walk.{Walk}
-use Rattle.pcapng_input.specs.Blocks.{Ending, Clean, Step, Stops, Skips, Gives, step_of, Next, Ends, Stands, next_along, next_of}
+use Rattle.pcapng_input.specs.declared.capture.NgFault.{NgFault}
+use Rattle.pcap_input.specs.Cut.{Ending, Clean}
+use Rattle.pcapng_input.specs.Blocks.{Step, Stops, Skips, Gives, step_of, Next, Ends, Stands, next_along, next_of}
 use Rattle.pcapng_input.specs.Steps.{HoldsNone}
 use Rattle.pcapng_input.proofs.Begins.{step_nothing}
 use Rattle.pcapng_input.proofs.Moving.{skips_on}
@@ -46,7 +48,7 @@ next_of-on walk rest step is =
     ap (λ (n : ℕ). next_along n walk rest) one ∙ next_along-suc (length rest) walk rest step is
 
 -- the ending, a block that is skipped, and a record
-pub next_of-stops : (walk : Walk) (rest : List ℕ) (ending : Ending) → step_of walk rest ≡ Stops ending → next_of walk rest ≡ Ends ending
+pub next_of-stops : (walk : Walk) (rest : List ℕ) (ending : Ending NgFault) → step_of walk rest ≡ Stops ending → next_of walk rest ≡ Ends ending
 unfolding next_on
 next_of-stops walk rest ending is = next_of-on walk rest (Stops ending) is
 
@@ -70,11 +72,11 @@ pub next_of-same : (one other : Walk) (xs ys : List ℕ) → step_of one xs ≡ 
 next_of-same one other xs ys is = same_by one other xs ys (step_of other ys) is refl
 
 -- bytes that hold no record have an ending
-none_by : (walk : Walk) (bytes : List ℕ) (step : Step) → step_of walk bytes ≡ step → HoldsNone step → (ending : Ending) × (next_of walk bytes ≡ Ends ending)
+none_by : (walk : Walk) (bytes : List ℕ) (step : Step) → step_of walk bytes ≡ step → HoldsNone step → (ending : Ending NgFault) × (next_of walk bytes ≡ Ends ending)
 none_by walk bytes (Stops ending) is none = (ending, next_of-stops walk bytes ending is)
 none_by walk bytes (Gives given behind more) is none = absurd none
 none_by walk bytes (Skips behind more) is none =
     (Clean, next_of-skips walk bytes behind more is ∙ ap (next_of behind) none ∙ next_of-stops behind [] Clean (step_nothing behind))
 
-pub none_ends : (walk : Walk) (bytes : List ℕ) → HoldsNone (step_of walk bytes) → (ending : Ending) × (next_of walk bytes ≡ Ends ending)
+pub none_ends : (walk : Walk) (bytes : List ℕ) → HoldsNone (step_of walk bytes) → (ending : Ending NgFault) × (next_of walk bytes ≡ Ends ending)
 none_ends walk bytes none = none_by walk bytes (step_of walk bytes) refl none

@@ -14,7 +14,8 @@ use Rattle.pcapng_input.specs.declared.resolution.Resolution.{Resolution}
 use Rattle.pcapng_input.specs.declared.walk.Walk.{Walk}
 use Rattle.pcapng_input.specs.Options.{resolution_told}
 use Rattle.pcap_input.specs.Savefile.{most_records}
-use Rattle.pcapng_input.specs.Blocks.{section_type, Ending, Clean, Refused, Step, Stops, Skips, Gives, refused, truncated, bad_block, front_length, is_sized, inner_length, order_of, first_walk, new_section, content_of, given_by, closing, fronted, known, section_block, other_block, section_begun, begun, is_full, step_of, opening, Ends, Stands, next_along, next_of}
+use Rattle.pcap_input.specs.Cut.{Ending, Clean, Refused}
+use Rattle.pcapng_input.specs.Blocks.{section_type, Step, Stops, Skips, Gives, refused, truncated, bad_block, front_length, is_sized, inner_length, order_of, first_walk, new_section, content_of, given_by, closing, fronted, known, section_block, other_block, section_begun, begun, is_full, step_of, opening, Ends, Stands, next_along, next_of}
 use Rattle.pcapng_input.proofs.Begins.{fronted-err, fronted-ok, begun_section, number_front}
 
 -- the number of records behind a step from this number
@@ -87,7 +88,7 @@ step_counts walk rest =
     (either walk.number (nat_lt (length rest) 8) (truncated walk) _ tt (begun_counts walk (take 8 rest) (drop 8 rest))))
 
 -- where a test that ends the capture stands before a record, it doesn't hold
-not_ended : (test : Bool) (ending : Ending) (step : Step) (given : NgRecord) (behind : Walk) (more : List ℕ)
+not_ended : (test : Bool) (ending : Ending NgFault) (step : Step) (given : NgRecord) (behind : Walk) (more : List ℕ)
     → (if test then Stops ending else step) ≡ Gives given behind more → (test ≡ false) × (step ≡ Gives given behind more)
 not_ended true ending step given behind more is = cc
 not_ended false ending step given behind more is = (refl, is)
@@ -162,7 +163,7 @@ let_through : (test : Bool) (step : Step) (why : NgFault) (behind : Walk) (more 
 let_through true step why behind more is = (refl, is)
 let_through false step why behind more is = cc
 
-not_cut : (test : Bool) (ending : Ending) (step : Step) (behind : Walk) (more : List ℕ)
+not_cut : (test : Bool) (ending : Ending NgFault) (step : Step) (behind : Walk) (more : List ℕ)
     → (if test then Stops ending else step) ≡ Skips behind more → (test ≡ false) × (step ≡ Skips behind more)
 not_cut true ending step behind more is = cc
 not_cut false ending step behind more is = (refl, is)

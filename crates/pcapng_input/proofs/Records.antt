@@ -2,7 +2,9 @@
 use Rattle.std.proofs.Common.{◌≡◌, ℕ, zero, suc, ◌+◌, ◌<◌, List, length, refl, sym, ap, ◌∙◌, arith}
 use Rattle.pcapng_input.specs.declared.capture.NgRecord.{NgRecord}
 use Rattle.pcapng_input.specs.declared.walk.Walk.{Walk}
-use Rattle.pcapng_input.specs.Blocks.{Ending, Step, Stops, Skips, Gives, step_of, Next, Ends, Stands, next_along, next_of, Cut, no_more, with_first, cut_up, records_left}
+use Rattle.pcapng_input.specs.declared.capture.NgFault.{NgFault}
+use Rattle.pcap_input.specs.Cut.{Ending, Cut, no_more, with_first}
+use Rattle.pcapng_input.specs.Blocks.{Step, Stops, Skips, Gives, step_of, Next, Ends, Stands, next_along, next_of, cut_up, records_left}
 use Rattle.pcapng_input.proofs.Moving.{skips_on, gives_on}
 
 -- a record leaves fewer bytes
@@ -32,7 +34,7 @@ unfolding next_of
 next_of-shrinks walk rest given behind more is = shrinks (length rest + 1) walk rest given behind more is
 
 -- one more step of a cut
-cut_on : ℕ → Next → Cut
+cut_on : ℕ → Next → Cut NgRecord NgFault
 cut_on most (Ends ending) = no_more ending
 cut_on most (Stands first behind more) = with_first first (cut_up most behind more)
 
@@ -61,7 +63,7 @@ enough (suc some) (suc others) walk rest fits fits_others =
     ∙ sym (cut_up-suc others walk rest (next_of walk rest) refl)
 
 -- what is left is the ending where that stands next
-pub records_left-ends : (walk : Walk) (rest : List ℕ) (ending : Ending) → next_of walk rest ≡ Ends ending → records_left walk rest ≡ no_more ending
+pub records_left-ends : (walk : Walk) (rest : List ℕ) (ending : Ending NgFault) → next_of walk rest ≡ Ends ending → records_left walk rest ≡ no_more ending
 unfolding records_left cut_on
 records_left-ends walk rest ending is =
     let step : length rest + 1 ≡ suc (length rest) = omega arith in

@@ -8,7 +8,10 @@ use Rattle.byteorder.specs.Numbers.{length-bytes_high_first, length-bytes_low_fi
 use Rattle.edge_io.specs.declared.link.Link.{Link}
 use Rattle.edge_io.specs.declared.link.Link.TheVariants.{Ethernet, RawIp, Cooked}
 use Rattle.pcap_input.specs.declared.capture.CaptureHead.{CaptureHead}
-use Rattle.pcap_input.specs.Savefile.{Clean, Cut, Stands, captured_length, first_records, head_behind, head_of, head_with, moment_of, most_records, next_of, number_at, place_behind, record_of, records_left, savefile, with_first}
+use Rattle.pcap_input.specs.declared.capture.CaptureFault.{CaptureFault}
+use Rattle.pcap_input.specs.declared.capture.Record.{Record}
+use Rattle.pcap_input.specs.Cut.{Clean, Cut, clean_with, first_records, with_first}
+use Rattle.pcap_input.specs.Savefile.{Stands, captured_length, head_behind, head_of, head_with, moment_of, most_records, next_of, number_at, place_behind, record_of, records_left, savefile}
 use Rattle.pcap_input.proofs.Laws.{bytes_stand, head_of-append, next_of_header, next_of_nothing}
 use Rattle.pcap_input.proofs.Records.{records_left-ends, records_left-stands}
 use Rattle.pcapng_input.specs.Twins.{Caught, IsSavefileOf, IsWritable, a_second, held_from, nanos_each, number_of, held_as, pcap_record, pcap_text, word}
@@ -124,7 +127,7 @@ pcap_record-stands swapped nanos link number place packet more few held =
     ∙ ap (λ r. Stands r more) (pcap_record-is swapped nanos link number packet held)
 
 pcap_records-are : (swapped nanos : Bool) (link : Link) (number place : ℕ) (packets : List Caught) → All (IsWritable nanos) packets → number + length packets ≤ 4294967295
-    → records_left (record { link = link; swapped = swapped; nanos = nanos }) number place (flat_map (pcap_record swapped nanos) packets) ≡ record { records = held_from number nanos packets; ending = Clean }
+    → records_left (record { link = link; swapped = swapped; nanos = nanos }) number place (flat_map (pcap_record swapped nanos) packets) ≡ clean_with (held_from number nanos packets)
 unfolding held_from
 pcap_records-are swapped nanos link number place [] all few = records_left-ends _ number place [] Clean (next_of_nothing _ number place)
 pcap_records-are swapped nanos link number place (packet ∷ packets) all few =
@@ -142,7 +145,7 @@ savefile_with bytes head limit is = rw (savefile, is) refl
 
 pub savefile_is : (swapped nanos : Bool) (link : Link) (packets : List Caught) (limit : Option ℕ) → All (IsWritable nanos) packets → length packets ≤ most_records
     → savefile (pcap_text swapped nanos link packets) limit
-    ≡ Ok (record { head = record { link = link; swapped = swapped; nanos = nanos }; cut = first_records limit (record { records = held_from 0 nanos packets; ending = Clean }) })
+    ≡ Ok (record { head = record { link = link; swapped = swapped; nanos = nanos }; cut = first_records limit (clean_with (held_from 0 nanos packets)) })
 unfolding pcap_text pcap_header
 savefile_is swapped nanos link packets limit all few =
     let head : CaptureHead = record { link = link; swapped = swapped; nanos = nanos } in
@@ -151,7 +154,7 @@ savefile_is swapped nanos link packets limit all few =
     let begins : head_of (header ++ more) ≡ Ok head = head_of-append header more (omega (arith, pcap_header-length swapped nanos link)) ∙ pcap_header-head swapped nanos link in
     let behind : drop 24 (header ++ more) ≡ more = drop_at header more 24 (pcap_header-length swapped nanos link) in
     savefile_with (header ++ more) head limit begins
-    ∙ ap (λ (cut : Cut). Ok (record { head = head; cut = first_records limit cut }))
+    ∙ ap (λ (cut : Cut Record CaptureFault). Ok (record { head = head; cut = first_records limit cut }))
     (ap (records_left head 0 24) behind ∙ pcap_records-are swapped nanos link 0 24 packets all (omega (arith, few)))
 
 -- the file is read as what was written

@@ -10,7 +10,8 @@ use Rattle.edge_io.specs.declared.link.Link.{Link}
 use Rattle.edge_io.specs.declared.link.Link.TheVariants.{Ethernet, RawIp, Cooked}
 use Rattle.pcap_input.specs.declared.capture.CaptureHead.{CaptureHead}
 use Rattle.pcap_input.specs.declared.capture.Record.{Record}
-use Rattle.pcap_input.specs.Savefile.{Clean, first_records, most_records, number_at, savefile}
+use Rattle.pcap_input.specs.Cut.{Clean, clean_with, first_records, with_first}
+use Rattle.pcap_input.specs.Savefile.{most_records, number_at, savefile}
 use Rattle.pcap_input.proofs.Laws.{number_at-append}
 use Rattle.edge_io.specs.declared.moment.Moment.{Moment}
 use Rattle.pcapng_input.specs.declared.block.Block.{Block}
@@ -22,7 +23,7 @@ use Rattle.pcapng_input.specs.declared.content.Content.{Content}
 use Rattle.pcapng_input.specs.declared.content.Content.TheVariants as content
 use Rattle.pcapng_input.specs.declared.walk.Interface.{Interface}
 use Rattle.pcapng_input.specs.declared.walk.Walk.{Walk}
-use Rattle.pcapng_input.specs.Blocks.{Gives, Skips, content_of, enhanced_of, front_length, given_by, inner_length, interface_of, is_full, is_sized, kind_of, known, link_of, other_block, packet_of, section_type, step_of, Clean as ng_clean, first_records as ng_first, first_walk, next_of as ng_next, ng_records, opening, order_of, section_of, records_left as ng_left, with_first as ng_with}
+use Rattle.pcapng_input.specs.Blocks.{Gives, Skips, content_of, enhanced_of, front_length, given_by, inner_length, interface_of, is_full, is_sized, kind_of, known, link_of, other_block, packet_of, section_type, step_of, first_walk, next_of as ng_next, ng_records, opening, order_of, section_of, records_left as ng_left}
 use Rattle.pcapng_input.proofs.Nexts.{next_of-gives, next_of-skips, next_of-stops}
 use Rattle.pcapng_input.proofs.Records.{records_left-ends as ng_left-ends, records_left-same as ng_left-same, records_left-stands as ng_left-stands}
 use Rattle.pcapng_input.specs.Options.{resolution_along, resolution_told}
@@ -259,9 +260,9 @@ packet-given swapped nanos link number at last packet more held few near =
 
 packets-are : (swapped nanos : Bool) (link : Link) (number at : ℕ) (last : Moment) (packets : List Caught) → All (IsWritable nanos) packets → number + length packets ≤ 4294967295 → at ≤ 60 + number * 262176
     → ng_left (walk_in swapped (interface_is nanos link ∷ []) number last at) (flat_map (λ packet. block_text swapped 6 (packet_body swapped packet)) packets)
-    ≡ record { records = map (on_link link) (held_from number nanos packets); ending = ng_clean }
+    ≡ clean_with (map (on_link link) (held_from number nanos packets))
 unfolding held_from
-packets-are swapped nanos link number at last [] all few near = ng_left-ends _ [] ng_clean (next_of-stops _ [] ng_clean (step_nothing _))
+packets-are swapped nanos link number at last [] all few near = ng_left-ends _ [] Clean (next_of-stops _ [] Clean (step_nothing _))
 packets-are swapped nanos link number at last (packet ∷ packets) all few near =
     let walk = walk_in swapped (interface_is nanos link ∷ []) number last at in
     let held = All-head (IsWritable nanos) packet packets all in
@@ -271,7 +272,7 @@ packets-are swapped nanos link number at last (packet ∷ packets) all few near 
     let moment : Moment = record { nanos = packet.time * nanos_each nanos } in
     let behind = walk_in swapped (interface_is nanos link ∷ []) (number + 1) moment (at + packet_total swapped packet) in
     ng_left-stands walk text first behind more (next_of-gives walk text first behind more (packet-given swapped nanos link number at last packet more held (omega arith) (omega arith)))
-    ∙ ap (ng_with first)
+    ∙ ap (with_first first)
     (packets-are swapped nanos link (number + 1) (at + packet_total swapped packet) moment packets (All-tail (IsWritable nanos) packet packets all) (omega arith)
     (omega (arith, packet_total-short swapped packet held.short)))
 
@@ -400,12 +401,12 @@ section-opens swapped more =
 
 -- ---- whole
 
-ng_records-with : (bytes more : List ℕ) (behind : Walk) (limit : Option ℕ) → opening bytes ≡ Skips behind more → ng_records bytes limit ≡ Ok (ng_first limit (ng_left first_walk bytes))
+ng_records-with : (bytes more : List ℕ) (behind : Walk) (limit : Option ℕ) → opening bytes ≡ Skips behind more → ng_records bytes limit ≡ Ok (first_records limit (ng_left first_walk bytes))
 unfolding ng_records
 ng_records-with bytes more behind limit is = rw (ng_records, is) refl
 
 pcapng_is : (swapped nanos : Bool) (link : Link) (packets : List Caught) (limit : Option ℕ) → All (IsWritable nanos) packets → length packets ≤ most_records
-    → ng_records (ng_text swapped nanos link packets) limit ≡ Ok (ng_first limit (record { records = map (on_link link) (held_from 0 nanos packets); ending = ng_clean }))
+    → ng_records (ng_text swapped nanos link packets) limit ≡ Ok (first_records limit (clean_with (map (on_link link) (held_from 0 nanos packets))))
 unfolding ng_text
 pcapng_is swapped nanos link packets limit all few =
     let last = flat_map (λ packet. block_text swapped 6 (packet_body swapped packet)) packets in
@@ -418,26 +419,26 @@ pcapng_is swapped nanos link packets limit all few =
     next_of-skips first_walk text in_section interface (section-skipped swapped interface)
     ∙ next_of-skips in_section interface with_interface last (interface-skipped swapped nanos link last) in
     ng_records-with text interface in_section limit (section-opens swapped interface)
-    ∙ ap (λ cut. Ok (ng_first limit cut))
+    ∙ ap (λ cut. Ok (first_records limit cut))
     (ng_left-same first_walk with_interface text last next ∙ packets-are swapped nanos link 0 60 none packets all (omega (arith, few)) (omega arith))
 
 -- the file is read as what was written
 pub ng_text-read : (swapped nanos : Bool) (link : Link) (packets : List Caught) → All (IsWritable nanos) packets → length packets ≤ most_records → IsPcapngOf swapped nanos link packets
-unfolding ng_first
+unfolding first_records
 ng_text-read swapped nanos link packets all few = pcapng_is swapped nanos link packets None all few
 
 -- the first records of both are the same
 cuts-twins : (head : CaptureHead) (records : List Record) (limit : Option ℕ)
-    → AreTwins (Ok (record { head = head; cut = first_records limit (record { records = records; ending = Clean }) }))
-    (Ok (ng_first limit (record { records = map (on_link head.link) records; ending = ng_clean })))
-unfolding first_records ng_first
+    → AreTwins (Ok (record { head = head; cut = first_records limit (clean_with records) }))
+    (Ok (first_records limit (clean_with (map (on_link head.link) records))))
+unfolding first_records
 cuts-twins head records None = (refl, refl, refl)
 cuts-twins head records (Some limit) =
     let same : nat_le limit (length (map (on_link head.link) records)) ≡ nat_le limit (length records) = ap (nat_le limit) (length-map records (on_link head.link)) in
     rw same (by_test (nat_le limit (length records)))
   where
-    by_test : (test : Bool) → AreTwins (Ok (record { head = head; cut = if test then record { records = take limit records; ending = Clean } else record { records = records; ending = Clean } }))
-        (Ok (if test then record { records = take limit (map (on_link head.link) records); ending = ng_clean } else record { records = map (on_link head.link) records; ending = ng_clean }))
+    by_test : (test : Bool) → AreTwins (Ok (record { head = head; cut = if test then clean_with (take limit records) else clean_with records }))
+        (Ok (if test then clean_with (take limit (map (on_link head.link) records)) else clean_with (map (on_link head.link) records)))
     by_test true = (take-map (on_link head.link) limit records, refl, refl)
     by_test false = (refl, refl, refl)
 
@@ -446,5 +447,5 @@ pub texts-twins : (swapped other nanos : Bool) (link : Link) (packets : List Cau
 texts-twins swapped other nanos link packets limit all few =
     let head : CaptureHead = record { link = link; swapped = swapped; nanos = nanos } in
     subst (λ capture. AreTwins capture (ng_records (ng_text other nanos link packets) limit)) (sym (savefile_is swapped nanos link packets limit all few))
-    (subst (AreTwins (Ok (record { head = head; cut = first_records limit (record { records = held_from 0 nanos packets; ending = Clean }) })))
+    (subst (AreTwins (Ok (record { head = head; cut = first_records limit (clean_with (held_from 0 nanos packets)) })))
     (sym (pcapng_is other nanos link packets limit all few)) (cuts-twins head (held_from 0 nanos packets) limit))

@@ -9,7 +9,8 @@ use Rattle.pcapng_input.specs.declared.capture.NgFault.{NgFault}
 use Rattle.pcapng_input.specs.declared.capture.NgFault.TheVariants as fault
 use Rattle.pcapng_input.specs.declared.walk.Walk.{Walk}
 use Rattle.pcapng_input.specs.declared.step.BlockRead.TheVariants as read
-use Rattle.pcapng_input.specs.Blocks.{last_place, Ending, Clean, Refused, refused, step_of, Ends, next_of}
+use Rattle.pcap_input.specs.Cut.{Ending, Clean, Refused}
+use Rattle.pcapng_input.specs.Blocks.{last_place, refused, step_of, Ends, next_of}
 use Rattle.pcapng_input.specs.Steps.{EndsBy, Shows, IsAtEnd}
 use Rattle.pcapng_input.specs.Reader.{Reading, Answers, TakesRecord, TakesBlocks, ShowsRefusal, TakesNone, GoesBy, Goes, HasPassed, IsNothing}
 use Rattle.pcapng_input.proofs.Taking.{took_behind}
@@ -65,7 +66,7 @@ refusal first walk why left_first left left_behind passed taken ends = (
 )
 
 none_behind : (first walk : Walk) (left_first left : Option (List ℕ)) (passed : HasPassed first walk left_first left) (taken : List ℕ)
-    → (ending : Ending) × (next_of walk taken ≡ Ends ending) → (ending : Ending) × (next_of first (passed.taken ++ taken) ≡ Ends ending)
+    → (ending : Ending NgFault) × (next_of walk taken ≡ Ends ending) → (ending : Ending NgFault) × (next_of first (passed.taken ++ taken) ≡ Ends ending)
 none_behind first walk left_first left passed taken ends = (ends.0, passed.goes taken ∙ ends.1)
 
 refused_by : (first walk behind : Walk) (why : NgFault) (left_first left left_behind : Option (List ℕ)) (passed : HasPassed first walk left_first left)

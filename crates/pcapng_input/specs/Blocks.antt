@@ -16,6 +16,7 @@ use Rattle.std.specs.Prelude.{ℕ, zero, suc, ◌+◌, ◌-◌, ◌*◌, ◌%◌
 use Rattle.edge_io.specs.declared.link.Link.{Link}
 use Rattle.edge_io.specs.declared.link.Link.TheVariants.{Ethernet, RawIp, Cooked}
 use Rattle.edge_io.specs.declared.moment.Moment.{Moment}
+use Rattle.pcap_input.specs.Cut.{Ending, Clean, Refused, Cut, no_more, with_first, first_records}
 use Rattle.pcap_input.specs.Savefile.{longest, most_records, number_at}
 use Rattle.pcapng_input.specs.declared.capture.NgRecord.{NgRecord}
 use Rattle.pcapng_input.specs.declared.capture.NgFault.{NgFault}
@@ -47,15 +48,10 @@ last_place = 2 ^ 62
 abbrev pub section_type : ℕ
 section_type = 0x0a0d_0d0a
 
--- how a capture ends: at its end or at a limit, or at what can't be read
-pub data Ending : Type 0 where
-  Clean : Ending
-  Refused : NgFault → Ending
-
 -- what one block gives: the ending; or that it is skipped, or a record, and then how far the blocks were
 -- read, and the bytes behind it
 pub data Step : Type 0 where
-  Stops : Ending → Step
+  Stops : Ending NgFault → Step
   Skips : Walk → List ℕ → Step
   Gives : NgRecord → Walk → List ℕ → Step
 
@@ -327,7 +323,7 @@ opening bytes =
 
 -- what stands next: the ending, or a record, how far the blocks were read, and the bytes behind its block
 pub data Next : Type 0 where
-  Ends : Ending → Next
+  Ends : Ending NgFault → Next
   Stands : NgRecord → Walk → List ℕ → Next
 
 -- what stands next behind at most `most` skipped blocks
@@ -344,21 +340,8 @@ next_along (suc most) walk rest =
 unfoldable pub next_of : Walk → List ℕ → Next
 next_of walk rest = next_along (length rest + 1) walk rest
 
--- records in order, and the ending behind them
-pub record Cut : Type 0 where
-  pub records : List NgRecord
-  pub ending : Ending
-
--- no record, and this ending
-abbrev pub no_more : Ending → Cut
-no_more ending = record { records = []; ending = ending }
-
--- a record, and then these
-abbrev pub with_first : NgRecord → Cut → Cut
-with_first first cut = record { records = first ∷ cut.records; ending = cut.ending }
-
 -- at most `most` records, one behind the other, and then the ending
-unfoldable pub cut_up : ℕ → Walk → List ℕ → Cut
+unfoldable pub cut_up : ℕ → Walk → List ℕ → Cut NgRecord NgFault
 cut_up zero walk rest = no_more Clean
 cut_up (suc most) walk rest =
     elim (next_of walk rest) [
@@ -367,18 +350,12 @@ cut_up (suc most) walk rest =
     ]
 
 -- the records and the ending of these bytes: there are fewer records than bytes, so all of them
-unfoldable pub records_left : Walk → List ℕ → Cut
+unfoldable pub records_left : Walk → List ℕ → Cut NgRecord NgFault
 records_left walk rest = cut_up (length rest + 1) walk rest
-
--- the first records where there is a limit, which is then a clean ending; all where it isn't reached
-unfoldable pub first_records : Option ℕ → Cut → Cut
-first_records None cut = cut
-first_records (Some limit) cut =
-    if nat_le limit (length cut.records) then record { records = take limit cut.records; ending = Clean } else cut
 
 -- the capture that these bytes are: why its first block is refused, or the records and the ending of all its
 -- blocks, up to the limit where there is one
-unfoldable pub ng_records : List ℕ → Option ℕ → Result Cut NgFault
+unfoldable pub ng_records : List ℕ → Option ℕ → Result (Cut NgRecord NgFault) NgFault
 ng_records bytes limit =
     elim (opening bytes) [
       | Stops (Refused why) ↦ Err why

@@ -11,7 +11,8 @@ use Rattle.edge_io.specs.Files.{Files}
 use Rattle.pcapng_input.specs.declared.capture.NgRecord.{NgRecord}
 use Rattle.pcapng_input.specs.declared.capture.NgFault.{NgFault}
 use Rattle.pcapng_input.specs.declared.capture.NgFault.TheVariants as fault
-use Rattle.pcapng_input.specs.Blocks.{Ending, Clean, Refused, opening, next_of, Cut, ng_records}
+use Rattle.pcap_input.specs.Cut.{Ending, Clean, Refused, Cut}
+use Rattle.pcapng_input.specs.Blocks.{opening, next_of, ng_records}
 use Rattle.pcap_input.specs.Reader.{Tells}
 use Rattle.pcapng_input.specs.Reader.{Reading, Opens, TakesHead, Answers, TakesRecord}
 
@@ -36,7 +37,7 @@ IsOfBytes fault.NoMemory = ⊥
 IsOfBytes why = ⊤
 
 -- this answer of `next` is this ending
-abbrev pub IsEnding : Result (Option NgRecord) NgFault → Ending → Type 0
+abbrev pub IsEnding : Result (Option NgRecord) NgFault → Ending NgFault → Type 0
 IsEnding (Ok None) ending = ending ≡ Clean
 IsEnding (Ok (Some given)) ending = ⊥
 IsEnding (Err why) ending = IsOfBytes why × (ending ≡ Refused why)
@@ -68,7 +69,7 @@ IsBelow None count = ⊤
 IsBelow (Some limit) count = count < limit
 
 -- a call of `next` gave this ending
-pub record IsLastCall (reader : Reading) (left : Option (List ℕ)) (ending : Ending) : Type 0 where
+pub record IsLastCall (reader : Reading) (left : Option (List ℕ)) (ending : Ending NgFault) : Type 0 where
   pub new : Reading
   pub left_new : Option (List ℕ)
   pub answer : Result (Option NgRecord) NgFault
@@ -77,7 +78,7 @@ pub record IsLastCall (reader : Reading) (left : Option (List ℕ)) (ending : En
 
 -- a capture was read up to this: as many records as the limit says were given, which is a clean ending, or
 -- one more call gave the ending
-pub record ReadsCut (contents : Option Files) (name : List ℕ) (limit : Option ℕ) (cut : Cut) : Type 0 where
+pub record ReadsCut (contents : Option Files) (name : List ℕ) (limit : Option ℕ) (cut : Cut NgRecord NgFault) : Type 0 where
   pub reader : Reading
   pub left : Option (List ℕ)
   pub read : HasRead contents name cut.records reader left
@@ -85,7 +86,7 @@ pub record ReadsCut (contents : Option Files) (name : List ℕ) (limit : Option 
       ⊎ (IsBelow limit (length cut.records) × IsLastCall reader left cut.ending)
 
 -- what came of reading a capture: the refusal of its first block, or its records and its ending
-abbrev pub Reads : Option Files → List ℕ → Option ℕ → Result Cut NgFault → Type 0
+abbrev pub Reads : Option Files → List ℕ → Option ℕ → Result (Cut NgRecord NgFault) NgFault → Type 0
 Reads contents name limit (Err why) = (left : Option (List ℕ)) × IsOpenCall contents name (Err why) left × IsOfBytes why
 Reads contents name limit (Ok cut) = ReadsCut contents name limit cut
 
@@ -93,12 +94,13 @@ Reads contents name limit (Ok cut) = ReadsCut contents name limit cut
 
 -- what came of reading a capture whose bytes are told is what they hold, for every limit
 abbrev pub ReadsAll : Type 0
-ReadsAll = (contents : Option Files) (name bytes : List ℕ) (limit : Option ℕ) (outcome : Result Cut NgFault)
+ReadsAll = (contents : Option Files) (name bytes : List ℕ) (limit : Option ℕ) (outcome : Result (Cut NgRecord NgFault) NgFault)
     → Tells contents name bytes → Reads contents name limit outcome → ng_records bytes limit ≡ outcome
 
 -- these are the first of the records that the bytes hold
 abbrev pub AreFirst : List NgRecord → List ℕ → Type 0
-AreFirst given bytes = (cut : Cut) × (more : List NgRecord) × (ng_records bytes None ≡ Ok cut) × (cut.records ≡ given ++ more)
+AreFirst given bytes =
+    (cut : Cut NgRecord NgFault) × (more : List NgRecord) × (ng_records bytes None ≡ Ok cut) × (cut.records ≡ given ++ more)
 
 -- whatever comes of it, also where the host fails or memory lacks: the records that were given are the first
 -- of those that the bytes hold

@@ -14,7 +14,8 @@ use Rattle.pcapng_input.specs.declared.walk.Walk.{Walk}
 use Rattle.pcapng_input.specs.Steps.{HoldsNone}
 use Rattle.pcapng_input.specs.declared.step.BlockRead.{BlockRead}
 use Rattle.pcapng_input.specs.declared.step.BlockRead.TheVariants as read
-use Rattle.pcapng_input.specs.Blocks.{Ending, Clean, Refused, Step, Stops, Skips, opening, Next, Ends, Stands, next_of}
+use Rattle.pcap_input.specs.Cut.{Ending, Clean, Refused}
+use Rattle.pcapng_input.specs.Blocks.{Step, Stops, Skips, opening, Next, Ends, Stands, next_of}
 
 -- a reader: how far it has walked, and what it has refused
 pub record Reading : Type 0 where
@@ -91,8 +92,8 @@ pub record TakesBlocks (old new : Reading) (left_old left_new : Option (List ℕ
 
 -- these bytes alone show the refusal; where memory lacked or the host failed, they hold no record
 abbrev pub ShowsRefusal : NgFault → Next → Type 0
-ShowsRefusal fault.NoMemory next = (ending : Ending) × (next ≡ Ends ending)
-ShowsRefusal fault.Failed next = (ending : Ending) × (next ≡ Ends ending)
+ShowsRefusal fault.NoMemory next = (ending : Ending NgFault) × (next ≡ Ends ending)
+ShowsRefusal fault.Failed next = (ending : Ending NgFault) × (next ≡ Ends ending)
 ShowsRefusal why next = next ≡ Ends (Refused why)
 
 -- no record is whole within the bytes that were taken, and they show the refusal
@@ -107,8 +108,8 @@ GoesBy old new (Ok None) taken left =
     ((more : List ℕ) → next_of old (taken ++ more) ≡ next_of new more)
     × ((rest : List ℕ) → left ≡ Some rest → next_of old (taken ++ rest) ≡ Ends Clean)
 GoesBy old new (Ok (Some given)) taken left = (more : List ℕ) → next_of old (taken ++ more) ≡ Stands given new more
-GoesBy old new (Err fault.Failed) taken left = (ending : Ending) × (next_of old taken ≡ Ends ending)
-GoesBy old new (Err fault.NoMemory) taken left = (ending : Ending) × (next_of old taken ≡ Ends ending)
+GoesBy old new (Err fault.Failed) taken left = (ending : Ending NgFault) × (next_of old taken ≡ Ends ending)
+GoesBy old new (Err fault.NoMemory) taken left = (ending : Ending NgFault) × (next_of old taken ≡ Ends ending)
 GoesBy old new (Err why) taken left =
     (next_of old taken ≡ Ends (Refused why)) × ((rest : List ℕ) → left ≡ Some rest
     → next_of old (taken ++ rest) ≡ Ends (Refused why))

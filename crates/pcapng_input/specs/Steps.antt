@@ -17,7 +17,8 @@ use Rattle.pcapng_input.specs.declared.walk.Walk.{Walk}
 use Rattle.pcapng_input.specs.declared.step.BlockRead.{BlockRead}
 use Rattle.pcapng_input.specs.declared.step.BlockRead.TheVariants as read
 use Rattle.pcap_input.specs.Savefile.{longest, most_records}
-use Rattle.pcapng_input.specs.Blocks.{last_place, inner_length, Clean, Step, Stops, Skips, Gives, refused, step_of}
+use Rattle.pcap_input.specs.Cut.{Clean}
+use Rattle.pcapng_input.specs.Blocks.{last_place, inner_length, Step, Stops, Skips, Gives, refused, step_of}
 
 -- why a read of a piece of the block at this place stopped early: nothing is left, or the host failed, or
 -- memory lacked

@@ -13,6 +13,7 @@ use Rattle.edge_io.specs.declared.link.Link.{Link}
 use Rattle.edge_io.specs.declared.link.Link.TheVariants.{Ethernet, RawIp, Cooked}
 use Rattle.pcap_input.specs.declared.capture.CaptureFault.{CaptureFault}
 use Rattle.pcap_input.specs.declared.capture.Record.{Record}
+use Rattle.pcap_input.specs.Cut.{Clean, Cut, clean_with}
 use Rattle.pcap_input.specs.Savefile as pcap
 use Rattle.pcapng_input.specs.declared.capture.NgFault.{NgFault}
 use Rattle.pcapng_input.specs.declared.capture.NgRecord.{NgRecord}
@@ -115,19 +116,17 @@ on_link link item = record { link = link; item = item }
 abbrev pub IsSavefileOf : Bool → Bool → Link → List Caught → Type 0
 IsSavefileOf swapped nanos link packets = pcap.savefile (pcap_text swapped nanos link packets) None ≡ Ok (record {
   head = record { link = link; swapped = swapped; nanos = nanos };
-  cut = record { records = held_from 0 nanos packets; ending = pcap.Clean };
+  cut = clean_with (held_from 0 nanos packets);
 })
 
 abbrev pub IsPcapngOf : Bool → Bool → Link → List Caught → Type 0
-IsPcapngOf swapped nanos link packets = ng.ng_records (ng_text swapped nanos link packets) None ≡ Ok (record {
-  records = map (on_link link) (held_from 0 nanos packets);
-  ending = ng.Clean;
-})
+IsPcapngOf swapped nanos link packets =
+    ng.ng_records (ng_text swapped nanos link packets) None ≡ Ok (clean_with (map (on_link link) (held_from 0 nanos packets)))
 
 -- a savefile and a pcapng file were read as the same records, of the savefile's link, and both to a clean ending
-abbrev pub AreTwins : Result pcap.Capture CaptureFault → Result ng.Cut NgFault → Type 0
+abbrev pub AreTwins : Result pcap.Capture CaptureFault → Result (Cut NgRecord NgFault) NgFault → Type 0
 AreTwins (Ok capture) (Ok cut) =
     (cut.records ≡ map (on_link capture.head.link) capture.cut.records)
-    × (capture.cut.ending ≡ pcap.Clean) × (cut.ending ≡ ng.Clean)
+    × (capture.cut.ending ≡ Clean) × (cut.ending ≡ Clean)
 AreTwins (Err fault) cut = ⊥
 AreTwins (Ok capture) (Err fault) = ⊥

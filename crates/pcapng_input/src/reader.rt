@@ -2,7 +2,8 @@ ghost use Rattle.std.specs.Prelude.{◌≡◌, ◌≤◌, ◌⊎◌, List, ℕ, 
 ghost use Rattle.edge_io.specs.Frames.{OnlyRead};
 ghost use Rattle.edge_io.specs.Told.{one_more, Rose};
 ghost use Rattle.edge_io.specs.Files.{Files, Lacks, IsUnopened, MaySee, left_by};
-ghost use Rattle.pcapng_input.specs.Blocks.{Clean, Ends, opening, first_walk, next_of};
+ghost use Rattle.pcap_input.specs.Cut.{Clean};
+ghost use Rattle.pcapng_input.specs.Blocks.{Ends, opening, first_walk, next_of};
 ghost use Rattle.pcapng_input.specs.Steps.{Shows};
 ghost use Rattle.pcap_input.specs.Reader.{Tells};
 ghost use Rattle.pcapng_input.specs.Reader.{Opens, TakesHead, IsOfHead, Answers, TakesRecord, TakesBlocks, TakesNone, Goes, IsHeadAnswer, IsNothing};

@@ -3,7 +3,8 @@ use Rattle.std.proofs.Common.{◌≡◌, ℕ, List, Some, None}
 use Rattle.std.specs.Prelude.{IfOk, IfErr, IfSome, IfNone}
 use Rattle.edge_io.specs.Files.{IsUnopened}
 use Rattle.edge_io.proofs.Seeing.{told}
-use Rattle.pcap_input.specs.Savefile.{Clean, Ends, next_of}
+use Rattle.pcap_input.specs.Cut.{Clean}
+use Rattle.pcap_input.specs.Savefile.{Ends, next_of}
 use Rattle.pcap_input.specs.Reader.{Gives, TakesRecord, TakesNone}
 use Rattle.pcap_input.proofs.reader.CaptureReader.next.Goals as goal
 

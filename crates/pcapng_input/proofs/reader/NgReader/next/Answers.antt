@@ -3,7 +3,8 @@ use Rattle.std.proofs.Common.{◌≡◌, ℕ, List, Some, None}
 use Rattle.std.specs.Prelude.{IfOk, IfErr, IfSome, IfNone}
 use Rattle.edge_io.specs.Files.{IsUnopened}
 use Rattle.edge_io.proofs.Seeing.{told}
-use Rattle.pcapng_input.specs.Blocks.{Clean, Ends, next_of}
+use Rattle.pcap_input.specs.Cut.{Clean}
+use Rattle.pcapng_input.specs.Blocks.{Ends, next_of}
 use Rattle.pcapng_input.specs.Reader.{Answers, TakesRecord, TakesBlocks, TakesNone}
 use Rattle.pcapng_input.proofs.reader.NgReader.next.Goals as goal
 
