@@ -45,6 +45,11 @@ drafted settings draft = record settings { draft = draft }
 abbrev pub with_variables : Settings → Variables → Settings
 with_variables settings variables = record settings { vars = variables }
 
+-- the answer of a step that changes the settings in their place, with the settings behind it
+abbrev pub given_behind : {E : Type 0} → Result Given E → Settings → Result Behind E
+given_behind (Ok given) new = Ok (record { settings = new; given = given })
+given_behind (Err why) new = Err why
+
 -- behind a line that defines a variable
 unfoldable pub definition_line : Settings → ValueForm → List ℕ → Result Behind ConfKind
 definition_line settings form rest =

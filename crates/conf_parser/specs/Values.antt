@@ -29,6 +29,11 @@ abbrev pub mapped : {A B : Type 0} → (A → B) → Result A ConfKind → Resul
 mapped f (Ok x) = Ok (f x)
 mapped f (Err kind) = Err kind
 
+-- the answer of a step that changes a value in its place, with the value behind it
+abbrev pub with_new : {A X E : Type 0} → Result A E → X → Result X E
+with_new (Ok done) new = Ok new
+with_new (Err why) new = Err why
+
 -- a value where a test holds, else BadValue
 abbrev pub where_good : {A : Type 0} → Bool → A → Result A ConfKind
 where_good good x = if good then Ok x else Err BadValue

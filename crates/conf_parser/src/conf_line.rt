@@ -1,7 +1,8 @@
 //! What one line of a configuration means.
-ghost use Rattle.std.specs.Prelude.{◌≡◌, Ok};
+ghost use Rattle.std.specs.Prelude.{Ok};
 ghost use Rattle.net_lists.specs.Stops.{Gives};
-ghost use Rattle.conf_parser.specs.ConfLine.{definition_line, include_line, config_draft, config_value, config_line, preprocessor_draft, preprocessor_line, filter_line, suppress_line, directive_line, conf_line, skipped};
+ghost use Rattle.conf_parser.specs.ConfLine.{definition_line, include_line, config_draft, config_value, config_line, preprocessor_draft, preprocessor_line, filter_line, suppress_line, directive_line, conf_line, given_behind};
+ghost use Rattle.conf_parser.specs.Values.{with_new};
 
 use crate::config_lines::{checksum_mode, classification, detection, event_queue};
 use crate::draft::{Draft, Settings, Spot};
@@ -20,227 +21,181 @@ use edge_io::Text;
 use net_lists::{Stop, Vars, first_word};
 use std::alloc::Global;
 
-/// Behind a line that defines a variable.
+/// A line that defines a variable.
 #[tactic(auto, unfolding(crate::specs::ConfLine::definition_line))]
 fn definition_line(
     alloc: Global,
-    settings: Settings,
+    settings: &mut Settings,
     form: ValueForm,
     rest: &[u8],
-) -> Result<Behind, Stop<ConfKind>>
-    ensures { Gives result (definition_line settings form rest.now) }
+) -> Result<Given, Stop<ConfKind>>
+    ensures { Gives (given_behind result settings.new) (definition_line settings.old form rest.now) }
 {
-    let Settings { vars, draft } = settings;
-    let vars = definition(alloc, vars, form, rest)?;
-    Ok(Behind {
-        settings: Settings { vars, draft },
-        given: Given::Nothing,
-    })
+    definition(alloc, &mut settings.vars, form, rest)?;
+    Ok(Given::Nothing)
 }
 
-/// Behind an include, before its file is read.
+/// An include, before its file is read.
 #[tactic(auto, unfolding(crate::specs::ConfLine::include_line))]
 fn include_line(
     alloc: Global,
-    settings: Settings,
+    settings: &Settings,
     spot: &Spot<'_>,
     rest: &[u8],
-) -> Result<Behind, Stop<ConfKind>>
-    ensures { Gives result (include_line settings spot.now rest.now) }
+) -> Result<Given, Stop<ConfKind>>
+    ensures { Gives (given_behind result settings.now) (include_line settings.now spot.now rest.now) }
 {
     let name = include(alloc, &settings.vars, spot, rest)?;
-    Ok(Behind {
-        settings,
-        given: Given::Include(name),
-    })
+    Ok(Given::Include(name))
 }
 
-/// The draft behind a `config` line, by what stands behind its colon.
+/// Changes the draft by a `config` line, by what stands behind its colon.
 #[tactic(auto, unfolding(crate::specs::ConfLine::config_draft))]
 fn config_draft(
     alloc: Global,
-    draft: Draft,
+    draft: &mut Draft,
     name: ConfigName,
     value: &[u8],
-) -> Result<Draft, Stop<ConfKind>>
-    ensures { Gives result (config_draft draft name value.now) }
+) -> Result<(), Stop<ConfKind>>
+    ensures { Gives (with_new result draft.new) (config_draft draft.old name value.now) }
 {
     match name {
-        ConfigName::Classification => {
-            let classes = classification(alloc, draft.classes, value)?;
-            Ok(Draft { classes, ..draft })
-        }
+        ConfigName::Classification => classification(alloc, &mut draft.classes, value),
         ConfigName::ChecksumMode => {
             let checks = checksum_mode(draft.checks, value)?;
-            Ok(Draft { checks, ..draft })
+            draft.checks = checks;
+            Ok(())
         }
-        ConfigName::EventQueue => {
-            let queue = event_queue(draft.queue, value)?;
-            Ok(Draft { queue, ..draft })
-        }
+        ConfigName::EventQueue => event_queue(&mut draft.queue, value),
         ConfigName::Detection => {
-            let inserts = detection(draft.inserts, value);
-            Ok(Draft { inserts, ..draft })
+            draft.inserts = detection(draft.inserts, value);
+            Ok(())
         }
-        ConfigName::Unread => Ok(draft),
+        ConfigName::Unread => Ok(()),
     }
 }
 
-/// The draft behind a `config` line, by what stands behind its name.
+/// Changes the draft by a `config` line, by what stands behind its name.
 #[tactic(auto, unfolding(crate::specs::ConfLine::config_value))]
 fn config_value(
     alloc: Global,
-    draft: Draft,
+    draft: &mut Draft,
     name: ConfigName,
     rest: &[u8],
-) -> Result<Draft, Stop<ConfKind>>
-    ensures { Gives result (config_value draft name rest.now) }
+) -> Result<(), Stop<ConfKind>>
+    ensures { Gives (with_new result draft.new) (config_value draft.old name rest.now) }
 {
     if matches!(name, ConfigName::Unread) {
-        return Ok(draft);
+        return Ok(());
     }
-    let value = behind_colon(rest).ok_or(ConfKind::BadValue)?;
+    let Some(value) = behind_colon(rest) else {
+        return Err(Stop::Wrong(ConfKind::BadValue));
+    };
     config_draft(alloc, draft, name, value)
 }
 
-/// The settings with this draft, and nothing handed on.
-fn silent(vars: Vars, draft: Draft) -> Behind
-    ensures { result ≡ record { settings = record { vars = vars; draft = draft }; given = Given.Nothing } }
-{
-    Behind {
-        settings: Settings { vars, draft },
-        given: Given::Nothing,
-    }
-}
-
-/// Behind a line that is skipped with a warning.
-fn skipped(
-    alloc: Global,
-    settings: Settings,
-    word: &[u8],
-    name: &[u8],
-) -> Result<Behind, Stop<ConfKind>>
-    ensures { Gives result (Ok (skipped settings word.now name.now)) }
+/// A line that is skipped with a warning.
+fn skipped(alloc: Global, word: &[u8], name: &[u8]) -> Result<Given, Stop<ConfKind>>
+    ensures { Gives result (Ok (Given.Skipped word.now name.now)) }
 {
     let directive = Text::copy(alloc, word)?;
     let name = Text::copy(alloc, name)?;
-    Ok(Behind {
-        settings,
-        given: Given::Skipped(directive, name),
-    })
+    Ok(Given::Skipped(directive, name))
 }
 
-/// Behind a `config` line, by what stands behind the word.
+/// A `config` line, by what stands behind the word.
 #[tactic(auto, unfolding(crate::specs::ConfLine::config_line))]
 fn config_line(
     alloc: Global,
-    settings: Settings,
+    settings: &mut Settings,
     word: &[u8],
     rest: &[u8],
-) -> Result<Behind, Stop<ConfKind>>
-    ensures { Gives result (config_line settings word.now rest.now) }
+) -> Result<Given, Stop<ConfKind>>
+    ensures { Gives (given_behind result settings.new) (config_line settings.old word.now rest.now) }
 {
     let (name, behind) = name_and_rest(rest);
     let Some(known) = config_name(name) else {
-        return skipped(alloc, settings, word, name);
+        return skipped(alloc, word, name);
     };
-    let Settings { vars, draft } = settings;
-    let draft = config_value(alloc, draft, known, behind)?;
-    Ok(silent(vars, draft))
+    config_value(alloc, &mut settings.draft, known, behind)?;
+    Ok(Given::Nothing)
 }
 
-/// The draft behind a `preprocessor` line, by what stands behind its name.
+/// Changes the draft by a `preprocessor` line, by what stands behind its name.
 #[tactic(auto, unfolding(crate::specs::ConfLine::preprocessor_draft))]
 fn preprocessor_draft(
     alloc: Global,
     vars: &Vars,
-    draft: Draft,
+    draft: &mut Draft,
     name: PreprocessorName,
     rest: &[u8],
-) -> Result<Draft, Stop<ConfKind>>
-    ensures { Gives result (preprocessor_draft vars.now draft name rest.now) }
+) -> Result<(), Stop<ConfKind>>
+    ensures { Gives (with_new result draft.new) (preprocessor_draft vars.now draft.old name rest.now) }
 {
     match name {
-        PreprocessorName::FragGlobal => {
-            let frag = frag3_global(draft.frag, rest)?;
-            Ok(Draft { frag, ..draft })
-        }
-        PreprocessorName::FragEngine => {
-            let frag = frag3_engine(alloc, vars, draft.frag, rest)?;
-            Ok(Draft { frag, ..draft })
-        }
-        PreprocessorName::StreamGlobal => {
-            let stream = stream5_global(draft.stream, rest)?;
-            Ok(Draft { stream, ..draft })
-        }
-        PreprocessorName::StreamTcp => {
-            let stream = stream5_tcp(alloc, vars, draft.stream, rest)?;
-            Ok(Draft { stream, ..draft })
-        }
-        PreprocessorName::StreamUdp => {
-            let stream = stream5_udp(draft.stream, rest)?;
-            Ok(Draft { stream, ..draft })
-        }
+        PreprocessorName::FragGlobal => frag3_global(&mut draft.frag, rest),
+        PreprocessorName::FragEngine => frag3_engine(alloc, vars, &mut draft.frag, rest),
+        PreprocessorName::StreamGlobal => Ok(stream5_global(&mut draft.stream, rest)?),
+        PreprocessorName::StreamTcp => stream5_tcp(alloc, vars, &mut draft.stream, rest),
+        PreprocessorName::StreamUdp => Ok(stream5_udp(&mut draft.stream, rest)?),
         PreprocessorName::Outside => Err(Stop::Wrong(ConfKind::OutsideProfile)),
     }
 }
 
-/// Behind a `preprocessor` line, by what stands behind the word.
+/// A `preprocessor` line, by what stands behind the word.
 #[tactic(auto, unfolding(crate::specs::ConfLine::preprocessor_line))]
 fn preprocessor_line(
     alloc: Global,
-    settings: Settings,
+    settings: &mut Settings,
     word: &[u8],
     rest: &[u8],
-) -> Result<Behind, Stop<ConfKind>>
-    ensures { Gives result (preprocessor_line settings word.now rest.now) }
+) -> Result<Given, Stop<ConfKind>>
+    ensures { Gives (given_behind result settings.new) (preprocessor_line settings.old word.now rest.now) }
 {
     let (name, behind) = name_and_rest(rest);
     let Some(known) = preprocessor_name(name) else {
-        return skipped(alloc, settings, word, name);
+        return skipped(alloc, word, name);
     };
-    let Settings { vars, draft } = settings;
-    let draft = preprocessor_draft(alloc, &vars, draft, known, behind)?;
-    Ok(silent(vars, draft))
+    preprocessor_draft(alloc, &settings.vars, &mut settings.draft, known, behind)?;
+    Ok(Given::Nothing)
 }
 
-/// Behind an `event_filter` line.
+/// An `event_filter` line.
 #[tactic(auto, unfolding(crate::specs::ConfLine::filter_line))]
-fn filter_line(settings: Settings, rest: &[u8]) -> Result<Behind, Stop<ConfKind>>
-    ensures { Gives result (filter_line settings rest.now) }
+fn filter_line(settings: &mut Settings, rest: &[u8]) -> Result<Given, Stop<ConfKind>>
+    ensures { Gives (given_behind result settings.new) (filter_line settings.old rest.now) }
 {
-    let Settings { vars, draft } = settings;
-    let filters = event_filter(draft.filters, rest)?;
-    Ok(silent(vars, Draft { filters, ..draft }))
+    event_filter(&mut settings.draft.filters, rest)?;
+    Ok(Given::Nothing)
 }
 
-/// Behind a `suppress` line.
+/// A `suppress` line.
 #[tactic(auto, unfolding(crate::specs::ConfLine::suppress_line))]
-fn suppress_line(alloc: Global, settings: Settings, rest: &[u8]) -> Result<Behind, Stop<ConfKind>>
-    ensures { Gives result (suppress_line settings rest.now) }
+fn suppress_line(
+    alloc: Global,
+    settings: &mut Settings,
+    rest: &[u8],
+) -> Result<Given, Stop<ConfKind>>
+    ensures { Gives (given_behind result settings.new) (suppress_line settings.old rest.now) }
 {
-    let Settings { vars, draft } = settings;
-    let suppress = suppress(alloc, &vars, draft.suppress, rest)?;
-    Ok(silent(vars, Draft { suppress, ..draft }))
+    suppress(alloc, &settings.vars, &mut settings.draft.suppress, rest)?;
+    Ok(Given::Nothing)
 }
 
-/// The table of directives, by the first word and what stands behind it.
+/// The table of directives, by the first word and what stands behind it: what the line hands on.
 #[tactic(auto, unfolding(crate::specs::ConfLine::directive_line))]
 fn directive_line(
     alloc: Global,
     spot: &Spot<'_>,
-    settings: Settings,
+    settings: &mut Settings,
     directive: Directive,
     word: &[u8],
     rest: &[u8],
-) -> Result<Behind, Stop<ConfKind>>
-    ensures { Gives result (directive_line spot.now settings directive word.now rest.now) }
+) -> Result<Given, Stop<ConfKind>>
+    ensures { Gives (given_behind result settings.new) (directive_line spot.now settings.old directive word.now rest.now) }
 {
     match directive {
-        Directive::Rule => Ok(Behind {
-            settings,
-            given: Given::Rule,
-        }),
+        Directive::Rule => Ok(Given::Rule),
         Directive::Var => definition_line(alloc, settings, ValueForm::Any, rest),
         Directive::IpVar => definition_line(alloc, settings, ValueForm::Addresses, rest),
         Directive::PortVar => definition_line(alloc, settings, ValueForm::Ports, rest),
@@ -249,7 +204,7 @@ fn directive_line(
         Directive::Preprocessor => preprocessor_line(alloc, settings, word, rest),
         Directive::EventFilter => filter_line(settings, rest),
         Directive::Suppress => suppress_line(alloc, settings, rest),
-        Directive::Skipped => skipped(alloc, settings, word, name_and_rest(rest).0),
+        Directive::Skipped => skipped(alloc, word, name_and_rest(rest).0),
         Directive::Outside => Err(Stop::Wrong(ConfKind::OutsideProfile)),
     }
 }
@@ -266,6 +221,10 @@ pub fn conf_line(
     ensures { Gives result (conf_line spot.now settings line.now) }
 {
     let (word, rest) = first_word(line);
-    let directive = directive_named(word).ok_or(ConfKind::UnknownDirective)?;
-    directive_line(alloc, spot, settings, directive, word, rest)
+    let Some(directive) = directive_named(word) else {
+        return Err(Stop::Wrong(ConfKind::UnknownDirective));
+    };
+    let mut settings = settings;
+    let given = directive_line(alloc, spot, &mut settings, directive, word, rest)?;
+    Ok(Behind { settings, given })
 }

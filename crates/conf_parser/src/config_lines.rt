@@ -1,18 +1,22 @@
 //! The `config` lines.
-ghost use Rattle.std.specs.Prelude.{◌≡◌, ◌==◌, false, length, option_copied};
+ghost use Rattle.std.specs.Prelude.{◌≡◌, false, option_copied};
 ghost use Rattle.net_lists.specs.Stops.{Gives};
 ghost use Rattle.conf_parser.specs.Config.{class_with, class_of, with_class, classification, checks_behind, checksum_mode, event_order, queue_setting, event_queue, stops_inserts, detection};
 ghost use Rattle.std.specs.List.{list_any};
 ghost use Rattle.net_lists.specs.Cutting.{settings};
+ghost use Rattle.conf_parser.specs.Values.{with_new};
 
 use crate::line::ConfKind;
-use crate::options::{SettingStep, settings_behind};
+use crate::options::{SettingStep, change_by_settings};
 use crate::settings::{ALL_CHECKS, NO_CHECKS};
+use crate::value::put_or_stop;
+use crate::word::is;
 use conf_types::{Class, Classes, MOST_CLASSES, QueueLimits};
 use edge_io::Text;
 use net_lists::{PartStep, Parts, Stop, cut, number_in, trimmed};
 use packet_decode::Checks;
 use std::alloc::Global;
+use std::mem;
 
 /// A class of this name, text and priority.
 fn class_with(
@@ -40,37 +44,45 @@ fn class_with(
 fn class_of(alloc: Global, value: &[u8]) -> Result<Class, Stop<ConfKind>>
     ensures { Gives result (class_of value.now) }
 {
-    let (name, behind) = cut(value, b',').ok_or(ConfKind::BadValue)?;
-    let (text, priority) = cut(behind, b',').ok_or(ConfKind::BadValue)?;
-    let priority = number_in(1, 2147483647, trimmed(priority)).ok_or(ConfKind::BadValue)?;
+    let Some((name, behind)) = cut(value, b',') else {
+        return Err(Stop::Wrong(ConfKind::BadValue));
+    };
+    let Some((text, priority)) = cut(behind, b',') else {
+        return Err(Stop::Wrong(ConfKind::BadValue));
+    };
+    let Some(priority) = number_in(1, 2147483647, trimmed(priority)) else {
+        return Err(Stop::Wrong(ConfKind::BadValue));
+    };
     class_with(alloc, trimmed(name), trimmed(text), priority)
 }
 
-/// The classes with one more, unless its name is there.
+/// Adds a class to the others, unless its name is there.
 #[tactic(auto, unfolding(crate::specs::Config::with_class))]
-fn with_class(classes: Classes, class: Class) -> Result<Classes, Stop<ConfKind>>
-    ensures { Gives result (with_class classes class) }
+fn add_class(alloc: Global, classes: &mut Classes, class: Class) -> Result<(), Stop<ConfKind>>
+    ensures { Gives (with_new result classes.new) (with_class classes.old class) }
 {
     if classes.find(class.name.bytes()).is_some() {
-        return Ok(classes);
+        return Ok(());
     }
     if classes.len() >= MOST_CLASSES {
         return Err(Stop::Wrong(ConfKind::Limit));
     }
-    Ok(classes.with_class(class)?)
+    let before = mem::replace(classes, Classes::new(alloc));
+    *classes = before.with_class(class)?;
+    Ok(())
 }
 
-/// `classification`: the classes behind the line.
+/// `classification`: adds the class of the line.
 #[tactic(auto, unfolding(crate::specs::Config::classification))]
 pub fn classification(
     alloc: Global,
-    classes: Classes,
+    classes: &mut Classes,
     value: &[u8],
-) -> Result<Classes, Stop<ConfKind>>
-    ensures { Gives result (classification classes value.now) }
+) -> Result<(), Stop<ConfKind>>
+    ensures { Gives (with_new result classes.new) (classification classes.old value.now) }
 {
     let class = class_of(alloc, value)?;
-    with_class(classes, class)
+    add_class(alloc, classes, class)
 }
 
 /// The words of `checksum_mode`.
@@ -82,26 +94,26 @@ impl PartStep<Checks, ConfKind> for ChecksStep {
 
     #[tactic(auto, unfolding(crate::specs::Config::checks_behind))]
     fn next(&self, checks: Checks, word: &[u8]) -> Result<Checks, ConfKind> {
-        if word == b"all".as_slice() {
+        if is(word, b"all") {
             Ok(ALL_CHECKS)
-        } else if word == b"none".as_slice() {
+        } else if is(word, b"none") {
             Ok(NO_CHECKS)
-        } else if word == b"noip".as_slice() {
+        } else if is(word, b"noip") {
             Ok(Checks {
                 ip: false,
                 ..checks
             })
-        } else if word == b"notcp".as_slice() {
+        } else if is(word, b"notcp") {
             Ok(Checks {
                 tcp: false,
                 ..checks
             })
-        } else if word == b"noudp".as_slice() {
+        } else if is(word, b"noudp") {
             Ok(Checks {
                 udp: false,
                 ..checks
             })
-        } else if word == b"noicmp".as_slice() {
+        } else if is(word, b"noicmp") {
             Ok(Checks {
                 icmp: false,
                 ..checks
@@ -128,9 +140,9 @@ pub fn checksum_mode(checks: Checks, value: &[u8]) -> Result<Checks, ConfKind>
 fn event_order(value: &[u8]) -> Option<bool>
     ensures { result ≡ event_order value.now }
 {
-    if value == b"priority".as_slice() {
+    if is(value, b"priority") {
         Some(true)
-    } else if value == b"content_length".as_slice() {
+    } else if is(value, b"content_length") {
         Some(false)
     } else {
         None
@@ -140,27 +152,23 @@ fn event_order(value: &[u8]) -> Option<bool>
 /// One setting of `event_queue`.
 #[tactic(auto, unfolding(crate::specs::Config::queue_setting))]
 fn queue_setting(
-    queue: QueueLimits,
+    queue: &mut QueueLimits,
     name: &[u8],
     value: Option<&[u8]>,
-) -> Result<QueueLimits, ConfKind>
-    ensures { result ≡ queue_setting queue name.now (option_copied value.entry) }
+) -> Result<(), Stop<ConfKind>>
+    ensures { Gives (with_new result queue.new) (queue_setting queue.old name.now (option_copied value.entry)) }
 {
-    let value = value.ok_or(ConfKind::BadValue)?;
-    if name == b"max_queue".as_slice() {
-        let max_queue = number_in(1, 1024, value).ok_or(ConfKind::BadValue)?;
-        Ok(QueueLimits { max_queue, ..queue })
-    } else if name == b"log".as_slice() {
-        let log = number_in(1, 1024, value).ok_or(ConfKind::BadValue)?;
-        Ok(QueueLimits { log, ..queue })
-    } else if name == b"order_events".as_slice() {
-        let by_priority = event_order(value).ok_or(ConfKind::BadValue)?;
-        Ok(QueueLimits {
-            by_priority,
-            ..queue
-        })
+    let Some(value) = value else {
+        return Err(Stop::Wrong(ConfKind::BadValue));
+    };
+    if is(name, b"max_queue") {
+        put_or_stop(&mut queue.max_queue, number_in(1, 1024, value))
+    } else if is(name, b"log") {
+        put_or_stop(&mut queue.log, number_in(1, 1024, value))
+    } else if is(name, b"order_events") {
+        put_or_stop(&mut queue.by_priority, event_order(value))
     } else {
-        Err(ConfKind::BadValue)
+        Err(Stop::Wrong(ConfKind::BadValue))
     }
 }
 
@@ -177,23 +185,22 @@ impl SettingStep<QueueLimits> for QueueStep {
         false
     }
 
-    fn next(
+    fn change(
         &self,
-        queue: QueueLimits,
+        queue: &mut QueueLimits,
         name: &[u8],
         value: Option<&[u8]>,
-    ) -> Result<QueueLimits, Stop<ConfKind>> {
-        let next = queue_setting(queue, name, value)?;
-        Ok(next)
+    ) -> Result<(), Stop<ConfKind>> {
+        queue_setting(queue, name, value)
     }
 }
 
 /// `event_queue`: the limits of the queue behind the line.
 #[tactic(auto, unfolding(crate::specs::Config::event_queue))]
-pub fn event_queue(queue: QueueLimits, value: &[u8]) -> Result<QueueLimits, Stop<ConfKind>>
-    ensures { Gives result (event_queue queue value.now) }
+pub fn event_queue(queue: &mut QueueLimits, value: &[u8]) -> Result<(), Stop<ConfKind>>
+    ensures { Gives (with_new result queue.new) (event_queue queue.old value.now) }
 {
-    settings_behind(value, &QueueStep, queue)
+    change_by_settings(value, &QueueStep, queue)
 }
 
 /// `detection`: whether packets whose data are queued are tried themselves, behind the line.
@@ -209,7 +216,7 @@ fn stops_inserts(value: &[u8]) -> bool
     ensures { result ≡ list_any stops_inserts (settings value.now) }
 {
     for word in Parts::settings(value) {
-        if word == b"no_stream_inserts".as_slice() {
+        if is(word, b"no_stream_inserts") {
             return true;
         }
     }

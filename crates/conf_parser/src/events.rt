@@ -1,11 +1,12 @@
 //! The lines `event_filter` and `suppress`.
-ghost use Rattle.std.specs.Prelude.{◌≡◌, option_copied, option_map, length};
-ghost use Rattle.net_lists.specs.Numbers.{number_in};
+ghost use Rattle.std.specs.Prelude.{◌≡◌, Some, option_copied};
+ghost use Rattle.conf_parser.specs.Values.{mapped, with_new};
 ghost use Rattle.net_lists.specs.Stops.{Gives};
 ghost use Rattle.conf_parser.specs.Events.{track_of, is_source, filter_name, filter_kind, once, filter_value, filter_part, no_parts, filter_of, read_filter, has_filter, with_filter, event_filter, next_word, part_behind, stands, suppress_value, placed_part, suppress_part, first_part, tracked, suppress_of, read_suppress, with_suppress, suppress};
 
 use crate::line::ConfKind;
-use crate::value::expanded_addresses;
+use crate::value::{put_addresses, put_or_stop, put_some};
+use crate::word::is;
 use conf_types::{EventFilter, FilterKind, Suppress, Track};
 use edge_io::Items;
 use net_lists::{AddrList, PartStep, Parts, Stop, TryPartStep, Vars, first_word, number_in};
@@ -63,9 +64,9 @@ pub struct SuppressDraft {
 fn track_of(value: &[u8]) -> Option<Track>
     ensures { result ≡ track_of value.now }
 {
-    if value == b"by_src".as_slice() {
+    if is(value, b"by_src") {
         Some(Track::BySrc)
-    } else if value == b"by_dst".as_slice() {
+    } else if is(value, b"by_dst") {
         Some(Track::ByDst)
     } else {
         None
@@ -77,17 +78,17 @@ fn track_of(value: &[u8]) -> Option<Track>
 fn filter_name(word: &[u8]) -> Option<FilterName>
     ensures { result ≡ filter_name word.now }
 {
-    if word == b"gen_id".as_slice() {
+    if is(word, b"gen_id") {
         Some(FilterName::GenId)
-    } else if word == b"sig_id".as_slice() {
+    } else if is(word, b"sig_id") {
         Some(FilterName::SigId)
-    } else if word == b"type".as_slice() {
+    } else if is(word, b"type") {
         Some(FilterName::Type)
-    } else if word == b"track".as_slice() {
+    } else if is(word, b"track") {
         Some(FilterName::Track)
-    } else if word == b"count".as_slice() {
+    } else if is(word, b"count") {
         Some(FilterName::Count)
-    } else if word == b"seconds".as_slice() {
+    } else if is(word, b"seconds") {
         Some(FilterName::Seconds)
     } else {
         None
@@ -99,94 +100,42 @@ fn filter_name(word: &[u8]) -> Option<FilterName>
 fn filter_kind(value: &[u8]) -> Option<FilterKind>
     ensures { result ≡ filter_kind value.now }
 {
-    if value == b"limit".as_slice() {
+    if is(value, b"limit") {
         Some(FilterKind::Limit)
-    } else if value == b"threshold".as_slice() {
+    } else if is(value, b"threshold") {
         Some(FilterKind::Threshold)
-    } else if value == b"both".as_slice() {
+    } else if is(value, b"both") {
         Some(FilterKind::Both)
     } else {
         None
     }
 }
 
-/// A number of a part that stands for the first time.
-fn once(old: Option<u32>, least: u32, value: &[u8]) -> Result<u32, ConfKind>
-    ensures { result ≡ once old (number_in least 4294967295 value.now) }
+/// Puts what a value spells in the place of a part that stands for the first time.
+fn put_once<T: Copy>(place: &mut Option<T>, value: Option<T>) -> Result<(), ConfKind>
+    ensures { with_new result place.new ≡ mapped (λ part. Some part) (once place.old value) }
 {
-    if old.is_some() {
+    if place.is_some() {
         return Err(ConfKind::BadValue);
     }
-    number_in(least, 4294967295, value).ok_or(ConfKind::BadValue)
-}
-
-/// The first `type` of a line.
-fn first_kind(old: Option<FilterKind>, value: &[u8]) -> Result<FilterKind, ConfKind>
-    ensures { result ≡ once old (filter_kind value.now) }
-{
-    if old.is_some() {
+    let Some(part) = value else {
         return Err(ConfKind::BadValue);
-    }
-    filter_kind(value).ok_or(ConfKind::BadValue)
+    };
+    *place = Some(part);
+    Ok(())
 }
 
-/// The first `track` of a line.
-fn first_track(old: Option<Track>, value: &[u8]) -> Result<Track, ConfKind>
-    ensures { result ≡ once old (track_of value.now) }
-{
-    if old.is_some() {
-        return Err(ConfKind::BadValue);
-    }
-    track_of(value).ok_or(ConfKind::BadValue)
-}
-
-/// The draft behind a part of this name.
-fn filter_value(draft: FilterDraft, name: FilterName, value: &[u8]) -> Result<FilterDraft, ConfKind>
-    ensures { result ≡ filter_value draft name value.now }
+/// A part of this name.
+fn filter_value(draft: &mut FilterDraft, name: FilterName, value: &[u8]) -> Result<(), ConfKind>
+    ensures { with_new result draft.new ≡ filter_value draft.old name value.now }
 {
     match name {
-        FilterName::GenId => {
-            let gid = once(draft.gid, 0, value)?;
-            Ok(FilterDraft {
-                gid: Some(gid),
-                ..draft
-            })
-        }
-        FilterName::SigId => {
-            let sid = once(draft.sid, 0, value)?;
-            Ok(FilterDraft {
-                sid: Some(sid),
-                ..draft
-            })
-        }
-        FilterName::Type => {
-            let kind = first_kind(draft.kind, value)?;
-            Ok(FilterDraft {
-                kind: Some(kind),
-                ..draft
-            })
-        }
-        FilterName::Track => {
-            let track = first_track(draft.track, value)?;
-            Ok(FilterDraft {
-                track: Some(track),
-                ..draft
-            })
-        }
-        FilterName::Count => {
-            let count = once(draft.count, 1, value)?;
-            Ok(FilterDraft {
-                count: Some(count),
-                ..draft
-            })
-        }
-        FilterName::Seconds => {
-            let seconds = once(draft.seconds, 1, value)?;
-            Ok(FilterDraft {
-                seconds: Some(seconds),
-                ..draft
-            })
-        }
+        FilterName::GenId => put_once(&mut draft.gid, number_in(0, 4294967295, value)),
+        FilterName::SigId => put_once(&mut draft.sid, number_in(0, 4294967295, value)),
+        FilterName::Type => put_once(&mut draft.kind, filter_kind(value)),
+        FilterName::Track => put_once(&mut draft.track, track_of(value)),
+        FilterName::Count => put_once(&mut draft.count, number_in(1, 4294967295, value)),
+        FilterName::Seconds => put_once(&mut draft.seconds, number_in(1, 4294967295, value)),
     }
 }
 
@@ -200,8 +149,12 @@ impl PartStep<FilterDraft, ConfKind> for FilterStep {
     #[tactic(auto, unfolding(crate::specs::Events::filter_part))]
     fn next(&self, draft: FilterDraft, part: &[u8]) -> Result<FilterDraft, ConfKind> {
         let (word, value) = first_word(part);
-        let name = filter_name(word).ok_or(ConfKind::BadValue)?;
-        filter_value(draft, name, value)
+        let Some(name) = filter_name(word) else {
+            return Err(ConfKind::BadValue);
+        };
+        let mut draft = draft;
+        filter_value(&mut draft, name, value)?;
+        Ok(draft)
     }
 }
 
@@ -220,12 +173,17 @@ fn is_source(track: Track) -> bool
 fn filter_of(draft: FilterDraft) -> Result<EventFilter, ConfKind>
     ensures { result ≡ filter_of draft }
 {
-    let gid = draft.gid.ok_or(ConfKind::BadValue)?;
-    let sid = draft.sid.ok_or(ConfKind::BadValue)?;
-    let kind = draft.kind.ok_or(ConfKind::BadValue)?;
-    let track = draft.track.ok_or(ConfKind::BadValue)?;
-    let count = draft.count.ok_or(ConfKind::BadValue)?;
-    let seconds = draft.seconds.ok_or(ConfKind::BadValue)?;
+    let FilterDraft {
+        gid: Some(gid),
+        sid: Some(sid),
+        kind: Some(kind),
+        track: Some(track),
+        count: Some(count),
+        seconds: Some(seconds),
+    } = draft
+    else {
+        return Err(ConfKind::BadValue);
+    };
     if gid == 0 && sid != 0 {
         return Err(ConfKind::BadValue);
     }
@@ -251,11 +209,8 @@ fn has_filter(filters: &[EventFilter], gid: u32, sid: u32) -> bool
 
 /// One filter more.
 #[tactic(auto, unfolding(crate::specs::Events::with_filter))]
-fn with_filter(
-    filters: Items<EventFilter>,
-    filter: EventFilter,
-) -> Result<Items<EventFilter>, Stop<ConfKind>>
-    ensures { Gives result (with_filter filters filter) }
+fn add_filter(filters: &mut Items<EventFilter>, filter: EventFilter) -> Result<(), Stop<ConfKind>>
+    ensures { Gives (with_new result filters.new) (with_filter filters.old filter) }
 {
     if has_filter(filters.as_slice(), filter.gid, filter.sid) {
         return Err(Stop::Wrong(ConfKind::Duplicate));
@@ -263,9 +218,8 @@ fn with_filter(
     if filters.as_slice().len() >= MOST_LINES {
         return Err(Stop::Wrong(ConfKind::Limit));
     }
-    let mut filters = filters;
     filters.push(filter)?;
-    Ok(filters)
+    Ok(())
 }
 
 /// The filter that a line gives.
@@ -285,16 +239,13 @@ fn read_filter(rest: &[u8]) -> Result<EventFilter, ConfKind>
     filter_of(draft)
 }
 
-/// `event_filter`: the filters behind the line.
+/// `event_filter`: adds the filter of the line.
 #[tactic(auto, unfolding(crate::specs::Events::event_filter))]
-pub fn event_filter(
-    filters: Items<EventFilter>,
-    rest: &[u8],
-) -> Result<Items<EventFilter>, Stop<ConfKind>>
-    ensures { Gives result (event_filter filters rest.now) }
+pub fn event_filter(filters: &mut Items<EventFilter>, rest: &[u8]) -> Result<(), Stop<ConfKind>>
+    ensures { Gives (with_new result filters.new) (event_filter filters.old rest.now) }
 {
     let filter = read_filter(rest)?;
-    with_filter(filters, filter)
+    add_filter(filters, filter)
 }
 
 impl NextPart {
@@ -329,7 +280,7 @@ impl NextPart {
         ensures { result ≡ stands (next_word self) word.now }
     {
         match self.word() {
-            Some(wanted) => word == wanted,
+            Some(wanted) => is(word, wanted),
             None => false,
         }
     }
@@ -339,62 +290,40 @@ impl NextPart {
 fn suppress_value(
     alloc: Global,
     vars: &Vars,
-    draft: SuppressDraft,
+    draft: &mut SuppressDraft,
     next: NextPart,
     value: &[u8],
-) -> Result<SuppressDraft, Stop<ConfKind>>
-    ensures { Gives result (suppress_value vars.now draft next value.now) }
+) -> Result<(), Stop<ConfKind>>
+    ensures { Gives (with_new result draft.new) (suppress_value vars.now draft.old next value.now) }
 {
     match next {
-        NextPart::GenId => {
-            let gid = number_in(0, 4294967295, value).ok_or(ConfKind::BadValue)?;
-            Ok(SuppressDraft { gid, ..draft })
-        }
-        NextPart::SigId => {
-            let sid = number_in(0, 4294967295, value).ok_or(ConfKind::BadValue)?;
-            Ok(SuppressDraft { sid, ..draft })
-        }
-        NextPart::Track => {
-            let track = track_of(value).ok_or(ConfKind::BadValue)?;
-            Ok(SuppressDraft {
-                track: Some(track),
-                ..draft
-            })
-        }
-        NextPart::Ip => {
-            let list = expanded_addresses(alloc, vars, value)?;
-            Ok(SuppressDraft {
-                list: Some(list),
-                ..draft
-            })
-        }
+        NextPart::GenId => put_or_stop(&mut draft.gid, number_in(0, 4294967295, value)),
+        NextPart::SigId => put_or_stop(&mut draft.sid, number_in(0, 4294967295, value)),
+        NextPart::Track => put_some(&mut draft.track, track_of(value)),
+        NextPart::Ip => put_addresses(alloc, vars, &mut draft.list, value),
         NextPart::End => Err(Stop::Wrong(ConfKind::BadValue)),
     }
 }
 
-/// The draft behind a part that stands in its place, with its value or without.
+/// A part that stands in its place, with its value or without.
 #[tactic(auto, unfolding(crate::specs::Events::placed_part))]
 fn placed_part(
     alloc: Global,
     vars: &Vars,
-    draft: SuppressDraft,
+    draft: &mut SuppressDraft,
     value: &[u8],
-) -> Result<SuppressDraft, Stop<ConfKind>>
-    ensures { Gives result (placed_part vars.now draft value.now) }
+) -> Result<(), Stop<ConfKind>>
+    ensures { Gives (with_new result draft.new) (placed_part vars.now draft.old value.now) }
 {
     let next = draft.next;
     if value.is_empty() {
-        return Ok(SuppressDraft {
-            next: next.behind(),
-            lacks: true,
-            ..draft
-        });
+        draft.next = next.behind();
+        draft.lacks = true;
+        return Ok(());
     }
-    let draft = suppress_value(alloc, vars, draft, next, value)?;
-    Ok(SuppressDraft {
-        next: next.behind(),
-        ..draft
-    })
+    suppress_value(alloc, vars, draft, next, value)?;
+    draft.next = next.behind();
+    Ok(())
 }
 
 /// The parts of a suppress line.
@@ -413,7 +342,9 @@ impl<'a> TryPartStep<SuppressDraft, ConfKind> for SuppressStep<'a> {
         if !draft.next.stands(word) {
             return Err(Stop::Wrong(ConfKind::BadValue));
         }
-        placed_part(self.alloc, self.vars, draft, value)
+        let mut draft = draft;
+        placed_part(self.alloc, self.vars, &mut draft, value)?;
+        Ok(draft)
     }
 }
 
@@ -421,8 +352,9 @@ impl<'a> TryPartStep<SuppressDraft, ConfKind> for SuppressStep<'a> {
 fn tracked(draft: SuppressDraft) -> Result<Suppress, ConfKind>
     ensures { result ≡ tracked draft }
 {
-    let track = draft.track.ok_or(ConfKind::BadValue)?;
-    let list = draft.list.ok_or(ConfKind::BadValue)?;
+    let (Some(track), Some(list)) = (draft.track, draft.list) else {
+        return Err(ConfKind::BadValue);
+    };
     Ok(Suppress {
         gid: draft.gid,
         sid: draft.sid,
@@ -451,15 +383,14 @@ fn suppress_of(draft: SuppressDraft) -> Result<Suppress, ConfKind>
 
 /// One line more.
 #[tactic(auto, unfolding(crate::specs::Events::with_suppress))]
-fn with_suppress(lines: Items<Suppress>, line: Suppress) -> Result<Items<Suppress>, Stop<ConfKind>>
-    ensures { Gives result (with_suppress lines line) }
+fn add_suppress(lines: &mut Items<Suppress>, line: Suppress) -> Result<(), Stop<ConfKind>>
+    ensures { Gives (with_new result lines.new) (with_suppress lines.old line) }
 {
     if lines.as_slice().len() >= MOST_LINES {
         return Err(Stop::Wrong(ConfKind::Limit));
     }
-    let mut lines = lines;
     lines.push(line)?;
-    Ok(lines)
+    Ok(())
 }
 
 /// The suppress line that a text gives.
@@ -480,16 +411,16 @@ fn read_suppress(alloc: Global, vars: &Vars, rest: &[u8]) -> Result<Suppress, St
     Ok(line)
 }
 
-/// `suppress`: the lines behind it.
+/// `suppress`: adds what the line says.
 #[tactic(auto, unfolding(crate::specs::Events::suppress))]
 pub fn suppress(
     alloc: Global,
     vars: &Vars,
-    lines: Items<Suppress>,
+    lines: &mut Items<Suppress>,
     rest: &[u8],
-) -> Result<Items<Suppress>, Stop<ConfKind>>
-    ensures { Gives result (suppress vars.now lines rest.now) }
+) -> Result<(), Stop<ConfKind>>
+    ensures { Gives (with_new result lines.new) (suppress vars.now lines.old rest.now) }
 {
     let line = read_suppress(alloc, vars, rest)?;
-    with_suppress(lines, line)
+    add_suppress(lines, line)
 }

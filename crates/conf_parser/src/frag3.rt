@@ -1,12 +1,15 @@
 //! The frag3 lines.
-ghost use Rattle.std.specs.Prelude.{◌≡◌, false, Some, option_copied, length};
-ghost use Rattle.net_lists.specs.Stops.{Gives};
+ghost use Rattle.std.specs.Prelude.{◌≡◌, false, Some, option_copied};
+ghost use Rattle.net_lists.specs.Numbers.{number_in};
+ghost use Rattle.net_lists.specs.Stops.{Gives, or_kind};
+ghost use Rattle.conf_parser.specs.Values.{mapped, with_new};
 ghost use Rattle.conf_parser.specs.Frag3.{is_unread_global, global_setting, with_max_frags, frag3_global, stands_alone, is_unread, engine_setting, has_default, with_engine, frag3_engine};
 
 use crate::draft::FragDraft;
 use crate::line::ConfKind;
-use crate::options::{SettingStep, settings_behind};
-use crate::value::{expanded_addresses, setting_text};
+use crate::options::{SettingStep, change_by_settings};
+use crate::value::{put_addresses, put_or_stop, setting_text};
+use crate::word::is;
 use conf_types::{DEFAULT_FRAG_ENGINE, FragEngine};
 use edge_io::FragPolicy;
 use net_lists::{Stop, Vars, number_in};
@@ -20,24 +23,33 @@ const MOST_ENGINES: usize = 1024;
 fn is_unread_global(name: &[u8]) -> bool
     ensures { result ≡ is_unread_global name.now }
 {
-    name == b"memcap".as_slice()
-        || name == b"prealloc_memcap".as_slice()
-        || name == b"prealloc_frags".as_slice()
+    is(name, b"memcap") || is(name, b"prealloc_memcap") || is(name, b"prealloc_frags")
 }
 
-/// One setting of `frag3_global`.
+/// One setting of `frag3_global`, on the greatest number of fragments.
 #[tactic(auto, unfolding(crate::specs::Frag3::global_setting))]
-fn global_setting(frags: u32, name: &[u8], value: Option<&[u8]>) -> Result<u32, ConfKind>
-    ensures { result ≡ global_setting frags name.now (option_copied value.entry) }
+fn global_setting(frags: &mut u32, name: &[u8], value: Option<&[u8]>) -> Result<(), Stop<ConfKind>>
+    ensures { Gives (with_new result frags.new) (global_setting frags.old name.now (option_copied value.entry)) }
 {
-    let value = value.ok_or(ConfKind::BadValue)?;
-    if name == b"max_frags".as_slice() {
-        number_in(1, 1048576, value).ok_or(ConfKind::BadValue)
+    let Some(value) = value else {
+        return Err(Stop::Wrong(ConfKind::BadValue));
+    };
+    if is(name, b"max_frags") {
+        put_or_stop(frags, number_in(1, 1048576, value))
     } else if is_unread_global(name) {
-        number_in(0, 4294967295, value).ok_or(ConfKind::BadValue)?;
-        Ok(frags)
+        past_number(value)
     } else {
-        Err(ConfKind::BadValue)
+        Err(Stop::Wrong(ConfKind::BadValue))
+    }
+}
+
+/// Reads a number that changes nothing.
+fn past_number(value: &[u8]) -> Result<(), Stop<ConfKind>>
+    ensures { Gives result (mapped (λ number. tt) (or_kind ConfKind.BadValue (number_in 0 4294967295 value.now))) }
+{
+    match number_in(0, 4294967295, value) {
+        Some(_) => Ok(()),
+        None => Err(Stop::Wrong(ConfKind::BadValue)),
     }
 }
 
@@ -54,42 +66,44 @@ impl SettingStep<u32> for GlobalStep {
         false
     }
 
-    fn next(&self, frags: u32, name: &[u8], value: Option<&[u8]>) -> Result<u32, Stop<ConfKind>> {
-        let next = global_setting(frags, name, value)?;
-        Ok(next)
+    fn change(
+        &self,
+        frags: &mut u32,
+        name: &[u8],
+        value: Option<&[u8]>,
+    ) -> Result<(), Stop<ConfKind>> {
+        global_setting(frags, name, value)
     }
 }
 
 /// The global line, which stands once.
 #[tactic(auto, unfolding(crate::specs::Frag3::with_max_frags))]
-fn with_max_frags(draft: FragDraft, frags: u32) -> Result<FragDraft, ConfKind>
-    ensures { result ≡ with_max_frags draft frags }
+fn put_max_frags(draft: &mut FragDraft, frags: u32) -> Result<(), Stop<ConfKind>>
+    ensures { Gives (with_new result draft.new) (with_max_frags draft.old frags) }
 {
     if draft.max_frags.is_some() {
-        return Err(ConfKind::Duplicate);
+        return Err(Stop::Wrong(ConfKind::Duplicate));
     }
-    Ok(FragDraft {
-        max_frags: Some(frags),
-        ..draft
-    })
+    draft.max_frags = Some(frags);
+    Ok(())
 }
 
 /// `frag3_global`, by what stands behind the name.
 #[tactic(auto, unfolding(crate::specs::Frag3::frag3_global))]
-pub fn frag3_global(draft: FragDraft, rest: &[u8]) -> Result<FragDraft, Stop<ConfKind>>
-    ensures { Gives result (frag3_global draft rest.now) }
+pub fn frag3_global(draft: &mut FragDraft, rest: &[u8]) -> Result<(), Stop<ConfKind>>
+    ensures { Gives (with_new result draft.new) (frag3_global draft.old rest.now) }
 {
     let text = setting_text(rest)?;
-    let frags = settings_behind(text, &GlobalStep, 8192)?;
-    let draft = with_max_frags(draft, frags)?;
-    Ok(draft)
+    let mut frags = 8192;
+    change_by_settings(text, &GlobalStep, &mut frags)?;
+    put_max_frags(draft, frags)
 }
 
 /// Whether this setting of an engine has no value.
 fn stands_alone(name: &[u8]) -> bool
     ensures { result ≡ stands_alone name.now }
 {
-    name == b"detect_anomalies".as_slice()
+    is(name, b"detect_anomalies")
 }
 
 /// Whether this setting of an engine, with a number, changes nothing.
@@ -97,9 +111,17 @@ fn stands_alone(name: &[u8]) -> bool
 fn is_unread(name: &[u8]) -> bool
     ensures { result ≡ is_unread name.now }
 {
-    name == b"overlap_limit".as_slice()
-        || name == b"min_fragment_length".as_slice()
-        || name == b"ttl_limit".as_slice()
+    is(name, b"overlap_limit") || is(name, b"min_fragment_length") || is(name, b"ttl_limit")
+}
+
+/// The least time to live of fragments.
+fn least_ttl(value: &[u8]) -> Option<u8>
+    ensures { result ≡ number_in 1 255 value.now }
+{
+    match number_in(1, 255, value) {
+        Some(ttl) => Some(ttl as u8),
+        None => None,
+    }
 }
 
 /// One setting of an engine, with its value.
@@ -107,33 +129,22 @@ fn is_unread(name: &[u8]) -> bool
 fn valued_setting(
     alloc: Global,
     vars: &Vars,
-    engine: FragEngine,
+    engine: &mut FragEngine,
     name: &[u8],
     value: &[u8],
-) -> Result<FragEngine, Stop<ConfKind>>
-    ensures { Gives result (engine_setting vars.now engine name.now (Some value.now)) }
+) -> Result<(), Stop<ConfKind>>
+    ensures { Gives (with_new result engine.new) (engine_setting vars.now engine.old name.now (Some value.now)) }
 {
-    if name == b"policy".as_slice() {
-        let policy = FragPolicy::read(value).ok_or(ConfKind::BadValue)?;
-        Ok(FragEngine { policy, ..engine })
-    } else if name == b"timeout".as_slice() {
-        let timeout = number_in(1, 3600, value).ok_or(ConfKind::BadValue)?;
-        Ok(FragEngine { timeout, ..engine })
-    } else if name == b"min_ttl".as_slice() {
-        let min_ttl = number_in(1, 255, value).ok_or(ConfKind::BadValue)?;
-        Ok(FragEngine {
-            min_ttl: min_ttl as u8,
-            ..engine
-        })
-    } else if name == b"bind_to".as_slice() {
-        let list = expanded_addresses(alloc, vars, value)?;
-        Ok(FragEngine {
-            bind: Some(list),
-            ..engine
-        })
+    if is(name, b"policy") {
+        put_or_stop(&mut engine.policy, FragPolicy::read(value))
+    } else if is(name, b"timeout") {
+        put_or_stop(&mut engine.timeout, number_in(1, 3600, value))
+    } else if is(name, b"min_ttl") {
+        put_or_stop(&mut engine.min_ttl, least_ttl(value))
+    } else if is(name, b"bind_to") {
+        put_addresses(alloc, vars, &mut engine.bind, value)
     } else if is_unread(name) {
-        number_in(0, 4294967295, value).ok_or(ConfKind::BadValue)?;
-        Ok(engine)
+        past_number(value)
     } else {
         Err(Stop::Wrong(ConfKind::BadValue))
     }
@@ -156,17 +167,17 @@ impl<'a> SettingStep<FragEngine> for EngineStep<'a> {
     }
 
     #[tactic(auto, unfolding(crate::specs::Frag3::engine_setting))]
-    fn next(
+    fn change(
         &self,
-        engine: FragEngine,
+        engine: &mut FragEngine,
         name: &[u8],
         value: Option<&[u8]>,
-    ) -> Result<FragEngine, Stop<ConfKind>> {
+    ) -> Result<(), Stop<ConfKind>> {
         match value {
             Some(value) => valued_setting(self.alloc, self.vars, engine, name, value),
             None => {
                 if stands_alone(name) {
-                    return Ok(engine);
+                    return Ok(());
                 }
                 Err(Stop::Wrong(ConfKind::BadValue))
             }
@@ -184,8 +195,8 @@ fn has_default(engines: &[FragEngine]) -> bool
 
 /// One engine more.
 #[tactic(auto, unfolding(crate::specs::Frag3::with_engine))]
-fn with_engine(draft: FragDraft, engine: FragEngine) -> Result<FragDraft, Stop<ConfKind>>
-    ensures { Gives result (with_engine draft engine) }
+fn add_engine(draft: &mut FragDraft, engine: FragEngine) -> Result<(), Stop<ConfKind>>
+    ensures { Gives (with_new result draft.new) (with_engine draft.old engine) }
 {
     if engine.bind.is_none() && has_default(draft.engines.as_slice()) {
         return Err(Stop::Wrong(ConfKind::Duplicate));
@@ -193,12 +204,8 @@ fn with_engine(draft: FragDraft, engine: FragEngine) -> Result<FragDraft, Stop<C
     if draft.engines.as_slice().len() >= MOST_ENGINES {
         return Err(Stop::Wrong(ConfKind::Limit));
     }
-    let mut engines = draft.engines;
-    engines.push(engine)?;
-    Ok(FragDraft {
-        max_frags: draft.max_frags,
-        engines,
-    })
+    draft.engines.push(engine)?;
+    Ok(())
 }
 
 /// `frag3_engine`, by what stands behind the name.
@@ -206,12 +213,13 @@ fn with_engine(draft: FragDraft, engine: FragEngine) -> Result<FragDraft, Stop<C
 pub fn frag3_engine(
     alloc: Global,
     vars: &Vars,
-    draft: FragDraft,
+    draft: &mut FragDraft,
     rest: &[u8],
-) -> Result<FragDraft, Stop<ConfKind>>
-    ensures { Gives result (frag3_engine vars.now draft rest.now) }
+) -> Result<(), Stop<ConfKind>>
+    ensures { Gives (with_new result draft.new) (frag3_engine vars.now draft.old rest.now) }
 {
     let text = setting_text(rest)?;
-    let engine = settings_behind(text, &EngineStep { alloc, vars }, DEFAULT_FRAG_ENGINE)?;
-    with_engine(draft, engine)
+    let mut engine = DEFAULT_FRAG_ENGINE;
+    change_by_settings(text, &EngineStep { alloc, vars }, &mut engine)?;
+    add_engine(draft, engine)
 }

@@ -26,6 +26,7 @@ mod stream5;
 mod tcp;
 mod value;
 mod variables;
+mod word;
 
 pub use conf_types::{
     Class, Classes, Config, EventFilter, FilterKind, FragConfig, FragEngine, QueueLimits,

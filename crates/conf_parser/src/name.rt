@@ -2,6 +2,8 @@
 ghost use Rattle.std.specs.Prelude.{◌≡◌};
 ghost use Rattle.conf_parser.specs.Names.{directive_named, is_action, is_skipped, is_outside, config_name, is_unread_config, preprocessor_name};
 
+use crate::word::is;
+
 /// What the first word of a line names.
 #[derive(Clone, Copy)]
 pub enum Directive {
@@ -48,14 +50,14 @@ pub enum PreprocessorName {
 fn is_action(word: &[u8]) -> bool
     ensures { result ≡ is_action word.now }
 {
-    word == b"alert".as_slice()
-        || word == b"pass".as_slice()
-        || word == b"log".as_slice()
-        || word == b"activate".as_slice()
-        || word == b"dynamic".as_slice()
-        || word == b"drop".as_slice()
-        || word == b"reject".as_slice()
-        || word == b"sdrop".as_slice()
+    is(word, b"alert")
+        || is(word, b"pass")
+        || is(word, b"log")
+        || is(word, b"activate")
+        || is(word, b"dynamic")
+        || is(word, b"drop")
+        || is(word, b"reject")
+        || is(word, b"sdrop")
 }
 
 /// Whether lines of this directive are skipped with a warning.
@@ -63,10 +65,10 @@ fn is_action(word: &[u8]) -> bool
 fn is_skipped(word: &[u8]) -> bool
     ensures { result ≡ is_skipped word.now }
 {
-    word == b"output".as_slice()
-        || word == b"dynamicpreprocessor".as_slice()
-        || word == b"dynamicengine".as_slice()
-        || word == b"dynamicdetection".as_slice()
+    is(word, b"output")
+        || is(word, b"dynamicpreprocessor")
+        || is(word, b"dynamicengine")
+        || is(word, b"dynamicdetection")
 }
 
 /// Whether lines of this directive are outside this profile.
@@ -74,11 +76,11 @@ fn is_skipped(word: &[u8]) -> bool
 fn is_outside(word: &[u8]) -> bool
     ensures { result ≡ is_outside word.now }
 {
-    word == b"attribute_table".as_slice()
-        || word == b"rate_filter".as_slice()
-        || word == b"threshold".as_slice()
-        || word == b"ruletype".as_slice()
-        || word == b"rule_state".as_slice()
+    is(word, b"attribute_table")
+        || is(word, b"rate_filter")
+        || is(word, b"threshold")
+        || is(word, b"ruletype")
+        || is(word, b"rule_state")
 }
 
 /// The directive that a first word names.
@@ -88,21 +90,21 @@ pub fn directive_named(word: &[u8]) -> Option<Directive>
 {
     if is_action(word) {
         Some(Directive::Rule)
-    } else if word == b"var".as_slice() {
+    } else if is(word, b"var") {
         Some(Directive::Var)
-    } else if word == b"ipvar".as_slice() {
+    } else if is(word, b"ipvar") {
         Some(Directive::IpVar)
-    } else if word == b"portvar".as_slice() {
+    } else if is(word, b"portvar") {
         Some(Directive::PortVar)
-    } else if word == b"include".as_slice() {
+    } else if is(word, b"include") {
         Some(Directive::Include)
-    } else if word == b"config".as_slice() {
+    } else if is(word, b"config") {
         Some(Directive::Config)
-    } else if word == b"preprocessor".as_slice() {
+    } else if is(word, b"preprocessor") {
         Some(Directive::Preprocessor)
-    } else if word == b"event_filter".as_slice() {
+    } else if is(word, b"event_filter") {
         Some(Directive::EventFilter)
-    } else if word == b"suppress".as_slice() {
+    } else if is(word, b"suppress") {
         Some(Directive::Suppress)
     } else if is_skipped(word) {
         Some(Directive::Skipped)
@@ -118,9 +120,9 @@ pub fn directive_named(word: &[u8]) -> Option<Directive>
 fn is_unread_config(name: &[u8]) -> bool
     ensures { result ≡ is_unread_config name.now }
 {
-    name == b"reference".as_slice()
-        || name == b"pcre_match_limit".as_slice()
-        || name == b"pcre_match_limit_recursion".as_slice()
+    is(name, b"reference")
+        || is(name, b"pcre_match_limit")
+        || is(name, b"pcre_match_limit_recursion")
 }
 
 /// The `config` line of this name; any other is skipped with a warning.
@@ -128,13 +130,13 @@ fn is_unread_config(name: &[u8]) -> bool
 pub fn config_name(name: &[u8]) -> Option<ConfigName>
     ensures { result ≡ config_name name.now }
 {
-    if name == b"classification".as_slice() {
+    if is(name, b"classification") {
         Some(ConfigName::Classification)
-    } else if name == b"checksum_mode".as_slice() {
+    } else if is(name, b"checksum_mode") {
         Some(ConfigName::ChecksumMode)
-    } else if name == b"event_queue".as_slice() {
+    } else if is(name, b"event_queue") {
         Some(ConfigName::EventQueue)
-    } else if name == b"detection".as_slice() {
+    } else if is(name, b"detection") {
         Some(ConfigName::Detection)
     } else if is_unread_config(name) {
         Some(ConfigName::Unread)
@@ -148,17 +150,17 @@ pub fn config_name(name: &[u8]) -> Option<ConfigName>
 pub fn preprocessor_name(name: &[u8]) -> Option<PreprocessorName>
     ensures { result ≡ preprocessor_name name.now }
 {
-    if name == b"frag3_global".as_slice() {
+    if is(name, b"frag3_global") {
         Some(PreprocessorName::FragGlobal)
-    } else if name == b"frag3_engine".as_slice() {
+    } else if is(name, b"frag3_engine") {
         Some(PreprocessorName::FragEngine)
-    } else if name == b"stream5_global".as_slice() {
+    } else if is(name, b"stream5_global") {
         Some(PreprocessorName::StreamGlobal)
-    } else if name == b"stream5_tcp".as_slice() {
+    } else if is(name, b"stream5_tcp") {
         Some(PreprocessorName::StreamTcp)
-    } else if name == b"stream5_udp".as_slice() {
+    } else if is(name, b"stream5_udp") {
         Some(PreprocessorName::StreamUdp)
-    } else if name == b"stream5_icmp".as_slice() {
+    } else if is(name, b"stream5_icmp") {
         Some(PreprocessorName::Outside)
     } else {
         None

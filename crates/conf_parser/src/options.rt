@@ -3,6 +3,7 @@ ghost use Rattle.std.specs.Prelude.{◌≡◌, ◌≤◌, ◌∷◌, length, Boo
 ghost use Rattle.net_lists.specs.Stops.{Gives};
 ghost use Rattle.conf_parser.specs.declared.line.ConfKind.{ConfKind};
 ghost use Rattle.conf_parser.specs.Options.{setting, paired, settings_behind};
+ghost use Rattle.conf_parser.specs.Values.{with_new};
 
 use crate::line::ConfKind;
 use net_lists::{Parts, Stop};
@@ -17,9 +18,9 @@ pub trait SettingStep<D> {
     fn stands_alone(&self, name: &[u8]) -> bool
         ensures { result ≡ alone self.now name.now };
 
-    /// The draft behind a setting; a value lacks only where the setting has none, or at the end.
-    fn next(&self, draft: D, name: &[u8], value: Option<&[u8]>) -> Result<D, Stop<ConfKind>>
-        ensures { Gives result (next_draft self.now draft name.now (option_copied value.entry)) };
+    /// Changes the draft by a setting; a value lacks only where the setting has none, or at the end.
+    fn change(&self, draft: &mut D, name: &[u8], value: Option<&[u8]>) -> Result<(), Stop<ConfKind>>
+        ensures { Gives (with_new result draft.new) (next_draft self.now draft.old name.now (option_copied value.entry)) };
 }
 
 /// The value behind a name: the next word, if the name does not stand alone and there is one.
@@ -32,20 +33,20 @@ fn value_behind<'a>(words: &mut Parts<'a>, alone: bool) -> Option<&'a [u8]>
     if alone { None } else { words.next() }
 }
 
-/// The draft behind all settings of a text.
+/// Changes the draft by all settings of a text.
 #[tactic(auto, using(net_lists::proofs::Drafts::draft_steps))]
-pub fn settings_behind<D, S: SettingStep<D>>(
+pub fn change_by_settings<D, S: SettingStep<D>>(
     text: &[u8],
     step: &S,
-    draft: D,
-) -> Result<D, Stop<ConfKind>>
-    ensures { Gives result (settings_behind (S.alone step.now) (S.next_draft step.now) draft text.now) }
+    draft: &mut D,
+) -> Result<(), Stop<ConfKind>>
+    ensures { Gives (with_new result draft.new)
+        (settings_behind (S.alone step.now) (S.next_draft step.now) draft.old text.now) }
 {
     let mut words = Parts::settings(text);
-    let mut draft = draft;
     'settings: while let Some(name) = words.next() {
         let value = value_behind(&mut words, step.stands_alone(name));
-        draft = step.next(draft, name, value)?;
+        step.change(draft, name, value)?;
     }
-    Ok(draft)
+    Ok(())
 }

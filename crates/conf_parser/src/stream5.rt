@@ -1,11 +1,13 @@
 //! The stream5 lines.
-ghost use Rattle.std.specs.Prelude.{◌≡◌, option_copied, option_map, length};
+ghost use Rattle.std.specs.Prelude.{◌≡◌};
 ghost use Rattle.conf_parser.specs.Stream5.{stream_parts, whole, is_unread_global, global_name, track_icmp, global_value, wants_value, named_global, global_part, global_values, with_global, stream5_global, udp_timeout, udp_part, with_udp, stream5_udp};
+ghost use Rattle.conf_parser.specs.Values.{with_new};
 
 use crate::draft::{StreamDraft, StreamGlobal};
 use crate::line::ConfKind;
 use crate::settings::DEFAULT_GLOBAL;
-use crate::value::{setting_text, yes_or_no};
+use crate::value::{put, setting_text, yes_or_no};
+use crate::word::is;
 use conf_types::StreamEngine;
 use edge_io::Items;
 use net_lists::{PartStep, Parts, PortPart, first_word, number_in};
@@ -69,14 +71,14 @@ pub enum TcpName {
 fn is_unread_global(name: &[u8]) -> bool
     ensures { result ≡ is_unread_global name.now }
 {
-    name == b"max_icmp".as_slice()
-        || name == b"max_ip".as_slice()
-        || name == b"memcap".as_slice()
-        || name == b"flush_on_alert".as_slice()
-        || name == b"show_rebuilt_packets".as_slice()
-        || name == b"prune_log_max".as_slice()
-        || name == b"max_active_responses".as_slice()
-        || name == b"min_response_seconds".as_slice()
+    is(name, b"max_icmp")
+        || is(name, b"max_ip")
+        || is(name, b"memcap")
+        || is(name, b"flush_on_alert")
+        || is(name, b"show_rebuilt_packets")
+        || is(name, b"prune_log_max")
+        || is(name, b"max_active_responses")
+        || is(name, b"min_response_seconds")
 }
 
 /// The setting of `stream5_global` of this name.
@@ -84,15 +86,15 @@ fn is_unread_global(name: &[u8]) -> bool
 fn global_name(name: &[u8]) -> Option<GlobalName>
     ensures { result ≡ global_name name.now }
 {
-    if name == b"track_tcp".as_slice() {
+    if is(name, b"track_tcp") {
         Some(GlobalName::TrackTcp)
-    } else if name == b"track_udp".as_slice() {
+    } else if is(name, b"track_udp") {
         Some(GlobalName::TrackUdp)
-    } else if name == b"track_icmp".as_slice() {
+    } else if is(name, b"track_icmp") {
         Some(GlobalName::TrackIcmp)
-    } else if name == b"max_tcp".as_slice() {
+    } else if is(name, b"max_tcp") {
         Some(GlobalName::MaxTcp)
-    } else if name == b"max_udp".as_slice() {
+    } else if is(name, b"max_udp") {
         Some(GlobalName::MaxUdp)
     } else if is_unread_global(name) {
         Some(GlobalName::Unread)
@@ -107,9 +109,9 @@ fn track_icmp(value: &[u8]) -> Result<bool, ConfKind>
     ensures { result ≡ track_icmp value.now }
 {
     let (word, _) = first_word(value);
-    if word == b"yes".as_slice() {
+    if is(word, b"yes") {
         Err(ConfKind::OutsideProfile)
-    } else if value == b"no".as_slice() {
+    } else if is(value, b"no") {
         Ok(false)
     } else {
         Err(ConfKind::BadValue)
@@ -117,41 +119,19 @@ fn track_icmp(value: &[u8]) -> Result<bool, ConfKind>
 }
 
 /// The value of a setting of `stream5_global`.
-fn global_value(
-    values: StreamGlobal,
-    name: GlobalName,
-    value: &[u8],
-) -> Result<StreamGlobal, ConfKind>
-    ensures { result ≡ global_value values name value.now }
+fn global_value(values: &mut StreamGlobal, name: GlobalName, value: &[u8]) -> Result<(), ConfKind>
+    ensures { with_new result values.new ≡ global_value values.old name value.now }
 {
     match name {
-        GlobalName::TrackTcp => {
-            let track_tcp = yes_or_no(value).ok_or(ConfKind::BadValue)?;
-            Ok(StreamGlobal {
-                track_tcp,
-                ..values
-            })
-        }
-        GlobalName::TrackUdp => {
-            let track_udp = yes_or_no(value).ok_or(ConfKind::BadValue)?;
-            Ok(StreamGlobal {
-                track_udp,
-                ..values
-            })
-        }
+        GlobalName::TrackTcp => put(&mut values.track_tcp, yes_or_no(value)),
+        GlobalName::TrackUdp => put(&mut values.track_udp, yes_or_no(value)),
         GlobalName::TrackIcmp => {
             track_icmp(value)?;
-            Ok(values)
+            Ok(())
         }
-        GlobalName::MaxTcp => {
-            let max_tcp = number_in(1, 1048576, value).ok_or(ConfKind::BadValue)?;
-            Ok(StreamGlobal { max_tcp, ..values })
-        }
-        GlobalName::MaxUdp => {
-            let max_udp = number_in(1, 1048576, value).ok_or(ConfKind::BadValue)?;
-            Ok(StreamGlobal { max_udp, ..values })
-        }
-        GlobalName::Unread => Ok(values),
+        GlobalName::MaxTcp => put(&mut values.max_tcp, number_in(1, 1048576, value)),
+        GlobalName::MaxUdp => put(&mut values.max_udp, number_in(1, 1048576, value)),
+        GlobalName::Unread => Ok(()),
     }
 }
 
@@ -178,31 +158,29 @@ impl PartStep<Partial<StreamGlobal>, ConfKind> for GlobalStep {
         part: &[u8],
     ) -> Result<Partial<StreamGlobal>, ConfKind> {
         let (word, value) = first_word(part);
-        let name = global_name(word).ok_or(ConfKind::BadValue)?;
-        named_global(partial, name, value)
+        let Some(name) = global_name(word) else {
+            return Err(ConfKind::BadValue);
+        };
+        let mut partial = partial;
+        named_global(&mut partial, name, value)?;
+        Ok(partial)
     }
 }
 
 /// A setting of `stream5_global` by its name.
 #[tactic(auto, unfolding(crate::specs::Stream5::named_global))]
 fn named_global(
-    partial: Partial<StreamGlobal>,
+    partial: &mut Partial<StreamGlobal>,
     name: GlobalName,
     value: &[u8],
-) -> Result<Partial<StreamGlobal>, ConfKind>
-    ensures { result ≡ named_global partial name value.now }
+) -> Result<(), ConfKind>
+    ensures { with_new result partial.new ≡ named_global partial.old name value.now }
 {
     if name.wants_value() && value.is_empty() {
-        return Ok(Partial {
-            lacks: true,
-            ..partial
-        });
+        partial.lacks = true;
+        return Ok(());
     }
-    let draft = global_value(partial.draft, name, value)?;
-    Ok(Partial {
-        draft,
-        lacks: partial.lacks,
-    })
+    global_value(&mut partial.draft, name, value)
 }
 
 /// The settings of a line's text: none where it is empty.
@@ -219,16 +197,14 @@ pub fn stream_parts(text: &[u8]) -> Parts<'_>
 
 /// The global line, which stands once.
 #[tactic(auto, unfolding(crate::specs::Stream5::with_global))]
-fn with_global(draft: StreamDraft, values: StreamGlobal) -> Result<StreamDraft, ConfKind>
-    ensures { result ≡ with_global draft values }
+fn put_global(draft: &mut StreamDraft, values: StreamGlobal) -> Result<(), ConfKind>
+    ensures { with_new result draft.new ≡ with_global draft.old values }
 {
     if draft.global.is_some() {
         return Err(ConfKind::Duplicate);
     }
-    Ok(StreamDraft {
-        global: Some(values),
-        ..draft
-    })
+    draft.global = Some(values);
+    Ok(())
 }
 
 /// What the whole line says, if no setting lacked its value.
@@ -244,12 +220,12 @@ fn whole_global(partial: Partial<StreamGlobal>) -> Result<StreamGlobal, ConfKind
 
 /// `stream5_global`, by what stands behind the name.
 #[tactic(auto, unfolding(crate::specs::Stream5::stream5_global))]
-pub fn stream5_global(draft: StreamDraft, rest: &[u8]) -> Result<StreamDraft, ConfKind>
-    ensures { result ≡ stream5_global draft rest.now }
+pub fn stream5_global(draft: &mut StreamDraft, rest: &[u8]) -> Result<(), ConfKind>
+    ensures { with_new result draft.new ≡ stream5_global draft.old rest.now }
 {
     let text = setting_text(rest)?;
     let values = global_values(text)?;
-    with_global(draft, values)
+    put_global(draft, values)
 }
 
 /// The values that the settings of a text give.
@@ -267,31 +243,25 @@ fn global_values(text: &[u8]) -> Result<StreamGlobal, ConfKind>
 
 /// One setting of `stream5_udp`.
 #[tactic(auto, unfolding(crate::specs::Stream5::udp_part))]
-fn udp_part(partial: Partial<u32>, part: &[u8]) -> Result<Partial<u32>, ConfKind>
-    ensures { result ≡ udp_part partial part.now }
+fn udp_part(partial: &mut Partial<u32>, part: &[u8]) -> Result<(), ConfKind>
+    ensures { with_new result partial.new ≡ udp_part partial.old part.now }
 {
     let (word, value) = first_word(part);
-    if word == b"ignore_any_rules".as_slice() {
+    if is(word, b"ignore_any_rules") {
         return if value.is_empty() {
-            Ok(partial)
+            Ok(())
         } else {
             Err(ConfKind::BadValue)
         };
     }
-    if word != b"timeout".as_slice() {
+    if !is(word, b"timeout") {
         return Err(ConfKind::BadValue);
     }
     if value.is_empty() {
-        return Ok(Partial {
-            lacks: true,
-            ..partial
-        });
+        partial.lacks = true;
+        return Ok(());
     }
-    let draft = number_in(1, 86400, value).ok_or(ConfKind::BadValue)?;
-    Ok(Partial {
-        draft,
-        lacks: partial.lacks,
-    })
+    put(&mut partial.draft, number_in(1, 86400, value))
 }
 
 /// The settings of `stream5_udp`.
@@ -302,7 +272,9 @@ impl PartStep<Partial<u32>, ConfKind> for UdpStep {
     ghost next_draft = { λ step partial part. udp_part partial part };
 
     fn next(&self, partial: Partial<u32>, part: &[u8]) -> Result<Partial<u32>, ConfKind> {
-        udp_part(partial, part)
+        let mut partial = partial;
+        udp_part(&mut partial, part)?;
+        Ok(partial)
     }
 }
 
@@ -319,26 +291,24 @@ fn whole_udp(partial: Partial<u32>) -> Result<u32, ConfKind>
 
 /// The line of UDP, which stands once.
 #[tactic(auto, unfolding(crate::specs::Stream5::with_udp))]
-fn with_udp(draft: StreamDraft, timeout: u32) -> Result<StreamDraft, ConfKind>
-    ensures { result ≡ with_udp draft timeout }
+fn put_udp(draft: &mut StreamDraft, timeout: u32) -> Result<(), ConfKind>
+    ensures { with_new result draft.new ≡ with_udp draft.old timeout }
 {
     if draft.udp_timeout.is_some() {
         return Err(ConfKind::Duplicate);
     }
-    Ok(StreamDraft {
-        udp_timeout: Some(timeout),
-        ..draft
-    })
+    draft.udp_timeout = Some(timeout);
+    Ok(())
 }
 
 /// `stream5_udp`, by what stands behind the name.
 #[tactic(auto, unfolding(crate::specs::Stream5::stream5_udp))]
-pub fn stream5_udp(draft: StreamDraft, rest: &[u8]) -> Result<StreamDraft, ConfKind>
-    ensures { result ≡ stream5_udp draft rest.now }
+pub fn stream5_udp(draft: &mut StreamDraft, rest: &[u8]) -> Result<(), ConfKind>
+    ensures { with_new result draft.new ≡ stream5_udp draft.old rest.now }
 {
     let text = setting_text(rest)?;
     let timeout = udp_timeout(text)?;
-    with_udp(draft, timeout)
+    put_udp(draft, timeout)
 }
 
 /// The timeout that the settings of a text give.

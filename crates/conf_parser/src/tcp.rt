@@ -1,7 +1,7 @@
 //! The `stream5_tcp` lines.
-ghost use Rattle.std.specs.Prelude.{◌≡◌, ◌++◌, Some, IfOk, map, if◌then◌else◌};
+ghost use Rattle.std.specs.Prelude.{◌≡◌, ◌++◌, Some, IfOk, OnOk, map, if◌then◌else◌};
 ghost use Rattle.net_lists.specs.Parts.{one_port};
-ghost use Rattle.conf_parser.specs.Values.{mapped};
+ghost use Rattle.conf_parser.specs.Values.{mapped, with_new};
 ghost use Rattle.net_lists.specs.Stops.{Gives};
 ghost use Rattle.conf_types.specs.Defaults.{default_ports};
 ghost use Rattle.conf_parser.specs.Stream5.{whole, is_unread_tcp, tcp_name, limit_from, queue_limit, handshake_seconds, side, port_word, port_words, joined_ports, with_client, with_server, with_ports, ports_value, engine_value, tcp_value, lacks_ports, lacks_value, named_tcp, tcp_part, tcp_settings, first_tcp, engine_of, has_default, with_engine, stream5_tcp};
@@ -9,7 +9,8 @@ ghost use Rattle.conf_parser.specs.Stream5.{whole, is_unread_tcp, tcp_name, limi
 use crate::draft::StreamDraft;
 use crate::line::ConfKind;
 use crate::stream5::{Partial, Side, TcpDraft, TcpName, stream_parts};
-use crate::value::{expanded_addresses, setting_text};
+use crate::value::{put_addresses, put_or_stop, put_some, setting_text};
+use crate::word::is;
 use conf_types::{DEFAULT_PORTS, DEFAULT_STREAM_SETTINGS, StreamEngine, StreamSettings};
 use edge_io::{Items, NoMemory, StreamPolicy};
 use net_lists::{
@@ -28,18 +29,18 @@ const MOST_QUEUED: u32 = 1073741824;
 fn is_unread(name: &[u8]) -> bool
     ensures { result ≡ is_unread_tcp name.now }
 {
-    name == b"overlap_limit".as_slice()
-        || name == b"max_window".as_slice()
-        || name == b"detect_anomalies".as_slice()
-        || name == b"check_session_hijacking".as_slice()
-        || name == b"use_static_footprint_sizes".as_slice()
-        || name == b"dont_store_large_packets".as_slice()
-        || name == b"dont_reassemble_async".as_slice()
-        || name == b"small_segments".as_slice()
-        || name == b"ignore_any_rules".as_slice()
-        || name == b"flush_factor".as_slice()
-        || name == b"protocol".as_slice()
-        || name == b"log_asymmetric_traffic".as_slice()
+    is(name, b"overlap_limit")
+        || is(name, b"max_window")
+        || is(name, b"detect_anomalies")
+        || is(name, b"check_session_hijacking")
+        || is(name, b"use_static_footprint_sizes")
+        || is(name, b"dont_store_large_packets")
+        || is(name, b"dont_reassemble_async")
+        || is(name, b"small_segments")
+        || is(name, b"ignore_any_rules")
+        || is(name, b"flush_factor")
+        || is(name, b"protocol")
+        || is(name, b"log_asymmetric_traffic")
 }
 
 /// The setting of this name.
@@ -47,19 +48,19 @@ fn is_unread(name: &[u8]) -> bool
 fn tcp_name(name: &[u8]) -> Option<TcpName>
     ensures { result ≡ tcp_name name.now }
 {
-    if name == b"policy".as_slice() {
+    if is(name, b"policy") {
         Some(TcpName::Policy)
-    } else if name == b"timeout".as_slice() {
+    } else if is(name, b"timeout") {
         Some(TcpName::Timeout)
-    } else if name == b"bind_to".as_slice() {
+    } else if is(name, b"bind_to") {
         Some(TcpName::BindTo)
-    } else if name == b"require_3whs".as_slice() {
+    } else if is(name, b"require_3whs") {
         Some(TcpName::Handshake)
-    } else if name == b"max_queued_bytes".as_slice() {
+    } else if is(name, b"max_queued_bytes") {
         Some(TcpName::QueuedBytes)
-    } else if name == b"max_queued_segs".as_slice() {
+    } else if is(name, b"max_queued_segs") {
         Some(TcpName::QueuedSegs)
-    } else if name == b"ports".as_slice() {
+    } else if is(name, b"ports") {
         Some(TcpName::Ports)
     } else if is_unread(name) {
         Some(TcpName::Unread)
@@ -109,11 +110,11 @@ fn handshake_seconds(value: &[u8]) -> Option<u32>
 fn side(word: &[u8]) -> Option<Side>
     ensures { result ≡ side word.now }
 {
-    if word == b"client".as_slice() {
+    if is(word, b"client") {
         Some(Side::Client)
-    } else if word == b"server".as_slice() {
+    } else if is(word, b"server") {
         Some(Side::Server)
-    } else if word == b"both".as_slice() {
+    } else if is(word, b"both") {
         Some(Side::Both)
     } else {
         None
@@ -146,7 +147,9 @@ impl TryPartStep<Items<PortPart>, ConfKind> for PortStep {
         ports: Items<PortPart>,
         word: &[u8],
     ) -> Result<Items<PortPart>, Stop<ConfKind>> {
-        let port = number_in(0, 65535, word).ok_or(ConfKind::BadValue)?;
+        let Some(port) = number_in(0, 65535, word) else {
+            return Err(Stop::Wrong(ConfKind::BadValue));
+        };
         let mut ports = ports;
         ports.push(one_port(port as u16))?;
         Ok(ports)
@@ -158,10 +161,10 @@ impl TryPartStep<Items<PortPart>, ConfKind> for PortStep {
 fn port_words(alloc: Global, value: &[u8]) -> Result<Option<Items<PortPart>>, Stop<ConfKind>>
     ensures { Gives result (port_words value.now) }
 {
-    if value == b"all".as_slice() {
+    if is(value, b"all") {
         return Ok(Some(Items::new(alloc)));
     }
-    if value == b"none".as_slice() {
+    if is(value, b"none") {
         return Ok(None);
     }
     let ports = Parts::words(value).try_fold_by(&PortStep, Items::new(alloc))?;
@@ -204,64 +207,58 @@ fn joined_ports(
     }
 }
 
-/// More ports for the client's data.
-fn with_client(draft: TcpDraft, ports: Option<Items<PortPart>>) -> Result<TcpDraft, NoMemory>
-    ensures { IfOk result (λ next. next ≡ with_client draft ports) }
+/// Adds ports for the client's data.
+fn add_client(draft: &mut TcpDraft, ports: Option<Items<PortPart>>) -> Result<(), NoMemory>
+    ensures { OnOk result (draft.new ≡ with_client draft.old ports) }
 {
-    let client = joined_ports(draft.client, ports)?;
-    Ok(TcpDraft {
-        engine: draft.engine,
-        client,
-        server: draft.server,
-        ports_stood: true,
-    })
+    let client = joined_ports(draft.client.take(), ports)?;
+    draft.client = client;
+    draft.ports_stood = true;
+    Ok(())
 }
 
-/// More ports for the server's data.
-fn with_server(draft: TcpDraft, ports: Option<Items<PortPart>>) -> Result<TcpDraft, NoMemory>
-    ensures { IfOk result (λ next. next ≡ with_server draft ports) }
+/// Adds ports for the server's data.
+fn add_server(draft: &mut TcpDraft, ports: Option<Items<PortPart>>) -> Result<(), NoMemory>
+    ensures { OnOk result (draft.new ≡ with_server draft.old ports) }
 {
-    let server = joined_ports(draft.server, ports)?;
-    Ok(TcpDraft {
-        engine: draft.engine,
-        client: draft.client,
-        server,
-        ports_stood: true,
-    })
+    let server = joined_ports(draft.server.take(), ports)?;
+    draft.server = server;
+    draft.ports_stood = true;
+    Ok(())
 }
 
-/// The draft with the ports of this text on the client's side.
-fn client_value(alloc: Global, draft: TcpDraft, value: &[u8]) -> Result<TcpDraft, Stop<ConfKind>>
-    ensures { Gives result (mapped (with_client draft) (port_words value.now)) }
+/// Adds the ports of this text on the client's side.
+fn client_value(alloc: Global, draft: &mut TcpDraft, value: &[u8]) -> Result<(), Stop<ConfKind>>
+    ensures { Gives (with_new result draft.new) (mapped (with_client draft.old) (port_words value.now)) }
 {
     let ports = port_words(alloc, value)?;
-    let draft = with_client(draft, ports)?;
-    Ok(draft)
+    add_client(draft, ports)?;
+    Ok(())
 }
 
-/// The draft with the ports of this text on the server's side.
-fn server_value(alloc: Global, draft: TcpDraft, value: &[u8]) -> Result<TcpDraft, Stop<ConfKind>>
-    ensures { Gives result (mapped (with_server draft) (port_words value.now)) }
+/// Adds the ports of this text on the server's side.
+fn server_value(alloc: Global, draft: &mut TcpDraft, value: &[u8]) -> Result<(), Stop<ConfKind>>
+    ensures { Gives (with_new result draft.new) (mapped (with_server draft.old) (port_words value.now)) }
 {
     let ports = port_words(alloc, value)?;
-    let draft = with_server(draft, ports)?;
-    Ok(draft)
+    add_server(draft, ports)?;
+    Ok(())
 }
 
-/// The draft with the ports of this text on a side.
+/// Adds the ports of this text on a side.
 fn side_value(
     alloc: Global,
-    draft: TcpDraft,
+    draft: &mut TcpDraft,
     side: Side,
     value: &[u8],
-) -> Result<TcpDraft, Stop<ConfKind>>
-    ensures { Gives result (mapped (with_ports draft side) (port_words value.now)) }
+) -> Result<(), Stop<ConfKind>>
+    ensures { Gives (with_new result draft.new) (mapped (with_ports draft.old side) (port_words value.now)) }
 {
     match side {
         Side::Client => client_value(alloc, draft, value),
         Side::Server => server_value(alloc, draft, value),
         Side::Both => {
-            let draft = client_value(alloc, draft, value)?;
+            client_value(alloc, draft, value)?;
             server_value(alloc, draft, value)
         }
     }
@@ -269,11 +266,13 @@ fn side_value(
 
 /// `ports`: a side, and the ports that it has more.
 #[tactic(auto, unfolding(crate::specs::Stream5::ports_value))]
-fn ports_value(alloc: Global, draft: TcpDraft, value: &[u8]) -> Result<TcpDraft, Stop<ConfKind>>
-    ensures { Gives result (ports_value draft value.now) }
+fn ports_value(alloc: Global, draft: &mut TcpDraft, value: &[u8]) -> Result<(), Stop<ConfKind>>
+    ensures { Gives (with_new result draft.new) (ports_value draft.old value.now) }
 {
     let (word, ports) = first_word(value);
-    let side = side(word).ok_or(ConfKind::BadValue)?;
+    let Some(side) = side(word) else {
+        return Err(Stop::Wrong(ConfKind::BadValue));
+    };
     side_value(alloc, draft, side, ports)
 }
 
@@ -281,55 +280,37 @@ fn ports_value(alloc: Global, draft: TcpDraft, value: &[u8]) -> Result<TcpDraft,
 fn engine_value(
     alloc: Global,
     vars: &Vars,
-    engine: StreamEngine,
+    engine: &mut StreamEngine,
     name: TcpName,
     value: &[u8],
-) -> Result<StreamEngine, Stop<ConfKind>>
-    ensures { Gives result (engine_value vars.now engine name value.now) }
+) -> Result<(), Stop<ConfKind>>
+    ensures { Gives (with_new result engine.new) (engine_value vars.now engine.old name value.now) }
 {
-    let mut engine = engine;
     match name {
-        TcpName::Policy => engine.policy = StreamPolicy::read(value).ok_or(ConfKind::BadValue)?,
-        TcpName::Timeout => engine.timeout = number_in(1, 86400, value).ok_or(ConfKind::BadValue)?,
-        TcpName::BindTo => engine.bind = Some(expanded_addresses(alloc, vars, value)?),
-        TcpName::Handshake => {
-            engine.handshake = Some(handshake_seconds(value).ok_or(ConfKind::BadValue)?)
-        }
-        TcpName::QueuedBytes => {
-            engine.bytes_limit = queue_limit(1024, value).ok_or(ConfKind::BadValue)?
-        }
-        TcpName::QueuedSegs => engine.segs_limit = queue_limit(2, value).ok_or(ConfKind::BadValue)?,
-        TcpName::Ports | TcpName::Unread => {}
+        TcpName::Policy => put_or_stop(&mut engine.policy, StreamPolicy::read(value)),
+        TcpName::Timeout => put_or_stop(&mut engine.timeout, number_in(1, 86400, value)),
+        TcpName::BindTo => put_addresses(alloc, vars, &mut engine.bind, value),
+        TcpName::Handshake => put_some(&mut engine.handshake, handshake_seconds(value)),
+        TcpName::QueuedBytes => put_or_stop(&mut engine.bytes_limit, queue_limit(1024, value)),
+        TcpName::QueuedSegs => put_or_stop(&mut engine.segs_limit, queue_limit(2, value)),
+        TcpName::Ports | TcpName::Unread => Ok(()),
     }
-    Ok(engine)
 }
 
 /// The value of a setting.
 fn tcp_value(
     alloc: Global,
     vars: &Vars,
-    draft: TcpDraft,
+    draft: &mut TcpDraft,
     name: TcpName,
     value: &[u8],
-) -> Result<TcpDraft, Stop<ConfKind>>
-    ensures { Gives result (tcp_value vars.now draft name value.now) }
+) -> Result<(), Stop<ConfKind>>
+    ensures { Gives (with_new result draft.new) (tcp_value vars.now draft.old name value.now) }
 {
     if matches!(name, TcpName::Ports) {
         return ports_value(alloc, draft, value);
     }
-    let TcpDraft {
-        engine,
-        client,
-        server,
-        ports_stood,
-    } = draft;
-    let engine = engine_value(alloc, vars, engine, name, value)?;
-    Ok(TcpDraft {
-        engine,
-        client,
-        server,
-        ports_stood,
-    })
+    engine_value(alloc, vars, &mut draft.engine, name, value)
 }
 
 /// Whether a `ports` setting stands without a side, or without ports behind one.
@@ -363,18 +344,17 @@ impl TcpName {
 fn named_tcp(
     alloc: Global,
     vars: &Vars,
-    partial: Partial<TcpDraft>,
+    partial: &mut Partial<TcpDraft>,
     name: TcpName,
     value: &[u8],
-) -> Result<Partial<TcpDraft>, Stop<ConfKind>>
-    ensures { Gives result (named_tcp vars.now partial name value.now) }
+) -> Result<(), Stop<ConfKind>>
+    ensures { Gives (with_new result partial.new) (named_tcp vars.now partial.old name value.now) }
 {
-    let Partial { draft, lacks } = partial;
     if name.lacks_value(value) {
-        return Ok(Partial { draft, lacks: true });
+        partial.lacks = true;
+        return Ok(());
     }
-    let draft = tcp_value(alloc, vars, draft, name, value)?;
-    Ok(Partial { draft, lacks })
+    tcp_value(alloc, vars, &mut partial.draft, name, value)
 }
 
 /// The settings of a line.
@@ -394,8 +374,12 @@ impl<'a> TryPartStep<Partial<TcpDraft>, ConfKind> for TcpStep<'a> {
         part: &[u8],
     ) -> Result<Partial<TcpDraft>, Stop<ConfKind>> {
         let (word, value) = first_word(part);
-        let name = tcp_name(word).ok_or(ConfKind::BadValue)?;
-        named_tcp(self.alloc, self.vars, partial, name, value)
+        let Some(name) = tcp_name(word) else {
+            return Err(Stop::Wrong(ConfKind::BadValue));
+        };
+        let mut partial = partial;
+        named_tcp(self.alloc, self.vars, &mut partial, name, value)?;
+        Ok(partial)
     }
 }
 
@@ -428,18 +412,10 @@ fn listed(ports: Option<Items<PortPart>>) -> Option<PortList>
 fn engine_of(alloc: Global, draft: TcpDraft) -> Result<StreamEngine, NoMemory>
     ensures { IfOk result (λ engine. engine ≡ engine_of draft) }
 {
-    let TcpDraft {
-        engine,
-        client,
-        server,
-        ports_stood,
-    } = draft;
-    let client_ports = client_ports(alloc, client, ports_stood)?;
-    Ok(StreamEngine {
-        client_ports,
-        server_ports: listed(server),
-        ..engine
-    })
+    let mut engine = draft.engine;
+    engine.client_ports = client_ports(alloc, draft.client, draft.ports_stood)?;
+    engine.server_ports = listed(draft.server);
+    Ok(engine)
 }
 
 /// Whether an engine for all hosts is there.
@@ -452,8 +428,8 @@ fn has_default(engines: &[StreamEngine]) -> bool
 
 /// One engine more.
 #[tactic(auto, unfolding(crate::specs::Stream5::with_engine))]
-fn with_engine(draft: StreamDraft, engine: StreamEngine) -> Result<StreamDraft, Stop<ConfKind>>
-    ensures { Gives result (with_engine draft engine) }
+fn add_engine(draft: &mut StreamDraft, engine: StreamEngine) -> Result<(), Stop<ConfKind>>
+    ensures { Gives (with_new result draft.new) (with_engine draft.old engine) }
 {
     if engine.bind.is_none() && has_default(draft.engines.as_slice()) {
         return Err(Stop::Wrong(ConfKind::Duplicate));
@@ -461,13 +437,8 @@ fn with_engine(draft: StreamDraft, engine: StreamEngine) -> Result<StreamDraft, 
     if draft.engines.as_slice().len() >= MOST_ENGINES {
         return Err(Stop::Wrong(ConfKind::Limit));
     }
-    let mut engines = draft.engines;
-    engines.push(engine)?;
-    Ok(StreamDraft {
-        global: draft.global,
-        udp_timeout: draft.udp_timeout,
-        engines,
-    })
+    draft.engines.push(engine)?;
+    Ok(())
 }
 
 /// What the whole line says, if no setting lacked its value.
@@ -516,15 +487,15 @@ fn first_tcp() -> TcpDraft
 pub fn stream5_tcp(
     alloc: Global,
     vars: &Vars,
-    draft: StreamDraft,
+    draft: &mut StreamDraft,
     rest: &[u8],
-) -> Result<StreamDraft, Stop<ConfKind>>
-    ensures { Gives result (stream5_tcp vars.now draft rest.now) }
+) -> Result<(), Stop<ConfKind>>
+    ensures { Gives (with_new result draft.new) (stream5_tcp vars.now draft.old rest.now) }
 {
     let text = setting_text(rest)?;
     let tcp = tcp_settings(alloc, vars, text)?;
     let engine = engine_of(alloc, tcp)?;
-    with_engine(draft, engine)
+    add_engine(draft, engine)
 }
 
 /// What the settings of a text give.

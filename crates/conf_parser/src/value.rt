@@ -1,14 +1,44 @@
 //! Forms of values that directives share.
-ghost use Rattle.std.specs.Prelude.{◌≡◌, ◌≤◌, not, length, position, option_copied};
+ghost use Rattle.std.specs.Prelude.{◌≡◌, ◌≤◌, Some, not, length, position, option_copied};
 ghost use Rattle.std.specs.List.{prefix_len};
-ghost use Rattle.net_lists.specs.Stops.{Gives};
+ghost use Rattle.net_lists.specs.Stops.{Gives, or_kind};
 ghost use Rattle.edge_io.specs.Bytes.{slice};
-ghost use Rattle.conf_parser.specs.Values.{expanded, address_list, port_list, expanded_addresses, name_of, behind_name, behind_colon, setting_text, yes_or_no, in_name, mapped};
+ghost use Rattle.conf_parser.specs.Values.{expanded, address_list, port_list, expanded_addresses, name_of, behind_name, behind_colon, setting_text, yes_or_no, in_name, mapped, with_new};
 
 use crate::line::ConfKind;
+use crate::word::is;
 use edge_io::Text;
 use net_lists::{AddrList, ExpandFault, ListFault, PortList, Stop, Vars, trimmed};
 use std::alloc::Global;
+
+/// Puts a value in its place, where there is one.
+pub fn put<T: Copy>(place: &mut T, value: Option<T>) -> Result<(), ConfKind>
+    ensures { with_new result place.new ≡ or_kind ConfKind.BadValue value }
+{
+    let Some(value) = value else {
+        return Err(ConfKind::BadValue);
+    };
+    *place = value;
+    Ok(())
+}
+
+/// The same for a reader that may want memory.
+pub fn put_or_stop<T: Copy>(place: &mut T, value: Option<T>) -> Result<(), Stop<ConfKind>>
+    ensures { Gives (with_new result place.new) (or_kind ConfKind.BadValue value) }
+{
+    Ok(put(place, value)?)
+}
+
+/// The same in a place that may be empty.
+pub fn put_some<T: Copy>(place: &mut Option<T>, value: Option<T>) -> Result<(), Stop<ConfKind>>
+    ensures { Gives (with_new result place.new) (mapped (λ found. Some found) (or_kind ConfKind.BadValue value)) }
+{
+    let Some(found) = value else {
+        return Err(Stop::Wrong(ConfKind::BadValue));
+    };
+    *place = Some(found);
+    Ok(())
+}
 
 /// The bytes from one place up to another, as far as they are there.
 fn slice(text: &[u8], from: usize, to: usize) -> &[u8]
@@ -85,6 +115,20 @@ pub fn expanded_addresses(
     address_list(alloc, list.bytes())
 }
 
+/// Puts a list of addresses in its place.
+pub fn put_addresses(
+    alloc: Global,
+    vars: &Vars,
+    place: &mut Option<AddrList>,
+    text: &[u8],
+) -> Result<(), Stop<ConfKind>>
+    ensures { Gives (with_new result place.new) (mapped (λ list. Some list) (expanded_addresses vars.now text.now)) }
+{
+    let list = expanded_addresses(alloc, vars, text)?;
+    *place = Some(list);
+    Ok(())
+}
+
 /// Whether a byte may stand in a name.
 fn in_name(byte: u8) -> bool
     ensures { result ≡ in_name byte }
@@ -145,9 +189,9 @@ pub fn setting_text(rest: &[u8]) -> Result<&[u8], ConfKind>
 pub fn yes_or_no(text: &[u8]) -> Option<bool>
     ensures { result ≡ yes_or_no text.now }
 {
-    if text == b"yes".as_slice() {
+    if is(text, b"yes") {
         Some(true)
-    } else if text == b"no".as_slice() {
+    } else if is(text, b"no") {
         Some(false)
     } else {
         None

@@ -3,6 +3,7 @@ ghost use Rattle.std.specs.Prelude.{◌≡◌, ◌+◌, ◌≤◌, ◌==◌, not
 ghost use Rattle.std.specs.List.{suffix_len};
 ghost use Rattle.std.specs.Str.{is_utf8};
 ghost use Rattle.net_lists.specs.Stops.{Gives};
+ghost use Rattle.conf_parser.specs.Values.{with_new};
 ghost use Rattle.conf_parser.specs.Variables.{checked, value_of, named, definition, directory, is_rooted, beside, within_files, is_file_name, include};
 
 use crate::draft::Spot;
@@ -57,38 +58,37 @@ fn value_of(
     checked(alloc, form, value)
 }
 
-/// The variables behind a definition with this name and text.
+/// Defines a variable of this name, by its text.
 #[tactic(auto, unfolding(crate::specs::Variables::named))]
-fn named(
+fn define(
     alloc: Global,
-    vars: Vars,
+    vars: &mut Vars,
     form: ValueForm,
     name: &[u8],
     text: &[u8],
-) -> Result<Vars, Stop<ConfKind>>
-    ensures { Gives result (named vars form name.now text.now) }
+) -> Result<(), Stop<ConfKind>>
+    ensures { Gives (with_new result vars.new) (named vars.old form name.now text.now) }
 {
     if !is_name(name) || text.is_empty() {
         return Err(Stop::Wrong(ConfKind::BadValue));
     }
-    let value = value_of(alloc, &vars, form, text)?;
-    let mut vars = vars;
+    let value = value_of(alloc, vars, form, text)?;
     vars.define(name, value.bytes(), false)?;
-    Ok(vars)
+    Ok(())
 }
 
-/// `var`, `ipvar` and `portvar`: the variables behind the line.
+/// `var`, `ipvar` and `portvar`: defines the variable of the line.
 #[tactic(auto, unfolding(crate::specs::Variables::definition))]
 pub fn definition(
     alloc: Global,
-    vars: Vars,
+    vars: &mut Vars,
     form: ValueForm,
     rest: &[u8],
-) -> Result<Vars, Stop<ConfKind>>
-    ensures { Gives result (definition vars form rest.now) }
+) -> Result<(), Stop<ConfKind>>
+    ensures { Gives (with_new result vars.new) (definition vars.old form rest.now) }
 {
     let (name, text) = first_word(rest);
-    named(alloc, vars, form, name, text)
+    define(alloc, vars, form, name, text)
 }
 
 /// How many bytes the directory part of a file's name has.

@@ -3,7 +3,7 @@ use Rattle.std.proofs.Common.{◌≡◌, length}
 use Rattle.net_lists.specs.Cutting.{settings}
 use Rattle.net_lists.specs.Folds.{draft_behind}
 use Rattle.conf_parser.specs.Options.{paired}
-use Rattle.conf_parser.proofs.options.settings_behind.Given as goal
+use Rattle.conf_parser.proofs.options.change_by_settings.Given as goal
 
 abbrev pub invariant-settings : goal.invariant-settings
 invariant-settings g l =
