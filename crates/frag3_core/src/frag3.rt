@@ -1,6 +1,7 @@
 //! The fragments of all datagrams, and the datagrams that they make whole.
-ghost use Rattle.std.specs.Prelude.{◌≡◌, ◌<◌, ◌≤◌, [], None, unwrap_or, IfOk, OnOk, OnErr};
-ghost use Rattle.frag3_core.specs.Trackers.{after, answer_of, fragment, held_count, ignored, taken};
+ghost use Rattle.std.specs.Prelude.{◌≡◌, ◌^◌, ◌<◌, ◌≤◌, [], Some, length, unwrap_or, IfOk, OnOk, OnErr};
+ghost use Rattle.frag3_core.specs.Parts.{Takes};
+ghost use Rattle.frag3_core.specs.Trackers.{after, answer_of, end_of, fragment, held_count, ignored, taken};
 
 use crate::seed::Seed;
 use crate::trackers::TrackerCache;
@@ -76,27 +77,63 @@ impl Frag3 {
         if let Some(reason) = ignored_for(ip, part, rules) {
             return Ok(Taken::Ignored(reason));
         }
-        let mut trackers = made(self.alloc, self.trackers.take(), ip, part, moment)?;
-        let bytes = trackers.accept(most, alloc, ip, part, moment, rules);
-        self.trackers = Some(trackers);
-        Ok(answer(ip, bytes?))
+        make_first(self.alloc, &mut self.trackers, ip, part, moment)?;
+        let bytes = join(&mut self.trackers, most, alloc, ip, part, moment, rules)?;
+        Ok(answer(ip, bytes))
     }
 }
 
-/// The trackers, made where there are none yet: then this is the first fragment.
-fn made(
+/// Makes the trackers where there are none yet: then this is the first fragment.
+fn make_first(
     alloc: Global,
-    trackers: Option<TrackerCache>,
+    trackers: &mut Option<TrackerCache>,
     ip: &IpHead,
     part: &[u8],
     moment: Moment,
-) -> Result<TrackerCache, NoMemory>
-    ensures ok { IfOk result (λ made. made ≡ unwrap_or trackers []) }
-    ensures err { OnErr result (trackers ≡ None) }
+) -> Result<(), NoMemory>
+    ensures ok { OnOk result (trackers.new ≡ Some (unwrap_or trackers.old [])) }
+    ensures err { OnErr result (trackers.new ≡ trackers.old) }
+{
+    if trackers.is_none() {
+        *trackers = Some(first(alloc, ip, part, moment)?);
+    }
+    Ok(())
+}
+
+/// No tracker, where this is the first fragment.
+// Kept out of the line of the later fragments.
+#[cold]
+#[inline(never)]
+fn first(alloc: Global, ip: &IpHead, part: &[u8], moment: Moment) -> Result<TrackerCache, NoMemory>
+    ensures { IfOk result (λ trackers. trackers ≡ []) }
+{
+    TrackerCache::new(alloc, Seed::of(ip, part, moment))
+}
+
+/// The trackers, which were made, take a fragment that is not ignored, in their place.
+fn join(
+    trackers: &mut Option<TrackerCache>,
+    most: u64,
+    alloc: Global,
+    ip: &IpHead,
+    part: &[u8],
+    moment: Moment,
+    rules: FragRules,
+) -> Result<Option<Text>, NoMemory>
+    requires made { trackers.old ≡ Some (unwrap_or trackers.old []) }
+    requires some { 0 < length part.now }
+    requires fits { end_of ip.now part.now ≤ 65535 }
+    requires room { 0 < most }
+    requires few { held_count (unwrap_or trackers.old []) ≤ most }
+    requires limit { most < 2 ^ 32 }
+    ensures ok { IfOk result (Takes most (unwrap_or trackers.old []) (fragment ip.now part.now moment rules)
+        (unwrap_or trackers.new [])) }
+    ensures few { OnOk result (held_count (unwrap_or trackers.new []) ≤ most) }
+    ensures err { OnErr result (unwrap_or trackers.new [] ≡ unwrap_or trackers.old []) }
 {
     match trackers {
-        Some(trackers) => Ok(trackers),
-        None => TrackerCache::new(alloc, Seed::of(ip, part, moment)),
+        Some(trackers) => trackers.accept(most, alloc, ip, part, moment, rules),
+        None => Ok(None),
     }
 }
 

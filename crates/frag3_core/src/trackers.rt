@@ -158,6 +158,8 @@ impl TrackerCache {
 
     /// Adds a fragment to the tracker of this key, which stands, with room for it; gives the bytes
     /// of its datagram where it is whole now. Without memory nothing changes.
+    // With `begin` kept apart, since the moves of the one else stand in the line of the other.
+    #[inline(never)]
     fn grow(
         &mut self,
         most: u64,
@@ -206,6 +208,8 @@ impl TrackerCache {
 
     /// Begins a tracker with a fragment, with room for it, in the stead of any that has its key.
     /// Gives the bytes of its datagram where it is whole at once. Without memory nothing changes.
+    // As `grow`.
+    #[inline(never)]
     fn begin(
         &mut self,
         most: u64,
