@@ -14,6 +14,7 @@ ghost use Rattle.flow_lanes.specs.Working.{own_item};
 
 use crate::answer::Hits;
 use crate::arrival::Arrival;
+use crate::entering::leave;
 use crate::inspector::Inspector;
 use crate::keeping::FlowState;
 use crate::steering::steer;
@@ -120,7 +121,7 @@ fn end_if(ends: bool, found: &mut Option<FlowState>)
     ensures keeps { KeepsFound found.old found.new }
 {
     if ends {
-        *found = None;
+        leave(found);
     }
 }
 
@@ -140,7 +141,7 @@ pub(crate) fn try_at_end<P: Pattern>(
     ensures found { found.new ≡ None }
 {
     let mut bits = take_bits_at_hand(found);
-    *found = None;
+    leave(found);
     try_items(inspector, items, &mut bits, tally)?;
     Ok(())
 }

@@ -59,7 +59,7 @@ pub(crate) fn stay(
     }
 }
 
-/// A session that the packet begins, with the bases that it sets. No bit of it is set.
+/// A session that the packet begins, before the bases that it sets. No bit of it is set.
 fn state_at_begin(
     alloc: Global,
     settings: &Settings,
@@ -68,21 +68,20 @@ fn state_at_begin(
     state: Phases,
 ) -> FlowState
     ensures state { result ≡ record {
-      session = with_bases step.now (begun_session (making_of settings.now) (packet_of p.now) step.now state);
+      session = begun_session (making_of settings.now) (packet_of p.now) step.now state;
       bits = empty;
     } }
     ensures within { AreWithin result.session 0 0 }
 {
-    let mut session = Session::begin(alloc, settings, p, step, state);
-    session.set_bases(step);
     FlowState {
-        session,
+        session: Session::begin(alloc, settings, p, step, state),
         bits: Bits::new(),
     }
 }
 
 /// A session that the packet begins takes its place.
-// Kept out of the line of the other packets, which otherwise pay for its moves.
+// Kept out of the line of the other packets, which otherwise pay for its moves. Bases are set in its place: a session that
+// is lent before it has its place is made elsewhere, and moved.
 #[inline(never)]
 fn begin(
     alloc: Global,
@@ -99,6 +98,18 @@ fn begin(
     ensures within { IsWithin (session_at_hand found.new) 0 }
 {
     *found = Some(state_at_begin(alloc, settings, p, step, state));
+    if let Some(kept) = found {
+        kept.session.set_bases(step);
+    }
+}
+
+/// No session stands any more.
+// One copy of what is done for all that a session held.
+#[inline(never)]
+pub(crate) fn leave(found: &mut Option<FlowState>)
+    ensures { found.new ≡ None }
+{
+    *found = None;
 }
 
 /// The packet's session takes its place: it begins, goes on, or there is none.
@@ -120,7 +131,7 @@ fn enter(
     ensures same { IsOf state.tcp (session_at_hand found.new) }
 {
     if !step.tracked {
-        *found = None;
+        leave(found);
     } else if step.begun {
         begin(alloc, settings, p, step, state, found);
     } else if let Some(kept) = found {
