@@ -1,5 +1,5 @@
 //! What a record brings: its packet, or its fragment and the datagram that the fragment completes.
-ghost use Rattle.std.specs.Prelude.{◌≡◌, ◌≤◌, length, IfOk, IfSome, OnOk, Ok};
+ghost use Rattle.std.specs.Prelude.{◌≡◌, ◌≤◌, length, IfOk, IfSome, OnOk, Ok, Some};
 ghost use Rattle.packet_decode.specs.Decoding.{fields_of};
 ghost use Rattle.ipv6_decode.specs.Versions.{IsReadAsFour};
 ghost use Rattle.record_jobs.specs.Packets.{completed_datagram, datagram_from, datagram_item, datagram_of_fragment, datagram_skip, is_fragment, item_of, said_by};
@@ -77,20 +77,17 @@ fn rebuilt_item<'a>(
     })
 }
 
-/// What is inspected of a datagram, or why it is skipped; neither, where there is none.
+/// What is inspected of a datagram, or why it is skipped.
 fn datagram_item<'a>(
     alloc: Global,
     checks: Checks,
     moment: Moment,
-    datagram: &Option<Datagram>,
+    datagram: &Datagram,
 ) -> Result<(Option<Item<'a>>, Option<Skip>), NoMemory>
-    ensures item { IfOk result (λ said. said.0 ≡ datagram_item checks moment datagram.now) }
-    ensures skip { IfOk result (λ said. said.1 ≡ datagram_skip checks datagram.now) }
-    ensures short { IfSome datagram.now IsShortDatagram → IfOk result (λ said. IfSome said.0 IsShortItem) }
+    ensures item { IfOk result (λ said. said.0 ≡ datagram_item checks moment (Some datagram.now)) }
+    ensures skip { IfOk result (λ said. said.1 ≡ datagram_skip checks (Some datagram.now)) }
+    ensures short { IsShortDatagram datagram.now → IfOk result (λ said. IfSome said.0 IsShortItem) }
 {
-    let Some(datagram) = datagram else {
-        return Ok((None, None));
-    };
     match packet_of_datagram(datagram.ip, datagram.bytes.bytes(), checks) {
         Ok(packet) => {
             let item = rebuilt_item(alloc, moment, &packet)?;
@@ -134,6 +131,29 @@ fn accept_fragment(
     }
 }
 
+/// What a fragment brings that completed this datagram.
+// Kept out of the line of the other fragments, which otherwise pay for its moves.
+#[inline(never)]
+fn completing_content<'a>(
+    alloc: Global,
+    checks: Checks,
+    moment: Moment,
+    packet: &Packet<'a>,
+    datagram: &Datagram,
+) -> Result<RecordContent<'a>, NoMemory>
+    ensures content { IfOk result (λ content.
+        content ≡ fragment_content checks moment (fields_of packet.now) (Some datagram.now)) }
+    ensures short { IsShortDatagram datagram.now → IfOk result HasShortPacket }
+{
+    let (item, skip) = datagram_item(alloc, checks, moment, datagram)?;
+    Ok(RecordContent {
+        fragment: Some(item_of(ItemKind::Fragment, moment, packet)),
+        packet: item,
+        skip,
+        rebuilt: true,
+    })
+}
+
 /// What a fragment brings: itself, and the datagram that it completes.
 // Kept out of the line of other packets, which otherwise pay for its moves.
 #[inline(never)]
@@ -151,15 +171,15 @@ fn fragment_content<'a>(
     ensures short { IfSome (datagram_of_fragment (way_of by.now) frag3.old moment (fields_of packet.now)) IsShortDatagram
         → IfOk result HasShortPacket }
 {
-    let datagram = accept_fragment(alloc, by, frag3, moment, packet)?;
-    let rebuilt = datagram.is_some();
-    let (item, skip) = datagram_item(alloc, by.checks, moment, &datagram)?;
-    Ok(RecordContent {
-        fragment: Some(item_of(ItemKind::Fragment, moment, packet)),
-        packet: item,
-        skip,
-        rebuilt,
-    })
+    match accept_fragment(alloc, by, frag3, moment, packet)? {
+        None => Ok(RecordContent {
+            fragment: Some(item_of(ItemKind::Fragment, moment, packet)),
+            packet: None,
+            skip: None,
+            rebuilt: false,
+        }),
+        Some(datagram) => completing_content(alloc, by.checks, moment, packet, &datagram),
+    }
 }
 
 /// What a packet brings: its fragment, or itself.
