@@ -21,3 +21,4 @@ pub mod Parting
 pub mod Meaning
 pub mod Reading
 pub mod CuttingLaws
+pub mod SomeMeaning

@@ -16,6 +16,7 @@ mod fields;
 mod flags;
 mod flowbits;
 mod header;
+mod laws;
 mod line;
 mod names;
 mod number;
@@ -30,6 +31,7 @@ mod written;
 
 pub use bits::BitNames;
 pub use fault::{RuleFault, RuleKind};
+pub use laws::lines_have_a_meaning;
 pub use line::read_rule;
 pub use rule_types::{
     Action, Base, BitChange, Cmp, Content, FastMode, Fetch, Field, FlowOpt, Mode, Num, Opt, Period,
