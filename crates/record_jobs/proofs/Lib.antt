@@ -17,3 +17,10 @@ pub mod Addresses
 pub mod FitDecoded
 pub mod FitDatagrams
 pub mod FitJobs
+pub mod SplitFlows
+pub mod SplitEnds
+pub mod SplitJobs
+pub mod SplitParts
+pub mod SplitFragments
+pub mod SplitRoom
+pub mod SplitItems

@@ -10,3 +10,4 @@ pub mod Fronts
 pub mod Steps
 pub mod Inside
 pub mod Fitting
+pub mod Splitting

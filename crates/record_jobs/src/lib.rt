@@ -15,6 +15,7 @@ mod engines;
 mod front;
 mod item;
 mod laws;
+mod split_laws;
 mod time;
 mod touches;
 
@@ -25,3 +26,4 @@ pub use laws::{
     datagrams_keep_addresses, jobs_are_in_order, jobs_fit, lanes_may_run, no_records_no_jobs,
     open_flows_live, records_are_counted,
 };
+pub use split_laws::parts_have_their_items;
