@@ -1,5 +1,6 @@
 -- The date that the calendar counts to is the date of jiff with that day number.
-use Rattle.std.proofs.Common.{w8, w32, to_z, of_z, nat_abs, FitsSigned, ◌≡◌, ℕ, zero, suc, ◌+◌, ◌/◌, ◌%◌, ◌<◌, ◌≤◌, ◌^◌, inl, inr, refl, sym, ◌∙◌, arith, rules, ℤ, pos}
+use Rattle.std.proofs.Common.{w8, w16, w32, to_z, of_z, nat_abs, FitsSigned, ◌≡◌, ℕ, zero, suc, ◌+◌, ◌/◌, ◌%◌, ◌<◌, ◌≤◌, ◌^◌, inl, inr, refl, sym, ◌∙◌, arith, rules, ℤ, pos}
+use Rattle.std.specs.Prelude.{unsigned_abs}
 use Rattle.std.proofs.lemmas.Bool.{cases_lt}
 use Rattle.std.proofs.lemmas.Int.{to_z-of_z}
 use Rattle.std.proofs.lemmas.Bool.Decides.{nat_tests}
@@ -113,21 +114,28 @@ year_of_counted number date h le =
       | inr within ↦ within
     ]
 
+-- the date is the one with this day number, and its year has four digits
+pub record IsDateOf (date : Date) (number : ℕ) : Type 0 where
+  pub year : date.year ≡ pos (date_of number).year
+  pub month : date.month ≡ (date_of number).month
+  pub day : date.day ≡ (date_of number).day
+  pub small : (date_of number).year < 10000
+
 -- a date of jiff with that day number is the one that the calendar counts to
-pub date_of-epoch_day : (date : Date) (number : ℕ) → number ≤ 2_932_896 → epoch_day date ≡ pos number → (date.month ≡ (date_of number).month) × (date.day ≡ (date_of number).day)
+pub date_of-epoch_day : (date : Date) (number : ℕ) → number ≤ 2_932_896 → epoch_day date ≡ pos number → IsDateOf date number
 date_of-epoch_day date number le same =
     let h = date_of_counted number in
     let late = year_of_counted number (date_of number) h le in
     let own : Date = record { year = pos (date_of number).year; month = (date_of number).month; day = (date_of number).day; year_in = omega (arith, signed_arith); month_in = (h.month_from, h.month_to); day_in = (h.day_from, h.day_to) } in
     let parts = epoch_day_injective date own (same ∙ sym h.counted) in
-    (parts.1, parts.2)
+    record { year = parts.0; month = parts.1; day = parts.2; small = omega arith }
 
 -- a day has so many nanoseconds
 abbrev DAY : ℕ
 DAY = 86_400_000_000_000
 
 -- the date of a moment: its whole days are the day number
-pub date_of-moment : (dt : DateTime) (nanos : ℕ) → nanos < 2 ^ 64 → civil_nanos dt ≡ pos nanos → (dt.date.month ≡ (date_of (nanos / DAY)).month) × (dt.date.day ≡ (date_of (nanos / DAY)).day)
+pub date_of-moment : (dt : DateTime) (nanos : ℕ) → nanos < 2 ^ 64 → civil_nanos dt ≡ pos nanos → IsDateOf dt.date (nanos / DAY)
 date_of-moment dt nanos small same =
     let parts = civil_nanos-parts dt in
     let within = time_nanos_bound dt.time in
@@ -164,3 +172,9 @@ pub cast_u32 : (z : ℤ) (n : ℕ) → z ≡ pos n → n < 2 ^ 31 → nat_abs (t
 cast_u32 z n is small =
     let fits : FitsSigned w32 (pos n) = omega (arith, signed_arith) in
     rw (is, to_z-of_z w32 (pos n) fits)
+
+-- and is its own size
+pub size_u16 : (z : ℤ) (n : ℕ) → z ≡ pos n → n < 2 ^ 15 → unsigned_abs (to_z w16 (of_z w16 z)) ≡ n
+size_u16 z n is small =
+    let fits : FitsSigned w16 (pos n) = omega (arith, signed_arith) in
+    rw (is, to_z-of_z w16 (pos n) fits)

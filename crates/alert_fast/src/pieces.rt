@@ -85,7 +85,7 @@ fn leading_zeros(group: u16) -> usize
 }
 
 /// A number below 100 in two digits.
-pub(crate) fn two_digits(number: u8) -> [u8; 2]
+pub fn two_digits(number: u8) -> [u8; 2]
     requires { number < 100 }
     ensures { result ≡ digits 2 number }
 {

@@ -1,3 +1,4 @@
+//! The UTC time of a moment.
 ghost use Rattle.std.specs.Prelude.{◌≡◌, ◌/◌, ◌%◌, ◌<◌, pos};
 ghost use Rattle.jiff_core.specs.DateTime.{civil_nanos};
 ghost use Rattle.alert_fast.specs.Calendar.{date_of};
@@ -7,31 +8,35 @@ use jiff::Timestamp;
 use jiff::civil::DateTime;
 use jiff::tz::Offset;
 
-/// What of a moment an alert line shows, in UTC: the month from 1, the day of the month, and the time
-/// of day with its whole microseconds.
+/// A moment in UTC: the year, the month and the day of the month from 1, and the time of day with its whole
+/// microseconds.
 #[derive(Clone, Copy, Debug)]
-pub(crate) struct UtcTime {
-    pub(crate) month: u8,
-    pub(crate) day: u8,
-    pub(crate) hour: u8,
-    pub(crate) minute: u8,
-    pub(crate) second: u8,
-    pub(crate) microsecond: u32,
+pub struct UtcTime {
+    pub year: u16,
+    pub month: u8,
+    pub day: u8,
+    pub hour: u8,
+    pub minute: u8,
+    pub second: u8,
+    pub microsecond: u32,
 }
 
-/// The UTC time of a moment.
-pub(crate) fn utc_time(moment: Moment) -> UtcTime
+/// The UTC time of a moment. Its parts fit the digits in which they are written.
+pub fn utc_time(moment: Moment) -> UtcTime
+    ensures year { result.year ≡ (date_of (moment.nanos / 86_400_000_000_000)).year }
     ensures month { result.month ≡ (date_of (moment.nanos / 86_400_000_000_000)).month }
     ensures day { result.day ≡ (date_of (moment.nanos / 86_400_000_000_000)).day }
     ensures hour { result.hour ≡ moment.nanos / 3_600_000_000_000 % 24 }
     ensures minute { result.minute ≡ moment.nanos / 60_000_000_000 % 60 }
     ensures second { result.second ≡ moment.nanos / 1_000_000_000 % 60 }
     ensures microsecond { result.microsecond ≡ moment.nanos / 1_000 % 1_000_000 }
+    ensures year_fits { result.year < 10000 }
     ensures month_fits { result.month < 100 }
     ensures day_fits { result.day < 100 }
 {
     let civil = utc_datetime(moment);
     UtcTime {
+        year: civil.year().unsigned_abs(),
         month: civil.month() as u8,
         day: civil.day() as u8,
         hour: civil.hour() as u8,

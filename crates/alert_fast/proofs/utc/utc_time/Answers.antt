@@ -1,16 +1,29 @@
 use Rattle.std.proofs.Common.{arith, ◌<◌, ◌^◌, ◌∙◌, ℕ, ap, ◌/◌}
-use Rattle.alert_fast.proofs.Dates.{date_of-moment, time_nanos-moment, hour-moment, minute-moment, second-moment, micros-moment, cast_u8, cast_u32}
+use Rattle.alert_fast.proofs.Dates.{date_of-moment, time_nanos-moment, hour-moment, minute-moment, second-moment, micros-moment, cast_u8, cast_u32, size_u16}
 use Rattle.alert_fast.proofs.utc.utc_time.Goals as goal
+
+pub returns-clause-year : goal.returns-clause-year
+returns-clause-year c =
+    let fits : c.args.moment.nanos < 2 ^ 64 = omega arith in
+    let is = date_of-moment c.utc_datetime-civil.result c.args.moment.nanos fits c.utc_datetime-civil.ensures in
+    c.unsigned_abs.ensures.value ∙ size_u16 c.year.result _ (c.year.ensures ∙ is.year) (omega (arith, is.small))
+
+pub returns-clause-year_fits : goal.returns-clause-year_fits
+returns-clause-year_fits c =
+    let fits : c.args.moment.nanos < 2 ^ 64 = omega arith in
+    let is = date_of-moment c.utc_datetime-civil.result c.args.moment.nanos fits c.utc_datetime-civil.ensures in
+    let same = c.unsigned_abs.ensures.value ∙ size_u16 c.year.result _ (c.year.ensures ∙ is.year) (omega (arith, is.small)) in
+    omega (arith, is.small, same)
 
 pub returns-clause-month : goal.returns-clause-month
 returns-clause-month c =
     let fits : c.args.moment.nanos < 2 ^ 64 = omega arith in
-    cast_u8 c.month.result _ c.month.ensures (omega arith) ∙ (date_of-moment c.utc_datetime-civil.result c.args.moment.nanos fits c.utc_datetime-civil.ensures).0
+    cast_u8 c.month.result _ c.month.ensures (omega arith) ∙ (date_of-moment c.utc_datetime-civil.result c.args.moment.nanos fits c.utc_datetime-civil.ensures).month
 
 pub returns-clause-day : goal.returns-clause-day
 returns-clause-day c =
     let fits : c.args.moment.nanos < 2 ^ 64 = omega arith in
-    cast_u8 c.day.result _ c.day.ensures (grind arith) ∙ (date_of-moment c.utc_datetime-civil.result c.args.moment.nanos fits c.utc_datetime-civil.ensures).1
+    cast_u8 c.day.result _ c.day.ensures (grind arith) ∙ (date_of-moment c.utc_datetime-civil.result c.args.moment.nanos fits c.utc_datetime-civil.ensures).day
 
 pub returns-clause-hour : goal.returns-clause-hour
 returns-clause-hour c =
