@@ -1,0 +1,7 @@
+use Rattle.std.proofs.Common.{◌≡◌, ℕ, ◌+◌, ◌-◌, ◌*◌, ◌%◌, ◌^◌, ◌<◌, ◌≤◌, List, ◌++◌, length, take, drop, fold, sym, ap, ◌∙◌, arith, take_all}
+use Rattle.std.proofs.lemmas.Bool.{eqb-true, eq-eqb}
+use Rattle.std.proofs.lemmas.Slice.Eq.{strip_suffix_is}
+use Rattle.alert_fast.proofs.cuts.skip_back.Goals as goal
+
+pub returns : goal.returns
+returns c = strip_suffix_is (λ a b. (eqb-true a b, eq-eqb a b)) c.args.text.now c.args.literal.now c.strip_suffix.result c.strip_suffix.ensures.cases

@@ -1,0 +1,5 @@
+use Rattle.alert_fast.proofs.Messages.{plain_split}
+use Rattle.alert_fast.proofs.cuts.split_msg.Goals as goal
+
+pub returns-in-Some : goal.returns-in-Some
+returns-in-Some c = plain_split c.args.text.now c.in-Some.msg.now c.in-Some.ensures

@@ -1,0 +1,15 @@
+use Rattle.std.specs.Prelude.{decimal}
+use Rattle.alert_fast.specs.Pieces.{digits}
+use Rattle.alert_fast.specs.Words.{IsTwo}
+use Rattle.alert_fast.proofs.Fronts.{ended_front, ended_nowhere, ended_no}
+use Rattle.alert_fast.proofs.WholeWords.{free_two}
+use Rattle.alert_fast.proofs.words.two_to.Goals as goal
+
+pub returns-in_err-word : goal.returns-in_err-word
+returns-in_err-word c = rw c.from_residual.ensures (ended_nowhere IsTwo (digits 2) c.args.end c.args.text.now c.in_err-word.ensures)
+
+pub returns-in_err-value : goal.returns-in_err-value
+returns-in_err-value c = rw c.from_residual-in_err-value.ensures (ended_no IsTwo (digits 2) c.args.end c.args.text.now c.in_ok-word.word.now c.in_ok-word.rest.now (free_two c.args.end c.requires) c.in_ok-word.ensures c.in_err-value.ensures)
+
+pub returns : goal.returns
+returns c = ended_front IsTwo (digits 2) c.args.end c.args.text.now c.in_ok-word.word.now c.in_ok-word.rest.now c.in_ok-value.value (free_two c.args.end c.requires) c.in_ok-word.ensures c.in_ok-value.ensures
