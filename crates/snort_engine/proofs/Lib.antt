@@ -37,3 +37,5 @@ pub mod Reported
 pub mod Runs
 pub mod Seeing
 pub mod Refuted
+pub mod SplitFilters
+pub mod SplitCaptures

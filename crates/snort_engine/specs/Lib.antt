@@ -35,3 +35,5 @@ pub mod Messages
 pub mod Status
 -- what the steps of the code do, which are private
 pub mod Steps
+-- a part of a capture
+pub mod SplitCaptures

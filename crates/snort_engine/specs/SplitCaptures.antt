@@ -1,0 +1,51 @@
+-- What a part of a capture shows that is split by pairs of addresses.
+--
+-- It shows, in order, the alerts that the whole shows of its records, where these have their items in either
+-- (record_jobs specs/Splitting: the conditions on full tables and on the capture's beginning), and nothing counts events
+-- of two parts together: neither a detection filter nor an event filter has a key for an item of this part that it has
+-- for one of another part. Where filters track addresses that no two parts share, this is so.
+--
+-- It is said of records that are read, so under `-n` of those within the limit; and of the alerts that come while the
+-- capture goes on: those of flows that end with it stand beside the last record, whichever part that is of. A line goes
+-- by its alert; Unified2 numbers alerts from the first one on, and counts go by all records, so both differ.
+-- To try it on: of packets between a and b and between c and d, the part of a and b shows the alerts of its packets. With
+-- an event filter of a rule that lets the first event of each source through, it does so too; with `track by_dst` it may
+-- not where b is d.
+use Rattle.std.specs.Prelude.{◌≡◌, ℕ, Bool, true, false, List, Contains, Option, Some, filter}
+use Rattle.edge_io.specs.Along.{trail}
+use Rattle.event_filters.specs.declared.counting.Key.{Key}
+use Rattle.event_filters.specs.Counting.{Event}
+use Rattle.event_filters.specs.Events.{event_key, event_of, global_place, match_key, own_place}
+use Rattle.event_filters.specs.Keys.{same_key}
+use Rattle.flow_lanes.specs.declared.answer.Hits.{Hits}
+use Rattle.record_jobs.specs.Splitting.{IsSplit, Part, record_items}
+use Rattle.record_jobs.specs.Way.{LinkedRecord}
+use Rattle.snort_engine.specs.Beside.{Beside, own}
+use Rattle.snort_engine.specs.Course.{Plan}
+use Rattle.snort_engine.specs.Trace.{Alert, detection_of, jobs_way}
+
+-- the alerts of a part, by the records that they stand beside
+abbrev pub alerts_of : Part → List Alert → List Alert
+alerts_of part alerts = filter (λ (alert : Alert). part alert.source) alerts
+
+-- the items of records, each beside the record whose job has it
+abbrev pub items_beside : Plan → List LinkedRecord → List (Beside LinkedRecord Hits)
+items_beside plan records = trail (own (record_items (detection_of plan) (jobs_way plan))) records
+
+-- by these keys no item of the part is counted together with an item of another part, whichever rules match the two
+abbrev pub IsCountedApart : Plan → Part → List LinkedRecord → (Event → Option Key) → Type 0
+IsCountedApart plan part records key_of = (a b : Beside LinkedRecord Hits) (p q : ℕ) (key other : Key)
+    → Contains (items_beside plan records) a → Contains (items_beside plan records) b
+    → part a.source ≡ true → part b.source ≡ false
+    → key_of (event_of a.what.head p) ≡ Some key → key_of (event_of b.what.head q) ≡ Some other → same_key key other ≡ false
+
+-- so it is of detection filters, and of the event filters of rules and of all rules
+pub record AreCountedApart (plan : Plan) (part : Part) (records : List LinkedRecord) : Type 0 where
+  pub matches : IsCountedApart plan part records (match_key plan.rules)
+  pub own : IsCountedApart plan part records (event_key (own_place plan.config.filters) plan.config.filters plan.rules)
+  pub global : IsCountedApart plan part records (event_key (global_place plan.config.filters) plan.config.filters plan.rules)
+
+-- a part whose records have their items, and across which nothing is counted
+pub record IsShownApart (plan : Plan) (part : Part) (records : List LinkedRecord) : Type 0 where
+  pub split : IsSplit (jobs_way plan) part records
+  pub apart : AreCountedApart plan part records
