@@ -37,5 +37,8 @@ pub mod Reported
 pub mod Runs
 pub mod Seeing
 pub mod Refuted
+pub mod SomeFileWays
+pub mod SomeSetups
+pub mod SomeCourses
 pub mod SplitFilters
 pub mod SplitCaptures

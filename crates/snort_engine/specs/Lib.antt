@@ -35,5 +35,7 @@ pub mod Messages
 pub mod Status
 -- what the steps of the code do, which are private
 pub mod Steps
+-- that there is a course
+pub mod SomeCourse
 -- a part of a capture
 pub mod SplitCaptures

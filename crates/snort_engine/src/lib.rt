@@ -18,6 +18,7 @@ mod batch;
 mod capture;
 mod context;
 mod counts;
+mod course_laws;
 mod detect;
 mod detector;
 mod events;
@@ -38,6 +39,7 @@ mod stop;
 mod unified2;
 mod watch;
 
+pub use course_laws::words_have_a_course;
 pub use detector::run;
 pub use laws::first_lines_stand;
 pub use run_laws::{limits_cut_captures, written_records_read_back};

@@ -1,0 +1,12 @@
+use Rattle.snort_engine.proofs.SomeCourses.{some_answer, some_course}
+use Rattle.snort_engine.proofs.SomeSetups.{some_setup}
+use Rattle.snort_engine.proofs.course_laws.words_have_a_course.Goals as goal
+
+pub returns-clause-some : goal.returns-clause-some
+returns-clause-some c = some_course
+
+pub returns-clause-setup : goal.returns-clause-setup
+returns-clause-setup c = some_setup
+
+pub returns-clause-answered : goal.returns-clause-answered
+returns-clause-answered c = some_answer
