@@ -3,9 +3,7 @@ use Rattle.std.proofs.Common.{◌≡◌, ℕ, suc, ◌-◌, ◌<◌, ◌≤◌, 
 use Rattle.std.specs.Prelude.{IfErr}
 use Rattle.std.proofs.lemmas.Bool.{lt-ltb, le-ltb}
 use Rattle.std.specs.FinMap.{get}
-use Rattle.std.proofs.lemmas.Bool.Decides.{nat_tests}
 use Rattle.edge_io.specs.Files.{Files, Lacks}
-use Rattle.edge_io.specs.Told.{Rose}
 use Rattle.net_lists.specs.declared.lines.Numbered.{Numbered}
 use Rattle.conf_parser.specs.declared.reading.At.{At}
 use Rattle.conf_parser.specs.declared.reading.Read.{Read}
@@ -189,10 +187,6 @@ cause-since first second host now (stopped.Asks name output) since same (inl ros
 cause-since first second host now (stopped.Asks name output) since same (inr lacks) = inr (subst (λ (h : Option Files). Lacks h name) same lacks)
 cause-since first second host now (stopped.Refused fault output) since same cause = tt
 cause-since first second host now stopped.NoMemory since same cause = tt
-
--- a count that rose from later on rose from earlier on
-pub rose-since : (old middle new : ℕ) → old ≤ middle → Rose middle new → Rose old new
-rose-since old middle new later rose = grind (arith, nat_tests)
 
 -- no line more
 pub lines-end : (host : Option Files) (low high left : ℕ) (source : Source) (a : Contents → Ended) (lines : List Numbered) (read : Read) → length lines ≡ 0

@@ -3,6 +3,7 @@ ghost use Rattle.std.specs.Prelude.{◌≡◌, ◌<◌, ◌≤◌, ◌⊎◌, tr
 ghost use Rattle.std.specs.Str.{is_utf8};
 ghost use Rattle.edge_io.specs.Told.{Rose};
 ghost use Rattle.edge_io.specs.Files.{Files, Lacks, MaySee};
+ghost use Rattle.edge_io.specs.Frames.{OnlyLoaded};
 ghost use Rattle.conf_parser.specs.Reading.{told, with_file, file_count, file_read, lines_read, line_read, most_bytes, read_files, nothing_read};
 ghost use Rattle.conf_parser.specs.Steps.{MayBeRead, most_files};
 ghost use Rattle.conf_parser.specs.Loaded.{loaded_of};
@@ -34,13 +35,8 @@ fn file_bytes<H: Host>(alloc: Global, host: &mut H, name: &[u8]) -> Result<Text,
     ensures within { IfOk result (λ bytes. length bytes ≤ most_bytes) }
     ensures failed { IsErrOf result LoadFault.Failed
         → Rose (H.faults host.old) (H.faults host.new) ⊎ Lacks (H.contents host.old) name.now }
-    ensures same { (H.contents host.new ≡ H.contents host.old) × (H.left host.new ≡ H.left host.old)
-        × (H.opens host.new ≡ H.opens host.old) }
-    ensures same_left { (files : Files) → H.left_of host.new files ≡ H.left_of host.old files }
-    ensures earlier { (seen : Option Files) → MaySee (H.contents host.new) (H.agrees host.new) seen
-        → MaySee (H.contents host.old) (H.agrees host.old) seen }
     ensures quiet { (IsErrOf result LoadFault.Failed → ⊥) → H.faults host.new ≡ H.faults host.old }
-    ensures later { H.faults host.old ≤ H.faults host.new }
+    ensures only_loaded { OnlyLoaded H.Host host.old host.new }
 {
     let Ok(name) = str::from_utf8(name) else {
         return Err(LoadFault::Failed);
@@ -134,13 +130,8 @@ fn open_file<H: Host>(
     ensures text { IfOk result (λ opened. is_utf8 opened.source.name ≡ true) }
     ensures few { IfOk result (λ opened. file_count opened.read ≤ most_files) }
     ensures cause { IfErr result (HasCause (Rose (H.faults host.old) (H.faults host.new)) (H.contents host.old)) }
-    ensures same { (H.contents host.new ≡ H.contents host.old) × (H.left host.new ≡ H.left host.old)
-        × (H.opens host.new ≡ H.opens host.old) }
-    ensures same_left { (files : Files) → H.left_of host.new files ≡ H.left_of host.old files }
-    ensures earlier { (seen : Option Files) → MaySee (H.contents host.new) (H.agrees host.new) seen
-        → MaySee (H.contents host.old) (H.agrees host.old) seen }
     ensures quiet { UnlessAsks (H.faults host.new ≡ H.faults host.old) result }
-    ensures later { H.faults host.old ≤ H.faults host.new }
+    ensures only_loaded { OnlyLoaded H.Host host.old host.new }
 {
     match file_bytes(alloc, host, name.bytes()) {
         Ok(bytes) => {
@@ -169,13 +160,8 @@ fn read_lines<H: Host>(
         (λ contents. lines_read (inner contents left) source.now lines.now read) result }
     ensures few { IfOk result (λ read. file_count read ≤ most_files) }
     ensures cause { IfErr result (HasCause (Rose (H.faults host.old) (H.faults host.new)) (H.contents host.old)) }
-    ensures same { (H.contents host.new ≡ H.contents host.old) × (H.left host.new ≡ H.left host.old)
-        × (H.opens host.new ≡ H.opens host.old) }
-    ensures same_left { (files : Files) → H.left_of host.new files ≡ H.left_of host.old files }
-    ensures earlier { (seen : Option Files) → MaySee (H.contents host.new) (H.agrees host.new) seen
-        → MaySee (H.contents host.old) (H.agrees host.old) seen }
     ensures quiet { UnlessAsks (H.faults host.new ≡ H.faults host.old) result }
-    ensures later { H.faults host.old ≤ H.faults host.new }
+    ensures only_loaded { OnlyLoaded H.Host host.old host.new }
 {
     let mut read = read;
     let mut rest = lines;
@@ -204,13 +190,8 @@ fn read_line<H: Host>(
         (λ contents. line_read (inner contents left) source.now line.now read) result }
     ensures few { IfOk result (λ read. file_count read ≤ most_files) }
     ensures cause { IfErr result (HasCause (Rose (H.faults host.old) (H.faults host.new)) (H.contents host.old)) }
-    ensures same { (H.contents host.new ≡ H.contents host.old) × (H.left host.new ≡ H.left host.old)
-        × (H.opens host.new ≡ H.opens host.old) }
-    ensures same_left { (files : Files) → H.left_of host.new files ≡ H.left_of host.old files }
-    ensures earlier { (seen : Option Files) → MaySee (H.contents host.new) (H.agrees host.new) seen
-        → MaySee (H.contents host.old) (H.agrees host.old) seen }
     ensures quiet { UnlessAsks (H.faults host.new ≡ H.faults host.old) result }
-    ensures later { H.faults host.old ≤ H.faults host.new }
+    ensures only_loaded { OnlyLoaded H.Host host.old host.new }
 {
     match line_step(alloc, source, line, read)? {
         Next::Onward(read) => Ok(read),
@@ -241,13 +222,8 @@ fn included<H: Host>(
         (λ contents. inner contents left name at read) result }
     ensures few { IfOk result (λ read. file_count read ≤ most_files) }
     ensures cause { IfErr result (HasCause (Rose (H.faults host.old) (H.faults host.new)) (H.contents host.old)) }
-    ensures same { (H.contents host.new ≡ H.contents host.old) × (H.left host.new ≡ H.left host.old)
-        × (H.opens host.new ≡ H.opens host.old) }
-    ensures same_left { (files : Files) → H.left_of host.new files ≡ H.left_of host.old files }
-    ensures earlier { (seen : Option Files) → MaySee (H.contents host.new) (H.agrees host.new) seen
-        → MaySee (H.contents host.old) (H.agrees host.old) seen }
     ensures quiet { UnlessAsks (H.faults host.new ≡ H.faults host.old) result }
-    ensures later { H.faults host.old ≤ H.faults host.new }
+    ensures only_loaded { OnlyLoaded H.Host host.old host.new }
 {
     if left == 0 {
         return Ok(read);
@@ -272,13 +248,8 @@ fn read_file<H: Host>(
         (λ contents. file_read contents left name at read) result }
     ensures few { IfOk result (λ read. file_count read ≤ most_files) }
     ensures cause { IfErr result (HasCause (Rose (H.faults host.old) (H.faults host.new)) (H.contents host.old)) }
-    ensures same { (H.contents host.new ≡ H.contents host.old) × (H.left host.new ≡ H.left host.old)
-        × (H.opens host.new ≡ H.opens host.old) }
-    ensures same_left { (files : Files) → H.left_of host.new files ≡ H.left_of host.old files }
-    ensures earlier { (seen : Option Files) → MaySee (H.contents host.new) (H.agrees host.new) seen
-        → MaySee (H.contents host.old) (H.agrees host.old) seen }
     ensures quiet { UnlessAsks (H.faults host.new ≡ H.faults host.old) result }
-    ensures later { H.faults host.old ≤ H.faults host.new }
+    ensures only_loaded { OnlyLoaded H.Host host.old host.new }
 {
     let opened = open_file(alloc, host, left, name, at, read)?;
     let source = opened.source;

@@ -1,9 +1,10 @@
 use Rattle.std.proofs.Common.{refl, ◌∙◌, arith}
 use Rattle.std.proofs.lemmas.Result.{err_from_is_err_and}
 use Rattle.edge_io.specs.Told.{Rose}
+use Rattle.edge_io.proofs.Told.{rose-since}
 use Rattle.conf_parser.specs.Reading.{line_at, file_count, file_read}
 use Rattle.conf_parser.specs.Loading.{inner}
-use Rattle.conf_parser.proofs.Goings.{goes-refl, goes-then, goes_on-from, line-onward, line-stops, lines-next, lines-stop, lines-end, lines_of, line_of, rose-since, inner-none, inner-some, if_err-since}
+use Rattle.conf_parser.proofs.Goings.{goes-refl, goes-then, goes_on-from, line-onward, line-stops, lines-next, lines-stop, lines-end, lines_of, line_of, inner-none, inner-some, if_err-since}
 use Rattle.conf_parser.proofs.loading.+reading.Goals as goal
 
 pub included-returns-then-left-eq0-clause-goes : goal.included-returns-then-left-eq0-clause-goes
@@ -17,15 +18,15 @@ read_file-returns-clause-goes g t c = λ seen may.
     goes-then seen (file_count c.args.read) (file_count c.in_ok-opened.opened.read)
     (λ contents. file_read contents c.args.left c.args.name c.args.at c.args.read)
     (lines_of c.args.left c.in_ok-opened.opened.source c.in_ok-opened.opened.lines c.in_ok-opened.opened.read)
-    c.read_lines.result (c.in_ok-opened.ensures.goes seen (c.read_lines.ensures.earlier seen may))
+    c.read_lines.result (c.in_ok-opened.ensures.goes seen (c.read_lines.ensures.only_loaded.earlier seen may))
     (rw c.as_slice.ensures at (c.read_lines.ensures.goes seen may))
 
 pub read_file-returns-clause-cause : goal.read_file-returns-clause-cause
 read_file-returns-clause-cause g t c =
     if_err-since (Rose (g.H.Host.faults c.args.host.now) (g.H.Host.faults c.read_lines.new.host)) (Rose (g.H.Host.faults c.open_file.new.host) (g.H.Host.faults c.read_lines.new.host))
     (g.H.Host.contents c.args.host.now) (g.H.Host.contents c.open_file.new.host) c.read_lines.result
-    (rose-since (g.H.Host.faults c.args.host.now) (g.H.Host.faults c.open_file.new.host) (g.H.Host.faults c.read_lines.new.host) c.open_file.ensures.later)
-    c.open_file.ensures.same.0 c.read_lines.ensures.cause
+    (rose-since (g.H.Host.faults c.args.host.now) (g.H.Host.faults c.open_file.new.host) (g.H.Host.faults c.read_lines.new.host) c.open_file.ensures.only_loaded.later)
+    c.open_file.ensures.only_loaded.files c.read_lines.ensures.cause
 
 pub read_line-returns-in_err-read-clause-goes : goal.read_line-returns-in_err-read-clause-goes
 read_line-returns-in_err-read-clause-goes g t c = λ seen may.
@@ -65,19 +66,19 @@ read_lines-returns-in_err-read-clause-goes g t c = λ seen may.
     let p = err_from_is_err_and c.from_residual.result c.from_residual.ensures.1 in
     rw (p.1, p.2) (lines-stop seen (file_count c.args.read) (file_count c.lines.read) c.args.left c.args.source.now
     (lines_of c.args.left c.args.source.now c.args.lines.now c.args.read) c.lines.rest.now c.in-Some.behind.now c.in-Some.line.now c.lines.read c.in_err-read.field-0.0
-    c.in-Some.ensures.cases.0 (c.lines.invariant.goes seen (c.read_line.ensures.earlier seen may)) (c.in_err-read.ensures.goes seen may))
+    c.in-Some.ensures.cases.0 (c.lines.invariant.goes seen (c.read_line.ensures.only_loaded.earlier seen may)) (c.in_err-read.ensures.goes seen may))
 
 pub read_lines-lines-preserved : goal.read_lines-lines-preserved
 read_lines-lines-preserved g t c = record {
   goes = λ seen may. lines-next seen (file_count c.args.read) (file_count c.lines.read) (file_count c.in_ok-read.read) c.args.left c.args.source.now
       (lines_of c.args.left c.args.source.now c.args.lines.now c.args.read) c.lines.rest.now c.in-Some.behind.now c.in-Some.line.now c.lines.read c.in_ok-read.read
-      c.in-Some.ensures.cases.0 (c.lines.invariant.goes seen (c.read_line.ensures.earlier seen may)) (c.in_ok-read.ensures.goes seen may);
+      c.in-Some.ensures.cases.0 (c.lines.invariant.goes seen (c.read_line.ensures.only_loaded.earlier seen may)) (c.in_ok-read.ensures.goes seen may);
   few = c.in_ok-read.ensures.few;
-  contents = c.read_line.ensures.same.0 ∙ c.lines.invariant.contents;
-  left = c.read_line.ensures.same.1 ∙ c.lines.invariant.left;
-  left_of = λ files. c.read_line.ensures.same_left files ∙ c.lines.invariant.left_of files;
-  earlier = λ seen may. c.lines.invariant.earlier seen (c.read_line.ensures.earlier seen may);
-  opens = c.read_line.ensures.same.2 ∙ c.lines.invariant.opens;
+  contents = c.read_line.ensures.only_loaded.files ∙ c.lines.invariant.contents;
+  left = c.read_line.ensures.only_loaded.left ∙ c.lines.invariant.left;
+  left_of = λ files. c.read_line.ensures.only_loaded.left_of files ∙ c.lines.invariant.left_of files;
+  earlier = λ seen may. c.lines.invariant.earlier seen (c.read_line.ensures.only_loaded.earlier seen may);
+  opens = c.read_line.ensures.only_loaded.opens ∙ c.lines.invariant.opens;
   quiet = c.in_ok-read.ensures.quiet ∙ c.lines.invariant.quiet;
 }
 

@@ -43,7 +43,7 @@ returns-in-Err-read_file-clause-agreed g c = λ files agree.
     (first-goes (Some files) c.args.name.now c.in-Ok.first c.args.vars.now c.nothing_read-before.result (stopped_at c.in-Err-read_file.stopped)
     (c.in-Ok.ensures ∙ c.as_bytes.ensures.value) (c.nothing_read-before.ensures ∙ ap nothing_read c.replace.ensures.value) (c.in-Err-read_file.ensures.goes (Some files) agree))
     (seen_cause _ (g.H.Host.contents c.args.host.now) (g.H.Host.contents host) (g.H.Host.left host) (g.H.Host.agrees host) (g.H.Host.left_of host) c.in-Err-read_file.stopped (Some files)
-    (g.met.H.Host.as_told host) c.read_file.ensures.same.0 agree c.in-Err-read_file.ensures.cause) c.stop_out.ensures
+    (g.met.H.Host.as_told host) c.read_file.ensures.only_loaded.files agree c.in-Err-read_file.ensures.cause) c.stop_out.ensures
 
 pub returns-in-Err-clause-reading : goal.returns-in-Err-clause-reading
 returns-in-Err-clause-reading g c = record { seen = seen_by (g.H.Host.contents c.args.host.now); tells = tells-seen_by (g.H.Host.contents c.args.host.now); ends = tt }
@@ -52,25 +52,25 @@ pub returns-in-Ok-read_file-clause-reading : goal.returns-in-Ok-read_file-clause
 returns-in-Ok-read_file-clause-reading g c =
     let host = c.read_file.new.host in
     returns-in-Ok-read_file-clause-reading_seen g c (g.H.Host.contents c.args.host.now)
-    (told_before (g.H.Host.contents c.args.host.now) (g.H.Host.contents host) (g.H.Host.left host) (g.H.Host.agrees host) (g.H.Host.left_of host) (g.met.H.Host.as_told host) c.read_file.ensures.same.0)
+    (told_before (g.H.Host.contents c.args.host.now) (g.H.Host.contents host) (g.H.Host.left host) (g.H.Host.agrees host) (g.H.Host.left_of host) (g.met.H.Host.as_told host) c.read_file.ensures.only_loaded.files)
 
 pub returns-in-Ok-read_file-clause-told : goal.returns-in-Ok-read_file-clause-told
 returns-in-Ok-read_file-clause-told g c = λ files is.
     let host = c.read_file.new.host in
     returns-in-Ok-read_file-clause-agreed g c files
-    (rw is at (told_before (g.H.Host.contents c.args.host.now) (g.H.Host.contents host) (g.H.Host.left host) (g.H.Host.agrees host) (g.H.Host.left_of host) (g.met.H.Host.as_told host) c.read_file.ensures.same.0))
+    (rw is at (told_before (g.H.Host.contents c.args.host.now) (g.H.Host.contents host) (g.H.Host.left host) (g.H.Host.agrees host) (g.H.Host.left_of host) (g.met.H.Host.as_told host) c.read_file.ensures.only_loaded.files))
 
 pub returns-in-Err-read_file-clause-reading : goal.returns-in-Err-read_file-clause-reading
 returns-in-Err-read_file-clause-reading g c =
     let host = c.read_file.new.host in
     returns-in-Err-read_file-clause-reading_seen g c (g.H.Host.contents c.args.host.now)
-    (told_before (g.H.Host.contents c.args.host.now) (g.H.Host.contents host) (g.H.Host.left host) (g.H.Host.agrees host) (g.H.Host.left_of host) (g.met.H.Host.as_told host) c.read_file.ensures.same.0)
+    (told_before (g.H.Host.contents c.args.host.now) (g.H.Host.contents host) (g.H.Host.left host) (g.H.Host.agrees host) (g.H.Host.left_of host) (g.met.H.Host.as_told host) c.read_file.ensures.only_loaded.files)
 
 pub returns-in-Err-read_file-clause-told : goal.returns-in-Err-read_file-clause-told
 returns-in-Err-read_file-clause-told g c = λ files is.
     let host = c.read_file.new.host in
     returns-in-Err-read_file-clause-agreed g c files
-    (rw is at (told_before (g.H.Host.contents c.args.host.now) (g.H.Host.contents host) (g.H.Host.left host) (g.H.Host.agrees host) (g.H.Host.left_of host) (g.met.H.Host.as_told host) c.read_file.ensures.same.0))
+    (rw is at (told_before (g.H.Host.contents c.args.host.now) (g.H.Host.contents host) (g.H.Host.left host) (g.H.Host.agrees host) (g.H.Host.left_of host) (g.met.H.Host.as_told host) c.read_file.ensures.only_loaded.files))
 
 pub returns-in-Ok-read_file-clause-places : goal.returns-in-Ok-read_file-clause-places
 returns-in-Ok-read_file-clause-places g c =
