@@ -1,6 +1,8 @@
 -- The steps of reading a batch, one lemma for each answer of `next`.
 use Rattle.std.proofs.Common.{◌≡◌, ℕ, zero, suc, ◌+◌, ◌<◌, ◌≤◌, Bool, true, List, [], ◌∷◌, ◌++◌, Option, Ok, Err, refl, sym, ap, subst, append_assoc, ◌∙◌, arith}
 use Rattle.record_jobs.specs.Way.{LinkedRecord}
+use Rattle.alert_lines.specs.declared.fault.WriteFault.{WriteFault}
+use Rattle.alert_lines.specs.declared.fault.WriteFault.TheVariants as write
 use Rattle.snort_engine.specs.declared.fault.ReadFault.{ReadFault}
 use Rattle.snort_engine.specs.declared.fault.ReadFault.TheVariants as fault
 use Rattle.snort_engine.specs.declared.reader.RecordReader.{RecordReader}
@@ -10,9 +12,7 @@ use Rattle.snort_engine.proofs.Reading.{reading-joined, reading-whole, reading-s
 use Rattle.snort_engine.specs.declared.batch.Reached.{Reached}
 use Rattle.snort_engine.specs.declared.batch.Reached.TheVariants.{More, End, Fault}
 use Rattle.snort_engine.specs.Steps.Batch.{Place, HasStopped, Reaches, ReadsOn, more_of}
-use Rattle.snort_engine.specs.declared.stop.Stop.{Stop}
-use Rattle.snort_engine.specs.declared.stop.Stop.TheVariants as stop
-use Rattle.snort_engine.specs.Steps.Stop.{is_whole, IsShowStop}
+use Rattle.snort_engine.specs.Steps.Stop.{is_whole, write_stop}
 
 -- reading went no record further than what was read so far
 still_there : (first : RecordReader) (given : List LinkedRecord) (left_first : Option (List ℕ)) (reader : RecordReader) (left : Option (List ℕ)) → HasRead first reader given left_first left → HasStopped first given left_first left
@@ -66,10 +66,9 @@ reads_lacking old new same still = λ first shown left_first read.
 -- ---- what was reached, as an answer
 
 -- showing lines leaves nothing to close where it stops
-pub showing_cuts : (why : Stop) → IsShowStop why → is_whole {A = Bool} (Err why) ≡ true → ⊥
-showing_cuts stop.CannotWrite kind whole = cc
-showing_cuts stop.NoMemory kind whole = cc
-showing_cuts why kind whole = absurd kind
+pub showing_cuts : (why : WriteFault) → is_whole {A = Bool} (Err (write_stop why)) ≡ true → ⊥
+showing_cuts write.Unwritten whole = cc
+showing_cuts write.NoMemory whole = cc
 
 -- more may follow only where a batch is full
 pub more_reached : (reached : Reached) → more_of reached ≡ Ok true → reached ≡ More

@@ -7,6 +7,9 @@ use Rattle.edge_io.specs.Told.{behind, Rose}
 use Rattle.edge_io.specs.Files.{Files}
 use Rattle.edge_io.proofs.Told.{behind-nil}
 use Rattle.pcap_input.proofs.Told.{split_told}
+use Rattle.record_jobs.specs.Way.{LinkedRecord}
+use Rattle.alert_lines.specs.Written.{WritesPart}
+use Rattle.alert_lines.proofs.Prefixes.{IsPrefix-nil, WritesPart-none}
 use Rattle.snort_engine.specs.declared.fault.ReadFault.{ReadFault}
 use Rattle.snort_engine.specs.declared.fault.ReadFault.TheVariants as fault
 use Rattle.snort_engine.specs.declared.reader.RecordReader.{RecordReader}
@@ -15,7 +18,6 @@ use Rattle.snort_engine.specs.declared.status.Status.TheVariants as status
 use Rattle.snort_engine.specs.declared.stop.Stop.{Stop}
 use Rattle.snort_engine.specs.declared.stop.Stop.TheVariants as stop
 use Rattle.snort_engine.specs.Course.{Plan, Goes, Course}
-use Rattle.record_jobs.specs.Way.{LinkedRecord}
 use Rattle.snort_engine.specs.Records.{AreWithin, Recording, Ending, Clean, Refused, records_in, records_of}
 use Rattle.snort_engine.specs.Steps.Reader.{BeginsBehind, IsBarelyOpen, IsRefusedAtOnce, Opens, recording_for}
 use Rattle.snort_engine.specs.declared.counts.Counts.{Counts}
@@ -24,13 +26,12 @@ use Rattle.snort_engine.specs.Counts.{counts_of, no_counts, told_counts, with_co
 use Rattle.snort_engine.specs.Lines.{lines}
 use Rattle.snort_engine.specs.Answer.{Answer, answer_of, way_answer, capture_answer, recording_answer, fault_text, fault_status, ending_text, ending_status}
 use Rattle.snort_engine.specs.Messages.{cannot_read_text}
-use Rattle.snort_engine.specs.Outside.{Work, WritesPart}
+use Rattle.snort_engine.specs.Outside.{Work}
 use Rattle.snort_engine.specs.ReadAhead.{batch, before_last_batch, earlier_batches, lines_due, AreBatches, IsReadInBatches, IsReadAhead, ReadsAhead}
 use Rattle.snort_engine.specs.Ending.{IsAnswered, IsTakenOf, lines_within, IsCutShort, Ends}
 use Rattle.snort_engine.specs.Steps.Stop.{capture_stop, stop_status, stop_text, outcome_status, outcome_text}
 use Rattle.snort_engine.specs.Steps.Reporting.{counts_due}
 use Rattle.snort_engine.specs.Steps.Watching.{recording_by, lines_of, IsReadOut, HasReadTo, IsReadCutShort, IsCloseBehind, WatchesTo, WritesSome, Watches}
-use Rattle.snort_engine.proofs.Prefixes.{IsPrefix-nil, WritesPart-none}
 use Rattle.snort_engine.proofs.LinesLaws.{lines_join, lines-nil, lines-none, no_counts-are}
 use Rattle.snort_engine.proofs.Limits.{batches_none, before_last}
 use Rattle.snort_engine.proofs.Opening.{few_hold_none}

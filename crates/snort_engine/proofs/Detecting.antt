@@ -9,7 +9,6 @@ use Rattle.edge_io.proofs.Along.{along-append, pipe_more, trail-append, trail_fr
 use Rattle.rule_types.specs.declared.rule.Rule.{Rule}
 use Rattle.fast_pattern.specs.Grouping.{StandFor}
 use Rattle.fast_pattern.specs.declared.groups.Groups.{Groups}
-use Rattle.event_filters.specs.Standing.{FiltersState, IsGiven}
 use Rattle.rule_eval.specs.Hits.{Test}
 use Rattle.flow_lanes.specs.declared.answer.Hits.{Hits}
 use Rattle.flow_lanes.specs.declared.answer.JobHits.{JobHits}
@@ -26,26 +25,29 @@ use Rattle.record_jobs.proofs.Counting.{records-counted}
 use Rattle.record_jobs.proofs.Learning.{learnt, new_learnt, ready}
 use Rattle.record_jobs.proofs.Running.{in_order}
 use Rattle.record_jobs.specs.Ready.{AreNumbered, AreReady, AreSound, HaveLearnt, all_jobs}
+use Rattle.alert_lines.specs.declared.tally.Tally.{Tally}
+use Rattle.alert_lines.specs.declared.fault.WriteFault.{WriteFault}
+use Rattle.alert_lines.specs.declared.fault.WriteFault.TheVariants as write
+use Rattle.alert_lines.specs.Beside.{beside, by_place, places_along, source_in, whats}
+use Rattle.alert_lines.specs.Events.{filtered_item}
+use Rattle.alert_lines.specs.Events.{hit_count}
+use Rattle.alert_lines.specs.Gathering.{Sending, Emits, EmitsBy}
+use Rattle.alert_lines.specs.Showing.{EventsStand, Showing, StandsFurther, items_lines, tally_in, tally_of, waiting_in}
+use Rattle.alert_lines.specs.Matching.{AreMatchesOf, Matched, ShowsMatches}
+use Rattle.alert_lines.specs.Sourcing.{sourced_items}
+use Rattle.alert_lines.proofs.Emitting.{emits_nothing, emits_same, emits_settled, emits_stopped, emits_then, emits_told, emptied}
+use Rattle.alert_lines.proofs.Beside.{whats-by_place, whats-carried}
 use Rattle.snort_engine.specs.declared.counts.Counts.{Counts}
 use Rattle.snort_engine.specs.declared.detect.Detector.{Detector}
 use Rattle.snort_engine.specs.declared.detect.Inspection.{Inspection}
-use Rattle.snort_engine.specs.declared.events.Tally.{Tally}
 use Rattle.snort_engine.specs.declared.plan.Plan as code
-use Rattle.snort_engine.specs.declared.stop.Stop.{Stop}
-use Rattle.snort_engine.specs.declared.stop.Stop.TheVariants as stop
 use Rattle.snort_engine.specs.Course.{Plan}
-use Rattle.snort_engine.specs.Beside.{beside, by_place, places_along, source_in, whats}
-use Rattle.snort_engine.specs.Trace.{Closed, Open, closing_items, detection_of, filtered_item, items_of, job_items, jobs_of, last_of, trace, jobs_way_by, jobs_way}
+use Rattle.snort_engine.specs.Trace.{Closed, Open, closing_items, detection_of, items_of, job_items, jobs_of, last_of, trace, jobs_way_by, jobs_way}
 use Rattle.snort_engine.specs.Lines.{lines}
-use Rattle.snort_engine.specs.Counts.{counts_of, hit_count, try_count}
-use Rattle.snort_engine.specs.Steps.Gathering.{Sending, Emits, EmitsBy}
-use Rattle.snort_engine.specs.Steps.Showing.{EventsStand, Showing, items_lines, tally_of}
-use Rattle.snort_engine.specs.Steps.Matching.{AreMatchesOf, Matched, ShowsMatches}
-use Rattle.snort_engine.specs.Steps.Sourcing.{PlacesJobs, Sourced, last_behind, sourced_items}
+use Rattle.snort_engine.specs.Counts.{counts_of, try_count}
+use Rattle.snort_engine.specs.Steps.Sourcing.{PlacesJobs, Sourced, last_behind}
 use Rattle.snort_engine.specs.Steps.Detecting.{AreTaken, Closes, Detecting, EarlierJobs, EarlierRecords, InspectionStands, IsKnown, IsNewInspection, IsSoundPlan, MakesJobs, Running, Runs, ShowsRecords, closing_lines, counted, jobs_lines, settled, waiting}
 use Rattle.snort_engine.specs.Steps.Watching.{IsTest, plan_of}
-use Rattle.snort_engine.proofs.Emitting.{emits_nothing, emits_same, emits_settled, emits_stopped, emits_then, emits_told, emptied}
-use Rattle.snort_engine.proofs.Beside.{whats-by_place, whats-carried}
 use Rattle.snort_engine.proofs.LinesLaws.{alerts-counted, jobs_lines-closing, jobs_lines-records}
 use Rattle.snort_engine.proofs.Sourcing.{last_of-more, sources_last, sources_made, told_found}
 use Rattle.snort_engine.proofs.Learning.{stand-new}
@@ -72,15 +74,15 @@ tries_found d before batch old new more so_far is found =
 
 -- how the events of a running inspection are shown
 abbrev pub showing_of : Running → Showing
-showing_of now = record { events = now.inspection.events; written = now.written; faults = now.faults }
+showing_of now = record { writer = now.inspection.writer; written = now.written; faults = now.faults }
 
 -- what is known of the events that go before those of a batch
 abbrev known_before : (plan : Plan) (batch : List Job) (inspection : Inspection) (out : Matches) (lanes : LanesState) (before : EarlierJobs plan inspection)
-    → IsBatchSearched (detection_of plan) before.jobs batch out lanes → Matched plan.config plan.rules out inspection.events
+    → IsBatchSearched (detection_of plan) before.jobs batch out lanes → Matched plan.config plan.rules out inspection.writer
 known_before plan batch inspection out lanes before answered = record {
   jobs = along_from (answer (detection_of plan)) before.jobs batch;
   are = record { hits = answered.hits; items = answered.items };
-  before = record { items = trail (job_items (detection_of plan)) before.jobs; stand = before.stand.events };
+  before = record { items = trail (job_items (detection_of plan)) before.jobs; stand = before.stand.writer };
 }
 
 -- the lines of a batch are those of its items
@@ -99,7 +101,7 @@ stands_beside plan source before batch inspection stands =
     subst (λ (x : List Job). InspectionStands plan (before ++ x) inspection) (sym (whats-by_place source 0 batch)) stands
 
 -- the jobs of a batch were run, and the items that were found shown, or a part of their lines was written
-pub runs_by : (outcome : Result (Unit {0}) Stop) (plan : Plan) (source : ℕ → LinkedRecord) (batch : List Job) (old new : Running) (out : Matches)
+pub runs_by : (outcome : Result (Unit {0}) WriteFault) (plan : Plan) (source : ℕ → LinkedRecord) (batch : List Job) (old new : Running) (out : Matches)
     → ((before : List Job) → LanesStand (detection_of plan) old.inspection.lanes before → IsBatchSearched (detection_of plan) before batch out new.inspection.lanes)
     → new.inspection.tries ≡ old.inspection.tries + out.tries
     → ShowsMatches plan.form plan.config plan.rules source out (showing_of old) (showing_of new) outcome
@@ -112,9 +114,9 @@ runs_by outcome plan source batch old new out answers tries shows = record {
   ));
 }
   where
-    by_outcome : (so : Result (Unit {0}) Stop)
-        → OnOk so ((entries : List JobHits) → AreMatchesOf entries out → (before : List Hits) → EventsStand plan.config plan.rules before old.inspection.events
-        → EventsStand plan.config plan.rules (before ++ whats (sourced_items (by_place source 0 entries))) new.inspection.events)
+    by_outcome : (so : Result (Unit {0}) WriteFault)
+        → OnOk so ((entries : List JobHits) → AreMatchesOf entries out → (before : List Hits) → EventsStand plan.config plan.rules before old.inspection.writer
+        → EventsStand plan.config plan.rules (before ++ whats (sourced_items (by_place source 0 entries))) new.inspection.writer)
         → OnOk so ((before : List Job) → InspectionStands plan before old.inspection → InspectionStands plan (before ++ whats (by_place source 0 batch)) new.inspection)
     by_outcome (Ok done) on = λ before stands.
         let answered = answers before stands.lanes in
@@ -122,15 +124,15 @@ runs_by outcome plan source batch old new out answers tries shows = record {
         let items = items_found (detection_of plan) source before batch entries refl in
         stands_beside plan source before batch new.inspection (record {
           lanes = answered.stands;
-          events = subst (λ (x : List Hits). EventsStand plan.config plan.rules x new.inspection.events)
+          writer = subst (λ (x : List Hits). EventsStand plan.config plan.rules x new.inspection.writer)
               (ap (λ (x : List Hits). trail (job_items (detection_of plan)) before ++ x) items ∙ pipe_more (job_items (detection_of plan)) before batch)
-              (on entries (record { hits = answered.hits; items = answered.items }) (trail (job_items (detection_of plan)) before) stands.events);
+              (on entries (record { hits = answered.hits; items = answered.items }) (trail (job_items (detection_of plan)) before) stands.writer);
           tries = tries_found (detection_of plan) before batch old.inspection.tries new.inspection.tries out.tries stands.tries tries answered.tries;
         })
     by_outcome (Err why) on = tt
 
 -- or memory was lacking before
-pub runs_nothing : (plan : Plan) (batch : List Sourced) (old new : Running) → new.written ≡ old.written → new.faults ≡ old.faults → Runs {A = Unit {0}} plan batch old new (Err stop.NoMemory)
+pub runs_nothing : (plan : Plan) (batch : List Sourced) (old new : Running) → new.written ≡ old.written → new.faults ≡ old.faults → Runs {A = Unit {0}} plan batch old new (Err write.NoMemory)
 runs_nothing plan batch old new written faults = record { stands = tt; emits = emits_nothing _ (waiting old) (waiting new) written faults }
 
 -- ---- the jobs of records
@@ -161,15 +163,12 @@ makes_step way records i own old middle new made next lt is so_far more =
 
 -- ---- records
 
--- the same inspection, whatever waits in its block
-pub stands_on : (plan : Plan) (before : List Job) (old new : Inspection) → new.lanes ≡ old.lanes → new.events.filters ≡ old.events.filters → new.events.tally ≡ old.events.tally → new.tries ≡ old.tries
+-- the same inspection, whatever waits in its writer
+pub stands_on : (plan : Plan) (before : List Job) (old new : Inspection) → new.lanes ≡ old.lanes → StandsFurther old.writer new.writer → new.tries ≡ old.tries
     → InspectionStands plan before old → InspectionStands plan before new
-stands_on plan before old new lanes filters tally tries stands = record {
+stands_on plan before old new lanes further tries stands = record {
   lanes = subst (λ (x : LanesState). LanesStand (detection_of plan) x before) (sym lanes) stands.lanes;
-  events = record {
-    given = subst (λ (f : FiltersState). IsGiven plan.config plan.rules (map filtered_item (trail (job_items (detection_of plan)) before)) f) (sym filters) stands.events.given;
-    tally = tally ∙ stands.events.tally;
-  };
+  writer = further plan.config plan.rules (trail (job_items (detection_of plan)) before) stands.writer;
   tries = tries ∙ stands.tries;
 }
 
@@ -204,9 +203,9 @@ taken_lines plan records old front made places makes placed before = (
 )
 
 -- a batch of records was taken, and the running of its jobs was stopped
-pub records_stopped : (plan : Plan) (records : List LinkedRecord) (old : Detecting) (front : FrontState) (made : List Job) (places : List ℕ) (middle : Running) (detector : Detector) (why : Stop)
+pub records_stopped : (plan : Plan) (records : List LinkedRecord) (old : Detecting) (front : FrontState) (made : List Job) (places : List ℕ) (middle : Running) (detector : Detector) (why : WriteFault)
     → MakesJobs (jobs_way plan) records old.detector.front front made → PlacesJobs (jobs_way plan) records old.detector.front places
-    → old.detector.inspection.events.block.items ≡ []
+    → waiting_in old.detector.inspection.writer ≡ []
     → Runs {A = Unit {0}} plan (by_place (source_in records old.detector.inspection.last places) 0 made) (running_of old) middle (Err why)
     → ShowsRecords {A = Unit {0}} plan records old (record { detector = detector; written = middle.written; faults = middle.faults }) (Err why)
 records_stopped plan records old front made places middle detector why makes placed empty run = record {
@@ -215,9 +214,9 @@ records_stopped plan records old front made places middle detector why makes pla
 }
 
 -- it was run, and what waited was offered
-records_offered : (plan : Plan) (records : List LinkedRecord) (old : Detecting) (front : FrontState) (made : List Job) (places : List ℕ) (middle : Running) (end : Sending) (done : Unit {0}) (outcome : Result (Unit {0}) Stop)
+records_offered : (plan : Plan) (records : List LinkedRecord) (old : Detecting) (front : FrontState) (made : List Job) (places : List ℕ) (middle : Running) (end : Sending) (done : Unit {0}) (outcome : Result (Unit {0}) WriteFault)
     → MakesJobs (jobs_way plan) records old.detector.front front made → PlacesJobs (jobs_way plan) records old.detector.front places
-    → old.detector.inspection.events.block.items ≡ [] → OnOk outcome (end.block ≡ [])
+    → waiting_in old.detector.inspection.writer ≡ [] → OnOk outcome (end.block ≡ [])
     → Runs plan (by_place (source_in records old.detector.inspection.last places) 0 made) (running_of old) middle (Ok done) → Emits [] (waiting middle) end outcome
     → EmitsBy (λ (before : EarlierRecords plan old.detector). lines plan before.records records Open) (settled old) (emptied end) outcome
 records_offered plan records old front made places middle end done outcome makes placed empty emptied_then run offered =
@@ -227,7 +226,7 @@ records_offered plan records old front made places middle end done outcome makes
 -- its lines written whole, and its last record kept
 pub records_shown : (plan : Plan) (records : List LinkedRecord) (old : Detecting) (new : Detector) (made : List Job) (places : List ℕ) (middle : Running) (end : Sending) (done told : Unit {0})
     → MakesJobs (jobs_way plan) records old.detector.front new.front made → PlacesJobs (jobs_way plan) records old.detector.front places
-    → old.detector.inspection.events.block.items ≡ [] → end.block ≡ []
+    → waiting_in old.detector.inspection.writer ≡ [] → end.block ≡ []
     → Runs plan (by_place (source_in records old.detector.inspection.last places) 0 made) (running_of old) middle (Ok done) → Emits [] (waiting middle) end (Ok told)
     → ((before : List Job) → InspectionStands plan before middle.inspection → InspectionStands plan before new.inspection)
     → new.inspection.last ≡ last_behind old.detector.inspection.last records
@@ -245,9 +244,9 @@ records_shown plan records old new made places middle end done told makes placed
 }
 
 -- or the writing of them was stopped
-pub records_part : (plan : Plan) (records : List LinkedRecord) (old : Detecting) (front : FrontState) (made : List Job) (places : List ℕ) (middle : Running) (end : Sending) (detector : Detector) (done : Unit {0}) (why : Stop)
+pub records_part : (plan : Plan) (records : List LinkedRecord) (old : Detecting) (front : FrontState) (made : List Job) (places : List ℕ) (middle : Running) (end : Sending) (detector : Detector) (done : Unit {0}) (why : WriteFault)
     → MakesJobs (jobs_way plan) records old.detector.front front made → PlacesJobs (jobs_way plan) records old.detector.front places
-    → old.detector.inspection.events.block.items ≡ []
+    → waiting_in old.detector.inspection.writer ≡ []
     → Runs plan (by_place (source_in records old.detector.inspection.last places) 0 made) (running_of old) middle (Ok done) → Emits {A = Unit {0}} [] (waiting middle) end (Err why)
     → ShowsRecords {A = Unit {0}} plan records old (record { detector = detector; written = end.written; faults = end.faults }) (Err why)
 records_part plan records old front made places middle end detector done why makes placed empty run offered = record {
@@ -256,7 +255,7 @@ records_part plan records old front made places middle end detector done why mak
 }
 
 -- or memory was lacking before
-pub records_nothing : (plan : Plan) (records : List LinkedRecord) (old new : Detecting) → new.written ≡ old.written → new.faults ≡ old.faults → ShowsRecords {A = Unit {0}} plan records old new (Err stop.NoMemory)
+pub records_nothing : (plan : Plan) (records : List LinkedRecord) (old new : Detecting) → new.written ≡ old.written → new.faults ≡ old.faults → ShowsRecords {A = Unit {0}} plan records old new (Err write.NoMemory)
 records_nothing plan records old new written faults = record { stands = tt; emits = emits_nothing _ (settled old) (settled new) written faults }
 
 -- ---- what is known, whatever the host tells
@@ -296,7 +295,7 @@ ready_closing engines way rules detector made is known gives few =
 
 -- what is known goes on with a batch
 pub known_records : (way : JobsWay) (rules : List Rule) (old new : Detector) (records : List LinkedRecord) (made : List Job) → IsKnown way rules old → MakesJobs way records old.front new.front made
-    → LearnsBatch old.inspection.lanes made new.inspection.lanes → new.inspection.groups ≡ old.inspection.groups → new.inspection.events.block.items ≡ [] → IsKnown way rules new
+    → LearnsBatch old.inspection.lanes made new.inspection.lanes → new.inspection.groups ≡ old.inspection.groups → waiting_in new.inspection.writer ≡ [] → IsKnown way rules new
 known_records way rules old new records made known makes learns groups none =
     let taken = makes known.records known.front in
     let all = known.records ++ records in
@@ -315,7 +314,7 @@ known_records way rules old new records made known makes learns groups none =
 pub inspection_stands-new : {P : Type 0} (plan : code.Plan P) (matches : Test) (inspection : Inspection) → IsSoundPlan plan → IsNewInspection plan inspection → InspectionStands (plan_of matches plan) [] inspection
 inspection_stands-new plan matches inspection sound new = record {
   lanes = stand-new (detection_of (plan_of matches plan)) plan.lanes inspection.lanes sound.ranges.some new.lanes;
-  events = new.events;
+  writer = new.writer;
   tries = new.tries;
 }
 
@@ -346,10 +345,10 @@ counted_all plan records seen inspection is stands =
     let items = items_of plan records in
     let behind_all = closing_items plan records in
     let found : trail (job_items d) (made ++ last) ≡ items ++ behind_all = trail-append (job_items d) made last in
-    let tally : inspection.events.tally ≡ tally_of plan.config plan.rules (items ++ behind_all) = stands.events.tally ∙ ap (tally_of plan.config plan.rules) found in
+    let tally : tally_in inspection.writer ≡ tally_of plan.config plan.rules (items ++ behind_all) = stands.writer.tally ∙ ap (tally_of plan.config plan.rules) found in
     same_counts seen (counts (jobs_way plan) records)
-    inspection.events.tally.items (length (items ++ behind_all)) inspection.events.tally.hits (hit_count (items ++ behind_all))
-    inspection.events.tally.alerts (length (trace plan [] records Closed)) inspection.tries (try_count d (made ++ last))
+    (tally_in inspection.writer).items (length (items ++ behind_all)) (tally_in inspection.writer).hits (hit_count (items ++ behind_all))
+    (tally_in inspection.writer).alerts (length (trace plan [] records Closed)) inspection.tries (try_count d (made ++ last))
     is (ap (λ (t : Tally). t.items) tally) (ap (λ (t : Tally). t.hits) tally)
     (ap (λ (t : Tally). t.alerts) tally ∙ alerts-counted plan records (items ++ behind_all) refl) stands.tries
 
@@ -370,8 +369,8 @@ ended_lines plan old made gives before = (
 )
 
 -- the running of the jobs behind all records was stopped
-pub closed_stopped : (plan : Plan) (old : Detecting) (made : List Job) (middle : Running) (why : Stop)
-    → GivesFinishes old.detector.front [] made → old.detector.inspection.events.block.items ≡ []
+pub closed_stopped : (plan : Plan) (old : Detecting) (made : List Job) (middle : Running) (why : WriteFault)
+    → GivesFinishes old.detector.front [] made → waiting_in old.detector.inspection.writer ≡ []
     → Runs {A = Unit {0}} plan (by_place (source_in [] old.detector.inspection.last []) 0 made) (running_of old) middle (Err why)
     → Closes plan old (emptied (waiting middle)) (Err why)
 closed_stopped plan old made middle why gives empty run = record {
@@ -380,8 +379,8 @@ closed_stopped plan old made middle why gives empty run = record {
 }
 
 -- they were run, and what waited was offered
-closed_offered : (plan : Plan) (old : Detecting) (made : List Job) (middle : Running) (end : Sending) (done : Unit {0}) (outcome : Result (Unit {0}) Stop)
-    → GivesFinishes old.detector.front [] made → old.detector.inspection.events.block.items ≡ [] → OnOk outcome (end.block ≡ [])
+closed_offered : (plan : Plan) (old : Detecting) (made : List Job) (middle : Running) (end : Sending) (done : Unit {0}) (outcome : Result (Unit {0}) WriteFault)
+    → GivesFinishes old.detector.front [] made → waiting_in old.detector.inspection.writer ≡ [] → OnOk outcome (end.block ≡ [])
     → Runs plan (by_place (source_in [] old.detector.inspection.last []) 0 made) (running_of old) middle (Ok done) → Emits [] (waiting middle) end outcome
     → EmitsBy (λ (before : EarlierRecords plan old.detector). closing_lines plan before.records) (settled old) (emptied end) outcome
 closed_offered plan old made middle end done outcome gives empty emptied_then run offered =
@@ -390,7 +389,7 @@ closed_offered plan old made middle end done outcome gives empty emptied_then ru
 
 -- their lines written whole
 pub closed_whole : (plan : Plan) (old : Detecting) (made : List Job) (middle : Running) (end : Sending) (last : Inspection) (done told : Unit {0}) (seen : RecordCounts)
-    → GivesFinishes old.detector.front [] made → TellsCounts old.detector.front seen → old.detector.inspection.events.block.items ≡ [] → end.block ≡ []
+    → GivesFinishes old.detector.front [] made → TellsCounts old.detector.front seen → waiting_in old.detector.inspection.writer ≡ [] → end.block ≡ []
     → Runs plan (by_place (source_in [] old.detector.inspection.last []) 0 made) (running_of old) middle (Ok done) → Emits [] (waiting middle) end (Ok told)
     → ((before : List Job) → InspectionStands plan before middle.inspection → InspectionStands plan before last)
     → Closes plan old (emptied end) (Ok (counted seen last))
@@ -406,8 +405,8 @@ closed_whole plan old made middle end last done told seen gives tells empty empt
 }
 
 -- or the writing of them was stopped
-pub closed_part : (plan : Plan) (old : Detecting) (made : List Job) (middle : Running) (end : Sending) (done : Unit {0}) (why : Stop)
-    → GivesFinishes old.detector.front [] made → old.detector.inspection.events.block.items ≡ []
+pub closed_part : (plan : Plan) (old : Detecting) (made : List Job) (middle : Running) (end : Sending) (done : Unit {0}) (why : WriteFault)
+    → GivesFinishes old.detector.front [] made → waiting_in old.detector.inspection.writer ≡ []
     → Runs plan (by_place (source_in [] old.detector.inspection.last []) 0 made) (running_of old) middle (Ok done) → Emits {A = Unit {0}} [] (waiting middle) end (Err why)
     → Closes plan old (emptied end) (Err why)
 closed_part plan old made middle end done why gives empty run offered = record {
@@ -416,5 +415,5 @@ closed_part plan old made middle end done why gives empty run offered = record {
 }
 
 -- or memory was lacking before
-pub closed_nothing : (plan : Plan) (old : Detecting) → Closes plan old (settled old) (Err stop.NoMemory)
+pub closed_nothing : (plan : Plan) (old : Detecting) → Closes plan old (settled old) (Err write.NoMemory)
 closed_nothing plan old = record { counted = tt; emits = emits_nothing _ (settled old) (settled old) refl refl }

@@ -1,57 +1,26 @@
--- The lines of a Unified2 file: how they are put together, the file's one way, and how a run ends on it.
-use Rattle.std.proofs.Common.{◌≡◌, ℕ, ◌+◌, ◌<◌, codes, List, [], ◌∷◌, ◌++◌, Option, Some, None, Result, Ok, Err, OnOk, OnErr, IfErr, IsErrOf, length, take, get_or, refl, sym, ap, subst, ◌∙◌, append_assoc, arith, inl, inr}
-use Rattle.std.specs.List.{concat, flat_map}
-use Rattle.std.proofs.lemmas.List.{append-nil, take_more}
-use Rattle.std.proofs.lemmas.List.Concat.{flat_map-append}
+-- The lines of a Unified2 file: the file's one way, and how a run ends on it.
+use Rattle.std.proofs.Common.{◌≡◌, ℕ, List, [], ◌++◌, Option, Some, None, Result, Ok, Err, OnOk, OnErr, IfErr, IsErrOf, refl, sym, ap, subst, ◌∙◌, arith, inl, inr}
+use Rattle.std.specs.List.{concat}
+use Rattle.std.proofs.lemmas.List.{append-nil}
 use Rattle.edge_io.specs.Files.{Files}
 use Rattle.edge_io.specs.Told.{behind}
 use Rattle.unified2_out.specs.declared.record.U2.{U2}
-use Rattle.unified2_out.specs.declared.record.U2Event.{U2Event}
 use Rattle.unified2_out.specs.Reading.{IsBadAt}
 use Rattle.unified2_out.proofs.Laws.{records_of-one, bad-no_records}
+use Rattle.alert_lines.specs.RecordLines.{entry_lines}
+use Rattle.alert_lines.specs.Written.{WritesPart}
 use Rattle.snort_engine.specs.declared.status.Status.{Status}
 use Rattle.snort_engine.specs.declared.status.Status.TheVariants as status
 use Rattle.snort_engine.specs.declared.stop.Stop.{Stop}
 use Rattle.snort_engine.specs.declared.stop.Stop.TheVariants as stop
 use Rattle.snort_engine.specs.Messages.{bad_unified2_text}
-use Rattle.snort_engine.specs.RecordLines.{end_text, entry_line, entry_lines, event_front, event_line, micro_text}
 use Rattle.snort_engine.specs.Course.{Way, Stops, Lists, Course, IsFileWay}
 use Rattle.snort_engine.specs.Answer.{Answer, answer_of, way_answer}
-use Rattle.snort_engine.specs.Outside.{Work, WritesPart}
+use Rattle.snort_engine.specs.Outside.{Work}
 use Rattle.snort_engine.specs.ReadAhead.{IsApart, ReadsAhead, ReadsAheadOn}
 use Rattle.snort_engine.specs.Ending.{Ends}
 use Rattle.snort_engine.specs.Steps.Stop.{outcome_status, outcome_text, stop_text, IsWriteStop}
 use Rattle.snort_engine.proofs.Finishing.{ends_met, ends_unwritten}
-
--- ---- lines
-
--- the parts of an event's line, one behind another
-pub event_parts : (event : U2Event) (out front micro blank src dst : List ℕ)
-    → front ≡ out ++ event_front event → micro ≡ front ++ micro_text event.micro → blank ≡ micro ++ codes " "
-    → src ≡ blank ++ (end_text event.src event.sport ++ codes " -> ") → dst ≡ src ++ (end_text event.dst event.dport ++ codes "\n")
-    → dst ≡ out ++ event_line event
-unfolding event_line
-event_parts event out front micro blank src dst front_is micro_is blank_is src_is dst_is =
-    let one = event_front event in
-    let two = micro_text event.micro in
-    let four = end_text event.src event.sport ++ codes " -> " in
-    let five = end_text event.dst event.dport ++ codes "\n" in
-    let joined : ((((out ++ one) ++ two) ++ codes " ") ++ four) ++ five ≡ out ++ (one ++ (two ++ (codes " " ++ (four ++ five)))) = simp append_assoc in
-    dst_is ∙ ap (λ (x : List ℕ). x ++ five) (src_is ∙ ap (λ (x : List ℕ). x ++ four) (blank_is ∙ ap (λ (x : List ℕ). x ++ codes " ")
-    (micro_is ∙ ap (λ (x : List ℕ). x ++ two) front_is)))
-    ∙ joined
-
--- one record more
-pub entries_more : (entries : List U2) (i : ℕ) (entry : U2) (out lines next : List ℕ) → i < length entries → entry ≡ get_or entries i entry
-    → lines ≡ out ++ entry_lines (take i entries) → next ≡ lines ++ entry_line entry → next ≡ out ++ entry_lines (take (i + 1) entries)
-entries_more entries i entry out lines next lt is so_far more =
-    let front = take i entries in
-    let one : flat_map entry_line (entry ∷ []) ≡ entry_line entry = append-nil (entry_line entry) in
-    more ∙ ap (λ (x : List ℕ). x ++ entry_line entry) so_far
-    ∙ append_assoc out (entry_lines front) (entry_line entry)
-    ∙ ap (λ (x : List ℕ). out ++ (entry_lines front ++ x)) (sym one)
-    ∙ ap (λ (x : List ℕ). out ++ x) (sym (flat_map-append entry_line front (entry ∷ [])))
-    ∙ ap (λ (es : List U2). out ++ entry_lines es) (ap (λ (e : U2). front ++ e ∷ []) is ∙ sym (take_more entries i entry lt))
 
 -- ---- the way of a file
 
@@ -108,10 +77,10 @@ listed_ends files course lines before after (Err stop.CannotWrite) lists left op
 listed_ends files course lines before after (Err why) lists left opens whole part kind = absurd kind
 
 -- writing alone may have failed
-pub write_stop : {Risen : Type 0} (outcome : Result (Unit {0}) Stop) → IfErr outcome IsWriteStop → (IsErrOf outcome stop.CannotWrite → Risen) → outcome_status outcome ≡ status.WriteFault → Risen
-write_stop (Ok done) kind risen is = absurd cc
-write_stop (Err stop.CannotWrite) kind risen is = risen refl
-write_stop (Err why) kind risen is = absurd kind
+pub write_risen : {Risen : Type 0} (outcome : Result (Unit {0}) Stop) → IfErr outcome IsWriteStop → (IsErrOf outcome stop.CannotWrite → Risen) → outcome_status outcome ≡ status.WriteFault → Risen
+write_risen (Ok done) kind risen is = absurd cc
+write_risen (Err stop.CannotWrite) kind risen is = risen refl
+write_risen (Err why) kind risen is = absurd kind
 
 pub no_host_stop : (outcome : Result (Unit {0}) Stop) → IfErr outcome IsWriteStop → outcome_status outcome ≡ status.HostFault → ⊥
 no_host_stop (Ok done) kind is = cc

@@ -7,15 +7,17 @@ use Rattle.std.proofs.lemmas.List.{append-nil}
 use mathlib.Core.List.{IsPrefix}
 use Rattle.edge_io.specs.Told.{behind, Rose}
 use Rattle.edge_io.specs.Files.{Files}
+use Rattle.alert_lines.specs.Written.{WritesPart}
+use Rattle.alert_lines.proofs.Prefixes.{IsPrefix-same}
 use Rattle.snort_engine.specs.declared.status.Status.{Status}
 use Rattle.snort_engine.specs.declared.status.Status.TheVariants as status
 use Rattle.snort_engine.specs.Course.{Plan, Way, Stops, Goes, Makes, Lists, Course}
 use Rattle.snort_engine.specs.Answer.{answer_of}
 use Rattle.snort_engine.specs.Messages.{cannot_write_text, no_memory_text}
-use Rattle.snort_engine.specs.Outside.{Work, WritesPart}
+use Rattle.snort_engine.specs.Outside.{Work}
 use Rattle.snort_engine.specs.ReadAhead.{IsUntouched, IsShut, IsReadInBatches, IsReadAhead, IsApart, IsCutStatus, ReadsAhead, ReadsAheadOn}
 use Rattle.snort_engine.specs.Ending.{IsStated, IsAnswered, IsCutShort, IsNoMemoryMessage, Ends}
-use Rattle.snort_engine.proofs.Prefixes.{IsPrefix-same, rose_since}
+use Rattle.snort_engine.proofs.Prefixes.{rose_since}
 
 -- the statuses of a run that nothing cut short
 abbrev pub IsPlain : Status → Type 0

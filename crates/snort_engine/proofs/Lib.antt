@@ -1,5 +1,4 @@
 pub mod Prefixes
-pub mod Emitting
 pub mod Recordings
 pub mod Limits
 pub mod LinesLaws
@@ -11,10 +10,6 @@ pub mod CutCaptures
 pub mod CutAnswers
 pub mod Stops
 pub mod Quiet
-pub mod Texts
-pub mod Beside
-pub mod Showing
-pub mod Matching
 pub mod Learning
 pub mod Sourcing
 pub mod Detecting

@@ -7,16 +7,18 @@ use Rattle.flow_lanes.specs.declared.answer.Hits.{Hits}
 use Rattle.record_jobs.specs.Way.{LinkedRecord}
 use Rattle.record_jobs.specs.Jobs.{jobs, finishes}
 use Rattle.record_jobs.proofs.NoRecords.{counts-none, finishes-none}
+use Rattle.alert_lines.specs.Beside.{beside, carried, own}
+use Rattle.alert_lines.specs.Events.{Alert, item_events}
+use Rattle.alert_lines.specs.Lines.{text_of, texts_from}
+use Rattle.alert_lines.specs.Showing.{items_lines}
+use Rattle.alert_lines.proofs.Beside.{carried-beside, carried-own, length-own}
+use Rattle.alert_lines.proofs.Texts.{texts_from-append}
 use Rattle.snort_engine.specs.Course.{Plan}
-use Rattle.snort_engine.specs.Beside.{beside, carried, own}
-use Rattle.snort_engine.specs.Trace.{Alert, CaptureState, Open, Closed, closing_alerts, closing_events, closing_items, detection_of, item_events, items_of, job_items, jobs_of, last_of, record_alerts, record_events, trace, jobs_way}
-use Rattle.snort_engine.specs.Lines.{alert_count, text_of, texts_from, lines, LinesJoin, PrefixLaw}
+use Rattle.snort_engine.specs.Trace.{CaptureState, Open, Closed, closing_alerts, closing_events, closing_items, detection_of, items_of, job_items, jobs_of, last_of, record_alerts, record_events, trace, jobs_way}
+use Rattle.snort_engine.specs.Lines.{alert_count, lines, LinesJoin, PrefixLaw}
 use Rattle.snort_engine.specs.Counts.{counts_of, no_counts}
-use Rattle.snort_engine.specs.Steps.Showing.{items_lines}
 use Rattle.snort_engine.specs.Steps.Detecting.{closing_lines, jobs_lines}
 use Rattle.snort_engine.specs.Steps.Watching.{lines_of}
-use Rattle.snort_engine.proofs.Beside.{carried-beside, carried-own, length-own}
-use Rattle.snort_engine.proofs.Texts.{texts_from-append}
 
 -- what is shown of joined records, whatever follows
 trace-join : (plan : Plan) (before first others : List LinkedRecord) (state : CaptureState)

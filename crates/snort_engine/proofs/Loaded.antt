@@ -1,22 +1,20 @@
 -- A Unified2 file that was loaded, or was not: its lines, and how it stops a run.
-use Rattle.std.proofs.Common.{◌≡◌, ℕ, ◌≤◌, ◌⊎◌, List, [], ◌++◌, Option, Some, Result, Ok, Err, IfErr, length, refl, sym, ap, subst, ◌∙◌, inl, inr}
+use Rattle.std.proofs.Common.{◌≡◌, ℕ, ◌≤◌, ◌⊎◌, List, Option, Some, Result, Ok, Err, IfErr, length, refl, sym, ap, subst, inl, inr}
 use Rattle.std.specs.FinMap.{get}
 use Rattle.edge_io.specs.Files.{Files, IsLonger, Lacks}
 use Rattle.edge_io.specs.declared.host.LoadFault.{LoadFault}
 use Rattle.edge_io.specs.declared.host.LoadFault.TheVariants as load
-use Rattle.unified2_out.specs.declared.record.U2.{U2}
-use Rattle.unified2_out.specs.Reading.{AddsRecords}
+use Rattle.alert_lines.specs.RecordLines.{AreLinesOf}
 use Rattle.snort_engine.specs.declared.status.Status.TheVariants as status
 use Rattle.snort_engine.specs.declared.stop.Stop.{Stop}
 use Rattle.snort_engine.specs.declared.stop.Stop.TheVariants as stop
-use Rattle.snort_engine.specs.RecordLines.{entry_lines}
 use Rattle.snort_engine.specs.Course.{Stops, Lists, IsFileWay, AreListed, most_file_bytes}
 use Rattle.snort_engine.specs.Steps.Stop.{stop_text}
 use Rattle.snort_engine.specs.Steps.Preparing.{HasCause, ListsBytes, ListsFile, StopsAtFile, stops}
 
--- the records that were read have these lines
-pub are_listed : (bytes lines : List ℕ) (entries : List U2) → AddsRecords bytes [] entries → lines ≡ [] ++ entry_lines entries → AreListed bytes (Lists lines)
-are_listed bytes lines entries adds is = record { entries = adds.entries; are = adds.are; is = ap Lists (is ∙ ap (λ (e : List U2). entry_lines e) adds.added) }
+-- the lines of bytes are told
+pub are_listed : (bytes lines : List ℕ) → AreLinesOf bytes lines → AreListed bytes (Lists lines)
+are_listed bytes lines told = record { entries = told.entries; are = told.are; is = ap Lists told.is }
 
 -- a file that was loaded
 pub file_listed : (name bytes : List ℕ) (files : Files) (rose : Type 0) (outcome : Result (List ℕ) Stop) → get files name ≡ Some bytes → length bytes ≤ most_file_bytes

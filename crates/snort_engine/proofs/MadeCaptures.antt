@@ -6,24 +6,25 @@ use Rattle.pcap_input.specs.Reader.{new_reader}
 use Rattle.pcap_input.specs.Generated.{generated, made_head}
 use Rattle.pcap_input.proofs.Laws.{head_of-append}
 use Rattle.pcap_input.proofs.MadeCaptures.{generated-head}
+use Rattle.edge_io.specs.Files.{Files}
+use Rattle.edge_io.specs.Told.{Rose}
+use Rattle.alert_lines.specs.Written.{WritesPart}
+use Rattle.alert_lines.proofs.Prefixes.{WritesPart-none}
 use Rattle.snort_engine.specs.declared.status.Status.{Status}
 use Rattle.snort_engine.specs.declared.status.Status.TheVariants as status
 use Rattle.snort_engine.specs.declared.stop.Stop.{Stop}
 use Rattle.snort_engine.specs.declared.reader.RecordReader.{RecordReader}
 use Rattle.snort_engine.specs.declared.reader.RecordReader.TheVariants.{Savefile}
 use Rattle.snort_engine.specs.declared.counts.Counts.{Counts}
-use Rattle.edge_io.specs.Files.{Files}
-use Rattle.edge_io.specs.Told.{Rose}
 use Rattle.snort_engine.specs.Course.{Plan, Makes, Course}
 use Rattle.snort_engine.specs.Answer.{answer_of, capture_answer, way_answer}
 use Rattle.snort_engine.specs.Messages.{no_memory_text}
-use Rattle.snort_engine.specs.Outside.{Work, WritesPart}
+use Rattle.snort_engine.specs.Outside.{Work}
 use Rattle.snort_engine.specs.ReadAhead.{IsApart}
 use Rattle.snort_engine.specs.Ending.{Ends}
 use Rattle.snort_engine.specs.Steps.Stop.{outcome_status}
 use Rattle.snort_engine.specs.Steps.Watching.{Watches}
 use Rattle.snort_engine.proofs.Finishing.{ahead_made, ends_lacking}
-use Rattle.snort_engine.proofs.Prefixes.{WritesPart-none}
 use Rattle.snort_engine.proofs.Opening.{long_enough, savefile_begins}
 use Rattle.snort_engine.proofs.Captures.{said, warned, watched_by}
 

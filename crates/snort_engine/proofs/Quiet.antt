@@ -10,6 +10,8 @@ use Rattle.pcapng_input.specs.declared.capture.NgFault.TheVariants as blocks
 use Rattle.snort_setup.specs.declared.stop.SetupStop.{SetupStop}
 use Rattle.snort_setup.specs.declared.stop.SetupStop.TheVariants as setup
 use Rattle.snort_setup.specs.Answers.{OnReadyOrRefused}
+use Rattle.alert_lines.specs.declared.fault.WriteFault.{WriteFault}
+use Rattle.alert_lines.specs.declared.fault.WriteFault.TheVariants as write
 use Rattle.snort_engine.specs.declared.batch.Reached.{Reached}
 use Rattle.snort_engine.specs.declared.batch.Reached.TheVariants.{Fault}
 use Rattle.snort_engine.specs.declared.fault.ReadFault.{ReadFault}
@@ -22,8 +24,7 @@ use Rattle.snort_engine.specs.Ending.{IsUncut}
 use Rattle.snort_engine.specs.Records.{of_savefile, of_blocks}
 use Rattle.snort_engine.specs.Steps.Batch.{more_of}
 use Rattle.snort_engine.specs.Steps.Preparing.{StopsAtFile}
-use Rattle.snort_engine.specs.Steps.Stop.{capture_stop, setup_stop, stop_status, outcome_status, is_uncut, is_written, IsShowStop, IsWriteStop, WritesQuietly}
-use Rattle.snort_engine.proofs.Stops.{write_kind}
+use Rattle.snort_engine.specs.Steps.Stop.{capture_stop, setup_stop, stop_status, outcome_status, is_uncut, is_written, write_stop, IsWriteStop, WritesQuietly}
 
 -- ---- statuses
 
@@ -47,20 +48,19 @@ uncut_written status.NoMemory uncut = absurd cc
 -- ---- stops
 
 -- what stops the showing of lines cuts a run short, and leaves some unwritten
-pub showing_uncut : (why : Stop) → IsShowStop why → is_uncut (stop_status why) ≡ true → ⊥
-showing_uncut stop.CannotWrite kind uncut = cc
-showing_uncut stop.NoMemory kind uncut = cc
-showing_uncut why kind uncut = absurd kind
+pub showing_uncut : (why : WriteFault) → is_uncut (stop_status (write_stop why)) ≡ true → ⊥
+showing_uncut write.Unwritten uncut = cc
+showing_uncut write.NoMemory uncut = cc
 
-pub showing_written : (why : Stop) → IsShowStop why → is_written (stop_status why) ≡ true → ⊥
-showing_written stop.CannotWrite kind written = cc
-showing_written stop.NoMemory kind written = cc
-showing_written why kind written = absurd kind
+pub showing_written : (why : WriteFault) → is_written (stop_status (write_stop why)) ≡ true → ⊥
+showing_written write.Unwritten written = cc
+showing_written write.NoMemory written = cc
 
 -- what was written whole met no fault
 pub written_quiet : (outcome : Result (Unit {0}) Stop) (old new : ℕ) → IfErr outcome IsWriteStop → OnOk outcome (new ≡ old) → WritesQuietly outcome old new
 written_quiet (Ok done) old new kind quiet written = quiet
-written_quiet (Err why) old new kind quiet written = absurd (showing_written why (write_kind why kind) written)
+written_quiet (Err stop.CannotWrite) old new kind quiet written = absurd cc
+written_quiet (Err why) old new kind quiet written = absurd kind
 
 -- the host didn't fail at a capture
 pub capture_uncut : (A : Type 0) (why : ReadFault) → is_uncut (stop_status (capture_stop why)) ≡ true → IsErrOf {T = A} (Err why) fault.Failed → ⊥

@@ -22,14 +22,6 @@ use Rattle.unified2_out.specs.Records.{AllFit, AreOfOneVersion, IsInRange, event
 use Rattle.unified2_out.specs.Reading.{IsRecord, AreRecordsOf, joined_text}
 use Rattle.command_words.specs.declared.asked.Form.{Form}
 use Rattle.command_words.specs.declared.asked.Form.TheVariants as form
-use Rattle.snort_engine.specs.Beside.{beside, whats}
-use Rattle.snort_engine.specs.Answer.{capture_answer}
-use Rattle.snort_engine.specs.Course.{Plan, Way, Lists, IsFileWay, most_file_bytes}
-use Rattle.snort_engine.specs.Lines.{alert_count, lines, text_of, texts_from}
-use Rattle.snort_engine.specs.RecordLines.{entry_lines}
-use Rattle.snort_engine.specs.Records.{records_of}
-use Rattle.snort_engine.specs.Trace.{Alert, CaptureState, Open, Closed, Event, event_at, event_of, filtered_item, item_events, items_of, closing_items, closing_events, closing_alerts, last_of, no_record, record_alerts, record_events, trace}
-use Rattle.snort_engine.specs.Unified2.{class_number, event_record, first_port, link_number, packet_record, records_text, second_port}
 use Rattle.flow_lanes.specs.Fits as of_lanes
 use Rattle.flow_lanes.specs.Fits.{FitsBody, FitsHead, FitsHits, FitsIp}
 use Rattle.packet_decode.specs.declared.packet.Body.{Body}
@@ -37,8 +29,18 @@ use Rattle.packet_decode.specs.declared.packet.Body.TheVariants as body
 use Rattle.packet_decode.specs.Versions.{version_of}
 use Rattle.edge_io.specs.declared.address.Addr.{Addr}
 use Rattle.edge_io.specs.declared.address.Addr.TheVariants.{V4, V6}
+use Rattle.alert_lines.specs.Beside.{beside, whats}
+use Rattle.alert_lines.specs.Lines.{text_of, texts_from}
+use Rattle.alert_lines.specs.RecordLines.{entry_lines}
+use Rattle.alert_lines.specs.Events.{Alert, Event, event_at, event_of, filtered_item, item_events}
+use Rattle.alert_lines.specs.Unified2.{class_number, event_record, first_port, link_number, packet_record, records_text, second_port}
+use Rattle.alert_lines.proofs.Beside.{whats-beside, whats-own}
+use Rattle.snort_engine.specs.Answer.{capture_answer}
+use Rattle.snort_engine.specs.Course.{Plan, Way, Lists, IsFileWay, most_file_bytes}
+use Rattle.snort_engine.specs.Lines.{alert_count, lines}
+use Rattle.snort_engine.specs.Records.{records_of}
+use Rattle.snort_engine.specs.Trace.{CaptureState, Open, Closed, items_of, closing_items, closing_events, closing_alerts, last_of, no_record, record_alerts, record_events, trace}
 use Rattle.snort_engine.specs.ReadBack.{FitsRecord, FitsRule, entries, entries_from}
-use Rattle.snort_engine.proofs.Beside.{whats-beside, whats-own}
 use Rattle.snort_engine.proofs.FileWays.{file_way-one}
 use Rattle.snort_engine.proofs.FitItems.{items_fit}
 use Rattle.snort_engine.proofs.FitRecords.{records_fit}

@@ -5,15 +5,16 @@ use Rattle.std.proofs.lemmas.List.{append-nil, take_more}
 use Rattle.std.proofs.lemmas.List.Concat.{concat_is, flat_map-append}
 use Rattle.edge_io.specs.Told.{behind, Rose}
 use Rattle.edge_io.proofs.Told.{behind-nil, behind-behind}
+use Rattle.alert_lines.specs.Written.{WritesPart}
+use Rattle.alert_lines.proofs.Prefixes.{WritesPart-none, WritesPart-all, WritesPart-longer, WritesPart-behind}
 use Rattle.snort_engine.specs.declared.status.Status.{Status}
 use Rattle.snort_engine.specs.declared.status.Status.TheVariants as status
 use Rattle.snort_engine.specs.declared.stop.Stop.{Stop}
 use Rattle.snort_engine.specs.Messages.{no_memory_text}
-use Rattle.snort_engine.specs.Outside.{WritesPart}
 use Rattle.snort_engine.specs.Steps.Stop.{outcome_status}
 use Rattle.snort_engine.specs.Outside.{TellsMessage}
 use Rattle.snort_engine.specs.Steps.Reporting.{TellsOn, TellsLast, Reports}
-use Rattle.snort_engine.proofs.Prefixes.{WritesPart-none, WritesPart-all, WritesPart-longer, WritesPart-behind, rose_since, rose_on}
+use Rattle.snort_engine.proofs.Prefixes.{rose_since, rose_on}
 
 -- ---- one text
 

@@ -10,7 +10,7 @@ use Rattle.snort_engine.specs.declared.status.Status.TheVariants as status
 use Rattle.snort_engine.specs.Answer.{answer_of}
 use Rattle.snort_engine.specs.Course.{Course, Given, IsCourse, IsFileWay, Lists, Stops, Way, course_by, given, most_file_bytes, setup_words, stopping}
 use Rattle.snort_engine.specs.Messages.{bad_unified2_text, cannot_read_text, command_line_text, too_large_text, usage_text, version_text}
-use Rattle.snort_engine.specs.RecordLines.{entry_lines}
+use Rattle.alert_lines.specs.RecordLines.{entry_lines}
 use Rattle.snort_engine.specs.SomeCourse.{HasSomeAnswer, HasSomeCourse}
 use Rattle.snort_engine.proofs.SomeFileWays.{AreOrBad, are_or_bad}
 use Rattle.snort_engine.proofs.SomeSetups.{some_setup}

@@ -10,11 +10,12 @@ use Rattle.flow_lanes.specs.Flows.{Detection, answer}
 use Rattle.record_jobs.specs.Way.{LinkedRecord, Way as JobsWay}
 use Rattle.record_jobs.specs.Jobs.{jobs}
 use Rattle.record_jobs.specs.Fronts.{FrontState, TakesRecord}
-use Rattle.snort_engine.specs.Beside.{beside, by_place, carried, own, places_along, source_in}
+use Rattle.alert_lines.specs.Beside.{beside, by_place, carried, own, places_along, source_in}
+use Rattle.alert_lines.specs.Sourcing.{sourced_items}
+use Rattle.alert_lines.proofs.Beside.{by_place-along, by_place-same, places_along-more, sources_are}
 use Rattle.snort_engine.specs.Trace.{job_items, last_of, no_record}
 use Rattle.snort_engine.specs.Steps.Detecting.{MakesJobs}
-use Rattle.snort_engine.specs.Steps.Sourcing.{PlacesJobs, last_behind, sourced_items}
-use Rattle.snort_engine.proofs.Beside.{by_place-along, by_place-same, places_along-more, sources_are}
+use Rattle.snort_engine.specs.Steps.Sourcing.{PlacesJobs, last_behind}
 
 -- the last of records that come behind others
 pub last_of-more : (before : List LinkedRecord) (last : LinkedRecord) (records : List LinkedRecord) → last ≡ last_of before

@@ -13,11 +13,12 @@ use Rattle.flow_lanes.specs.declared.answer.Hits.{Hits}
 use Rattle.record_jobs.specs.Splitting.{Part, of_part, record_items}
 use Rattle.record_jobs.specs.Way.{LinkedRecord}
 use Rattle.record_jobs.proofs.SplitItems.{same-items}
-use Rattle.snort_engine.specs.Beside.{Beside, beside, own, whats}
+use Rattle.alert_lines.specs.Beside.{Beside, beside, own, whats}
 use Rattle.snort_engine.specs.Course.{Plan}
 use Rattle.snort_engine.specs.SplitCaptures.{IsCountedApart, IsShownApart, alerts_of, items_beside}
-use Rattle.snort_engine.specs.Trace.{Event, Open, detection_of, item_events, job_items, jobs_way, record_events, trace}
-use Rattle.snort_engine.proofs.Beside.{whats-own}
+use Rattle.alert_lines.specs.Events.{Event, item_events}
+use Rattle.snort_engine.specs.Trace.{Open, detection_of, job_items, jobs_way, record_events, trace}
+use Rattle.alert_lines.proofs.Beside.{whats-own}
 use Rattle.snort_engine.proofs.SplitFilters.{Apart, Each, OfHits, events-own, list-own, mine, mine-beside}
 
 -- ---- answers beside their inputs

@@ -18,9 +18,9 @@ use Rattle.event_filters.specs.Counting.{Event, counted, has_key, lets, moment_o
 use Rattle.event_filters.specs.Events.{Item, arising, event_key, event_line, event_of, events_of, filtered, global_kept, global_place, is_suppressed, kept, match_key, match_line, match_stays, matches, own_kept, own_place, places_of, staying}
 use Rattle.event_filters.specs.Queue.{queued}
 use Rattle.flow_lanes.specs.declared.answer.Hits.{Hits}
-use Rattle.snort_engine.specs.Beside.{Beside, beside, carried, whats}
-use Rattle.snort_engine.specs.Trace.{event_at, filtered_item, item_events}
-use Rattle.snort_engine.proofs.Beside.{whats-append, whats-beside, whats-carried}
+use Rattle.alert_lines.specs.Beside.{Beside, beside, carried, whats}
+use Rattle.alert_lines.specs.Events.{event_at, filtered_item, item_events}
+use Rattle.alert_lines.proofs.Beside.{whats-append, whats-beside, whats-carried}
 
 -- ---- elements
 

@@ -4,6 +4,12 @@ use Rattle.std.proofs.lemmas.List.{append-nil}
 use Rattle.edge_io.specs.Told.{behind}
 use Rattle.edge_io.proofs.Told.{behind-nil, behind-behind}
 use Rattle.record_jobs.specs.Way.{LinkedRecord}
+use Rattle.alert_lines.specs.declared.fault.WriteFault.{WriteFault}
+use Rattle.alert_lines.specs.declared.fault.WriteFault.TheVariants as write
+use Rattle.alert_lines.specs.Written.{WritesPart}
+use Rattle.alert_lines.specs.Gathering.{Sending}
+use Rattle.alert_lines.proofs.Emitting.{gathers_settled}
+use Rattle.alert_lines.proofs.Prefixes.{WritesPart-all, WritesPart-behind, WritesPart-longer}
 use Rattle.snort_engine.specs.declared.counts.Counts.{Counts}
 use Rattle.snort_engine.specs.declared.detect.Detector.{Detector}
 use Rattle.snort_engine.specs.declared.fault.ReadFault.{ReadFault}
@@ -14,8 +20,7 @@ use Rattle.snort_engine.specs.declared.stop.Stop.TheVariants as stop
 use Rattle.snort_engine.specs.Course.{Plan}
 use Rattle.snort_engine.specs.Records.{AreWithin, Recording, Ending, Clean, Refused, first_of}
 use Rattle.snort_engine.specs.Steps.Reader.{IsFresh, recording_for, HasRead, AreWhole, EndsWith, IsRefusedBy}
-use Rattle.snort_engine.specs.Outside.{WritesPart}
-use Rattle.snort_engine.specs.Steps.Stop.{capture_stop, is_whole, IsShowStop}
+use Rattle.snort_engine.specs.Steps.Stop.{capture_stop, is_whole, write_stop}
 use Rattle.snort_engine.specs.Trace.{Open, Closed}
 use Rattle.snort_engine.specs.Lines.{lines}
 use Rattle.snort_engine.specs.Counts.{counts_of}
@@ -23,11 +28,8 @@ use Rattle.snort_engine.specs.Steps.Batch.{Place, HasStopped, Reaches, ReadsOn, 
 use Rattle.snort_engine.specs.declared.batch.Reached.{Reached}
 use Rattle.snort_engine.specs.declared.batch.Reached.TheVariants.{More, End, Fault}
 use Rattle.snort_engine.specs.ReadAhead.{batch, AreBatches}
-use Rattle.snort_engine.specs.Steps.Gathering.{Sending}
 use Rattle.snort_engine.specs.Steps.Detecting.{Closes, Detecting, DetectorStands, ShowsRecords, ShowsRecordsPart, closing_lines}
 use Rattle.snort_engine.specs.Steps.Watching.{Streams, Standing, lines_of, lines_left, recording_by, IsRoom, most_at, room_behind, IsReadOut, HasReadTo, IsUnderWay, IsAtEnd, IsReadCutShort, IsCloseBehind, WritesSome, WatchesTo, Watches, Comes, ComesOver, WatchesOn, IsLeft, IsClosedWhole, IsClosedInPart, ClosesWatched, closing}
-use Rattle.snort_engine.proofs.Emitting.{gathers_settled}
-use Rattle.snort_engine.proofs.Prefixes.{WritesPart-all, WritesPart-behind, WritesPart-longer}
 use Rattle.snort_engine.proofs.Limits.{first_of-front, below_limit, at_limit, within_limit, room_first, room_further, room_left, room_within, batches_none, batches_further, batches_last}
 use Rattle.snort_engine.proofs.Reading.{reading-start, reading-told, reading-whole}
 use Rattle.snort_engine.proofs.LinesLaws.{lines_of-nil, lines_of-closed, lines_of-append}
@@ -218,10 +220,9 @@ fault_comes plan first room given old after detector why is some stands wrote st
     by_fault fault.NoMemory ends = part
 
 -- the lines were not all written
-showing_stops : (plan : Plan) (first : RecordReader) (old after : Streams) (detector : Detector) (why : Stop) → IsShowStop why → WritesSome plan first old after → Comes plan first old after detector (Err why)
-showing_stops plan first old after detector stop.CannotWrite kind some = some
-showing_stops plan first old after detector stop.NoMemory kind some = some
-showing_stops plan first old after detector why kind some = absurd kind
+showing_stops : (plan : Plan) (first : RecordReader) (old after : Streams) (detector : Detector) (why : WriteFault) → WritesSome plan first old after → Comes plan first old after detector (Err (write_stop why))
+showing_stops plan first old after detector write.Unwritten some = some
+showing_stops plan first old after detector write.NoMemory some = some
 
 -- ---- a batch
 
@@ -305,13 +306,13 @@ ReadsTo plan records old failed why =
     (first : RecordReader) (start : Streams) (going : IsUnderWay plan first start old) (taken : List ℕ) → (recording_by plan first taken).records ≡ going.given ++ records → HasReadTo plan first taken start.left failed (Err why)
 
 -- a batch was read, and a part of its lines was written
-batch_part : (plan : Plan) (records : List LinkedRecord) (old new : Standing) (failed : Type 0) (reached : Reached) (why : Stop)
-    → length records ≤ most_at old.room → ReadsTo plan records old failed why
+batch_part : (plan : Plan) (records : List LinkedRecord) (old new : Standing) (failed : Type 0) (reached : Reached) (why : WriteFault)
+    → length records ≤ most_at old.room → ReadsTo plan records old failed (write_stop why)
     → ReadsOn (record { reader = old.reader; records = []; left = old.streams.left }) (record { reader = new.reader; records = records; left = new.streams.left }) reached
-    → IsShowStop why → ShowsRecordsPart plan records old.detector old.streams.written new.streams.written
-    → WatchesOn plan old new failed (Err why)
+    → ShowsRecordsPart plan records old.detector old.streams.written new.streams.written
+    → WatchesOn plan old new failed (Err (write_stop why))
 unfolding WritesPart ShowsRecordsPart
-batch_part plan records old new failed reached why few to reads kind shown = λ first start going.
+batch_part plan records old new failed reached why few to reads shown = λ first start going.
     let given = going.given ++ records in
     let text = lines plan going.given records Open in
     let now : Place = record { reader = new.reader; records = records; left = new.streams.left } in
@@ -322,7 +323,7 @@ batch_part plan records old new failed reached why few to reads kind shown = λ 
     let some : WritesPart start.written (lines_of plan given Open) new.streams.written =
     subst (λ (x : List ℕ). WritesPart start.written x new.streams.written) (sym (lines_of-batch plan going.given records))
     (WritesPart-behind start.written old.streams.written new.streams.written _ _ going.wrote own) in (
-      showing_stops plan first start new.streams new.detector why kind (part_of_all plan first stopped.behind (room_behind old.room (length records)) given start stopped.still new.streams.written room_is stopped.read some),
+      showing_stops plan first start new.streams new.detector why (part_of_all plan first stopped.behind (room_behind old.room (length records)) given start stopped.still new.streams.written room_is stopped.read some),
       record {
         taken = stopped.whole.taken;
         took = stopped.whole.took;
@@ -339,26 +340,25 @@ batch_part plan records old new failed reached why few to reads kind shown = λ 
     )
 
 -- where a write failed, or memory was lacking for the lines
-pub batch_stops : (plan : Plan) (records : List LinkedRecord) (old new : Standing) (failed : Type 0) (reached : Reached) (why : Stop)
+pub batch_stops : (plan : Plan) (records : List LinkedRecord) (old new : Standing) (failed : Type 0) (reached : Reached) (why : WriteFault)
     → length records ≤ most_at old.room
     → (reached ≡ More → length records ≡ most_at old.room) → ((reached ≡ More → ⊥) → length records < most_at old.room)
     → (reached ≡ Fault fault.Failed → failed) → lacks_memory reached ≡ false
     → ReadsOn (record { reader = old.reader; records = []; left = old.streams.left }) (record { reader = new.reader; records = records; left = new.streams.left }) reached
-    → IsShowStop why → ShowsRecordsPart plan records old.detector old.streams.written new.streams.written
-    → WatchesOn plan old new failed (Err why)
-batch_stops plan records old new failed reached why few full fewer rose enough reads kind shown =
-    batch_part plan records old new failed reached why few (by_kind why kind) reads kind shown
+    → ShowsRecordsPart plan records old.detector old.streams.written new.streams.written
+    → WatchesOn plan old new failed (Err (write_stop why))
+batch_stops plan records old new failed reached why few full fewer rose enough reads shown =
+    batch_part plan records old new failed reached why few (by_fault why) reads shown
   where
     not_lacking : reached ≡ Fault fault.NoMemory → ⊥
     not_lacking same = not_both (lacks_memory reached) (ap lacks_memory same) enough
 
-    by_kind : (stopped : Stop) → IsShowStop stopped → ReadsTo plan records old failed stopped
-    by_kind stop.CannotWrite k = λ first start going taken are.
+    by_fault : (stopped : WriteFault) → ReadsTo plan records old failed (write_stop stopped)
+    by_fault write.Unwritten = λ first start going taken are.
         unwritten_to plan first old.room going.given records start.left (record { reader = new.reader; records = records; left = new.streams.left }) reached failed taken
         (room_further plan.limit old.room going.given records going.room_is few) going.batches full fewer rose not_lacking
         (reached_behind plan first start old (record { reader = new.reader; records = records; left = new.streams.left }) reached going reads) are
-    by_kind stop.NoMemory k = λ first start going taken are. tt
-    by_kind other k = absurd k
+    by_fault write.NoMemory = λ first start going taken are. tt
 
 -- where memory was lacking for reading
 pub batch_lacks : (plan : Plan) (records : List LinkedRecord) (old new : Standing) (failed : Type 0) (reached : Reached)
@@ -367,10 +367,10 @@ pub batch_lacks : (plan : Plan) (records : List LinkedRecord) (old new : Standin
     → ShowsRecordsPart plan records old.detector old.streams.written new.streams.written
     → WatchesOn plan old new failed (Err stop.NoMemory)
 batch_lacks plan records old new failed reached few reads shown =
-    batch_part plan records old new failed reached stop.NoMemory few (λ first start going taken are. tt) reads tt shown
+    batch_part plan records old new failed reached write.NoMemory few (λ first start going taken are. tt) reads shown
 
 -- lines that were shown, or a part of them
-pub part_shown : (plan : Plan) (records : List LinkedRecord) (old new : Detecting) (answer : Result (Unit {0}) Stop) → ShowsRecords plan records old new answer
+pub part_shown : (plan : Plan) (records : List LinkedRecord) (old new : Detecting) (answer : Result (Unit {0}) WriteFault) → ShowsRecords plan records old new answer
     → ShowsRecordsPart plan records old.detector old.written new.written
 unfolding ShowsRecordsPart
 part_shown plan records old new (Ok done) shows = λ before stands.
@@ -430,7 +430,7 @@ closed_to plan first start now detector ending written faults after counts came 
     }
 
 -- or in part
-closed_some : (plan : Plan) (first : RecordReader) (start now : Streams) (detector : Detector) (ending : Ending) (written : Option (List ℕ)) (faults after : ℕ) (why : Stop) → IsAtEnd plan first start now detector ending
+closed_some : (plan : Plan) (first : RecordReader) (start now : Streams) (detector : Detector) (ending : Ending) (written : Option (List ℕ)) (faults after : ℕ) (why : WriteFault) → IsAtEnd plan first start now detector ending
     → Closes plan (record { detector = detector; written = now.written; faults = faults }) (record { written = written; block = []; faults = after }) (Err why)
     → (left : Option (List ℕ)) → WritesSome plan first start (record { left = left; written = written })
 closed_some plan first start now detector ending written faults after why came part left = λ whole told.
@@ -439,10 +439,9 @@ closed_some plan first start now detector ending written faults after why came p
     (WritesPart-behind start.written now.written written (lines_of plan came.given Open) (closing_lines plan came.given) came.wrote (part.emits.part (record { records = came.given; stand = came.stands })))
 
 -- a part of lines stopped the showing of them
-stopped_some : (plan : Plan) (first : RecordReader) (start after : Streams) (counts : Counts) (why : Stop) → IsShowStop why → WritesSome plan first start after → Watches plan first start after counts (Err why)
-stopped_some plan first start after counts stop.CannotWrite kind some = some
-stopped_some plan first start after counts stop.NoMemory kind some = some
-stopped_some plan first start after counts why kind some = absurd kind
+stopped_some : (plan : Plan) (first : RecordReader) (start after : Streams) (counts : Counts) (why : WriteFault) → WritesSome plan first start after → Watches plan first start after counts (Err (write_stop why))
+stopped_some plan first start after counts write.Unwritten some = some
+stopped_some plan first start after counts write.NoMemory some = some
 
 -- how the watching ends, by how the batches ended and how it was closed
 module _ (plan : Plan) (first : RecordReader) (start now : Streams) (detector : Detector) (written : Option (List ℕ)) (faults after : ℕ) (counts : Counts) where
@@ -476,13 +475,13 @@ module _ (plan : Plan) (first : RecordReader) (start now : Streams) (detector : 
   closed_so (Err why) whole (fault_then, is, came) closes = (fault_then, is, closed_to plan first start now detector (Refused fault_then) written faults after counts came closes now.left)
 
   -- closed in part
-  closed_part_so : (watched : Result (Unit {0}) Stop) (why : Stop) → is_whole watched ≡ true → Comes plan first start now detector watched → Closes plan (closing detector sink_then) sink_now (Err why)
-      → Watches plan first start after_it counts (Err why)
-  closed_part_so (Ok done) why whole came part = stopped_some plan first start after_it counts why part.emits.kind (closed_some plan first start now detector Clean written faults after why came part now.left)
+  closed_part_so : (watched : Result (Unit {0}) Stop) (why : WriteFault) → is_whole watched ≡ true → Comes plan first start now detector watched → Closes plan (closing detector sink_then) sink_now (Err why)
+      → Watches plan first start after_it counts (Err (write_stop why))
+  closed_part_so (Ok done) why whole came part = stopped_some plan first start after_it counts why (closed_some plan first start now detector Clean written faults after why came part now.left)
   closed_part_so (Err stop.CannotRead) why whole came part = absurd cc
   closed_part_so (Err stop.CannotWrite) why whole came part = absurd cc
   closed_part_so (Err stop.NoMemory) why whole came part = absurd cc
-  closed_part_so (Err other) why whole (fault_then, is, came) part = stopped_some plan first start after_it counts why part.emits.kind (closed_some plan first start now detector (Refused fault_then) written faults after why came part now.left)
+  closed_part_so (Err other) why whole (fault_then, is, came) part = stopped_some plan first start after_it counts why (closed_some plan first start now detector (Refused fault_then) written faults after why came part now.left)
 
   pub closed_watch : (watched result_then : Result (Unit {0}) Stop) → Comes plan first start now detector watched → ClosesWatched plan detector watched sink_then sink_now counts result_then
       → Watches plan first start (record { left = now.left; written = written }) counts result_then
@@ -509,18 +508,17 @@ module _ (plan : Plan) (first : RecordReader) (start now : Streams) (detector : 
   wrote_more (Err why) whole (fault_then, is, came) more = more came.given came.stands
 
   -- a closing that was stopped stopped behind the end
-  end_to : (failed : Type 0) (taken : List ℕ) (why : Stop) → IsShowStop why → IsReadOut plan first taken start.left → HasReadTo plan first taken start.left failed (Err why)
-  end_to failed taken stop.CannotWrite kind out = inr (inl out)
-  end_to failed taken stop.NoMemory kind out = tt
-  end_to failed taken why kind out = absurd kind
+  end_to : (failed : Type 0) (taken : List ℕ) (why : WriteFault) → IsReadOut plan first taken start.left → HasReadTo plan first taken start.left failed (Err (write_stop why))
+  end_to failed taken write.Unwritten out = inr (inl out)
+  end_to failed taken write.NoMemory out = tt
 
-  closing_to : (failed : Type 0) (taken : List ℕ) (watched : Result (Unit {0}) Stop) (why : Stop) → is_whole watched ≡ true → IsShowStop why → HasReadTo plan first taken start.left failed watched
-      → HasReadTo plan first taken start.left failed (Err why)
-  closing_to failed taken (Ok done) why whole kind to = end_to failed taken why kind to
-  closing_to failed taken (Err stop.CannotRead) why whole kind to = absurd cc
-  closing_to failed taken (Err stop.CannotWrite) why whole kind to = absurd cc
-  closing_to failed taken (Err stop.NoMemory) why whole kind to = absurd cc
-  closing_to failed taken (Err other) why whole kind to = end_to failed taken why kind to
+  closing_to : (failed : Type 0) (taken : List ℕ) (watched : Result (Unit {0}) Stop) (why : WriteFault) → is_whole watched ≡ true → HasReadTo plan first taken start.left failed watched
+      → HasReadTo plan first taken start.left failed (Err (write_stop why))
+  closing_to failed taken (Ok done) why whole to = end_to failed taken why to
+  closing_to failed taken (Err stop.CannotRead) why whole to = absurd cc
+  closing_to failed taken (Err stop.CannotWrite) why whole to = absurd cc
+  closing_to failed taken (Err stop.NoMemory) why whole to = absurd cc
+  closing_to failed taken (Err other) why whole to = end_to failed taken why to
 
   closer : (failed : Type 0) (watched result_then : Result (Unit {0}) Stop) → IsCloseBehind plan first start now failed watched → (more : List ℕ) → written ≡ behind now.written more
       → ((taken : List ℕ) → HasReadTo plan first taken start.left failed watched → HasReadTo plan first taken start.left failed result_then) → IsCloseBehind plan first start after_it failed result_then
@@ -555,6 +553,6 @@ module _ (plan : Plan) (first : RecordReader) (start now : Streams) (detector : 
       (λ (part : IsClosedInPart plan detector watched result_then sink_then sink_now).
       let more = wrote_more watched part.0 came (λ records stands. let own = part.1.2.emits.part (record { records = records; stand = stands }) in (own.0, own.2)) in
       closer failed watched result_then close more.0 more.1
-      (λ taken to. subst (λ (r : Result (Unit {0}) Stop). HasReadTo plan first taken start.left failed r) (sym part.1.1) (closing_to failed taken watched part.1.0 part.0 part.1.2.emits.kind to)))
+      (λ taken to. subst (λ (r : Result (Unit {0}) Stop). HasReadTo plan first taken start.left failed r) (sym part.1.1) (closing_to failed taken watched part.1.0 part.0 to)))
       shut)
       how

@@ -6,7 +6,7 @@
 -- tries, the rules that were worth being tried on an item. They are this project's own, in twelve lines.
 -- To try it on: of one packet that one rule of one alerts on, records, items, hits, alerts and tries are
 -- 1 and all others 0.
-use Rattle.std.specs.Prelude.{ℕ, Bool, List, [], ◌++◌, Option, None, Some, length, sum, sum_by, codes, decimal, if◌then◌else◌}
+use Rattle.std.specs.Prelude.{ℕ, Bool, List, [], ◌++◌, Option, None, Some, length, sum, codes, decimal, if◌then◌else◌}
 use Rattle.edge_io.specs.Along.{along}
 use Rattle.record_jobs.specs.Way.{LinkedRecord}
 use Rattle.record_jobs.specs.Counts.{counts, none_counted}
@@ -14,13 +14,10 @@ use Rattle.record_jobs.specs.Ready.{all_jobs}
 use Rattle.flow_lanes.specs.declared.answer.Hits.{Hits}
 use Rattle.flow_lanes.specs.declared.job.Job.{Job}
 use Rattle.flow_lanes.specs.Flows.{Detection, answer_tries}
+use Rattle.alert_lines.specs.Events.{hit_count}
 use Rattle.snort_engine.specs.declared.counts.Counts.{Counts}
 use Rattle.snort_engine.specs.Course.{Plan}
 use Rattle.snort_engine.specs.Trace.{jobs_way, detection_of, items_of, closing_items, trace, Closed}
-
--- how many rules match these items
-abbrev pub hit_count : List Hits → ℕ
-hit_count items = sum_by (λ (hits : Hits). length hits.rules) items
 
 -- how many rules were worth being tried on the items of these jobs
 abbrev pub try_count : Detection → List Job → ℕ

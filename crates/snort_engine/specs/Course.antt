@@ -32,11 +32,11 @@ use Rattle.snort_setup.specs.Setup.{Halt, Refused, Lacks, Ready, Warned, IsSetup
 use Rattle.unified2_out.specs.declared.record.U2.{U2}
 use Rattle.unified2_out.specs.Reading.{AreRecordsOf, IsBadAt}
 use Rattle.command_words.specs.declared.asked.Form.{Form}
+use Rattle.alert_lines.specs.RecordLines.{entry_lines}
 use Rattle.snort_engine.specs.declared.status.Status.{Status}
 use Rattle.snort_engine.specs.declared.status.Status.TheVariants as status
 use Rattle.snort_engine.specs.Messages.{usage_text, version_text, accepted_text, command_line_text, cannot_read_text}
 use Rattle.snort_engine.specs.Messages.{bad_unified2_text, too_large_text}
-use Rattle.snort_engine.specs.RecordLines.{entry_lines}
 
 -- what is done with a capture: the name of its file, empty where it has none; how many records are read at
 -- most; which checksums are verified; the configuration of fragments, streams and events; the table of hosts;

@@ -15,18 +15,12 @@ pub mod Records
 pub mod CutCaptures
 -- what is shown of records, stage by stage
 pub mod Trace
--- answers beside what they come from
-pub mod Beside
--- the texts of alerts, and how they follow one another
+-- the lines of records, and how they follow one another
 pub mod Lines
--- an alert as Unified2 records
-pub mod Unified2
 -- the records under `--unified2`, and what lets them be read back
 pub mod ReadBack
 -- what is counted of a capture
 pub mod Counts
--- the lines of a Unified2 file
-pub mod RecordLines
 -- what is seen of the host, the sinks and the maker
 pub mod Outside
 -- the texts that end a run

@@ -5,26 +5,13 @@
 -- of lines is said of either form.
 -- To try it on: where a plan shows one alert of each of three records, the lines of the three are the
 -- line of the first and then those of the other two behind the first.
-use Rattle.std.specs.Prelude.{◌≡◌, ℕ, ◌+◌, ◌≤◌, List, [], ◌∷◌, ◌++◌, length, take}
+use Rattle.std.specs.Prelude.{◌≡◌, ℕ, ◌+◌, ◌≤◌, List, [], ◌++◌, length, take}
 use mathlib.Core.List.{IsPrefix}
 use Rattle.record_jobs.specs.Way.{LinkedRecord}
-use Rattle.snort_engine.specs.Course.{Plan}
-use Rattle.alert_fast.specs.Line.{line_text}
-use Rattle.conf_types.specs.declared.classes.Class.{Class}
-use Rattle.command_words.specs.declared.asked.Form.{Form}
 use Rattle.command_words.specs.declared.asked.Form.TheVariants as form
-use Rattle.snort_engine.specs.Trace.{Alert, CaptureState, Open, trace}
-use Rattle.snort_engine.specs.Unified2.{records_text}
-
--- the text of an alert behind so many, where these are the classes
-abbrev pub text_of : Form → List Class → ℕ → Alert → List ℕ
-text_of form.Lines classes before alert = line_text alert.what.head alert.what.rule classes
-text_of form.Unified2 classes before alert = records_text before alert
-
--- the texts of alerts behind so many, one behind another
-abbrev pub texts_from : {A : Type 0} → (ℕ → A → List ℕ) → ℕ → List A → List ℕ
-texts_from text before [] = []
-texts_from text before (alert ∷ later) = text before alert ++ texts_from text (before + 1) later
+use Rattle.alert_lines.specs.Lines.{text_of, texts_from}
+use Rattle.snort_engine.specs.Course.{Plan}
+use Rattle.snort_engine.specs.Trace.{CaptureState, Open, trace}
 
 -- how many alerts stand before, of these records
 unfoldable pub alert_count : Plan → List LinkedRecord → ℕ

@@ -4,12 +4,12 @@
 -- To try it on: a run that is refused for its words leaves the host and the alert sink as they were,
 -- and `ERROR: command line` behind the error bytes.
 use Rattle.std.specs.Prelude.{◌≡◌, ℕ, ◌≤◌, ◌⊎◌, List, Option}
-use mathlib.Core.List.{IsPrefix}
 use Rattle.edge_io.specs.Told.{behind, Rose}
 use Rattle.edge_io.specs.Files.{Files, left_by}
 use Rattle.edge_io.specs.declared.host.Host.{Ghosts as HostOf}
 use Rattle.edge_io.specs.declared.pattern.Refusal.{Refusal}
 use Rattle.edge_io.specs.declared.sink.Sink.{Ghosts as SinkOf}
+use Rattle.alert_lines.specs.Written.{WritesPart}
 
 -- of the host: its files and what is left of the open capture, where they are told, how often a
 -- capture was opened, and how many faults there were; of the two sinks: the bytes written, where they
@@ -57,10 +57,6 @@ work h a host alerts = record { left = h.left host; opens = h.opens host; host_f
 -- the part of the outside that the work on a capture touches
 abbrev pub work_of : Outside → Work
 work_of seen = record { left = seen.left; opens = seen.opens; host_faults = seen.host_faults; alerts = seen.alerts }
-
--- behind what was told a beginning of the text was written, and no other byte
-unfoldable pub WritesPart : Option (List ℕ) → List ℕ → Option (List ℕ) → Type 0
-WritesPart old text new = (part : List ℕ) × IsPrefix part text × (new ≡ behind old part)
 
 -- the message was written, or a part of it where that sink's count rose
 pub record TellsMessage (message : List ℕ) (old new : Option (List ℕ)) (rose : Type 0) : Type 0 where

@@ -14,10 +14,11 @@ use Rattle.record_jobs.specs.Way.{LinkedRecord}
 use Rattle.unified2_out.specs.declared.record.U2.{U2}
 use Rattle.unified2_out.specs.declared.record.U2.TheVariants.{Event as an_event, Packet as a_packet}
 use Rattle.unified2_out.specs.Records.{AllFit}
+use Rattle.alert_lines.specs.Events.{Alert}
+use Rattle.alert_lines.specs.Unified2.{event_record, packet_record}
 use Rattle.snort_engine.specs.Course.{Plan}
 use Rattle.snort_engine.specs.Lines.{alert_count}
-use Rattle.snort_engine.specs.Trace.{Alert, CaptureState, trace}
-use Rattle.snort_engine.specs.Unified2.{event_record, packet_record}
+use Rattle.snort_engine.specs.Trace.{CaptureState, trace}
 
 -- the records of an alert behind so many: its event, and then the packet
 abbrev pub entries_of : ℕ → Alert → List U2

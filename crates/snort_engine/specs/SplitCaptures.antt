@@ -20,9 +20,10 @@ use Rattle.event_filters.specs.Keys.{same_key}
 use Rattle.flow_lanes.specs.declared.answer.Hits.{Hits}
 use Rattle.record_jobs.specs.Splitting.{IsSplit, Part, record_items}
 use Rattle.record_jobs.specs.Way.{LinkedRecord}
-use Rattle.snort_engine.specs.Beside.{Beside, own}
+use Rattle.alert_lines.specs.Beside.{Beside, own}
 use Rattle.snort_engine.specs.Course.{Plan}
-use Rattle.snort_engine.specs.Trace.{Alert, detection_of, jobs_way}
+use Rattle.alert_lines.specs.Events.{Alert}
+use Rattle.snort_engine.specs.Trace.{detection_of, jobs_way}
 
 -- the alerts of a part, by the records that they stand beside
 abbrev pub alerts_of : Part → List Alert → List Alert

@@ -15,12 +15,6 @@ pub mod Watching
 pub mod Detecting
 -- which record each job was made of
 pub mod Sourcing
--- the matches of jobs
-pub mod Matching
--- items on their way to lines
-pub mod Showing
--- lines that wait for a write
-pub mod Gathering
 -- what ends a run, as a message and a status
 pub mod Stop
 -- what is told on the error sink

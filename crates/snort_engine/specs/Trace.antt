@@ -2,7 +2,7 @@
 --
 -- Each record makes jobs: of packets, of datagrams that its fragment makes whole, of flows that end
 -- (record_jobs specs/Jobs). Each job has items, packets and stretches of streams, each with all rules
--- that match it (flow_lanes specs/Flows). Each item has events, of which some are kept (event_filters
+-- that match it (flow_lanes specs/Flows). Each item has events, of which some are kept (alert_lines
 -- specs/Events); each that is kept is an alert, beside the record whose decoding made the item's job. A
 -- stage depends on what came to it before, and on nothing else: not on lanes or batches. Where the capture
 -- has ended, the flows that live then end too, and the last stages go on over these jobs, whose alerts
@@ -10,33 +10,20 @@
 -- (Snort Users Manual 2.9, sections 2.2.1 to 2.2.3 for what is put together, 2.4 and 3 for events.)
 -- To try it on: a packet with payload `abc` and the rules for `bc`, `x` and `a` shows the alerts of
 -- the first and of the third.
-use Rattle.std.specs.Prelude.{ℕ, List, [], ◌++◌, fold, map, slice_get, option_map}
-use Rattle.std.specs.Option.{option_to_list}
-use Rattle.std.specs.List.{flat_map}
+use Rattle.std.specs.Prelude.{List, [], ◌++◌, fold, map}
 use Rattle.edge_io.specs.Along.{trail, trail_from, chained}
 use Rattle.edge_io.specs.declared.link.Link.TheVariants.{Ethernet}
-use Rattle.packet_decode.specs.declared.item.ItemHead.{ItemHead}
 use Rattle.packet_decode.specs.declared.checks.Checks.{Checks}
 use Rattle.conf_types.specs.declared.config.Config.{Config}
-use Rattle.rule_types.specs.declared.rule.Rule.{Rule}
 use Rattle.host_table.specs.declared.host_line.HostLine.{HostLine}
 use Rattle.record_jobs.specs.Way.{LinkedRecord, Way as JobsWay}
 use Rattle.record_jobs.specs.Jobs.{jobs, finishes}
 use Rattle.flow_lanes.specs.declared.answer.Hits.{Hits}
 use Rattle.flow_lanes.specs.declared.job.Job.{Job}
 use Rattle.flow_lanes.specs.Flows.{Detection, answer}
-use Rattle.event_filters.specs.Events.{Item, kept}
-use Rattle.snort_engine.specs.Beside.{Beside, beside, own}
+use Rattle.alert_lines.specs.Beside.{beside, own}
+use Rattle.alert_lines.specs.Events.{Alert, Event, item_events}
 use Rattle.snort_engine.specs.Course.{Plan}
-
--- an item and a rule that alerts on it
-pub record Event : Type 0 where
-  pub head : ItemHead
-  pub rule : Rule
-
--- an event that is shown, beside the record whose decoding made the job of its item
-abbrev pub Alert : Type 0
-Alert = Beside LinkedRecord Event
 
 -- ---- from records to jobs
 
@@ -67,24 +54,6 @@ job_items d before job = (answer d before job).items
 -- all items of records
 unfoldable pub items_of : Plan → List LinkedRecord → List Hits
 items_of plan records = trail (job_items (detection_of plan)) (jobs_of plan records)
-
--- ---- from items to events
-
--- an item as the filters of events see it
-abbrev pub filtered_item : Hits → Item
-filtered_item hits = record { head = hits.head; hits = hits.rules }
-
-abbrev pub event_of : ItemHead → Rule → Event
-event_of head rule = record { head = head; rule = rule }
-
--- the event of the rule at a place
-abbrev pub event_at : List Rule → ItemHead → ℕ → List Event
-event_at rules head place = option_to_list (option_map (event_of head) (slice_get rules place))
-
--- the events of an item behind earlier items that are kept, in the order in which they are shown
-unfoldable pub item_events : Config → List Rule → List Hits → Hits → List Event
-item_events config rules before hits =
-    flat_map (event_at rules hits.head) (kept config rules (map filtered_item before) (filtered_item hits))
 
 -- ---- all stages
 

@@ -8,8 +8,9 @@ ghost use Rattle.edge_io.specs.Frames.{OnlyRead};
 ghost use Rattle.snort_engine.specs.Steps.Watching.{most_at, room_behind};
 
 use crate::fault::ReadFault;
-use crate::reader::{LinkedRecord, RecordReader};
+use crate::reader::RecordReader;
 use crate::stop::Stop;
+use alert_lines::LinkedRecord;
 use edge_io::Host;
 use std::alloc::{AllocError, AllocFailed, Global};
 

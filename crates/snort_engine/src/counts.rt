@@ -1,5 +1,5 @@
 //! What a run counts.
-ghost use Rattle.std.specs.Prelude.{◌≡◌, ◌+◌, ◌++◌, OnOk, IfOk};
+ghost use Rattle.std.specs.Prelude.{◌≡◌, ◌++◌, OnOk};
 ghost use Rattle.snort_engine.specs.Counts.{count_line, counts_text};
 
 use edge_io::NoMemory;
@@ -19,18 +19,6 @@ pub(crate) struct Counts {
     pub alerts: u128,
     /// Rules that were worth being tried, over all items.
     pub tries: u128,
-}
-
-/// A sum. None passes its type, for which want of memory would stand: a capture has fewer than 2^32 records of at
-/// most 2^18 bytes, of which each is in at most one packet, one datagram and one stretch of a stream; so there are
-/// fewer than 2^52 items, and at most 2^16 rules are tried on each.
-pub(crate) fn sum(total: u128, more: u128) -> Result<u128, NoMemory>
-    ensures { IfOk result (λ sum. sum ≡ total + more) }
-{
-    match total.checked_add(more) {
-        Some(sum) => Ok(sum),
-        None => Err(NoMemory),
-    }
 }
 
 /// Appends the line of a count.

@@ -7,21 +7,19 @@ ghost use Rattle.flow_lanes.specs.Standing.{LearnsBatch};
 ghost use Rattle.record_jobs.specs.Way as ways;
 ghost use Rattle.record_jobs.specs.Ready.{AreReady};
 ghost use Rattle.record_jobs.specs.Fronts.{GivesFinishes};
-ghost use Rattle.snort_engine.specs.Beside.{by_place, source_in};
+ghost use Rattle.alert_lines.specs.Beside.{by_place, source_in};
 ghost use Rattle.snort_engine.specs.Steps.Sourcing.{PlacesJobs};
-ghost use Rattle.snort_engine.specs.Steps.Gathering.{EmitsAny, sending};
+ghost use Rattle.alert_lines.specs.Gathering.{EmitsAny, sending};
 ghost use Rattle.snort_engine.specs.Steps.Watching.{plan_of, OfTest};
 ghost use Rattle.snort_engine.specs.Steps.Detecting.{IsSoundPlan, IsNewInspection, counted, MakesJobs, Runs, running};
 ghost use Rattle.snort_engine.specs.Steps.Detecting.{Knows, DetectorStands, ShowsRecords, detecting, Closes};
 
 use crate::context::Context;
-use crate::counts::{Counts, sum};
-use crate::events::{Events, show_matches};
-use crate::lines::offer;
+use crate::counts::Counts;
 use crate::plan::{Plan, front_config};
-use crate::reader::LinkedRecord;
-use crate::sources::{Made, Sources, keep_last};
-use crate::stop::Stop;
+use crate::reader::no_record;
+use crate::sources::{Made, keep_last};
+use alert_lines::{AlertWriter, LinkedRecord, Shown, Sources, WriteFault, sum};
 use edge_io::{Gate, NoMemory, Pattern, Sink};
 use fast_pattern::Groups;
 use flow_lanes::{Job, Lanes, Matches};
@@ -29,12 +27,12 @@ use record_jobs::{Front, FrontConfig, RecordCounts};
 use std::alloc::Global;
 use std::thread::Threads;
 
-/// What jobs go through: the lanes that find the rules that match, and the events of these.
+/// What jobs go through: the lanes that find the rules that match, and the writer of their alerts.
 #[derive(Drop)]
 pub(crate) struct Inspection {
     pub lanes: Lanes,
     pub groups: Groups,
-    pub events: Events,
+    pub writer: AlertWriter,
     /// How many rules were worth being tried, over all items.
     pub tries: u128,
     /// The last record that was shown: the alerts of the flows that end with the capture are of it.
@@ -58,9 +56,9 @@ impl Inspection {
         Ok(Inspection {
             lanes: Lanes::new(alloc, plan.lanes, plan.flush, plan.setup.config.inserts)?,
             groups: Groups::build(alloc, rules)?,
-            events: Events::new(alloc, &plan.setup.config, rules)?,
+            writer: AlertWriter::new(alloc, &plan.setup.config, rules)?,
             tries: 0,
-            last: LinkedRecord::none(alloc),
+            last: no_record(alloc),
         })
     }
 
@@ -68,7 +66,7 @@ impl Inspection {
     fn counts(&self, seen: RecordCounts) -> Counts
         ensures { result ≡ counted seen self.now }
     {
-        let tally = self.events.tally;
+        let tally = self.writer.tally();
         Counts {
             seen,
             items: tally.items,
@@ -129,7 +127,7 @@ fn run_jobs<P: Pattern, G: Gate, A: Sink, R: Threads + Sync>(
     places: &[usize],
     inspection: &mut Inspection,
     alerts: &mut A,
-) -> Result<(), Stop>
+) -> Result<(), WriteFault>
     requires plan { IsSoundPlan context.now.plan.now }
     requires ready { AreReady (length context.now.plan.now.setup.config.stream.engines) inspection.old.lanes jobs.now }
     requires groups { StandFor inspection.old.groups context.now.plan.now.setup.set.rules }
@@ -154,20 +152,17 @@ fn run_jobs<P: Pattern, G: Gate, A: Sink, R: Threads + Sync>(
         &mut found,
     )?;
     inspection.tries = sum(inspection.tries, found.tries)?;
+    let by = Shown {
+        config: &plan.setup.config,
+        rules: plan.setup.set.rules(),
+        form: plan.form,
+    };
     let sources = Sources {
         records,
         places,
         last: &inspection.last,
     };
-    show_matches(
-        &plan.setup.config,
-        plan.setup.set.rules(),
-        plan.form,
-        sources,
-        &found,
-        &mut inspection.events,
-        alerts,
-    )
+    inspection.writer.show(&by, sources, &found, alerts)
 }
 
 /// Writes the lines of a batch of records, whole, and keeps its last record: what was kept before stands
@@ -178,7 +173,7 @@ pub(crate) fn show_records<P: Pattern, G: Gate, A: Sink, R: Threads + Sync>(
     records: &mut Vec<LinkedRecord>,
     detector: &mut Detector,
     alerts: &mut A,
-) -> Result<(), Stop>
+) -> Result<(), WriteFault>
     requires plan { IsSoundPlan context.now.plan.now }
     requires known { Knows context.now.plan.now detector.old }
     requires few { detector.old.front.counts.records + length records.old.items ≤ 2 ^ 32 }
@@ -200,7 +195,7 @@ pub(crate) fn show_records<P: Pattern, G: Gate, A: Sink, R: Threads + Sync>(
         inspection,
         alerts,
     )?;
-    offer(&mut inspection.events.block, alerts)?;
+    inspection.writer.write_out(alerts)?;
     drop(made);
     keep_last(records, &mut inspection.last);
     Ok(())
@@ -222,7 +217,7 @@ pub(crate) fn close<P: Pattern, G: Gate, A: Sink, R: Threads + Sync>(
     context: &Context<'_, P, G, R>,
     detector: Detector,
     alerts: &mut A,
-) -> Result<Counts, Stop>
+) -> Result<Counts, WriteFault>
     requires plan { IsSoundPlan context.now.plan.now }
     requires known { Knows context.now.plan.now detector }
     requires few { detector.front.counts.records ≤ 2 ^ 32 }
@@ -238,6 +233,6 @@ pub(crate) fn close<P: Pattern, G: Gate, A: Sink, R: Threads + Sync>(
     let jobs = last_jobs(context.alloc, front)?;
     // All of them are of the last record.
     run_jobs(context, &jobs, &[], &[], &mut inspection, alerts)?;
-    offer(&mut inspection.events.block, alerts)?;
+    inspection.writer.write_out(alerts)?;
     Ok(inspection.counts(seen))
 }

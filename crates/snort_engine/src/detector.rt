@@ -9,7 +9,7 @@ use crate::Status;
 use crate::capture::watch_capture;
 use crate::context::Context;
 use crate::counts::Counts;
-use crate::lines::offer;
+use crate::listing::write_lines;
 use crate::prepare::{Task, prepare};
 use crate::report::{counts_due, report, tell_all};
 use edge_io::{Gate, Host, Items, PatternMaker, Sink};
@@ -71,8 +71,7 @@ pub fn run<H: Host, M: PatternMaker, A: Sink, E: Sink, G: Gate, R: Threads + Syn
             report(alloc, errors, well, plan.source.name(), &outcome, told)
         }
         Ok(Task::Tell(lines)) => {
-            let mut block = lines.into_vec();
-            let outcome = offer(&mut block, alerts);
+            let outcome = write_lines(&lines, alerts);
             report(alloc, errors, well, "", &outcome, None)
         }
         Err(stop) => report(alloc, errors, well, "", &Err(stop), None),

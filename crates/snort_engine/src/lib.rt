@@ -21,10 +21,8 @@ mod counts;
 mod course_laws;
 mod detect;
 mod detector;
-mod events;
 mod fault;
 mod laws;
-mod lines;
 mod listing;
 mod made;
 mod plan;
@@ -36,7 +34,6 @@ mod sources;
 mod split_laws;
 mod status;
 mod stop;
-mod unified2;
 mod watch;
 
 pub use course_laws::words_have_a_course;

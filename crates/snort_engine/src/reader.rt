@@ -9,58 +9,11 @@ ghost use Rattle.snort_engine.specs.Trace.{no_record};
 ghost use Rattle.snort_engine.specs.Steps.Reader.{IsFresh, number_of, refusal_of, Gives, Opens, OpensSo};
 
 use crate::fault::ReadFault;
+use alert_lines::LinkedRecord;
 use edge_io::{Host, Link, Moment, Text};
 use pcap_input::{CaptureFault, CaptureReader, Record};
 use pcapng_input::{NgReader, NgRecord};
 use std::alloc::Global;
-use std::marker::Model;
-
-/// A record of a capture, and the link layer that its bytes begin with.
-#[derive(Debug, Drop)]
-pub(crate) struct LinkedRecord {
-    link: Link,
-    captured: Record,
-}
-
-impl Model for LinkedRecord {
-    ghost use Rattle.record_jobs.specs.Way.{LinkedRecord as Linked};
-
-    ghost Value = { Linked };
-
-    ghost view = { λ r. record { link = r.link; captured = r.captured } };
-}
-
-impl LinkedRecord {
-    /// What stands for the last record where none was captured: no flow lives then that could end. Takes
-    /// no memory.
-    pub fn none(alloc: Global) -> LinkedRecord
-        ensures { result ≡ no_record }
-    {
-        LinkedRecord {
-            link: Link::Ethernet,
-            captured: Record {
-                number: 0,
-                moment: Moment { nanos: 0 },
-                original: 0,
-                bytes: Text::from_vec(Vec::new(alloc)),
-            },
-        }
-    }
-
-    /// The link layer that its bytes begin with.
-    pub fn link(&self) -> Link
-        ensures { result ≡ self.now.link }
-    {
-        self.link
-    }
-
-    /// The record as the capture has it.
-    pub fn captured(&self) -> &Record
-        ensures { result.now ≡ self.now.captured }
-    {
-        &self.captured
-    }
-}
 
 /// A reader of the host's open capture.
 #[derive(Debug, Drop)]
@@ -124,12 +77,27 @@ impl RecordReader {
     pub fn take_back(&mut self, alloc: Global, shown: LinkedRecord)
         ensures { self.new ≡ self.old }
     {
-        let bytes: Text = shown.captured.bytes;
+        let bytes: Text = shown.into_captured().bytes;
         match self {
             RecordReader::Savefile(reader) => reader.take_back(alloc, bytes),
             RecordReader::Blocks(reader) => reader.take_back(alloc, bytes),
         }
     }
+}
+
+/// What stands for the last record where none was captured: no flow lives then that could end. Takes no memory.
+pub(crate) fn no_record(alloc: Global) -> LinkedRecord
+    ensures { result ≡ no_record }
+{
+    LinkedRecord::new(
+        Link::Ethernet,
+        Record {
+            number: 0,
+            moment: Moment { nanos: 0 },
+            original: 0,
+            bytes: Text::from_vec(Vec::new(alloc)),
+        },
+    )
 }
 
 /// Whether a file was refused since it begins as no savefile does.
@@ -165,7 +133,7 @@ fn next_of_savefile<H: Host>(
 {
     let link = reader.head().link;
     match reader.next(alloc, host) {
-        Ok(Some(captured)) => Ok(Some(LinkedRecord { link, captured })),
+        Ok(Some(captured)) => Ok(Some(LinkedRecord::new(link, captured))),
         Ok(None) => Ok(None),
         Err(why) => Err(ReadFault::from(why)),
     }
@@ -187,10 +155,7 @@ fn next_of_blocks<H: Host>(
     ensures host { OnlyRead H.Host host.old host.new }
 {
     match reader.next(alloc, host) {
-        Ok(Some(NgRecord { link, item })) => Ok(Some(LinkedRecord {
-            link,
-            captured: item,
-        })),
+        Ok(Some(NgRecord { link, item })) => Ok(Some(LinkedRecord::new(link, item))),
         Ok(None) => Ok(None),
         Err(why) => Err(ReadFault::from(why)),
     }

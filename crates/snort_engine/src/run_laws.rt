@@ -13,7 +13,7 @@ ghost use Rattle.snort_engine.specs.Course.{IsFileWay, Lists, Plan, Way, most_fi
 ghost use Rattle.snort_engine.specs.CutCaptures.{Holds, IsCutBehind, IsLimited, end_of, unlimited};
 ghost use Rattle.snort_engine.specs.Lines.{lines};
 ghost use Rattle.snort_engine.specs.ReadBack.{FitsRecord, FitsRule, entries};
-ghost use Rattle.snort_engine.specs.RecordLines.{entry_lines};
+ghost use Rattle.alert_lines.specs.RecordLines.{entry_lines};
 ghost use Rattle.snort_engine.specs.Records.{Clean, is_of_blocks, records_in, records_of};
 ghost use Rattle.snort_engine.specs.Trace.{CaptureState, Closed};
 

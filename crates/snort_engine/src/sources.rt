@@ -1,8 +1,8 @@
-//! The records that jobs were made of.
-ghost use Rattle.std.specs.Prelude.{◌≡◌, option_and_then, option_map, slice_get};
-ghost use Rattle.snort_engine.specs.Steps.Sourcing.{last_behind, lent_record, source_by};
+//! The jobs of a batch and their records.
+ghost use Rattle.std.specs.Prelude.{◌≡◌};
+ghost use Rattle.snort_engine.specs.Steps.Sourcing.{last_behind};
 
-use crate::reader::LinkedRecord;
+use alert_lines::LinkedRecord;
 use flow_lanes::Job;
 use std::mem::swap;
 
@@ -11,36 +11,6 @@ use std::mem::swap;
 pub(crate) struct Made<'a> {
     pub jobs: Vec<Job<'a>>,
     pub places: Vec<usize>,
-}
-
-/// The records that the jobs of a batch were made of, and the last one before these.
-#[derive(Clone, Copy)]
-pub(crate) struct Sources<'a> {
-    pub records: &'a [LinkedRecord],
-    /// The place of each job's record among these. A job without one is of the last record before.
-    pub places: &'a [usize],
-    pub last: &'a LinkedRecord,
-}
-
-impl<'a> Sources<'a> {
-    /// The record of the job at this place of the batch, if it is one of these.
-    fn record(self, job: usize) -> Option<&'a LinkedRecord>
-        ensures { option_map lent_record result
-            ≡ option_and_then (slice_get self.entry.records.now) (slice_get self.entry.places.now job) }
-    {
-        let place = self.places.get(job)?;
-        self.records.get(*place)
-    }
-
-    /// The record of the job at this place of the batch.
-    pub fn of(self, job: usize) -> &'a LinkedRecord
-        ensures { result.now ≡ source_by self.entry job }
-    {
-        match self.record(job) {
-            Some(found) => found,
-            None => self.last,
-        }
-    }
 }
 
 /// Keeps the last of these records, if there is one, in place of the one that was kept, which takes its

@@ -7,8 +7,8 @@ use crate::Status;
 use crate::fault::ReadFault;
 use alert_fast::Piece;
 use alert_fast::Piece::{Bytes, Number};
+use alert_lines::WriteFault;
 use edge_io::{NoMemory, Text, WriteStop};
-use flow_lanes::BatchFault;
 use snort_setup::SetupStop;
 use std::alloc::AllocFailed;
 
@@ -183,13 +183,16 @@ impl<T: Drop> From<AllocFailed<T>> for Stop {
     }
 }
 
-impl From<BatchFault> for Stop {
-    ghost use Rattle.snort_engine.specs.declared.stop.Stop.TheVariants.{NoMemory as out_of_memory};
+impl From<WriteFault> for Stop {
+    ghost use Rattle.snort_engine.specs.Steps.Stop.{write_stop};
 
-    ghost from_gives = { λ _ stop. stop ≡ out_of_memory };
+    ghost from_gives = { λ why stop. stop ≡ write_stop why };
 
-    fn from(_fault: BatchFault) -> Stop {
-        Stop::NoMemory
+    fn from(why: WriteFault) -> Stop {
+        match why {
+            WriteFault::Unwritten => Stop::CannotWrite,
+            WriteFault::NoMemory => Stop::NoMemory,
+        }
     }
 }
 

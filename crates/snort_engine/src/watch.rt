@@ -10,7 +10,7 @@ ghost use Rattle.snort_engine.specs.Outside.{by, work};
 ghost use Rattle.snort_engine.specs.Ending.{Ends};
 ghost use Rattle.snort_engine.specs.Steps.Stop.{outcome_status, is_uncut, is_written, ReadsQuietly, WritesQuietly};
 ghost use Rattle.snort_engine.specs.Steps.Reporting.{outcome_said};
-ghost use Rattle.snort_engine.specs.Steps.Gathering.{sending};
+ghost use Rattle.alert_lines.specs.Gathering.{sending};
 ghost use Rattle.snort_engine.specs.Counts.{no_counts};
 ghost use Rattle.snort_engine.specs.Steps.Detecting.{IsSoundPlan, Knows, DetectorStands, ShowsRecordsPart};
 ghost use Rattle.snort_engine.specs.Steps.Watching.{standing, streams, OfTest, Watches, ComesOver, IsCloseBehind};
@@ -21,8 +21,9 @@ use crate::batch::{give_back, lacks_memory, more, most_at, read_batch, room_behi
 use crate::context::Context;
 use crate::counts::Counts;
 use crate::detect::{Detector, close, show_records};
-use crate::reader::{LinkedRecord, RecordReader};
+use crate::reader::RecordReader;
 use crate::stop::{Stop, is_whole};
+use alert_lines::LinkedRecord;
 use edge_io::{Gate, Host, Pattern, Sink};
 use std::thread::Threads;
 

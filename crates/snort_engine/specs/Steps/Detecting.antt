@@ -20,19 +20,20 @@ use Rattle.record_jobs.specs.Way.{LinkedRecord, Way as JobsWay}
 use Rattle.record_jobs.specs.Jobs.{jobs}
 use Rattle.record_jobs.specs.Fronts.{FrontState, StandsFor}
 use Rattle.record_jobs.specs.Ready.{HaveLearnt}
+use Rattle.alert_lines.specs.Lines.{text_of, texts_from}
+use Rattle.alert_lines.specs.declared.fault.WriteFault.{WriteFault}
+use Rattle.alert_lines.specs.Written.{WritesPart}
+use Rattle.alert_lines.specs.Gathering.{Sending, EmitsBy}
+use Rattle.alert_lines.specs.Showing.{EventsStand, items_lines, tally_in, waiting_in}
+use Rattle.alert_lines.specs.Beside.{carried, whats}
 use Rattle.snort_engine.specs.declared.counts.Counts.{Counts}
 use Rattle.snort_engine.specs.declared.plan.Plan as code
 use Rattle.snort_engine.specs.declared.detect.Inspection.{Inspection}
 use Rattle.snort_engine.specs.declared.detect.Detector.{Detector}
-use Rattle.snort_engine.specs.declared.stop.Stop.{Stop}
 use Rattle.snort_engine.specs.Course.{Plan}
 use Rattle.snort_engine.specs.Trace.{Open, closing_alerts, detection_of, job_items, jobs_of, last_of, no_record, jobs_way_by, jobs_way}
-use Rattle.snort_engine.specs.Lines.{alert_count, lines, text_of, texts_from}
+use Rattle.snort_engine.specs.Lines.{alert_count, lines}
 use Rattle.snort_engine.specs.Counts.{counts_of, try_count}
-use Rattle.snort_engine.specs.Outside.{WritesPart}
-use Rattle.snort_engine.specs.Steps.Gathering.{Sending, EmitsBy}
-use Rattle.snort_engine.specs.Steps.Showing.{EventsStand, items_lines}
-use Rattle.snort_engine.specs.Beside.{carried, whats}
 use Rattle.snort_engine.specs.Steps.Sourcing.{Sourced}
 
 -- ---- plans
@@ -54,18 +55,18 @@ pub record IsSoundPlan {P : Type 0} (plan : code.Plan P) : Type 0 where
 
 -- ---- jobs
 
--- the lanes and the filters were given these jobs, and the tries of these were counted
+-- the lanes and the writer were given these jobs, and the tries of these were counted
 pub record InspectionStands (plan : Plan) (before : List Job) (inspection : Inspection) : Type 0 where
   pub lanes : LanesStand (detection_of plan) inspection.lanes before
-  pub events : EventsStand plan.config plan.rules (trail (job_items (detection_of plan)) before) inspection.events
+  pub writer : EventsStand plan.config plan.rules (trail (job_items (detection_of plan)) before) inspection.writer
   pub tries : inspection.tries ≡ try_count (detection_of plan) before
 
 -- an inspection that was given nothing
 pub record IsNewInspection {P : Type 0} (plan : code.Plan P) (inspection : Inspection) : Type 0 where
   pub lanes : AreNew plan.lanes plan.flush plan.setup.config.inserts inspection.lanes
   pub groups : StandFor inspection.groups plan.setup.set.rules
-  pub events : EventsStand plan.setup.config plan.setup.set.rules [] inspection.events
-  pub none : inspection.events.block.items ≡ []
+  pub writer : EventsStand plan.setup.config plan.setup.set.rules [] inspection.writer
+  pub none : waiting_in inspection.writer ≡ []
   pub tries : inspection.tries ≡ 0
   pub last : inspection.last ≡ no_record
 
@@ -90,10 +91,11 @@ pub record EarlierJobs (plan : Plan) (inspection : Inspection) : Type 0 where
   pub stand : InspectionStands plan jobs inspection
 
 abbrev pub waiting : Running → Sending
-waiting now = record { written = now.written; block = now.inspection.events.block.items; faults = now.faults }
+waiting now = record { written = now.written; block = waiting_in now.inspection.writer; faults = now.faults }
 
 -- whatever jobs came before: the inspection was given these too, and their lines are on their way
-pub record Runs {A : Type 0} (plan : Plan) (batch : List Sourced) (old new : Running) (outcome : Result A Stop) : Type 0 where
+pub record Runs {A : Type 0} (plan : Plan) (batch : List Sourced) (old new : Running) (outcome : Result A WriteFault) :
+    Type 0 where
   pub stands : OnOk outcome ((before : List Job) → InspectionStands plan before old.inspection
       → InspectionStands plan (before ++ whats batch) new.inspection)
   pub emits : EmitsBy (λ (before : EarlierJobs plan old.inspection). jobs_lines plan before.jobs batch)
@@ -123,7 +125,7 @@ pub record IsKnown (way : JobsWay) (rules : List Rule) (detector : Detector) : T
   pub front : StandsFor way detector.front records
   pub learnt : HaveLearnt detector.inspection.lanes (trail (jobs way) records)
   pub groups : StandFor detector.inspection.groups rules
-  pub none : detector.inspection.events.block.items ≡ []
+  pub none : waiting_in detector.inspection.writer ≡ []
 
 abbrev pub Knows : {P : Type 0} → code.Plan P → Detector → Type 0
 Knows plan detector = IsKnown (jobs_way_by plan.checks plan.setup.hosts plan.setup.config) plan.setup.set.rules detector
@@ -151,8 +153,8 @@ pub record EarlierRecords (plan : Plan) (detector : Detector) : Type 0 where
   pub stand : DetectorStands plan records detector
 
 -- whatever records came before: the detector was given these too, and their lines were written, or a part of them
-pub record ShowsRecords {A : Type 0} (plan : Plan) (batch : List LinkedRecord) (old new : Detecting) (outcome : Result A Stop) :
-    Type 0 where
+pub record ShowsRecords {A : Type 0} (plan : Plan) (batch : List LinkedRecord) (old new : Detecting)
+    (outcome : Result A WriteFault) : Type 0 where
   pub stands : OnOk outcome ((before : List LinkedRecord) → DetectorStands plan before old.detector
       → DetectorStands plan (before ++ batch) new.detector)
   pub emits : EmitsBy (λ (before : EarlierRecords plan old.detector). lines plan before.records batch Open)
@@ -169,9 +171,9 @@ ShowsRecordsPart plan batch detector old new =
 abbrev pub counted : RecordCounts → Inspection → Counts
 counted seen inspection = record {
   seen = seen;
-  items = inspection.events.tally.items;
-  hits = inspection.events.tally.hits;
-  alerts = inspection.events.tally.alerts;
+  items = (tally_in inspection.writer).items;
+  hits = (tally_in inspection.writer).hits;
+  alerts = (tally_in inspection.writer).alerts;
   tries = inspection.tries;
 }
 
@@ -181,7 +183,7 @@ closing_lines plan records =
     texts_from (text_of plan.form plan.config.classes) (alert_count plan records) (closing_alerts plan records)
 
 -- whatever records came before: they were written, or a part of them, and all was counted
-pub record Closes (plan : Plan) (old : Detecting) (new : Sending) (outcome : Result Counts Stop) : Type 0 where
+pub record Closes (plan : Plan) (old : Detecting) (new : Sending) (outcome : Result Counts WriteFault) : Type 0 where
   pub counted : IfOk outcome (λ counts.
       (records : List LinkedRecord) → DetectorStands plan records old.detector → counts ≡ counts_of plan records)
   pub emits : EmitsBy (λ (before : EarlierRecords plan old.detector). closing_lines plan before.records) (settled old) new outcome

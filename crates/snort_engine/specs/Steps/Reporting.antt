@@ -6,10 +6,10 @@
 use Rattle.std.specs.Prelude.{◌≡◌, ℕ, Bool, ◌&&◌, List, Option, Result, ◌⊎◌}
 use Rattle.std.specs.Bool.{OnTrue, OnFalse}
 use Rattle.edge_io.specs.Told.{behind}
+use Rattle.alert_lines.specs.Written.{WritesPart}
 use Rattle.snort_engine.specs.declared.status.Status.{Status}
 use Rattle.snort_engine.specs.declared.status.Status.TheVariants as status
 use Rattle.snort_engine.specs.declared.stop.Stop.{Stop}
-use Rattle.snort_engine.specs.Outside.{WritesPart}
 use Rattle.snort_engine.specs.Steps.Stop.{is_whole, outcome_status, outcome_text}
 use Rattle.snort_engine.specs.declared.counts.Counts.{Counts}
 use Rattle.snort_engine.specs.Counts.{told_counts, with_counts}

@@ -5,6 +5,8 @@
 use Rattle.std.specs.Prelude.{◌≡◌, ℕ, Bool, true, false, List, [], Result, Ok, Err, ⊤}
 use Rattle.snort_setup.specs.declared.stop.SetupStop.{SetupStop}
 use Rattle.snort_setup.specs.declared.stop.SetupStop.TheVariants as setup
+use Rattle.alert_lines.specs.declared.fault.WriteFault.{WriteFault}
+use Rattle.alert_lines.specs.declared.fault.WriteFault.TheVariants as write
 use Rattle.snort_engine.specs.declared.fault.ReadFault.{ReadFault}
 use Rattle.snort_engine.specs.declared.fault.ReadFault.TheVariants as fault
 use Rattle.snort_engine.specs.declared.status.Status.{Status}
@@ -70,11 +72,10 @@ setup_stop (setup.Refused message) = stop.Refused message
 setup_stop (setup.CannotRead name) = stop.CannotReadFile name
 setup_stop setup.NoMemory = stop.NoMemory
 
--- what may stop the showing of lines
-abbrev pub IsShowStop : Stop → Type 0
-IsShowStop stop.CannotWrite = ⊤
-IsShowStop stop.NoMemory = ⊤
-IsShowStop why = ⊥
+-- how alerts that were not all written stop a run
+abbrev pub write_stop : WriteFault → Stop
+write_stop write.Unwritten = stop.CannotWrite
+write_stop write.NoMemory = stop.NoMemory
 
 -- what may stop the writing of lines, which takes no memory
 abbrev pub IsWriteStop : Stop → Type 0

@@ -13,6 +13,9 @@ use Rattle.option_eval.specs.Places.{Means}
 use Rattle.option_eval.specs.RuleSet.{Rules, FindWhatIsMeant}
 use Rattle.rule_eval.specs.Hits.{Test, Tells}
 use Rattle.record_jobs.specs.Way.{LinkedRecord}
+use Rattle.alert_lines.specs.declared.fault.WriteFault.{WriteFault}
+use Rattle.alert_lines.specs.Written.{WritesPart}
+use Rattle.alert_lines.specs.Gathering.{Sending}
 use Rattle.snort_engine.specs.declared.counts.Counts.{Counts}
 use Rattle.snort_engine.specs.declared.detect.Detector.{Detector}
 use Rattle.snort_engine.specs.declared.fault.ReadFault.{ReadFault}
@@ -28,9 +31,7 @@ use Rattle.snort_engine.specs.Trace.{Open, Closed, CaptureState}
 use Rattle.snort_engine.specs.Lines.{lines}
 use Rattle.snort_engine.specs.Counts.{counts_of}
 use Rattle.snort_engine.specs.ReadAhead.{batch, AreBatches}
-use Rattle.snort_engine.specs.Outside.{WritesPart}
-use Rattle.snort_engine.specs.Steps.Stop.{capture_stop, is_whole}
-use Rattle.snort_engine.specs.Steps.Gathering.{Sending}
+use Rattle.snort_engine.specs.Steps.Stop.{capture_stop, is_whole, write_stop}
 use Rattle.snort_engine.specs.Steps.Detecting.{Detecting, DetectorStands, IsClosable, Knows, Closes}
 
 -- the test says which rules of a set match, by what its patterns find
@@ -254,7 +255,8 @@ IsClosedWhole plan detector watched result old new counts =
 abbrev pub IsClosedInPart : Plan → Detector → Result (Unit {0}) Stop → Result (Unit {0}) Stop
     → Sending → Sending → Type 0
 IsClosedInPart plan detector watched result old new =
-    (is_whole watched ≡ true) × ((why : Stop) × (result ≡ Err why) × Closes plan (closing detector old) new (Err why))
+    (is_whole watched ≡ true)
+    × ((why : WriteFault) × (result ≡ Err (write_stop why)) × Closes plan (closing detector old) new (Err why))
 
 -- how a capture whose batches ended so is closed
 unfoldable pub ClosesWatched : Plan → Detector → Result (Unit {0}) Stop

@@ -1,9 +1,9 @@
 use Rattle.std.proofs.Common.{refl}
 use Rattle.std.proofs.lemmas.Result.{err_from_is_err_and}
+use Rattle.alert_lines.proofs.Emitting.{any_then, emits_any, emits_nothing, emits_stopped, emits_told}
 use Rattle.snort_engine.specs.declared.detect.Inspection.{Inspection}
 use Rattle.snort_engine.specs.Trace.{jobs_way_by}
 use Rattle.snort_engine.specs.Steps.Watching.{plan_of}
-use Rattle.snort_engine.proofs.Emitting.{any_then, emits_any, emits_nothing, emits_stopped, emits_told}
 use Rattle.snort_engine.proofs.Detecting.{closed_nothing, closed_part, closed_stopped, closed_whole, ready_closing, stands_on}
 use Rattle.snort_engine.proofs.detect.close.Goals as goal
 
@@ -33,25 +33,25 @@ returns-in_err-run_jobs-clause-ends g c =
     let p = err_from_is_err_and c.from_residual-in_err-run_jobs.result c.from_residual-in_err-run_jobs.ensures.1 in
     rw (p.1, p.2) (emits_stopped c.in_err-run_jobs.ensures.ends (λ none. absurd none))
 
-pub returns-in_err-offer-clause-closed : goal.returns-in_err-offer-clause-closed
-returns-in_err-offer-clause-closed g c = λ matches test.
-    let p = err_from_is_err_and c.from_residual-in_err-offer.result c.from_residual-in_err-offer.ensures.1 in
+pub returns-in_err-write_out-clause-closed : goal.returns-in_err-write_out-clause-closed
+returns-in_err-write_out-clause-closed g c = λ matches test.
+    let p = err_from_is_err_and c.from_residual-in_err-write_out.result c.from_residual-in_err-write_out.ensures.1 in
     let run = rw c.deref.ensures.value at (c.in_ok-run_jobs.ensures.shown matches test) in
-    rw (p.1, p.2) (closed_part (plan_of matches c.args.context.now.plan.now) _ c.in_ok-jobs.jobs.items _ _ _ _ c.in_ok-jobs.ensures c.requires.known.none run c.in_err-offer.ensures.emits)
+    rw (p.1, p.2) (closed_part (plan_of matches c.args.context.now.plan.now) _ c.in_ok-jobs.jobs.items _ _ _ _ c.in_ok-jobs.ensures c.requires.known.none run c.in_err-write_out.ensures.emits)
 
-pub returns-in_err-offer-clause-ends : goal.returns-in_err-offer-clause-ends
-returns-in_err-offer-clause-ends g c =
-    let p = err_from_is_err_and c.from_residual-in_err-offer.result c.from_residual-in_err-offer.ensures.1 in
-    rw (p.1, p.2) (emits_stopped (any_then c.in_ok-run_jobs.ensures.ends (emits_any c.in_err-offer.ensures.emits)) (λ none. absurd none))
+pub returns-in_err-write_out-clause-ends : goal.returns-in_err-write_out-clause-ends
+returns-in_err-write_out-clause-ends g c =
+    let p = err_from_is_err_and c.from_residual-in_err-write_out.result c.from_residual-in_err-write_out.ensures.1 in
+    rw (p.1, p.2) (emits_stopped (any_then c.in_ok-run_jobs.ensures.ends (emits_any c.in_err-write_out.ensures.emits)) (λ none. absurd none))
 
 pub returns-clause-closed : goal.returns-clause-closed
 returns-clause-closed g c = λ matches test.
     let run = rw c.deref.ensures.value at (c.in_ok-run_jobs.ensures.shown matches test) in
     let ran : Inspection = c.run_jobs.new.inspection in
-    let last : Inspection = record { lanes = ran.lanes; groups = ran.groups; events = record { filters = ran.events.filters; tally = ran.events.tally; kept = ran.events.kept; block = c.offer.new.block }; tries = ran.tries; last = ran.last } in
+    let last : Inspection = record { lanes = ran.lanes; groups = ran.groups; writer = c.write_out.new.self; tries = ran.tries; last = ran.last } in
     rw c.counts.ensures
-    (closed_whole (plan_of matches c.args.context.now.plan.now) _ c.in_ok-jobs.jobs.items _ _ last _ _ c.counts-seen.result c.in_ok-jobs.ensures c.counts-seen.ensures.counts c.requires.known.none c.in_ok-offer.ensures.emptied run c.in_ok-offer.ensures.emits
-    (λ before stands. stands_on (plan_of matches c.args.context.now.plan.now) before ran last refl refl refl refl stands))
+    (closed_whole (plan_of matches c.args.context.now.plan.now) _ c.in_ok-jobs.jobs.items _ _ last _ _ c.counts-seen.result c.in_ok-jobs.ensures c.counts-seen.ensures.counts c.requires.known.none c.in_ok-write_out.ensures.emptied run c.in_ok-write_out.ensures.emits
+    (λ before stands. stands_on (plan_of matches c.args.context.now.plan.now) before ran last refl c.in_ok-write_out.ensures.stands refl stands))
 
 pub returns-clause-ends : goal.returns-clause-ends
-returns-clause-ends g c = emits_told (any_then c.in_ok-run_jobs.ensures.ends (emits_any c.in_ok-offer.ensures.emits)) (λ none. absurd none)
+returns-clause-ends g c = emits_told (any_then c.in_ok-run_jobs.ensures.ends (emits_any c.in_ok-write_out.ensures.emits)) (λ none. absurd none)

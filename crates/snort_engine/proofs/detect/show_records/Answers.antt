@@ -1,8 +1,8 @@
 use Rattle.std.proofs.Common.{refl, arith}
 use Rattle.std.proofs.lemmas.Result.{err_from_is_err_and}
+use Rattle.alert_lines.proofs.Emitting.{any_then, emits_any, emits_nothing}
 use Rattle.snort_engine.specs.Trace.{jobs_way_by}
 use Rattle.snort_engine.specs.Steps.Watching.{plan_of}
-use Rattle.snort_engine.proofs.Emitting.{any_then, emits_any, emits_nothing}
 use Rattle.snort_engine.proofs.Detecting.{known_records, ready_records, records_nothing, records_part, records_shown, records_stopped, stands_on}
 use Rattle.snort_engine.proofs.detect.show_records.Goals as goal
 
@@ -37,33 +37,33 @@ returns-in_err-run_jobs-clause-ends g c =
     let p = err_from_is_err_and c.from_residual-in_err-run_jobs.result c.from_residual-in_err-run_jobs.ensures.1 in
     rw (p.1, p.2) c.in_err-run_jobs.ensures.ends
 
-pub returns-in_err-offer-clause-shown : goal.returns-in_err-offer-clause-shown
-returns-in_err-offer-clause-shown g c = λ matches test.
-    let p = err_from_is_err_and c.from_residual-in_err-offer.result c.from_residual-in_err-offer.ensures.1 in
+pub returns-in_err-write_out-clause-shown : goal.returns-in_err-write_out-clause-shown
+returns-in_err-write_out-clause-shown g c = λ matches test.
+    let p = err_from_is_err_and c.from_residual-in_err-write_out.result c.from_residual-in_err-write_out.ensures.1 in
     let makes = rw (c.front_config-by.ensures.way, c.deref.ensures.value) at c.in_ok-made.ensures.makes in
     let placed = rw (c.front_config-by.ensures.way, c.deref.ensures.value) at c.in_ok-made.ensures.places in
     let run = rw (c.deref-2.ensures.value, c.deref-3.ensures.value, c.deref-4.ensures.value) at (c.in_ok-run_jobs.ensures.shown matches test) in
-    rw (p.1, p.2) (records_part (plan_of matches c.args.context.now.plan.now) c.args.records.now.items _ _ c.in_ok-made.made.jobs.items c.in_ok-made.made.places.items _ _ _ _ _ makes placed c.requires.known.none run c.in_err-offer.ensures.emits)
+    rw (p.1, p.2) (records_part (plan_of matches c.args.context.now.plan.now) c.args.records.now.items _ _ c.in_ok-made.made.jobs.items c.in_ok-made.made.places.items _ _ _ _ _ makes placed c.requires.known.none run c.in_err-write_out.ensures.emits)
 
-pub returns-in_err-offer-clause-ends : goal.returns-in_err-offer-clause-ends
-returns-in_err-offer-clause-ends g c =
-    let p = err_from_is_err_and c.from_residual-in_err-offer.result c.from_residual-in_err-offer.ensures.1 in
-    rw (p.1, p.2) (any_then c.in_ok-run_jobs.ensures.ends (emits_any c.in_err-offer.ensures.emits))
+pub returns-in_err-write_out-clause-ends : goal.returns-in_err-write_out-clause-ends
+returns-in_err-write_out-clause-ends g c =
+    let p = err_from_is_err_and c.from_residual-in_err-write_out.result c.from_residual-in_err-write_out.ensures.1 in
+    rw (p.1, p.2) (any_then c.in_ok-run_jobs.ensures.ends (emits_any c.in_err-write_out.ensures.emits))
 
 pub returns-clause-shown : goal.returns-clause-shown
 returns-clause-shown g c = λ matches test.
     let makes = rw (c.front_config-by.ensures.way, c.deref.ensures.value) at c.in_ok-made.ensures.makes in
     let placed = rw (c.front_config-by.ensures.way, c.deref.ensures.value) at c.in_ok-made.ensures.places in
     let run = rw (c.deref-2.ensures.value, c.deref-3.ensures.value, c.deref-4.ensures.value) at (c.in_ok-run_jobs.ensures.shown matches test) in
-    records_shown (plan_of matches c.args.context.now.plan.now) c.args.records.now.items _ _ c.in_ok-made.made.jobs.items c.in_ok-made.made.places.items _ _ _ _ makes placed c.requires.known.none c.in_ok-offer.ensures.emptied run c.in_ok-offer.ensures.emits
-    (λ before stands. stands_on (plan_of matches c.args.context.now.plan.now) before _ _ refl refl refl refl stands) (rw c.in_ok-run_jobs.ensures.last_stays at c.keep_last.ensures)
+    records_shown (plan_of matches c.args.context.now.plan.now) c.args.records.now.items _ _ c.in_ok-made.made.jobs.items c.in_ok-made.made.places.items _ _ _ _ makes placed c.requires.known.none c.in_ok-write_out.ensures.emptied run c.in_ok-write_out.ensures.emits
+    (λ before stands. stands_on (plan_of matches c.args.context.now.plan.now) before _ _ refl c.in_ok-write_out.ensures.stands refl stands) (rw c.in_ok-run_jobs.ensures.last_stays at c.keep_last.ensures)
 
 pub returns-clause-ends : goal.returns-clause-ends
-returns-clause-ends g c = any_then c.in_ok-run_jobs.ensures.ends (emits_any c.in_ok-offer.ensures.emits)
+returns-clause-ends g c = any_then c.in_ok-run_jobs.ensures.ends (emits_any c.in_ok-write_out.ensures.emits)
 
 pub returns-clause-known : goal.returns-clause-known
 returns-clause-known g c =
     let makes = rw (c.front_config-by.ensures.way, c.deref.ensures.value) at c.in_ok-made.ensures.makes in
     let learns = rw c.deref-2.ensures.value at c.in_ok-run_jobs.ensures.learns in
     (known_records (jobs_way_by c.args.context.now.plan.now.checks c.args.context.now.plan.now.setup.hosts c.args.context.now.plan.now.setup.config) c.args.context.now.plan.now.setup.set.rules c.args.detector.now _ c.args.records.now.items c.in_ok-made.made.jobs.items
-    c.requires.known makes learns c.in_ok-run_jobs.ensures.groups_stay c.in_ok-offer.ensures.emptied)
+    c.requires.known makes learns c.in_ok-run_jobs.ensures.groups_stay c.in_ok-write_out.ensures.emptied)

@@ -4,8 +4,7 @@ use Rattle.edge_io.specs.Told.{Rose}
 use Rattle.edge_io.proofs.Seeing.{seen_left}
 use Rattle.snort_engine.specs.Steps.Preparing.{task_way}
 use Rattle.snort_engine.specs.declared.prepare.Task.TheVariants.{Watch, Tell}
-use Rattle.snort_engine.proofs.Emitting.{offered_some, offered_whole}
-use Rattle.snort_engine.proofs.FileWays.{listed_ends, no_host_stop, write_stop}
+use Rattle.snort_engine.proofs.FileWays.{listed_ends, no_host_stop, write_risen}
 use Rattle.snort_engine.proofs.Quiet.{written_quiet}
 use Rattle.snort_engine.proofs.Runs.{headline, stopped_run, watched_run, opens_made}
 use Rattle.snort_engine.proofs.Seeing.{seen_agree, seen_ends, capture_cause_by, stop_cause_by, told_headline}
@@ -79,7 +78,7 @@ returns-in-Ok-Tell-clause-headline g c = λ seen may.
     let first = c.prepare-prepared.new.host in
     let still = seen_left (g.H.Host.left_of c.args.host.now) (g.H.Host.left_of first) seen c.prepare-prepared.ensures.host.left_of in
     headline _ _ _ _ _
-    (watched_run (task_way {P = g.row.M-Made.Denot}) _ _ _ _ (Tell c.in-Ok-Tell.lines) _ c.offer-outcome.result c.prepare-prepared.new.warnings _ (c.matching_is_decided.ensures _)
+    (watched_run (task_way {P = g.row.M-Made.Denot}) _ _ _ _ (Tell c.in-Ok-Tell.lines) _ c.write_lines-outcome.result c.prepare-prepared.new.warnings _ (c.matching_is_decided.ensures _)
     (record {
       middle = record {
         left = left_by (g.H.Host.left_of first) seen;
@@ -92,19 +91,18 @@ returns-in-Ok-Tell-clause-headline g c = λ seen may.
       fileless = c.in-Ok-Tell.ensures.fileless;
       since = record { left = still; opens = c.prepare-prepared.ensures.host.opens; alerts = refl; later = c.prepare-prepared.ensures.host.later };
       ends = λ matches tells files course is lists.
-          listed_ends files course c.in-Ok-Tell.lines _ _ c.offer-outcome.result lists refl refl
-          (rw c.into_vec-block.ensures at (offered_whole c.offer-outcome.result _ _ c.offer-outcome.ensures.emits c.offer-outcome.ensures.emptied))
-          (rw c.into_vec-block.ensures at (offered_some c.offer-outcome.result _ _ c.offer-outcome.ensures.emits)) c.offer-outcome.ensures.kind;
-      write_fault = λ failed. write_stop c.offer-outcome.result c.offer-outcome.ensures.kind c.offer-outcome.ensures.emits.fault failed;
-      read_fault = λ matches failed. absurd (no_host_stop c.offer-outcome.result c.offer-outcome.ensures.kind failed);
+          listed_ends files course c.in-Ok-Tell.lines _ _ c.write_lines-outcome.result lists refl refl
+          c.write_lines-outcome.ensures.whole c.write_lines-outcome.ensures.part c.write_lines-outcome.ensures.kind;
+      write_fault = λ failed. write_risen c.write_lines-outcome.result c.write_lines-outcome.ensures.kind c.write_lines-outcome.ensures.write_fault failed;
+      read_fault = λ matches failed. absurd (no_host_stop c.write_lines-outcome.result c.write_lines-outcome.ensures.kind failed);
       quiet = λ uncut. c.in-Ok-Tell.ensures.quiet refl;
-      quiet_alerts = written_quiet c.offer-outcome.result _ _ c.offer-outcome.ensures.kind c.offer-outcome.ensures.emits.quiet;
+      quiet_alerts = written_quiet c.write_lines-outcome.result _ _ c.write_lines-outcome.ensures.kind c.write_lines-outcome.ensures.quiet;
       opened = λ matches. c.prepare-prepared.ensures.host.opens;
       made_unopened = λ for_made. (c.prepare-prepared.ensures.host.opens, still);
       same_files = refl;
       counts = record {
         host = c.prepare-prepared.ensures.host.later;
-        alerts = c.offer-outcome.ensures.emits.later;
+        alerts = c.write_lines-outcome.ensures.later;
         errors = omega (arith, c.tell_all-well.ensures.later, c.report-in-Ok-Tell.ensures.later);
       };
     })
@@ -153,7 +151,7 @@ returns-in-Ok-Watch-clause-told g c =
 
 pub returns-in-Ok-Tell-clause-told : goal.returns-in-Ok-Tell-clause-told
 returns-in-Ok-Tell-clause-told g c =
-    told_headline g.H.Host g.A.Sink g.E.Sink _ _ c.args.host.now c.prepare-prepared.new.host c.args.alerts.now c.offer-outcome.new.alerts c.args.errors.now c.report-in-Ok-Tell.new.errors _ _ _ g.met.H.Host.as_told
+    told_headline g.H.Host g.A.Sink g.E.Sink _ _ c.args.host.now c.prepare-prepared.new.host c.args.alerts.now c.write_lines-outcome.new.alerts c.args.errors.now c.report-in-Ok-Tell.new.errors _ _ _ g.met.H.Host.as_told
     c.prepare-prepared.ensures.host.files (returns-in-Ok-Tell-clause-headline g c)
 
 pub returns-clause-told : goal.returns-clause-told

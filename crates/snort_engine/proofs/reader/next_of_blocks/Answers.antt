@@ -7,7 +7,7 @@ use Rattle.snort_engine.proofs.reader.next_of_blocks.Goals as goal
 pub returns-in-Ok-Some-clause-gives : goal.returns-in-Ok-Some-clause-gives
 returns-in-Ok-Some-clause-gives g c = λ seen may.
     let takes = rw c.in-Ok-Some.field-0-is at (c.in-Ok-Some.ensures.seen_takes seen may) in
-    blocks_give c.args.reader.now c.next.new.self c.in-Ok-Some.field-0-0 _ _ takes
+    rw c.new.ensures (blocks_give c.args.reader.now c.next.new.self c.in-Ok-Some.field-0-0 _ _ takes)
 
 pub returns-in-Ok-None-clause-gives : goal.returns-in-Ok-None-clause-gives
 returns-in-Ok-None-clause-gives g c = λ seen may.

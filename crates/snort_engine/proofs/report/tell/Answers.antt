@@ -1,5 +1,5 @@
 use Rattle.std.proofs.Common.{◌≡◌, true, false, rules, arith}
-use Rattle.snort_engine.proofs.Prefixes.{WritesPart-take}
+use Rattle.alert_lines.proofs.Prefixes.{WritesPart-take}
 use Rattle.snort_engine.proofs.Reported.{tells_nothing, tells_whole, tells_part}
 use Rattle.snort_engine.proofs.report.tell.Goals as goal
 

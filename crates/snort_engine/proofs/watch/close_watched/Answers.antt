@@ -1,10 +1,11 @@
 use Rattle.std.proofs.Common.{Err, refl, sym, ap, ◌∙◌, inl, inr, arith}
 use Rattle.std.proofs.lemmas.Result.{err_from_is_err_and}
-use Rattle.snort_engine.specs.declared.stop.Stop.{Stop}
+use Rattle.alert_lines.specs.declared.fault.WriteFault.{WriteFault}
 use Rattle.snort_engine.specs.declared.stop.Stop.TheVariants.{CannotWrite}
 use Rattle.snort_engine.specs.Steps.Watching.{ClosesWatched}
 use Rattle.snort_engine.proofs.Prefixes.{same_stop}
 use Rattle.snort_engine.proofs.Quiet.{showing_uncut, showing_written}
+use Rattle.snort_engine.proofs.Stops.{unwritten}
 use Rattle.snort_engine.proofs.watch.close_watched.Goals as goal
 
 pub returns-then-not-is_whole-clause-closes : goal.returns-then-not-is_whole-clause-closes
@@ -33,23 +34,23 @@ returns-clause-closes g c = λ matches test. inr (inl (sym c.is_whole.ensures �
 pub returns-in_err-counts-clause-uncut_watched : goal.returns-in_err-counts-clause-uncut_watched
 returns-in_err-counts-clause-uncut_watched g c =
     let p = err_from_is_err_and c.from_residual.result c.from_residual.ensures.1 in
-    rw (p.1, p.2) (λ uncut. absurd (showing_uncut c.in_err-counts.field-0.0 c.in_err-counts.ensures.ends.kind uncut))
+    rw (p.1, p.2) (λ uncut. absurd (showing_uncut c.in_err-counts.field-0.0 uncut))
 
 pub returns-in_err-counts-clause-written_watched : goal.returns-in_err-counts-clause-written_watched
 returns-in_err-counts-clause-written_watched g c =
     let p = err_from_is_err_and c.from_residual.result c.from_residual.ensures.1 in
-    rw (p.1, p.2) (λ written. absurd (showing_written c.in_err-counts.field-0.0 c.in_err-counts.ensures.ends.kind written))
+    rw (p.1, p.2) (λ written. absurd (showing_written c.in_err-counts.field-0.0 written))
 
 pub returns-in_err-counts-clause-quiet_alerts : goal.returns-in_err-counts-clause-quiet_alerts
 returns-in_err-counts-clause-quiet_alerts g c =
     let p = err_from_is_err_and c.from_residual.result c.from_residual.ensures.1 in
-    rw (p.1, p.2) (λ written. absurd (showing_written c.in_err-counts.field-0.0 c.in_err-counts.ensures.ends.kind written))
+    rw (p.1, p.2) (λ written. absurd (showing_written c.in_err-counts.field-0.0 written))
 
 pub returns-in_err-counts-clause-write_fault : goal.returns-in_err-counts-clause-write_fault
 returns-in_err-counts-clause-write_fault g c = λ is.
     let p = err_from_is_err_and c.from_residual.result c.from_residual.ensures.1 in
     let stop = sym p.2 ∙ same_stop c.from_residual.result p.0 CannotWrite p.1 is in
-    inr (c.in_err-counts.ensures.ends.fault (ap (λ (why : Stop). Err why) stop))
+    inr (c.in_err-counts.ensures.ends.fault (ap (λ (why : WriteFault). Err why) (unwritten c.in_err-counts.field-0.0 stop)))
 
 pub returns-in_err-counts-clause-later_alerts : goal.returns-in_err-counts-clause-later_alerts
 returns-in_err-counts-clause-later_alerts g c = c.in_err-counts.ensures.ends.later

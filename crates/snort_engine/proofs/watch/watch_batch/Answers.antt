@@ -3,14 +3,15 @@ use Rattle.std.proofs.lemmas.Result.{err_from_is_err_and}
 use Rattle.edge_io.specs.Files.{left_by}
 use Rattle.edge_io.specs.Told.{Rose}
 use Rattle.pcap_input.specs.Savefile.{most_records}
+use Rattle.alert_lines.specs.declared.fault.WriteFault.{WriteFault}
 use Rattle.snort_engine.specs.declared.reader.RecordReader.{RecordReader}
-use Rattle.snort_engine.specs.declared.stop.Stop.{Stop}
 use Rattle.snort_engine.specs.declared.stop.Stop.TheVariants.{CannotWrite}
 use Rattle.snort_engine.specs.Steps.Reader.{number_of}
 use Rattle.snort_engine.specs.Steps.Watching.{plan_of, most_at, room_behind, MayGoOn, Standing}
 use Rattle.snort_engine.proofs.Batches.{more_reached, showing_cuts, within_batch}
 use Rattle.snort_engine.proofs.Prefixes.{same_stop}
 use Rattle.snort_engine.proofs.Quiet.{reached_uncut, showing_uncut, showing_written}
+use Rattle.snort_engine.proofs.Stops.{unwritten}
 use Rattle.snort_engine.proofs.Watched.{nothing_left, batch_lacks, batch_shown, batch_stops, part_shown}
 use Rattle.snort_engine.proofs.watch.watch_batch.Goals as goal
 
@@ -62,7 +63,7 @@ returns-in_err-show_records-clause-goes_on g c = λ matches test seen may.
     (λ more. omega (arith, c.read_batch-reached.ensures.filled.full more, c.most_at-most.ensures, c.read_batch-reached.new.records.ok.0))
     (λ other. omega (arith, c.read_batch-reached.ensures.filled.fewer other, c.most_at-most.ensures, c.read_batch-reached.new.records.ok.0))
     c.read_batch-reached.ensures.failed (sym c.lacks_memory.ensures ∙ c.if-lacks_memory.false)
-    (c.read_batch-reached.ensures.reads seen may) c.in_err-show_records.ensures.ends.kind stopped)
+    (c.read_batch-reached.ensures.reads seen may) stopped)
 
 pub returns-clause-goes_on : goal.returns-clause-goes_on
 returns-clause-goes_on g c = λ matches test seen may.
@@ -104,7 +105,7 @@ returns-in_err-show_records-clause-ready g c = λ on.
 pub returns-in_err-show_records-clause-closable : goal.returns-in_err-show_records-clause-closable
 returns-in_err-show_records-clause-closable g c =
     let p = err_from_is_err_and c.from_residual.result c.from_residual.ensures.1 in
-    rw (p.1, p.2) (λ whole. absurd (showing_cuts c.in_err-show_records.field-0.0 c.in_err-show_records.ensures.ends.kind whole))
+    rw (p.1, p.2) (λ whole. absurd (showing_cuts c.in_err-show_records.field-0.0 whole))
 
 -- the reader gave the records of the batch, and the detector was given them
 pub returns-clause-further : goal.returns-clause-further
@@ -139,12 +140,12 @@ returns-clause-closable g c = λ whole.
 pub returns-in_err-show_records-clause-quiet : goal.returns-in_err-show_records-clause-quiet
 returns-in_err-show_records-clause-quiet g c =
     let p = err_from_is_err_and c.from_residual.result c.from_residual.ensures.1 in
-    rw (p.1, p.2) (λ uncut. absurd (showing_uncut c.in_err-show_records.field-0.0 c.in_err-show_records.ensures.ends.kind uncut))
+    rw (p.1, p.2) (λ uncut. absurd (showing_uncut c.in_err-show_records.field-0.0 uncut))
 
 pub returns-in_err-show_records-clause-quiet_alerts : goal.returns-in_err-show_records-clause-quiet_alerts
 returns-in_err-show_records-clause-quiet_alerts g c =
     let p = err_from_is_err_and c.from_residual.result c.from_residual.ensures.1 in
-    rw (p.1, p.2) (λ written. absurd (showing_written c.in_err-show_records.field-0.0 c.in_err-show_records.ensures.ends.kind written))
+    rw (p.1, p.2) (λ written. absurd (showing_written c.in_err-show_records.field-0.0 written))
 
 pub returns-clause-quiet : goal.returns-clause-quiet
 returns-clause-quiet g c =
@@ -155,7 +156,7 @@ pub returns-in_err-show_records-clause-write_fault : goal.returns-in_err-show_re
 returns-in_err-show_records-clause-write_fault g c = λ is.
     let p = err_from_is_err_and c.from_residual.result c.from_residual.ensures.1 in
     let stop = sym p.2 ∙ same_stop c.from_residual.result p.0 CannotWrite p.1 is in
-    c.in_err-show_records.ensures.ends.fault (ap (λ (why : Stop). Err why) stop)
+    c.in_err-show_records.ensures.ends.fault (ap (λ (why : WriteFault). Err why) (unwritten c.in_err-show_records.field-0.0 stop))
 
 pub returns-in_err-show_records-clause-later_alerts : goal.returns-in_err-show_records-clause-later_alerts
 returns-in_err-show_records-clause-later_alerts g c = c.in_err-show_records.ensures.ends.later

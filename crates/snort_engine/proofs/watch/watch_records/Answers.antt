@@ -1,7 +1,7 @@
 use Rattle.std.proofs.Common.{◌∙◌, arith}
 use Rattle.std.proofs.lemmas.Result.{err_from_is_err_and}
+use Rattle.alert_lines.proofs.Prefixes.{WritesPart-none}
 use Rattle.snort_engine.specs.Steps.Watching.{plan_of}
-use Rattle.snort_engine.proofs.Prefixes.{WritesPart-none}
 use Rattle.snort_engine.proofs.Watched.{close-start, closed_watch, closed_behind}
 use Rattle.snort_engine.proofs.watch.watch_records.Goals as goal
 

@@ -1,0 +1,10 @@
+use Rattle.std.proofs.Common.{refl}
+use Rattle.alert_lines.specs.Showing.{tally_of}
+use Rattle.alert_lines.proofs.writer.AlertWriter.new.Goals as goal
+
+pub returns-clause-stand : goal.returns-clause-stand
+unfolding tally_of
+returns-clause-stand c = record {
+  given = c.in_ok-new.ensures c.requires.config (λ k d lt. (c.requires.rules k d lt).triable);
+  tally = refl;
+}

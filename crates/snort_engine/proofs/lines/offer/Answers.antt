@@ -1,7 +1,0 @@
-use Rattle.snort_engine.proofs.Emitting.{offered_part}
-use Rattle.snort_engine.proofs.lines.offer.Goals as goal
-
-pub returns-in-Err-clause-emits : goal.returns-in-Err-clause-emits
-returns-in-Err-clause-emits g c =
-    let stopped = rw c.deref.ensures.value at c.in-Err.ensures.stopped in
-    offered_part _ _ c.in-Err._stop.done stopped c.in-Err.ensures.failed c.in-Err.ensures.later

@@ -1,6 +1,0 @@
-use Rattle.std.proofs.Common.{refl}
-use Rattle.snort_engine.proofs.Emitting.{emits_none}
-use Rattle.snort_engine.proofs.lines.offer_full.Goals as goal
-
-pub returns-then-len-lt-BLOCK-clause-emits : goal.returns-then-len-lt-BLOCK-clause-emits
-returns-then-len-lt-BLOCK-clause-emits g c = emits_none _ (λ known. refl)

@@ -1,0 +1,5 @@
+use Rattle.snort_engine.proofs.Loaded.{are_listed}
+use Rattle.snort_engine.proofs.listing.lines_of.Goals as goal
+
+pub returns-in-Ok : goal.returns-in-Ok
+returns-in-Ok c = are_listed c.args.bytes.now c.in-Ok.lines c.in-Ok.ensures.told

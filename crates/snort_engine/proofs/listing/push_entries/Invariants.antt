@@ -1,7 +1,0 @@
--- The lines of the records so far were appended.
-use Rattle.std.proofs.Common.{◌≡◌, ◌++◌, take}
-use Rattle.snort_engine.specs.RecordLines.{entry_lines}
-use Rattle.snort_engine.proofs.listing.push_entries.Given as goal
-
-abbrev pub invariant-loop-entry : goal.invariant-loop-entry
-invariant-loop-entry l = record { lines : l.out.items ≡ l.fn.out.items ++ entry_lines (take l.entry-index l.entries) }
