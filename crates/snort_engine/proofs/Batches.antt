@@ -6,7 +6,7 @@ use Rattle.alert_lines.specs.declared.fault.WriteFault.TheVariants as write
 use Rattle.snort_engine.specs.declared.fault.ReadFault.{ReadFault}
 use Rattle.snort_engine.specs.declared.fault.ReadFault.TheVariants as fault
 use Rattle.snort_engine.specs.declared.reader.RecordReader.{RecordReader}
-use Rattle.snort_engine.specs.Records.{Clean}
+use Rattle.pcap_input.specs.Cut.{Clean}
 use Rattle.snort_engine.specs.Steps.Reader.{HasRead, AreWhole, EndsWith, IsRefusedBy}
 use Rattle.snort_engine.proofs.Reading.{reading-joined, reading-whole, reading-stopped, reading-refused, reading-ended}
 use Rattle.snort_engine.specs.declared.batch.Reached.{Reached}

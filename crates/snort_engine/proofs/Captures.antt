@@ -6,6 +6,7 @@ use Rattle.std.proofs.lemmas.List.{append-nil, take-append-drop, take-append-le}
 use Rattle.edge_io.specs.Told.{behind, Rose}
 use Rattle.edge_io.specs.Files.{Files}
 use Rattle.edge_io.proofs.Told.{behind-nil}
+use Rattle.pcap_input.proofs.Cuts.{first_records-none}
 use Rattle.pcap_input.proofs.Told.{split_told}
 use Rattle.record_jobs.specs.Way.{LinkedRecord}
 use Rattle.alert_lines.specs.Written.{WritesPart}
@@ -18,7 +19,8 @@ use Rattle.snort_engine.specs.declared.status.Status.TheVariants as status
 use Rattle.snort_engine.specs.declared.stop.Stop.{Stop}
 use Rattle.snort_engine.specs.declared.stop.Stop.TheVariants as stop
 use Rattle.snort_engine.specs.Course.{Plan, Goes, Course}
-use Rattle.snort_engine.specs.Records.{AreWithin, Recording, Ending, Clean, Refused, records_in, records_of}
+use Rattle.pcap_input.specs.Cut.{AreWithin, Ending, Clean, Refused}
+use Rattle.snort_engine.specs.Records.{Recording, records_in, records_of}
 use Rattle.snort_engine.specs.Steps.Reader.{BeginsBehind, IsBarelyOpen, IsRefusedAtOnce, Opens, recording_for}
 use Rattle.snort_engine.specs.declared.counts.Counts.{Counts}
 use Rattle.snort_engine.specs.Trace.{Open, Closed}
@@ -29,13 +31,12 @@ use Rattle.snort_engine.specs.Messages.{cannot_read_text}
 use Rattle.snort_engine.specs.Outside.{Work}
 use Rattle.snort_engine.specs.ReadAhead.{batch, before_last_batch, earlier_batches, lines_due, AreBatches, IsReadInBatches, IsReadAhead, ReadsAhead}
 use Rattle.snort_engine.specs.Ending.{IsAnswered, IsTakenOf, lines_within, IsCutShort, Ends}
-use Rattle.snort_engine.specs.Steps.Stop.{capture_stop, stop_status, stop_text, outcome_status, outcome_text}
+use Rattle.snort_engine.specs.Steps.Stop.{stop_status, stop_text, outcome_status, outcome_text}
 use Rattle.snort_engine.specs.Steps.Reporting.{counts_due}
 use Rattle.snort_engine.specs.Steps.Watching.{recording_by, lines_of, IsReadOut, HasReadTo, IsReadCutShort, IsCloseBehind, WatchesTo, WritesSome, Watches}
 use Rattle.snort_engine.proofs.LinesLaws.{lines_join, lines-nil, lines-none, no_counts-are}
 use Rattle.snort_engine.proofs.Limits.{batches_none, before_last}
 use Rattle.snort_engine.proofs.Opening.{few_hold_none}
-use Rattle.snort_engine.proofs.Recordings.{first_of-none}
 use Rattle.snort_engine.proofs.Finishing.{IsPlain, ends_met, ends_unread, ends_unwritten, ends_lacking, ahead_goes, ahead_cut}
 
 -- ---- no record
@@ -87,39 +88,6 @@ answered answer meant is = record {
   alerts_are = ap (λ (a : Answer). a.alerts) (sym is);
   message_is = ap (λ (a : Answer). a.errors) (sym is);
 }
-
--- the message and the status of a stop at a capture
-pub text_of_stop : (source : List ℕ) (why : ReadFault) → stop_text source (capture_stop why) ≡ fault_text source why
-unfolding stop_text
-text_of_stop source fault.NotPcap = refl
-text_of_stop source (fault.LinkType link_type) = refl
-text_of_stop source (fault.Truncated at) = refl
-text_of_stop source (fault.BadBlock at) = refl
-text_of_stop source (fault.TooLong at len) = refl
-text_of_stop source fault.TooMany = refl
-text_of_stop source fault.Failed = refl
-text_of_stop source fault.NoMemory = refl
-
-status_of_stop : (why : ReadFault) → stop_status (capture_stop why) ≡ fault_status why
-status_of_stop fault.NotPcap = refl
-status_of_stop (fault.LinkType link_type) = refl
-status_of_stop (fault.Truncated at) = refl
-status_of_stop (fault.BadBlock at) = refl
-status_of_stop (fault.TooLong at len) = refl
-status_of_stop fault.TooMany = refl
-status_of_stop fault.Failed = refl
-status_of_stop fault.NoMemory = refl
-
--- no fault of a capture speaks of another file
-no_other_file : (why : ReadFault) (name : List ℕ) → stop.CannotReadFile name ≡ capture_stop why → ⊥
-no_other_file fault.NotPcap name is = cc
-no_other_file (fault.LinkType link_type) name is = cc
-no_other_file (fault.Truncated at) name is = cc
-no_other_file (fault.BadBlock at) name is = cc
-no_other_file (fault.TooLong at len) name is = cc
-no_other_file fault.TooMany name is = cc
-no_other_file fault.Failed name is = cc
-no_other_file fault.NoMemory name is = cc
 
 -- ---- a capture that was refused at once, or not opened
 
@@ -198,7 +166,7 @@ lacking_answered plan files course goes lacks = answered (answer_of files course
 open_ends : (plan : Plan) (files : Files) (course : Course) (why : ReadFault) (before after : Work) (counts : Counts) → course.way ≡ Goes plan → after.alerts ≡ before.alerts → counts ≡ counts_of plan []
     → Opens (get files plan.source) (Err why) after.left
     → (why ≡ fault.Failed → Rose before.host_faults after.host_faults ⊎ (get files plan.source ≡ None))
-    → Ends files course before after (stop_status (capture_stop why)) (warned course ++ said {A = Unit {0}} plan (Err (capture_stop why)) counts)
+    → Ends files course before after (stop_status (stop.Capture why)) (warned course ++ said {A = Unit {0}} plan (Err (stop.Capture why)) counts)
 unfolding stop_text
 open_ends plan files course fault.NotPcap before after counts goes same counted opens failed =
     refused_ends plan files course fault.NotPcap before after counts goes same counted tt (λ e. cc) opens.0 opens.1
@@ -246,7 +214,7 @@ records_behind plan front taken reader begins = ap (λ (r : Recording). r.record
 
 -- the same without a limit
 all_behind : (front taken : List ℕ) (reader : RecordReader) → BeginsBehind front reader → (records_in None (front ++ taken)).records ≡ (recording_for reader taken).records
-all_behind front taken reader begins = ap (λ (r : Recording). r.records) (begins None taken ∙ first_of-none (recording_for reader taken))
+all_behind front taken reader begins = ap (λ (r : Recording). r.records) (begins None taken ∙ first_records-none (recording_for reader taken))
 
 -- what was taken by the opening and behind it, and the rest
 joined_behind : (front taken rest : List ℕ) (whole : List ℕ) → whole ≡ taken ++ rest → (front ++ taken) ++ rest ≡ front ++ whole
@@ -266,7 +234,8 @@ pub record IsOpenCapture (plan : Plan) (files : Files) (course : Course) (left_f
 written_to : (plan : Plan) (reader : RecordReader) (taken : List ℕ) (left : Option (List ℕ)) (failed : Type 0) (outcome : Result (Unit {0}) Stop) → outcome_status outcome ≡ status.WriteFault → HasReadTo plan reader taken left failed outcome
     → AreBatches (recording_by plan reader taken).records ⊎ (IsReadOut plan reader taken left ⊎ failed)
 written_to plan reader taken left failed (Ok done) is to = absurd cc
-written_to plan reader taken left failed (Err stop.CannotRead) is to = absurd cc
+written_to plan reader taken left failed (Err (stop.Capture fault.Failed)) is to = absurd cc
+written_to plan reader taken left failed (Err (stop.Capture fault.NoMemory)) is to = absurd cc
 written_to plan reader taken left failed (Err stop.NoMemory) is to = absurd cc
 written_to plan reader taken left failed (Err stop.CannotWrite) is to = to
 written_to plan reader taken left failed (Err why) is to = absurd cc
@@ -332,7 +301,7 @@ answer_open plan files course left_first bytes reader o =
     o.answers ∙ ap (λ (x : List ℕ). capture_answer plan (warned course) (Some x)) o.joined ∙ ap (recording_answer plan (warned course)) (o.begins plan.limit o.rest)
 
 -- watched to an ending
-watched_ends : (plan : Plan) (files : Files) (course : Course) (left_first left_last : Option (List ℕ)) (bytes : List ℕ) (reader : RecordReader) (ending : Ending) (before after : Work) (counts : Counts) → IsOpenCapture plan files course left_first bytes reader
+watched_ends : (plan : Plan) (files : Files) (course : Course) (left_first left_last : Option (List ℕ)) (bytes : List ℕ) (reader : RecordReader) (ending : Ending ReadFault) (before after : Work) (counts : Counts) → IsOpenCapture plan files course left_first bytes reader
     → IsPlain (ending_status ending)
     → WatchesTo plan reader ending (record { left = left_first; written = before.alerts }) (record { left = left_last; written = after.alerts }) counts
     → ReadsAhead files course before after (ending_status ending)
@@ -343,7 +312,7 @@ watched_ends plan files course left_first left_last bytes reader ending before a
     let records = (recording_by plan reader o.rest).records in
     let meant : answer_of files course ≡ recording_answer plan (warned course) (record { records = records; ending = ending }) =
     answer_open plan files course left_first bytes reader o
-    ∙ ap (λ (e : Ending). recording_answer plan (warned course) (record { records = records; ending = e })) watched.ends in
+    ∙ ap (λ (e : Ending ReadFault). recording_answer plan (warned course) (record { records = records; ending = e })) watched.ends in
     let text : Counts → List ℕ = λ (c : Counts). warned course ++ with_counts (ending_text plan.source ending) (told_counts plan.counted c) in
     ends_met files course before after (ending_status ending) (lines plan [] records Closed) (text counts) plain watched.wrote
     (subst (λ (m : List ℕ). IsAnswered (answer_of files course) (ending_status ending) (lines plan [] records Closed) m) (ap text (sym watched.counted)) (answered (answer_of files course) _ meant)) ahead
@@ -368,7 +337,7 @@ pub watched_by : (plan : Plan) (files : Files) (course : Course) (left_first lef
 unfolding WritesPart stop_text
 watched_by plan files course left_first left_last bytes reader before after counts (Ok done) o watches short risen ahead =
     watched_ends plan files course left_first left_last bytes reader Clean before after counts o tt watches (ahead status.Done refl)
-watched_by plan files course left_first left_last bytes reader before after counts (Err stop.CannotRead) o (cut, some) short risen ahead =
+watched_by plan files course left_first left_last bytes reader before after counts (Err (stop.Capture fault.Failed)) o (cut, some) short risen ahead =
     let part = part_of_watch plan files course left_first left_last bytes reader before after o some in
     ends_unread files course before after part.0 (warned course ++ cannot_read_text plan.source) part.2 part.1
     (λ still. absurd (still (risen refl)))
@@ -378,16 +347,11 @@ watched_by plan files course left_first left_last bytes reader before after coun
     ends_unwritten files course before after (part_of_watch plan files course left_first left_last bytes reader before after o some) (ahead status.WriteFault refl)
 watched_by plan files course left_first left_last bytes reader before after counts (Err stop.NoMemory) o some short risen ahead =
     ends_lacking files course before after (part_of_watch plan files course left_first left_last bytes reader before after o some) (ahead status.NoMemory refl)
-watched_by plan files course left_first left_last bytes reader before after counts (Err (stop.CannotReadFile name)) o (fault_then, is, watches) short risen ahead = absurd (no_other_file fault_then name is)
-watched_by plan files course left_first left_last bytes reader before after counts (Err why) o seen short risen ahead =
-    let fault_then = seen.0 in
-    let is = seen.1 in
-    let state : fault_status fault_then ≡ stop_status why = sym (ap stop_status is ∙ status_of_stop fault_then) in
-    let says : fault_text plan.source fault_then ≡ stop_text plan.source why = sym (text_of_stop plan.source fault_then) ∙ sym (ap (stop_text plan.source) is) in
-    let plain : IsPlain (fault_status fault_then) = subst IsPlain (sym state) tt in
-    subst (λ (s : Status). Ends files course before after s (warned course ++ with_counts (stop_text plan.source why) (told_counts plan.counted counts))) state
-    (subst (λ (text : List ℕ). Ends files course before after (fault_status fault_then) (warned course ++ with_counts text (told_counts plan.counted counts))) says
-    (watched_ends plan files course left_first left_last bytes reader (Refused fault_then) before after counts o plain seen.2 (ahead (fault_status fault_then) (sym state))))
+watched_by plan files course left_first left_last bytes reader before after counts (Err (stop.Capture fault.NoMemory)) o some short risen ahead =
+    ends_lacking files course before after (part_of_watch plan files course left_first left_last bytes reader before after o some) (ahead status.NoMemory refl)
+watched_by plan files course left_first left_last bytes reader before after counts (Err (stop.Capture why)) o seen short risen ahead =
+    watched_ends plan files course left_first left_last bytes reader (Refused why) before after counts o tt seen (ahead status.BadCapture refl)
+watched_by plan files course left_first left_last bytes reader before after counts (Err why) o seen short risen ahead = absurd seen
 
 -- a capture that was opened and watched
 pub capture_ends : (plan : Plan) (files : Files) (course : Course) (reader : RecordReader) (left_first : Option (List ℕ)) (before after : Work) (counts : Counts) (failed : Type 0) (outcome : Result (Unit {0}) Stop)
@@ -417,12 +381,12 @@ capture_ends plan files course reader left_first before after counts failed outc
 
 -- the capture was refused at once or not opened, and a run is stopped by that
 pub open_stops : (plan : Plan) (files : Files) (course : Course) (why : ReadFault) (before after : Work) (counts : Counts) (outcome : Result (Unit {0}) Stop) (stopped : Stop)
-    → counts ≡ no_counts → outcome ≡ Err stopped → stopped ≡ capture_stop why
+    → counts ≡ no_counts → outcome ≡ Err stopped → stopped ≡ stop.Capture why
     → course.way ≡ Goes plan → after.alerts ≡ before.alerts
     → Opens (get files plan.source) (Err why) after.left
     → (why ≡ fault.Failed → Rose before.host_faults after.host_faults ⊎ (get files plan.source ≡ None))
     → Ends files course before after (outcome_status outcome) (warned course ++ said plan outcome counts)
 open_stops plan files course why before after counts outcome stopped none is from goes same opens failed =
-    let by : outcome ≡ Err (capture_stop why) = is ∙ ap Err from in
+    let by : outcome ≡ Err (stop.Capture why) = is ∙ ap Err from in
     subst (λ (o : Result (Unit {0}) Stop). Ends files course before after (outcome_status o) (warned course ++ said plan o counts)) (sym by)
     (open_ends plan files course why before after counts goes same (none ∙ no_counts-are plan) opens failed)

@@ -1,13 +1,14 @@
 -- What a plan answers goes by its limit only through the records that it reads.
-use Rattle.std.proofs.Common.{◌≡◌, ℕ, ◌<◌, List, [], Option, Some, None, length, refl, sym, ap, ◌∙◌, ◌++◌}
+use Rattle.std.proofs.Common.{◌≡◌, ℕ, ◌<◌, List, [], Option, Some, None, length, refl, ap, ◌∙◌, ◌++◌}
 use Rattle.record_jobs.specs.Way.{LinkedRecord}
 use Rattle.snort_engine.specs.Answer.{Answer, capture_answer, ending_status, ending_text, recording_answer, recording_text}
 use Rattle.snort_engine.specs.declared.counts.Counts.{Counts}
 use Rattle.snort_engine.specs.Counts.{counts_of, told_counts, with_counts}
 use Rattle.snort_engine.specs.Course.{Plan}
-use Rattle.snort_engine.specs.CutCaptures.{Holds, IsCutBehind, IsLimited, unlimited}
+use Rattle.snort_engine.specs.CutCaptures.{IsLimited, unlimited}
 use Rattle.snort_engine.specs.Lines.{alert_count, lines}
-use Rattle.snort_engine.specs.Records.{Clean, Recording, records_in, records_of}
+use Rattle.pcap_input.specs.Cut.{Clean}
+use Rattle.snort_engine.specs.Records.{Recording, records_in, records_of}
 use Rattle.snort_engine.specs.Trace.{Closed, closing_alerts, closing_events, closing_items, items_of, record_events, trace}
 use Rattle.snort_engine.proofs.CutCaptures.{cut_records, limit_is_cut, unreached}
 

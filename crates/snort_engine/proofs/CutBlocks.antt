@@ -1,7 +1,7 @@
 -- Where the blocks of the first records end: the shortest beginning of the bytes that holds them.
 use Rattle.std.proofs.Common.{◌≡◌, ℕ, zero, suc, ◌+◌, ◌<◌, ◌≤◌, Bool, true, false, List, [], ◌∷◌, ◌++◌, Option, Some, None, Ok, Err, length, take, drop, refl, sym, ap, subst, ◌∙◌, append_assoc, length-append, arith}
 use Rattle.std.specs.Prelude.{if◌then◌else◌, nat_le, nat_lt, ◌==◌, ⊤}
-use Rattle.std.proofs.lemmas.List.{length-drop, length-take-le, take-append-drop}
+use Rattle.std.proofs.lemmas.List.{length-drop}
 use Rattle.std.proofs.lemmas.Bool.Decides.{nat_tests}
 use Rattle.pcap_input.specs.Savefile.{number_at}
 use Rattle.pcapng_input.specs.declared.capture.NgRecord.{NgRecord}
@@ -9,15 +9,17 @@ use Rattle.pcapng_input.specs.declared.capture.NgFault.TheVariants as fault
 use Rattle.pcapng_input.specs.declared.block.Block.{Block}
 use Rattle.pcapng_input.specs.declared.content.Content.TheVariants as content
 use Rattle.pcapng_input.specs.declared.walk.Walk.{Walk}
-use Rattle.pcapng_input.specs.Blocks.{section_type, Ending, Clean, Refused, Step, Stops, Skips, Gives, refused, truncated, bad_block, inner_length, is_sized, order_of, first_walk, is_full, new_section, content_of, section_of, given_by, closing, fronted, known, section_block, section_begun, begun, step_of, opening, Next, Ends, Stands, next_of, Cut, with_first, records_left}
-use Rattle.pcapng_input.proofs.Begins.{begun_section, fronted-err, fronted-ok, number_front, section_cuts, section_none, step_begun, step_cut, step_nothing}
+use Rattle.pcapng_input.specs.declared.capture.NgFault.{NgFault}
+use Rattle.pcap_input.specs.Cut.{Ending, Clean, Refused, Cut, clean_with, with_first}
+use Rattle.pcapng_input.specs.Blocks.{section_type, Step, Stops, Skips, Gives, refused, bad_block, inner_length, is_sized, order_of, first_walk, is_full, new_section, content_of, section_of, given_by, closing, fronted, known, section_block, section_begun, step_of, opening, Next, Ends, Stands, next_of, records_left}
+use Rattle.pcapng_input.proofs.Begins.{begun_section, fronted-err, fronted-ok, number_front, step_cut, step_nothing}
 use Rattle.pcapng_input.proofs.Nexts.{next_of-stops}
 use Rattle.pcapng_input.proofs.Records.{records_left-ends, records_left-stands}
 use Rattle.pcapng_input.proofs.Beginnings.{stands_parts}
 
 -- these records, and a clean ending
-abbrev pub clean_cut : List NgRecord → Cut
-clean_cut records = record { records = records; ending = Clean }
+abbrev pub clean_cut : List NgRecord → Cut NgRecord NgFault
+clean_cut records = clean_with records
 
 -- the records of what is left
 abbrev pub records_at : Walk → List ℕ → List NgRecord
@@ -32,9 +34,9 @@ pub record Front (walk : Walk) (count : ℕ) (rest : List ℕ) : Type 0 where
   pub shortest : (xs ys : List ℕ) → rest ≡ xs ++ ys → count ≤ length (records_at walk xs) → length own ≤ length xs
 
 -- where nothing stands next, there is no record
-none_at : (walk : Walk) (count : ℕ) (rest : List ℕ) (ending : Ending) → next_of walk rest ≡ Ends ending → suc count ≤ length (records_at walk rest) → ⊥
+none_at : (walk : Walk) (count : ℕ) (rest : List ℕ) (ending : Ending NgFault) → next_of walk rest ≡ Ends ending → suc count ≤ length (records_at walk rest) → ⊥
 none_at walk count rest ending is enough =
-    let none = ap (λ (cut : Cut). length cut.records) (records_left-ends walk rest ending is) in
+    let none = ap (λ (cut : Cut NgRecord NgFault). length cut.records) (records_left-ends walk rest ending is) in
     omega (arith, none, enough)
 
 shortest_by : (walk : Walk) (count : ℕ) (rest own : List ℕ) (first : NgRecord) (then_walk : Walk) (more : List ℕ)
@@ -49,7 +51,7 @@ shortest_by walk count rest own first then_walk more stands joined behind xs ys 
     let same : Stands first then_walk more ≡ Stands other other_walk (later ++ ys) = sym stands ∙ ap (next_of walk) whole ∙ parts.goes (later ++ ys) in
     let walk_is : then_walk ≡ other_walk = cc in
     let more_is : more ≡ later ++ ys = cc in
-    let counted = ap (λ (cut : Cut). length cut.records) (records_left-stands walk xs other other_walk later is) in
+    let counted = ap (λ (cut : Cut NgRecord NgFault). length cut.records) (records_left-stands walk xs other other_walk later is) in
     let placed = ap (λ (w : Walk). length (records_at w later)) walk_is in
     let few = behind.shortest later ys more_is (omega (arith, enough, counted, placed)) in
     let a = ap length joined ∙ length-append own more in
@@ -65,7 +67,7 @@ front_by : (walk : Walk) (count : ℕ) (rest : List ℕ)
     → (next : Next) → next_of walk rest ≡ next → Front walk (suc count) rest
 front_by walk count rest on enough (Ends ending) is = absurd (none_at walk count rest ending is enough)
 front_by walk count rest on enough (Stands first then_walk more) is =
-    let all = ap (λ (cut : Cut). cut.records) (records_left-stands walk rest first then_walk more is) in
+    let all = ap (λ (cut : Cut NgRecord NgFault). cut.records) (records_left-stands walk rest first then_walk more is) in
     let parts = stands_parts walk rest first then_walk more is in
     let behind = on then_walk more (omega (arith, enough, ap length all)) in
     record {
@@ -142,7 +144,7 @@ step_none walk bytes is =
     (section_none_by walk (take 8 bytes) (drop 8 bytes) _ refl))))
 
 -- what is skipped passes a test that ends the capture
-passed : (test : Bool) (ending : Ending) (step : Step) (behind : Walk) (more : List ℕ)
+passed : (test : Bool) (ending : Ending NgFault) (step : Step) (behind : Walk) (more : List ℕ)
     → (if test then Stops ending else step) ≡ Skips behind more → (test ≡ false) × (step ≡ Skips behind more)
 passed true ending step behind more is = cc
 passed false ending step behind more is = (refl, is)

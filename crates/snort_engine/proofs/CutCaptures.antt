@@ -1,14 +1,14 @@
 -- A capture cut behind one of its records: that it can be cut so, and what is read of the cut.
-use Rattle.std.proofs.Common.{◌≡◌, ℕ, zero, suc, ◌+◌, ◌-◌, ◌<◌, ◌≤◌, Bool, true, false, List, [], ◌∷◌, ◌++◌, Option, Some, None, Result, Ok, Err, length, map, take, drop, refl, sym, ap, subst, ◌∙◌, append_assoc, length-append, arith}
-use Rattle.std.specs.Prelude.{nat_le}
-use Rattle.std.proofs.lemmas.List.{length-map, length-take, length-take-le, take-append-drop, take-append-le, take_at, drop_at, drop-append-le, take-map}
+use Rattle.std.proofs.Common.{◌≡◌, ℕ, ◌+◌, ◌-◌, ◌<◌, ◌≤◌, Bool, true, false, List, [], ◌∷◌, ◌++◌, Option, Some, None, Result, Ok, Err, length, map, take, drop, refl, sym, ap, ◌∙◌, append_assoc, length-append, arith}
+use Rattle.std.proofs.lemmas.List.{length-map, length-take-le, take-append-drop, take_at, drop_at, drop-append-le, take-map}
 use Rattle.std.proofs.lemmas.Bool.Decides.{nat_tests}
 use Rattle.edge_io.specs.declared.link.Link.{Link}
 use Rattle.pcap_input.specs.declared.capture.CaptureHead.{CaptureHead}
 use Rattle.pcap_input.specs.declared.capture.CaptureFault.{CaptureFault}
 use Rattle.pcap_input.specs.declared.capture.Record.{Record}
 use Rattle.pcap_input.specs.Savefile as classic
-use Rattle.pcap_input.specs.Savefile.{file_header, head_of, number_at, savefile}
+use Rattle.pcap_input.specs.Savefile.{head_of, number_at, savefile}
+use Rattle.pcap_input.proofs.Cuts.{first_records-none, first_records-enough, first_records-below, first_records-told}
 use Rattle.pcap_input.proofs.Endings.{savefile-ok, savefile-err}
 use Rattle.pcap_input.proofs.Laws.{head_of-append, number_at-append}
 use Rattle.pcapng_input.specs.declared.capture.NgFault.{NgFault}
@@ -19,16 +19,16 @@ use Rattle.pcapng_input.specs.Blocks.{section_type, first_walk, opening, ng_reco
 use Rattle.pcapng_input.proofs.Endings.{ng_records-refused}
 use Rattle.pcapng_input.proofs.Numbers.{opening_section}
 use Rattle.record_jobs.specs.Way.{LinkedRecord, linked}
-use Rattle.snort_engine.specs.Records.{Ending, Clean, Refused, Recording, none_before, of_savefile, of_blocks, recording_of, recording_in, recording_of_blocks, recording_in_blocks, with_link, is_of_blocks, records_in, first_of}
+use Rattle.pcap_input.specs.Cut.{Clean, Refused, no_more, first_records, Cut, clean_with}
+use Rattle.snort_engine.specs.Records.{Recording, of_savefile, of_blocks, recording_of, recording_in, recording_of_blocks, recording_in_blocks, with_link, is_of_blocks, records_in}
 use Rattle.snort_engine.specs.CutCaptures.{Holds, IsCutBehind, bytes_of, end_of}
 use Rattle.snort_engine.proofs.Opening.{long_enough, other_head}
-use Rattle.snort_engine.proofs.Recordings.{first_of-none, recording_of-first, recording_of_blocks-first}
 use Rattle.snort_engine.proofs.CutSavefiles as of_savefiles
 use Rattle.snort_engine.proofs.CutBlocks as of_walks
 
 -- these records, and a clean ending
 abbrev clean : List LinkedRecord → Recording
-clean records = record { records = records; ending = Clean }
+clean records = clean_with records
 
 -- all records of these bytes
 abbrev all_in : List ℕ → List LinkedRecord
@@ -71,15 +71,15 @@ blocks_more front back is =
 abbrev recording_at : CaptureHead → List ℕ → Recording
 recording_at head rest = recording_of head.link (classic.records_left head 0 24 rest)
 
-of_head : (limit : Option ℕ) (bytes : List ℕ) (head : CaptureHead) → head_of bytes ≡ Ok head → records_in limit bytes ≡ first_of limit (recording_at head (drop 24 bytes))
+of_head : (limit : Option ℕ) (bytes : List ℕ) (head : CaptureHead) → head_of bytes ≡ Ok head → records_in limit bytes ≡ first_records limit (recording_at head (drop 24 bytes))
 of_head limit bytes head is =
     as_savefile limit bytes (not_blocks bytes head _ is refl) ∙ ap recording_in (savefile-ok bytes limit head is)
-    ∙ recording_of-first head.link limit (classic.records_left head 0 24 (drop 24 bytes))
+    ∙ first_records-told (linked head.link) of_savefile limit (classic.records_left head 0 24 (drop 24 bytes))
 
 all_of_head : (bytes : List ℕ) (head : CaptureHead) → head_of bytes ≡ Ok head → records_in None bytes ≡ recording_at head (drop 24 bytes)
-all_of_head bytes head is = of_head None bytes head is ∙ first_of-none (recording_at head (drop 24 bytes))
+all_of_head bytes head is = of_head None bytes head is ∙ first_records-none (recording_at head (drop 24 bytes))
 
-of_refused : (limit : Option ℕ) (bytes : List ℕ) (why : CaptureFault) → head_of bytes ≡ Err why → is_of_blocks bytes ≡ false → records_in limit bytes ≡ none_before (Refused (of_savefile why))
+of_refused : (limit : Option ℕ) (bytes : List ℕ) (why : CaptureFault) → head_of bytes ≡ Err why → is_of_blocks bytes ≡ false → records_in limit bytes ≡ no_more (Refused (of_savefile why))
 of_refused limit bytes why is other = as_savefile limit bytes other ∙ ap recording_in (savefile-err bytes limit why is)
 
 -- bytes that hold a record have a head
@@ -100,37 +100,37 @@ has_head bytes other some = head_by bytes _ refl other some
 
 -- bytes whose first block isn't refused
 blocks_by : (limit : Option ℕ) (bytes : List ℕ) (behind : Walk) (more : List ℕ) → opening bytes ≡ blocks.Skips behind more
-    → ng_records bytes limit ≡ Ok (blocks.first_records limit (blocks.records_left first_walk bytes))
+    → ng_records bytes limit ≡ Ok (first_records limit (blocks.records_left first_walk bytes))
 unfolding ng_records
 blocks_by limit bytes behind more is = rw (is, ng_records) refl
 
 of_walk : (limit : Option ℕ) (bytes : List ℕ) (behind : Walk) (more : List ℕ) → opening bytes ≡ blocks.Skips behind more
-    → is_of_blocks bytes ≡ true → records_in limit bytes ≡ first_of limit (recording_of_blocks (blocks.records_left first_walk bytes))
+    → is_of_blocks bytes ≡ true → records_in limit bytes ≡ first_records limit (recording_of_blocks (blocks.records_left first_walk bytes))
 of_walk limit bytes behind more is blocks_are =
     as_blocks limit bytes blocks_are ∙ ap recording_in_blocks (blocks_by limit bytes behind more is)
-    ∙ recording_of_blocks-first limit (blocks.records_left first_walk bytes)
+    ∙ first_records-told with_link of_blocks limit (blocks.records_left first_walk bytes)
 
 all_of_walk : (bytes : List ℕ) (behind : Walk) (more : List ℕ) → opening bytes ≡ blocks.Skips behind more
     → is_of_blocks bytes ≡ true → records_in None bytes ≡ recording_of_blocks (blocks.records_left first_walk bytes)
 all_of_walk bytes behind more is blocks_are =
-    of_walk None bytes behind more is blocks_are ∙ first_of-none (recording_of_blocks (blocks.records_left first_walk bytes))
+    of_walk None bytes behind more is blocks_are ∙ first_records-none (recording_of_blocks (blocks.records_left first_walk bytes))
 
 -- bytes whose records are those of all their blocks
-kept_by : (bytes : List ℕ) (cut : blocks.Cut) → blocks.records_left first_walk bytes ≡ cut → ng_records bytes None ≡ Ok (blocks.first_records None (blocks.records_left first_walk bytes))
+kept_by : (bytes : List ℕ) (cut : Cut NgRecord NgFault) → blocks.records_left first_walk bytes ≡ cut → ng_records bytes None ≡ Ok (first_records None (blocks.records_left first_walk bytes))
     → is_of_blocks bytes ≡ true → 0 < length (all_in bytes) → 0 < length (of_walks.records_at first_walk bytes)
 kept_by bytes cut is all blocks_are some =
     let are = as_blocks None bytes blocks_are ∙ ap recording_in_blocks all
-    ∙ recording_of_blocks-first None (blocks.records_left first_walk bytes) ∙ first_of-none (recording_of_blocks (blocks.records_left first_walk bytes)) in
+    ∙ first_records-told with_link of_blocks None (blocks.records_left first_walk bytes) ∙ first_records-none (recording_of_blocks (blocks.records_left first_walk bytes)) in
     let size = ap (λ (r : Recording). length r.records) are ∙ length-map (of_walks.records_at first_walk bytes) with_link in
     omega (arith, some, size)
 
 -- bytes whose records are counted, by the first block
 counted_by : (bytes : List ℕ) (step : blocks.Step) → opening bytes ≡ step → is_of_blocks bytes ≡ true → 0 < length (all_in bytes) → 0 < length (of_walks.records_at first_walk bytes)
 unfolding ng_records
-counted_by bytes (blocks.Stops (blocks.Refused why)) is blocks_are some =
+counted_by bytes (blocks.Stops (Refused why)) is blocks_are some =
     let none = ap (λ (r : Recording). length r.records) (as_blocks None bytes blocks_are ∙ ap recording_in_blocks (ng_records-refused bytes None why is)) in
     absurd (omega (arith, some, none))
-counted_by bytes (blocks.Stops blocks.Clean) is blocks_are some = kept_by bytes _ refl (rw (is, ng_records) refl) blocks_are some
+counted_by bytes (blocks.Stops Clean) is blocks_are some = kept_by bytes _ refl (rw (is, ng_records) refl) blocks_are some
 counted_by bytes (blocks.Skips behind more) is blocks_are some = kept_by bytes _ refl (rw (is, ng_records) refl) blocks_are some
 counted_by bytes (blocks.Gives given behind more) is blocks_are some = kept_by bytes _ refl (rw (is, ng_records) refl) blocks_are some
 
@@ -143,27 +143,21 @@ whole_section bytes is some = of_walks.begins_whole bytes (begins_section bytes 
 
 -- ---- a limit
 
-enough : (limit : ℕ) (recording : Recording) → limit ≤ length recording.records → first_of (Some limit) recording ≡ clean (take limit recording.records)
-unfolding first_of
-enough limit recording few =
-    let reached : nat_le limit (length recording.records) ≡ true = grind (arith, nat_tests, few) in
-    rw reached refl
-
 -- a limit leaves the first of all records
 pub limited_by : (limit : ℕ) (bytes : List ℕ) (test : Bool) → is_of_blocks bytes ≡ test → 0 < limit → Holds bytes limit → records_in (Some limit) bytes ≡ clean (take limit (all_in bytes))
 limited_by limit bytes false is some holds =
     let h = has_head bytes is (omega (arith, some, holds)) in
     let all = all_of_head bytes h.head h.is in
-    of_head (Some limit) bytes h.head h.is ∙ ap (first_of (Some limit)) (sym all) ∙ enough limit (records_in None bytes) holds
+    of_head (Some limit) bytes h.head h.is ∙ ap (first_records (Some limit)) (sym all) ∙ first_records-enough limit (records_in None bytes) holds
 limited_by limit bytes true is some holds =
     let h = whole_section bytes is (omega (arith, some, holds)) in
     let all = all_of_walk bytes h.behind h.more h.is is in
-    of_walk (Some limit) bytes h.behind h.more h.is is ∙ ap (first_of (Some limit)) (sym all) ∙ enough limit (records_in None bytes) holds
+    of_walk (Some limit) bytes h.behind h.more h.is is ∙ ap (first_records (Some limit)) (sym all) ∙ first_records-enough limit (records_in None bytes) holds
 
 -- ---- the cut
 
 -- the beginning of a capture that ends with the last of so many records
-pub record Cut (count : ℕ) (bytes : List ℕ) : Type 0 where
+pub record Beginning (count : ℕ) (bytes : List ℕ) : Type 0 where
   pub front : List ℕ
   pub left : List ℕ
   pub joined : bytes ≡ front ++ left
@@ -196,7 +190,7 @@ savefile_shortest count bytes head f is some xs ys false other split holds =
     let whole = ap length (take-append-drop 24 xs) in
     omega (arith, few, size, whole, length-take-le 24 xs long)
 
-savefile_cut : (count : ℕ) (bytes : List ℕ) (head : CaptureHead) → head_of bytes ≡ Ok head → 0 < count → Holds bytes count → Cut count bytes
+savefile_cut : (count : ℕ) (bytes : List ℕ) (head : CaptureHead) → head_of bytes ≡ Ok head → 0 < count → Holds bytes count → Beginning count bytes
 savefile_cut count bytes head is some holds =
     let long = long_enough bytes head is in
     let first = take 24 bytes in
@@ -240,7 +234,7 @@ blocks_shortest count bytes f is some xs ys true blocks_are split holds =
     ∙ length-map (of_walks.records_at first_walk xs) with_link in
     f.shortest xs ys split (omega (arith, holds, counted))
 
-blocks_cut : (count : ℕ) (bytes : List ℕ) → is_of_blocks bytes ≡ true → 0 < count → Holds bytes count → Cut count bytes
+blocks_cut : (count : ℕ) (bytes : List ℕ) → is_of_blocks bytes ≡ true → 0 < count → Holds bytes count → Beginning count bytes
 blocks_cut count bytes is some holds =
     let h = whole_section bytes is (omega (arith, some, holds)) in
     let records = of_walks.records_at first_walk bytes in
@@ -248,7 +242,7 @@ blocks_cut count bytes is some holds =
     let counted = ap (λ (r : Recording). length r.records) all ∙ length-map records with_link in
     let f = of_walks.front first_walk count bytes (omega (arith, holds, counted)) in
     let own_count : length (of_walks.records_at first_walk f.own) ≡ count =
-    ap (λ (cut : blocks.Cut). length cut.records) f.exact ∙ length-take-le count records (omega (arith, holds, counted)) in
+    ap (λ (cut : Cut NgRecord NgFault). length cut.records) f.exact ∙ length-take-le count records (omega (arith, holds, counted)) in
     let begins = own_begins bytes f.own f.left f.joined is (omega (arith, some, own_count)) in
     let own = of_walks.begins_whole f.own begins (omega (arith, some, own_count)) in
     let section = opening_section f.own own.behind own.more own.is in
@@ -270,13 +264,13 @@ blocks_cut count bytes is some holds =
     own_begins whole front back joined whole_is holds_one =
         sym (number_at-append false 0 4 front back (of_walks.four_at_least front holds_one)) ∙ ap (number_at false 0 4) (sym joined) ∙ begins_section whole whole_is
 
-pub cut_behind : (count : ℕ) (bytes : List ℕ) (test : Bool) → is_of_blocks bytes ≡ test → 0 < count → Holds bytes count → Cut count bytes
+pub cut_behind : (count : ℕ) (bytes : List ℕ) (test : Bool) → is_of_blocks bytes ≡ test → 0 < count → Holds bytes count → Beginning count bytes
 cut_behind count bytes false other some holds = let h = has_head bytes other (omega (arith, some, holds)) in savefile_cut count bytes h.head h.is some holds
 cut_behind count bytes true is some holds = blocks_cut count bytes is some holds
 
 -- ---- the law
 
-pub cut_is : (count : ℕ) (bytes : List ℕ) (cut : Cut count bytes) → Holds bytes count → IsCutBehind count bytes cut.front
+pub cut_is : (count : ℕ) (bytes : List ℕ) (cut : Beginning count bytes) → Holds bytes count → IsCutBehind count bytes cut.front
 cut_is count bytes cut holds = record {
   begins = (cut.left, sym cut.joined);
   holds = let size = ap (λ (r : Recording). length r.records) cut.exact ∙ length-take-le count (all_in bytes) holds in omega (arith, size);
@@ -284,7 +278,7 @@ cut_is count bytes cut holds = record {
 }
 
 -- a capture is cut behind its records in one way
-pub cut_one : (count : ℕ) (bytes front : List ℕ) (cut : Cut count bytes) → Holds bytes count → IsCutBehind count bytes front → front ≡ cut.front
+pub cut_one : (count : ℕ) (bytes front : List ℕ) (cut : Beginning count bytes) → Holds bytes count → IsCutBehind count bytes front → front ≡ cut.front
 cut_one count bytes front cut holds is =
     let here = cut_is count bytes cut holds in
     let less = is.shortest cut.front here.begins here.holds in
@@ -314,36 +308,30 @@ cut_place count bytes front some holds is other =
 
 -- ---- where the limit isn't reached
 
-below : (limit : ℕ) (recording : Recording) → length recording.records < limit → first_of (Some limit) recording ≡ recording
-unfolding first_of
-below limit recording fewer =
-    let test : nat_le limit (length recording.records) ≡ false = grind (arith, nat_tests, fewer) in
-    rw test refl
-
 savefile_unreached : (limit : ℕ) (bytes : List ℕ) (read : Result CaptureHead CaptureFault) → head_of bytes ≡ read → is_of_blocks bytes ≡ false → length (all_in bytes) < limit
     → records_in (Some limit) bytes ≡ records_in None bytes
 savefile_unreached limit bytes (Ok head) is other fewer =
     let all = all_of_head bytes head is in
-    of_head (Some limit) bytes head is ∙ ap (first_of (Some limit)) (sym all) ∙ below limit (records_in None bytes) fewer
+    of_head (Some limit) bytes head is ∙ ap (first_records (Some limit)) (sym all) ∙ first_records-below limit (records_in None bytes) fewer
 savefile_unreached limit bytes (Err why) is other fewer = of_refused (Some limit) bytes why is other ∙ sym (of_refused None bytes why is other)
 
 kept_unreached : (limit : ℕ) (bytes : List ℕ) → is_of_blocks bytes ≡ true
-    → ((l : Option ℕ) → ng_records bytes l ≡ Ok (blocks.first_records l (blocks.records_left first_walk bytes)))
+    → ((l : Option ℕ) → ng_records bytes l ≡ Ok (first_records l (blocks.records_left first_walk bytes)))
     → length (all_in bytes) < limit → records_in (Some limit) bytes ≡ records_in None bytes
 kept_unreached limit bytes is kept fewer =
     let cut = blocks.records_left first_walk bytes in
-    let first : (l : Option ℕ) → records_in l bytes ≡ first_of l (recording_of_blocks cut) =
-    λ l. as_blocks l bytes is ∙ ap recording_in_blocks (kept l) ∙ recording_of_blocks-first l cut in
-    let all = first None ∙ first_of-none (recording_of_blocks cut) in
-    first (Some limit) ∙ ap (first_of (Some limit)) (sym all) ∙ below limit (records_in None bytes) fewer
+    let first : (l : Option ℕ) → records_in l bytes ≡ first_records l (recording_of_blocks cut) =
+    λ l. as_blocks l bytes is ∙ ap recording_in_blocks (kept l) ∙ first_records-told with_link of_blocks l cut in
+    let all = first None ∙ first_records-none (recording_of_blocks cut) in
+    first (Some limit) ∙ ap (first_records (Some limit)) (sym all) ∙ first_records-below limit (records_in None bytes) fewer
 
 blocks_unreached : (limit : ℕ) (bytes : List ℕ) (step : blocks.Step) → opening bytes ≡ step → is_of_blocks bytes ≡ true → length (all_in bytes) < limit
     → records_in (Some limit) bytes ≡ records_in None bytes
 unfolding ng_records
-blocks_unreached limit bytes (blocks.Stops (blocks.Refused why)) is blocks_are fewer =
+blocks_unreached limit bytes (blocks.Stops (Refused why)) is blocks_are fewer =
     as_blocks (Some limit) bytes blocks_are ∙ ap recording_in_blocks (ng_records-refused bytes (Some limit) why is ∙ sym (ng_records-refused bytes None why is))
     ∙ sym (as_blocks None bytes blocks_are)
-blocks_unreached limit bytes (blocks.Stops blocks.Clean) is blocks_are fewer = kept_unreached limit bytes blocks_are (λ l. rw (is, ng_records) refl) fewer
+blocks_unreached limit bytes (blocks.Stops Clean) is blocks_are fewer = kept_unreached limit bytes blocks_are (λ l. rw (is, ng_records) refl) fewer
 blocks_unreached limit bytes (blocks.Skips behind more) is blocks_are fewer = kept_unreached limit bytes blocks_are (λ l. rw (is, ng_records) refl) fewer
 blocks_unreached limit bytes (blocks.Gives given behind more) is blocks_are fewer = kept_unreached limit bytes blocks_are (λ l. rw (is, ng_records) refl) fewer
 

@@ -1,8 +1,10 @@
 -- Where the first records of a savefile end: the shortest beginning of the bytes that holds them.
-use Rattle.std.proofs.Common.{◌≡◌, ℕ, zero, suc, ◌+◌, ◌<◌, ◌≤◌, List, [], ◌∷◌, ◌++◌, length, take, refl, sym, ap, ◌∙◌, append_assoc, length-append, arith}
+use Rattle.std.proofs.Common.{◌≡◌, ℕ, zero, suc, ◌+◌, ◌≤◌, List, [], ◌∷◌, ◌++◌, length, take, refl, sym, ap, ◌∙◌, append_assoc, length-append, arith}
 use Rattle.pcap_input.specs.declared.capture.CaptureHead.{CaptureHead}
 use Rattle.pcap_input.specs.declared.capture.Record.{Record}
-use Rattle.pcap_input.specs.Savefile.{Ending, Clean, Next, Ends, Stands, next_of, Cut, with_first, place_behind, record_header, records_left}
+use Rattle.pcap_input.specs.declared.capture.CaptureFault.{CaptureFault}
+use Rattle.pcap_input.specs.Cut.{Ending, Clean, Cut, clean_with, with_first}
+use Rattle.pcap_input.specs.Savefile.{Next, Ends, Stands, next_of, place_behind, record_header, records_left}
 use Rattle.pcap_input.proofs.Laws.{next_of_nothing}
 use Rattle.pcap_input.proofs.Records.{records_left-ends, records_left-stands, stands_parts}
 
@@ -12,8 +14,8 @@ size_of [] = 0
 size_of (first ∷ later) = (record_header + length first.bytes) + size_of later
 
 -- these records, and a clean ending
-abbrev pub clean_cut : List Record → Cut
-clean_cut records = record { records = records; ending = Clean }
+abbrev pub clean_cut : List Record → Cut Record CaptureFault
+clean_cut records = clean_with records
 
 -- the records of what is left
 abbrev pub records_at : CaptureHead → ℕ → ℕ → List ℕ → List Record
@@ -29,10 +31,10 @@ pub record Front (head : CaptureHead) (number place count : ℕ) (rest : List �
   pub shortest : (xs ys : List ℕ) → rest ≡ xs ++ ys → count ≤ length (records_at head number place xs) → length own ≤ length xs
 
 -- where nothing stands next, there is no record
-none_at : (head : CaptureHead) (number place count : ℕ) (rest : List ℕ) (ending : Ending) → next_of head number place rest ≡ Ends ending
+none_at : (head : CaptureHead) (number place count : ℕ) (rest : List ℕ) (ending : Ending CaptureFault) → next_of head number place rest ≡ Ends ending
     → suc count ≤ length (records_at head number place rest) → ⊥
 none_at head number place count rest ending is enough =
-    let none = ap (λ (cut : Cut). length cut.records) (records_left-ends head number place rest ending is) in
+    let none = ap (λ (cut : Cut Record CaptureFault). length cut.records) (records_left-ends head number place rest ending is) in
     omega (arith, none, enough)
 
 shortest_by : (head : CaptureHead) (number place count : ℕ) (rest own : List ℕ) (first : Record) (more : List ℕ)
@@ -47,7 +49,7 @@ shortest_by head number place count rest own first more stands joined behind xs 
     let same : Stands first more ≡ Stands other (later ++ ys) = sym stands ∙ ap (next_of head number place) whole ∙ parts.goes (later ++ ys) in
     let first_is : first ≡ other = cc in
     let more_is : more ≡ later ++ ys = cc in
-    let counted = ap (λ (cut : Cut). length cut.records) (records_left-stands head number place xs other later is) in
+    let counted = ap (λ (cut : Cut Record CaptureFault). length cut.records) (records_left-stands head number place xs other later is) in
     let placed = ap (λ (r : Record). length (records_at head (number + 1) (place_behind place r) later)) first_is in
     let few = behind.shortest later ys more_is (omega (arith, enough, counted, placed)) in
     let a = ap length joined ∙ length-append own more in
@@ -63,7 +65,7 @@ front_by : (head : CaptureHead) (number place count : ℕ) (rest : List ℕ)
     → (next : Next) → next_of head number place rest ≡ next → Front head number place (suc count) rest
 front_by head number place count rest on enough (Ends ending) is = absurd (none_at head number place count rest ending is enough)
 front_by head number place count rest on enough (Stands first more) is =
-    let all = ap (λ (cut : Cut). cut.records) (records_left-stands head number place rest first more is) in
+    let all = ap (λ (cut : Cut Record CaptureFault). cut.records) (records_left-stands head number place rest first more is) in
     let parts = stands_parts head number place rest first more is in
     let behind = on (number + 1) (place_behind place first) more (omega (arith, enough, ap length all)) in
     record {

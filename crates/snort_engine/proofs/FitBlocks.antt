@@ -1,5 +1,5 @@
 -- The records of blocks hold bytes of them, and no more than a record may have.
-use Rattle.std.proofs.Common.{◌≡◌, ℕ, zero, suc, ◌+◌, ◌<◌, ◌≤◌, Bool, true, false, List, Option, Some, None, Result, Ok, Err, length, take, drop, refl, sym, subst, arith}
+use Rattle.std.proofs.Common.{◌≡◌, ℕ, zero, suc, ◌+◌, ◌≤◌, Bool, true, false, List, Option, Some, None, Result, Ok, Err, length, take, drop, refl, sym, subst, arith}
 use Rattle.std.specs.Prelude.{if◌then◌else◌, nat_le, nat_lt, slice_get, ◌==◌, ⊤}
 use Rattle.std.specs.List.{All}
 use Rattle.std.proofs.lemmas.List.{length-take}
@@ -19,7 +19,7 @@ use Rattle.pcapng_input.specs.declared.resolution.Resolution.{Resolution}
 use Rattle.pcapng_input.specs.declared.walk.Interface.{Interface}
 use Rattle.pcapng_input.specs.declared.walk.Walk.{Walk}
 use Rattle.pcapng_input.specs.Options.{resolution_told}
-use Rattle.pcapng_input.specs.Blocks.{Cut, Ends, Next, Stands, Step, Stops, Skips, Gives, begun, closing, content_of, cut_up, enhanced_of, first_records, front_length, fronted, given_by, inner_length, interface_of, is_full, is_sized, known, link_of, new_section, next_along, next_of, order_of, other_block, packet_of, records_left, section_begun, section_block, section_of, section_type, simple_of, step_of}
+use Rattle.pcapng_input.specs.Blocks.{Ends, Next, Stands, Step, Stops, Skips, Gives, begun, closing, content_of, cut_up, enhanced_of, front_length, fronted, given_by, inner_length, interface_of, is_full, is_sized, known, link_of, new_section, next_along, next_of, order_of, other_block, packet_of, records_left, section_begun, section_block, section_of, section_type, simple_of, step_of}
 use Rattle.pcapng_input.proofs.Begins.{fronted-err, fronted-ok}
 use Rattle.pcapng_input.proofs.Closing.{given-interface, given-no_resolution}
 use Rattle.unified2_out.specs.Records.{AllFit}
@@ -183,13 +183,3 @@ blocks_cut_fits (suc most) walk rest all =
 pub blocks_fit : (walk : Walk) (rest : List ℕ) → AllFit 1 rest → All FitsGiven (records_left walk rest).records
 unfolding records_left
 blocks_fit walk rest all = blocks_cut_fits (length rest + 1) walk rest all
-
--- the first of records that fit
-pub blocks_front_fits : (limit : Option ℕ) (cut : Cut) → All FitsGiven cut.records → All FitsGiven (first_records limit cut).records
-unfolding first_records
-blocks_front_fits None cut all = all
-blocks_front_fits (Some limit) cut all = by_test (nat_le limit (length cut.records)) refl
-  where
-    by_test : (test : Bool) → nat_le limit (length cut.records) ≡ test → All FitsGiven (first_records (Some limit) cut).records
-    by_test true is = rw (first_records, is) (All-take FitsGiven limit cut.records all)
-    by_test false is = rw (first_records, is) all

@@ -1,25 +1,27 @@
 -- The records that a plan reads of bytes hold bytes, and no more than a record may have.
-use Rattle.std.proofs.Common.{◌≡◌, ℕ, ◌^◌, ◌<◌, Bool, true, false, List, [], Option, Some, None, Result, Ok, Err, length, map, take, drop, refl, sym, ap, subst, ◌∙◌}
+use Rattle.std.proofs.Common.{◌≡◌, ℕ, ◌^◌, ◌<◌, Bool, true, false, List, Option, Result, Ok, Err, map, drop, refl, sym, subst}
 use Rattle.std.specs.List.{All}
 use Rattle.std.proofs.lemmas.List.Elements.{All-drop, All-map, All-nil, All-weaker}
 use Rattle.edge_io.specs.declared.link.Link.{Link}
+use Rattle.pcap_input.specs.Cut.{Refused, Clean, first_records}
 use Rattle.pcap_input.specs.declared.capture.CaptureHead.{CaptureHead}
 use Rattle.pcap_input.specs.declared.capture.CaptureFault.{CaptureFault}
 use Rattle.pcap_input.specs.declared.capture.Record.{Record}
 use Rattle.pcap_input.specs.Savefile as classic
 use Rattle.pcap_input.specs.Savefile.{head_of, savefile}
+use Rattle.pcap_input.proofs.Cuts.{first_records-all}
 use Rattle.pcap_input.proofs.Endings.{savefile-ok, savefile-err}
 use Rattle.pcapng_input.specs.declared.capture.NgRecord.{NgRecord}
 use Rattle.pcapng_input.specs.Blocks as blocks
 use Rattle.pcapng_input.specs.Blocks.{first_walk, ng_records, opening}
 use Rattle.pcapng_input.proofs.Endings.{ng_records-refused}
-use Rattle.record_jobs.specs.Way.{LinkedRecord, linked}
+use Rattle.record_jobs.specs.Way.{linked}
 use Rattle.unified2_out.specs.Records.{AllFit}
 use Rattle.snort_engine.specs.Course.{Plan}
 use Rattle.snort_engine.specs.Records.{is_of_blocks, recording_in, recording_in_blocks, records_in, records_of, with_link}
 use Rattle.snort_engine.specs.ReadBack.{FitsRecord}
-use Rattle.snort_engine.proofs.FitSavefiles.{FitsCaptured, front_fits, savefile_fits}
-use Rattle.snort_engine.proofs.FitBlocks.{FitsGiven, blocks_fit, blocks_front_fits}
+use Rattle.snort_engine.proofs.FitSavefiles.{FitsCaptured, savefile_fits}
+use Rattle.snort_engine.proofs.FitBlocks.{FitsGiven, blocks_fit}
 
 -- with their link layers
 linked_fit : (link : Link) (records : List Record) → All FitsCaptured records → All FitsRecord (map (linked link) records)
@@ -38,21 +40,21 @@ savefile_by limit bytes (Ok head) is all =
     let cut = classic.records_left head 0 24 rest in
     let own = savefile_fits head rest (All-drop (λ value. value < 256 ^ 1) 24 bytes all) in
     subst (λ read. All FitsRecord (recording_in read).records) (sym (savefile-ok bytes limit head is))
-    (linked_fit head.link (classic.first_records limit cut).records (front_fits limit cut own))
+    (linked_fit head.link (first_records limit cut).records (first_records-all FitsCaptured limit cut own))
 savefile_by limit bytes (Err why) is all = subst (λ read. All FitsRecord (recording_in read).records) (sym (savefile-err bytes limit why is)) (All-nil FitsRecord)
 
-kept_fits : (limit : Option ℕ) (bytes : List ℕ) → AllFit 1 bytes → ng_records bytes limit ≡ Ok (blocks.first_records limit (blocks.records_left first_walk bytes))
+kept_fits : (limit : Option ℕ) (bytes : List ℕ) → AllFit 1 bytes → ng_records bytes limit ≡ Ok (first_records limit (blocks.records_left first_walk bytes))
     → All FitsRecord (recording_in_blocks (ng_records bytes limit)).records
 kept_fits limit bytes all is =
     let cut = blocks.records_left first_walk bytes in
     subst (λ read. All FitsRecord (recording_in_blocks read).records) (sym is)
-    (given_fit (blocks.first_records limit cut).records (blocks_front_fits limit cut (blocks_fit first_walk bytes all)))
+    (given_fit (first_records limit cut).records (first_records-all FitsGiven limit cut (blocks_fit first_walk bytes all)))
 
 blocks_by : (limit : Option ℕ) (bytes : List ℕ) (step : blocks.Step) → opening bytes ≡ step → AllFit 1 bytes → All FitsRecord (recording_in_blocks (ng_records bytes limit)).records
 unfolding ng_records
-blocks_by limit bytes (blocks.Stops (blocks.Refused why)) is all =
+blocks_by limit bytes (blocks.Stops (Refused why)) is all =
     subst (λ read. All FitsRecord (recording_in_blocks read).records) (sym (ng_records-refused bytes limit why is)) (All-nil FitsRecord)
-blocks_by limit bytes (blocks.Stops blocks.Clean) is all = kept_fits limit bytes all (rw (is, ng_records) refl)
+blocks_by limit bytes (blocks.Stops Clean) is all = kept_fits limit bytes all (rw (is, ng_records) refl)
 blocks_by limit bytes (blocks.Skips behind more) is all = kept_fits limit bytes all (rw (is, ng_records) refl)
 blocks_by limit bytes (blocks.Gives given behind more) is all = kept_fits limit bytes all (rw (is, ng_records) refl)
 

@@ -1,12 +1,11 @@
 -- The records of a savefile hold bytes of it, and no more than a record may have.
-use Rattle.std.proofs.Common.{◌≡◌, ℕ, zero, suc, ◌+◌, ◌^◌, ◌<◌, ◌≤◌, Bool, true, false, List, Option, Some, None, length, take, drop, refl, sym, subst, arith}
-use Rattle.std.specs.Prelude.{nat_le}
+use Rattle.std.proofs.Common.{◌≡◌, ℕ, zero, suc, ◌+◌, ◌^◌, ◌<◌, ◌≤◌, List, length, take, drop, refl, sym, subst, arith}
 use Rattle.std.specs.List.{All}
 use Rattle.std.proofs.lemmas.List.{length-take}
 use Rattle.std.proofs.lemmas.List.Elements.{All-cons, All-drop, All-nil, All-take}
 use Rattle.pcap_input.specs.declared.capture.CaptureHead.{CaptureHead}
 use Rattle.pcap_input.specs.declared.capture.Record.{Record}
-use Rattle.pcap_input.specs.Savefile.{Cut, Ends, Next, Stands, captured_length, cut_up, first_records, next_of, place_behind, record_of, records_left}
+use Rattle.pcap_input.specs.Savefile.{Ends, Next, Stands, captured_length, cut_up, next_of, place_behind, record_of, records_left}
 use Rattle.pcap_input.proofs.Laws.{IsBehind, behind_means, next_means}
 use Rattle.unified2_out.specs.Records.{AllFit}
 
@@ -59,13 +58,3 @@ cut_fits (suc most) head number place rest all =
 pub savefile_fits : (head : CaptureHead) (rest : List ℕ) → AllFit 1 rest → All FitsCaptured (records_left head 0 24 rest).records
 unfolding records_left
 savefile_fits head rest all = cut_fits (length rest + 1) head 0 24 rest all
-
--- the first of records that fit
-pub front_fits : (limit : Option ℕ) (cut : Cut) → All FitsCaptured cut.records → All FitsCaptured (first_records limit cut).records
-unfolding first_records
-front_fits None cut all = all
-front_fits (Some limit) cut all = by_test (nat_le limit (length cut.records)) refl
-  where
-    by_test : (test : Bool) → nat_le limit (length cut.records) ≡ test → All FitsCaptured (first_records (Some limit) cut).records
-    by_test true is = rw (first_records, is) (All-take FitsCaptured limit cut.records all)
-    by_test false is = rw (first_records, is) all

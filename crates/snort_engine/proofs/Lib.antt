@@ -1,5 +1,4 @@
 pub mod Prefixes
-pub mod Recordings
 pub mod Limits
 pub mod LinesLaws
 pub mod Reading

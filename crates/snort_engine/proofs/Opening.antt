@@ -13,6 +13,7 @@ use Rattle.pcap_input.specs.declared.capture.CaptureFault.TheVariants as savefil
 use Rattle.pcap_input.specs.Savefile as classic
 use Rattle.pcap_input.specs.Savefile.{number_at, head_of, savefile}
 use Rattle.pcap_input.specs.Reader as classic_reader
+use Rattle.pcap_input.proofs.Cuts.{first_records-told}
 use Rattle.pcap_input.proofs.Endings.{savefile-ok, savefile-err}
 use Rattle.pcap_input.proofs.Heads.{head_of_truncated}
 use Rattle.pcap_input.proofs.Laws.{head_of-append, next_of_nothing}
@@ -33,14 +34,16 @@ use Rattle.pcapng_input.proofs.Nexts.{next_of-stops}
 use Rattle.pcapng_input.proofs.Openings.{opening_other}
 use Rattle.pcapng_input.proofs.Records as blocks_records
 use Rattle.pcapng_input.proofs.Numbers.{opening_section}
-use Rattle.record_jobs.specs.Way.{LinkedRecord}
+use Rattle.record_jobs.specs.Way.{linked, LinkedRecord}
 use Rattle.snort_engine.specs.declared.fault.ReadFault.{ReadFault}
 use Rattle.snort_engine.specs.declared.fault.ReadFault.TheVariants as fault
 use Rattle.snort_engine.specs.declared.reader.RecordReader.TheVariants.{Savefile, Blocks}
-use Rattle.snort_engine.specs.Records.{Refused, Recording, none_before, of_savefile, of_blocks, recording_of, recording_in, recording_of_blocks, recording_in_blocks, is_of_blocks, records_in, first_of}
+use Rattle.pcap_input.specs.declared.capture.Record.{Record}
+use Rattle.pcapng_input.specs.declared.capture.NgRecord.{NgRecord}
+use Rattle.pcap_input.specs.Cut.{Refused, no_more, first_records, Cut, Clean}
+use Rattle.snort_engine.specs.Records.{Recording, of_savefile, of_blocks, recording_of, recording_in, recording_of_blocks, recording_in_blocks, with_link, is_of_blocks, records_in}
 use Rattle.snort_engine.specs.Steps.Reader.{IsFresh, number_of, recording_for, BeginsBehind, IsBarelyOpen, IsRefusedAtOnce, IsRefusedOpening, Opens, MayBeOther, OpensSo}
 use Rattle.snort_engine.specs.Records.{IsOther, IsToldOther}
-use Rattle.snort_engine.proofs.Recordings.{recording_of-first, recording_of_blocks-first}
 
 -- ---- which of the two a file is
 
@@ -71,14 +74,14 @@ as_savefile limit bytes is = rw is refl
 -- ---- a savefile
 
 -- bytes whose head is accepted
-pub records_in-ok : (limit : Option ℕ) (bytes : List ℕ) (head : CaptureHead) → head_of bytes ≡ Ok head → records_in limit bytes ≡ first_of limit (recording_for (Savefile (classic_reader.new_reader head)) (drop 24 bytes))
+pub records_in-ok : (limit : Option ℕ) (bytes : List ℕ) (head : CaptureHead) → head_of bytes ≡ Ok head → records_in limit bytes ≡ first_records limit (recording_for (Savefile (classic_reader.new_reader head)) (drop 24 bytes))
 unfolding recording_for
 records_in-ok limit bytes head is =
     as_savefile limit bytes (not_blocks bytes (Ok head) is (λ e. cc)) ∙ ap recording_in (savefile-ok bytes limit head is)
-    ∙ recording_of-first head.link limit (classic.records_left head 0 24 (drop 24 bytes))
+    ∙ first_records-told (linked head.link) of_savefile limit (classic.records_left head 0 24 (drop 24 bytes))
 
 -- bytes whose head is refused, unless they begin as no savefile does
-records_in-err : (limit : Option ℕ) (bytes : List ℕ) (why : CaptureFault) → head_of bytes ≡ Err why → is_of_blocks bytes ≡ false → records_in limit bytes ≡ none_before (Refused (of_savefile why))
+records_in-err : (limit : Option ℕ) (bytes : List ℕ) (why : CaptureFault) → head_of bytes ≡ Err why → is_of_blocks bytes ≡ false → records_in limit bytes ≡ no_more (Refused (of_savefile why))
 records_in-err limit bytes why is other = as_savefile limit bytes other ∙ ap recording_in (savefile-err bytes limit why is)
 
 -- the head of a file that has one takes 24 bytes
@@ -100,7 +103,7 @@ savefile_begins front head is few = λ limit more.
     let enough = long_enough front head is in
     let whole : length front ≡ 24 = omega (arith, enough) in
     records_in-ok limit (front ++ more) head (head_of-append front more enough ∙ is)
-    ∙ ap (λ (rest : List ℕ). first_of limit (recording_for (Savefile (classic_reader.new_reader head)) rest)) (drop_at front more 24 whole)
+    ∙ ap (λ (rest : List ℕ). first_records limit (recording_for (Savefile (classic_reader.new_reader head)) rest)) (drop_at front more 24 whole)
 
 -- ---- blocks
 
@@ -114,7 +117,7 @@ blocks_begin front reader opens = λ limit more.
     let section = opening_section (front ++ more) reader.walk more (opens more) in
     as_blocks limit (front ++ more) (section_is (front ++ more) section.begins (omega (arith, section.long)))
     ∙ ap recording_in_blocks (ng_records-skips (front ++ more) limit reader.walk more (opens more))
-    ∙ recording_of_blocks-first limit (blocks.records_left reader.walk more)
+    ∙ first_records-told with_link of_blocks limit (blocks.records_left reader.walk more)
 
 -- ---- no record
 
@@ -123,38 +126,38 @@ take_none zero = refl
 take_none (suc n) = refl
 
 -- nothing is left of none
-none_first : (limit : Option ℕ) (recording : Recording) → recording.records ≡ [] → (first_of limit recording).records ≡ []
-unfolding first_of
+none_first : (limit : Option ℕ) (recording : Recording) → recording.records ≡ [] → (first_records limit recording).records ≡ []
+unfolding first_records
 none_first None recording none = none
 none_first (Some limit) recording none = by_test (nat_le limit (length recording.records)) refl
   where
-    by_test : (test : Bool) → nat_le limit (length recording.records) ≡ test → (first_of (Some limit) recording).records ≡ []
+    by_test : (test : Bool) → nat_le limit (length recording.records) ≡ test → (first_records (Some limit) recording).records ≡ []
     by_test true is = rw (is, none) (take_none limit)
     by_test false is = rw is none
 
 -- bytes whose first block is refused, or is skipped before nothing, hold no record as blocks
 none_of_blocks : (limit : Option ℕ) (bytes : List ℕ) (step : blocks.Step) → opening bytes ≡ step → IsHeadStep step
     → ((walk : Walk) (more : List ℕ) → step ≡ blocks.Skips walk more → more ≡ []) → (recording_in_blocks (ng_records bytes limit)).records ≡ []
-none_of_blocks limit bytes (blocks.Stops blocks.Clean) is head none = absurd head
-none_of_blocks limit bytes (blocks.Stops (blocks.Refused why)) is head none =
-    ap (λ (r : Result blocks.Cut NgFault). (recording_in_blocks r).records) (ng_records-refused bytes limit why is)
+none_of_blocks limit bytes (blocks.Stops Clean) is head none = absurd head
+none_of_blocks limit bytes (blocks.Stops (Refused why)) is head none =
+    ap (λ (r : Result (Cut NgRecord NgFault) NgFault). (recording_in_blocks r).records) (ng_records-refused bytes limit why is)
 none_of_blocks limit bytes (blocks.Gives given walk more) is head none = absurd head
 none_of_blocks limit bytes (blocks.Skips walk more) is head none =
-    ap (λ (r : Result blocks.Cut NgFault). (recording_in_blocks r).records) (ng_records-skips bytes limit walk more is)
-    ∙ ap (λ (r : Recording). r.records) (recording_of_blocks-first limit (blocks.records_left walk more))
+    ap (λ (r : Result (Cut NgRecord NgFault) NgFault). (recording_in_blocks r).records) (ng_records-skips bytes limit walk more is)
+    ∙ ap (λ (r : Recording). r.records) (first_records-told with_link of_blocks limit (blocks.records_left walk more))
     ∙ none_first limit (recording_of_blocks (blocks.records_left walk more))
     (ap (λ (rest : List ℕ). (recording_of_blocks (blocks.records_left walk rest)).records) (none walk more refl)
-    ∙ ap (λ (cut : blocks.Cut). (recording_of_blocks cut).records) (blocks_records.records_left-ends walk [] blocks.Clean (next_of-stops walk [] blocks.Clean (step_nothing walk))))
+    ∙ ap (λ (cut : Cut NgRecord NgFault). (recording_of_blocks cut).records) (blocks_records.records_left-ends walk [] Clean (next_of-stops walk [] Clean (step_nothing walk))))
 
 -- bytes whose head is refused, or that are no more than a head, hold none as a savefile
 none_of_savefile : (limit : Option ℕ) (bytes : List ℕ) (read : Result CaptureHead CaptureFault) → head_of bytes ≡ read → ((head : CaptureHead) → read ≡ Ok head → drop 24 bytes ≡ []) → (recording_in (savefile bytes limit)).records ≡ []
 none_of_savefile limit bytes (Err why) is none = ap (λ (r : Result classic.Capture CaptureFault). (recording_in r).records) (savefile-err bytes limit why is)
 none_of_savefile limit bytes (Ok head) is none =
     ap (λ (r : Result classic.Capture CaptureFault). (recording_in r).records) (savefile-ok bytes limit head is)
-    ∙ ap (λ (r : Recording). r.records) (recording_of-first head.link limit (classic.records_left head 0 24 (drop 24 bytes)))
+    ∙ ap (λ (r : Recording). r.records) (first_records-told (linked head.link) of_savefile limit (classic.records_left head 0 24 (drop 24 bytes)))
     ∙ none_first limit (recording_of head.link (classic.records_left head 0 24 (drop 24 bytes)))
     (ap (λ (rest : List ℕ). (recording_of head.link (classic.records_left head 0 24 rest)).records) (none head refl)
-    ∙ ap (λ (cut : classic.Cut). (recording_of head.link cut).records) (classic_records.records_left-ends head 0 24 [] classic.Clean (next_of_nothing head 0 24)))
+    ∙ ap (λ (cut : Cut Record CaptureFault). (recording_of head.link cut).records) (classic_records.records_left-ends head 0 24 [] Clean (next_of_nothing head 0 24)))
 
 none_by : (limit : Option ℕ) (bytes : List ℕ) (test : Bool) → is_of_blocks bytes ≡ test → ((walk : Walk) (more : List ℕ) → opening bytes ≡ blocks.Skips walk more → more ≡ [])
     → ((head : CaptureHead) → head_of bytes ≡ Ok head → drop 24 bytes ≡ []) → (records_in limit bytes).records ≡ []
@@ -287,10 +290,10 @@ neither bytes why other no_section opens =
     ap of_blocks same
 
 blocks_by : (limit : Option ℕ) (bytes : List ℕ) (why : NgFault) (test : Bool) → is_of_blocks bytes ≡ test → head_of bytes ≡ Err savefile_fault.NotPcap → opening bytes ≡ blocks.refused why
-    → records_in limit bytes ≡ none_before (Refused (of_blocks why))
+    → records_in limit bytes ≡ no_more (Refused (of_blocks why))
 blocks_by limit bytes why true is other opens = as_blocks limit bytes is ∙ ap recording_in_blocks (ng_records-refused bytes limit why opens)
 blocks_by limit bytes why false is other opens =
-    records_in-err limit bytes savefile_fault.NotPcap other is ∙ ap (λ (f : ReadFault). none_before (Refused f)) (sym (neither bytes why other is opens))
+    records_in-err limit bytes savefile_fault.NotPcap other is ∙ ap (λ (f : ReadFault). no_more (Refused f)) (sym (neither bytes why other is opens))
 
 -- the first block is refused
 blocks_at_once : (held : Option (List ℕ)) (why : NgFault) → ((bytes : List ℕ) → held ≡ Some bytes → head_of bytes ≡ Err savefile_fault.NotPcap) → ((bytes : List ℕ) → held ≡ Some bytes → opening bytes ≡ blocks.refused why)

@@ -24,7 +24,7 @@ use Rattle.snort_engine.specs.Ending.{IsUncut}
 use Rattle.snort_engine.specs.Records.{of_savefile, of_blocks}
 use Rattle.snort_engine.specs.Steps.Batch.{more_of}
 use Rattle.snort_engine.specs.Steps.Preparing.{StopsAtFile}
-use Rattle.snort_engine.specs.Steps.Stop.{capture_stop, setup_stop, stop_status, outcome_status, is_uncut, is_written, write_stop, IsWriteStop, WritesQuietly}
+use Rattle.snort_engine.specs.Steps.Stop.{setup_stop, stop_status, outcome_status, is_uncut, is_written, write_stop, IsWriteStop, WritesQuietly}
 
 -- ---- statuses
 
@@ -63,10 +63,10 @@ written_quiet (Err stop.CannotWrite) old new kind quiet written = absurd cc
 written_quiet (Err why) old new kind quiet written = absurd kind
 
 -- the host didn't fail at a capture
-pub capture_uncut : (A : Type 0) (why : ReadFault) → is_uncut (stop_status (capture_stop why)) ≡ true → IsErrOf {T = A} (Err why) fault.Failed → ⊥
+pub capture_uncut : (A : Type 0) (why : ReadFault) → is_uncut (stop_status (stop.Capture why)) ≡ true → IsErrOf {T = A} (Err why) fault.Failed → ⊥
 capture_uncut A why uncut is =
     let same : why ≡ fault.Failed = cc in
-    let never : false ≡ true = subst (λ (f : ReadFault). is_uncut (stop_status (capture_stop f)) ≡ true) same uncut in
+    let never : false ≡ true = subst (λ (f : ReadFault). is_uncut (stop_status (stop.Capture f)) ≡ true) same uncut in
     cc
 
 -- nor behind the records that were read

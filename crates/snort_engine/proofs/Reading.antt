@@ -8,6 +8,7 @@ use Rattle.pcap_input.specs.declared.capture.CaptureFault.{CaptureFault}
 use Rattle.pcap_input.specs.declared.capture.CaptureFault.TheVariants as savefile_fault
 use Rattle.pcap_input.specs.Savefile as classic
 use Rattle.pcap_input.specs.Reader as classic_reader
+use Rattle.pcap_input.proofs.Cuts.{front_of_front, front_of_none, front_of_nothing}
 use Rattle.pcap_input.proofs.Laws.{next_of_nothing, next_means}
 use Rattle.pcap_input.proofs.Records as classic_records
 use Rattle.pcap_input.proofs.Told.{split_told}
@@ -25,8 +26,9 @@ use Rattle.snort_engine.specs.declared.fault.ReadFault.{ReadFault}
 use Rattle.snort_engine.specs.declared.fault.ReadFault.TheVariants as fault
 use Rattle.snort_engine.specs.declared.reader.RecordReader.{RecordReader}
 use Rattle.snort_engine.specs.declared.reader.RecordReader.TheVariants.{Savefile, Blocks}
-use Rattle.snort_engine.specs.Records.{Ending, Refused, Recording, none_before, of_savefile, of_blocks, recording_of, recording_of_blocks, with_link}
-use Rattle.snort_engine.specs.Steps.Reader.{IsFresh, recording_for, with_front, HasRead, AreWhole, EndsWith, IsRefusedBy, Gives}
+use Rattle.pcap_input.specs.Cut.{Ending, Refused, no_more, with_front, Cut, Clean}
+use Rattle.snort_engine.specs.Records.{Recording, of_savefile, of_blocks, recording_of, recording_of_blocks, with_link}
+use Rattle.snort_engine.specs.Steps.Reader.{IsFresh, recording_for, HasRead, AreWhole, EndsWith, IsRefusedBy, Gives}
 
 -- ---- whatever the format
 
@@ -34,19 +36,11 @@ use Rattle.snort_engine.specs.Steps.Reader.{IsFresh, recording_for, with_front, 
 pub none_held : (reader : RecordReader) → (recording_for reader []).records ≡ []
 unfolding recording_for
 none_held (Savefile reader) =
-    ap (λ (cut : classic.Cut). (recording_of reader.head.link cut).records)
-    (classic_records.records_left-ends reader.head reader.number reader.at [] classic.Clean (next_of_nothing reader.head reader.number reader.at))
+    ap (λ (cut : Cut Record CaptureFault). (recording_of reader.head.link cut).records)
+    (classic_records.records_left-ends reader.head reader.number reader.at [] Clean (next_of_nothing reader.head reader.number reader.at))
 none_held (Blocks reader) =
-    ap (λ (cut : blocks.Cut). (recording_of_blocks cut).records)
-    (blocks_records.records_left-ends reader.walk [] blocks.Clean (next_of-stops reader.walk [] blocks.Clean (step_nothing reader.walk)))
-
--- some records and none behind them
-with_front-none : (given : List LinkedRecord) (recording : Recording) → recording.records ≡ [] → (with_front given recording).records ≡ given
-with_front-none given recording none = ap (λ (records : List LinkedRecord). given ++ records) none ∙ append-nil given
-
-with_front-ends : (given : List LinkedRecord) (recording : Recording) (ending : Ending) → recording ≡ none_before ending → with_front given recording ≡ record { records = given; ending = ending }
-with_front-ends given recording ending is =
-    ap (with_front given) is ∙ ap (λ (records : List LinkedRecord). let r : Recording = record { records = records; ending = ending } in r) (append-nil given)
+    ap (λ (cut : Cut NgRecord NgFault). (recording_of_blocks cut).records)
+    (blocks_records.records_left-ends reader.walk [] Clean (next_of-stops reader.walk [] Clean (step_nothing reader.walk)))
 
 -- nothing was read yet
 pub reading-start : (reader : RecordReader) (left : Option (List ℕ)) → IsFresh reader → HasRead reader reader [] left left
@@ -63,8 +57,7 @@ reading-joined first middle last front back left_first left_middle left_last one
       ap (recording_for first) (append_assoc one.taken two.taken more)
       ∙ one.goes (two.taken ++ more)
       ∙ ap (with_front front) (two.goes more)
-      ∙ ap (λ (records : List LinkedRecord). let r : Recording = record { records = records; ending = (recording_for last more).ending } in r)
-      (sym (append_assoc front back (recording_for last more).records));
+      ∙ front_of_front front back (recording_for last more);
 }
 
 -- what is told of the rest: the records so far and the rest's are the whole's
@@ -80,7 +73,7 @@ pub reading-stopped : (first reader : RecordReader) (given : List LinkedRecord) 
 reading-stopped first reader given left_first left left_next so_far whole = record {
   taken = so_far.taken ++ whole.taken;
   took = so_far.took ∙ ap (before so_far.taken) whole.took ∙ before-before so_far.taken whole.taken left_next;
-  are = ap (λ (r : Recording). r.records) (so_far.goes whole.taken) ∙ with_front-none given (recording_for reader whole.taken) whole.are;
+  are = ap (λ (r : Recording). r.records) (so_far.goes whole.taken) ∙ front_of_nothing given (recording_for reader whole.taken) whole.are;
 }
 
 -- the records that were given so far are those that are whole within what was taken
@@ -89,11 +82,11 @@ reading-whole first reader given left_first left so_far =
     reading-stopped first reader given left_first left left so_far (record { taken = []; took = sym (before-nil left); are = none_held reader })
 
 -- the ending of what is left is that of the whole
-pub reading-ended : (first reader : RecordReader) (given : List LinkedRecord) (left_first left : Option (List ℕ)) (ending : Ending)
+pub reading-ended : (first reader : RecordReader) (given : List LinkedRecord) (left_first left : Option (List ℕ)) (ending : Ending ReadFault)
     → HasRead first reader given left_first left → EndsWith reader [] left ending → EndsWith first given left_first ending
 reading-ended first reader given left_first left ending so_far ends whole told =
     let found = reading-told first reader given left_first left whole so_far told in
-    found.2 ∙ with_front-ends given (recording_for reader found.0) ending (ends found.0 found.1)
+    found.2 ∙ ap (with_front given) (ends found.0 found.1) ∙ front_of_none given ending
 
 -- and so is a refusal
 pub reading-refused : (first reader : RecordReader) (given : List LinkedRecord) (why : ReadFault) (left_first left : Option (List ℕ))
@@ -125,8 +118,8 @@ savefile_gives old new given left left_next fresh takes is =
     )
 
 -- what stands next for it is this ending
-savefile_ends : (old : classic_reader.Reading) (left : Option (List ℕ)) (ending : classic.Ending) → ((rest : List ℕ) → left ≡ Some rest → classic.next_of old.head old.number old.at rest ≡ classic.Ends ending)
-    → (whole : List ℕ) → left ≡ Some whole → recording_for (Savefile old) whole ≡ recording_of old.head.link (classic.no_more ending)
+savefile_ends : (old : classic_reader.Reading) (left : Option (List ℕ)) (ending : Ending CaptureFault) → ((rest : List ℕ) → left ≡ Some rest → classic.next_of old.head old.number old.at rest ≡ classic.Ends ending)
+    → (whole : List ℕ) → left ≡ Some whole → recording_for (Savefile old) whole ≡ recording_of old.head.link (no_more ending)
 unfolding recording_for
 savefile_ends old left ending ends whole told = ap (recording_of old.head.link) (classic_records.records_left-ends old.head old.number old.at whole ending (ends whole told))
 
@@ -135,7 +128,7 @@ pub savefile_ended : (old new : classic_reader.Reading) (left left_next : Option
     → ((rest : List ℕ) → left ≡ Some rest → classic_reader.Gives (Ok None) (classic.next_of old.head old.number old.at rest)) → Gives (Savefile old) (Savefile new) (Ok None) left left_next
 savefile_ended old new left left_next same gives = (
   record { taken = []; took = sym same ∙ sym (before-nil left_next); are = none_held (Savefile old) },
-  savefile_ends old left classic.Clean gives,
+  savefile_ends old left Clean gives,
 )
 
 -- it was refused, or couldn't be read on
@@ -146,16 +139,16 @@ savefile_whole old why left left_next takes =
     record {
       taken = takes.taken;
       took = takes.took;
-      are = ap (λ (cut : classic.Cut). (recording_of old.head.link cut).records) (classic_records.records_left-ends old.head old.number old.at takes.taken shown.0 shown.1);
+      are = ap (λ (cut : Cut Record CaptureFault). (recording_of old.head.link cut).records) (classic_records.records_left-ends old.head old.number old.at takes.taken shown.0 shown.1);
     }
 
 savefile_refused_by : (old : classic_reader.Reading) (why : CaptureFault) (left : Option (List ℕ)) → ((rest : List ℕ) → left ≡ Some rest → classic_reader.Gives (Err why) (classic.next_of old.head old.number old.at rest))
     → IsRefusedBy (Savefile old) [] left (of_savefile why)
-savefile_refused_by old savefile_fault.NotPcap left gives = savefile_ends old left (classic.Refused savefile_fault.NotPcap) gives
-savefile_refused_by old (savefile_fault.LinkType link_type) left gives = savefile_ends old left (classic.Refused (savefile_fault.LinkType link_type)) gives
-savefile_refused_by old (savefile_fault.Truncated at) left gives = savefile_ends old left (classic.Refused (savefile_fault.Truncated at)) gives
-savefile_refused_by old (savefile_fault.TooLong at len) left gives = savefile_ends old left (classic.Refused (savefile_fault.TooLong at len)) gives
-savefile_refused_by old savefile_fault.TooMany left gives = savefile_ends old left (classic.Refused savefile_fault.TooMany) gives
+savefile_refused_by old savefile_fault.NotPcap left gives = savefile_ends old left (Refused savefile_fault.NotPcap) gives
+savefile_refused_by old (savefile_fault.LinkType link_type) left gives = savefile_ends old left (Refused (savefile_fault.LinkType link_type)) gives
+savefile_refused_by old (savefile_fault.Truncated at) left gives = savefile_ends old left (Refused (savefile_fault.Truncated at)) gives
+savefile_refused_by old (savefile_fault.TooLong at len) left gives = savefile_ends old left (Refused (savefile_fault.TooLong at len)) gives
+savefile_refused_by old savefile_fault.TooMany left gives = savefile_ends old left (Refused savefile_fault.TooMany) gives
 savefile_refused_by old savefile_fault.Failed left gives = tt
 savefile_refused_by old savefile_fault.NoMemory left gives = tt
 
@@ -182,15 +175,15 @@ blocks_give old new given left left_next takes =
     )
 
 -- what stands next for it is this ending
-blocks_end : (old : blocks_reader.Reading) (left : Option (List ℕ)) (ending : blocks.Ending) → ((rest : List ℕ) → left ≡ Some rest → blocks.next_of old.walk rest ≡ blocks.Ends ending)
-    → (whole : List ℕ) → left ≡ Some whole → recording_for (Blocks old) whole ≡ recording_of_blocks (blocks.no_more ending)
+blocks_end : (old : blocks_reader.Reading) (left : Option (List ℕ)) (ending : Ending NgFault) → ((rest : List ℕ) → left ≡ Some rest → blocks.next_of old.walk rest ≡ blocks.Ends ending)
+    → (whole : List ℕ) → left ≡ Some whole → recording_for (Blocks old) whole ≡ recording_of_blocks (no_more ending)
 unfolding recording_for
 blocks_end old left ending ends whole told = ap recording_of_blocks (blocks_records.records_left-ends old.walk whole ending (ends whole told))
 
 -- these bytes hold no record for it
-blocks_none : (old : blocks_reader.Reading) (taken : List ℕ) (ending : blocks.Ending) → blocks.next_of old.walk taken ≡ blocks.Ends ending → (recording_for (Blocks old) taken).records ≡ []
+blocks_none : (old : blocks_reader.Reading) (taken : List ℕ) (ending : Ending NgFault) → blocks.next_of old.walk taken ≡ blocks.Ends ending → (recording_for (Blocks old) taken).records ≡ []
 unfolding recording_for
-blocks_none old taken ending ends = ap (λ (cut : blocks.Cut). (recording_of_blocks cut).records) (blocks_records.records_left-ends old.walk taken ending ends)
+blocks_none old taken ending ends = ap (λ (cut : Cut NgRecord NgFault). (recording_of_blocks cut).records) (blocks_records.records_left-ends old.walk taken ending ends)
 
 -- none was left behind the blocks that were skipped
 pub blocks_ended : (old new : blocks_reader.Reading) (left left_next : Option (List ℕ)) → blocks_reader.TakesBlocks old new left left_next
@@ -199,31 +192,31 @@ blocks_ended old new left left_next takes gives = (
   record {
     taken = takes.taken;
     took = takes.took;
-    are = blocks_none old takes.taken blocks.Clean
-        (ap (blocks.next_of old.walk) (sym (append-nil takes.taken)) ∙ takes.goes [] ∙ next_of-stops new.walk [] blocks.Clean (step_nothing new.walk));
+    are = blocks_none old takes.taken Clean
+        (ap (blocks.next_of old.walk) (sym (append-nil takes.taken)) ∙ takes.goes [] ∙ next_of-stops new.walk [] Clean (step_nothing new.walk));
   },
-  blocks_end old left blocks.Clean gives,
+  blocks_end old left Clean gives,
 )
 
 -- a refusal that is shown is an ending
-shown_ending : (why : NgFault) (next : blocks.Next) → blocks_reader.ShowsRefusal why next → (ending : blocks.Ending) × (next ≡ blocks.Ends ending)
-shown_ending blocks_fault.NotPcapng next shows = (blocks.Refused blocks_fault.NotPcapng, shows)
-shown_ending (blocks_fault.Truncated at) next shows = (blocks.Refused (blocks_fault.Truncated at), shows)
-shown_ending (blocks_fault.BadBlock at) next shows = (blocks.Refused (blocks_fault.BadBlock at), shows)
-shown_ending (blocks_fault.LinkType at link) next shows = (blocks.Refused (blocks_fault.LinkType at link), shows)
-shown_ending (blocks_fault.TooLong at len) next shows = (blocks.Refused (blocks_fault.TooLong at len), shows)
-shown_ending blocks_fault.TooMany next shows = (blocks.Refused blocks_fault.TooMany, shows)
+shown_ending : (why : NgFault) (next : blocks.Next) → blocks_reader.ShowsRefusal why next → (ending : Ending NgFault) × (next ≡ blocks.Ends ending)
+shown_ending blocks_fault.NotPcapng next shows = (Refused blocks_fault.NotPcapng, shows)
+shown_ending (blocks_fault.Truncated at) next shows = (Refused (blocks_fault.Truncated at), shows)
+shown_ending (blocks_fault.BadBlock at) next shows = (Refused (blocks_fault.BadBlock at), shows)
+shown_ending (blocks_fault.LinkType at link) next shows = (Refused (blocks_fault.LinkType at link), shows)
+shown_ending (blocks_fault.TooLong at len) next shows = (Refused (blocks_fault.TooLong at len), shows)
+shown_ending blocks_fault.TooMany next shows = (Refused blocks_fault.TooMany, shows)
 shown_ending blocks_fault.Failed next shows = shows
 shown_ending blocks_fault.NoMemory next shows = shows
 
 blocks_refused_by : (old : blocks_reader.Reading) (why : NgFault) (left : Option (List ℕ)) → ((rest : List ℕ) → left ≡ Some rest → blocks_reader.Answers (Err why) (blocks.next_of old.walk rest))
     → IsRefusedBy (Blocks old) [] left (of_blocks why)
-blocks_refused_by old blocks_fault.NotPcapng left gives = blocks_end old left (blocks.Refused blocks_fault.NotPcapng) gives
-blocks_refused_by old (blocks_fault.Truncated at) left gives = blocks_end old left (blocks.Refused (blocks_fault.Truncated at)) gives
-blocks_refused_by old (blocks_fault.BadBlock at) left gives = blocks_end old left (blocks.Refused (blocks_fault.BadBlock at)) gives
-blocks_refused_by old (blocks_fault.LinkType at link) left gives = blocks_end old left (blocks.Refused (blocks_fault.LinkType at link)) gives
-blocks_refused_by old (blocks_fault.TooLong at len) left gives = blocks_end old left (blocks.Refused (blocks_fault.TooLong at len)) gives
-blocks_refused_by old blocks_fault.TooMany left gives = blocks_end old left (blocks.Refused blocks_fault.TooMany) gives
+blocks_refused_by old blocks_fault.NotPcapng left gives = blocks_end old left (Refused blocks_fault.NotPcapng) gives
+blocks_refused_by old (blocks_fault.Truncated at) left gives = blocks_end old left (Refused (blocks_fault.Truncated at)) gives
+blocks_refused_by old (blocks_fault.BadBlock at) left gives = blocks_end old left (Refused (blocks_fault.BadBlock at)) gives
+blocks_refused_by old (blocks_fault.LinkType at link) left gives = blocks_end old left (Refused (blocks_fault.LinkType at link)) gives
+blocks_refused_by old (blocks_fault.TooLong at len) left gives = blocks_end old left (Refused (blocks_fault.TooLong at len)) gives
+blocks_refused_by old blocks_fault.TooMany left gives = blocks_end old left (Refused blocks_fault.TooMany) gives
 blocks_refused_by old blocks_fault.Failed left gives = tt
 blocks_refused_by old blocks_fault.NoMemory left gives = tt
 

@@ -243,18 +243,19 @@ stop_answered view asked here rose host (stop.CannotReadFile name) warnings caus
     inr (record { course = way.course; is = way.is; status = sym (ap (λ (a : Answer). a.status) (stops_answered here.files way.course _ _ way.way_is)) }))
     (λ read. inl read.0)
     has
-stop_answered view asked here rose host stop.CannotRead warnings cause has failed = absurd cause
+stop_answered view asked here rose host (stop.Capture why) warnings cause has failed = absurd cause
 stop_answered view asked here rose host why warnings cause has failed = absurd cc
 
 -- without told files the host's count rose
 stop_untold_rose : (rose : Type 0) (host : Option Files) (why : Stop) → HasCause rose host why → stop_status why ≡ status.HostFault → host ≡ None → rose
 stop_untold_rose rose host (stop.CannotReadFile name) cause failed none = ⊎_elim (λ (r : rose). r) (λ (lacks : Lacks host name). absurd (subst (λ (h : Option Files). Lacks h name) none lacks)) cause
-stop_untold_rose rose host stop.CannotRead cause failed none = absurd cause
+stop_untold_rose rose host (stop.Capture why) cause failed none = absurd cause
 stop_untold_rose rose host why cause failed none = absurd cc
 
 -- no stop before the capture is a fault of writing
 no_write_stop : (rose : Type 0) (host : Option Files) (why : Stop) → HasCause rose host why → stop_status why ≡ status.WriteFault → ⊥
 no_write_stop rose host stop.CannotWrite cause failed = cause
+no_write_stop rose host (stop.Capture why) cause failed = cause
 no_write_stop rose host why cause failed = absurd cc
 
 -- faulty words are refused

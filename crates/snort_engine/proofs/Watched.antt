@@ -18,9 +18,10 @@ use Rattle.snort_engine.specs.declared.reader.RecordReader.{RecordReader}
 use Rattle.snort_engine.specs.declared.stop.Stop.{Stop}
 use Rattle.snort_engine.specs.declared.stop.Stop.TheVariants as stop
 use Rattle.snort_engine.specs.Course.{Plan}
-use Rattle.snort_engine.specs.Records.{AreWithin, Recording, Ending, Clean, Refused, first_of}
+use Rattle.pcap_input.specs.Cut.{AreWithin, Ending, Clean, Refused, first_records}
+use Rattle.snort_engine.specs.Records.{Recording}
 use Rattle.snort_engine.specs.Steps.Reader.{IsFresh, recording_for, HasRead, AreWhole, EndsWith, IsRefusedBy}
-use Rattle.snort_engine.specs.Steps.Stop.{capture_stop, is_whole, write_stop}
+use Rattle.snort_engine.specs.Steps.Stop.{is_whole, write_stop}
 use Rattle.snort_engine.specs.Trace.{Open, Closed}
 use Rattle.snort_engine.specs.Lines.{lines}
 use Rattle.snort_engine.specs.Counts.{counts_of}
@@ -30,7 +31,7 @@ use Rattle.snort_engine.specs.declared.batch.Reached.TheVariants.{More, End, Fau
 use Rattle.snort_engine.specs.ReadAhead.{batch, AreBatches}
 use Rattle.snort_engine.specs.Steps.Detecting.{Closes, Detecting, DetectorStands, ShowsRecords, ShowsRecordsPart, closing_lines}
 use Rattle.snort_engine.specs.Steps.Watching.{Streams, Standing, lines_of, lines_left, recording_by, IsRoom, most_at, room_behind, IsReadOut, HasReadTo, IsUnderWay, IsAtEnd, IsReadCutShort, IsCloseBehind, WritesSome, WatchesTo, Watches, Comes, ComesOver, WatchesOn, IsLeft, IsClosedWhole, IsClosedInPart, ClosesWatched, closing}
-use Rattle.snort_engine.proofs.Limits.{first_of-front, below_limit, at_limit, within_limit, room_first, room_further, room_left, room_within, batches_none, batches_further, batches_last}
+use Rattle.snort_engine.proofs.Limits.{limit-front, below_limit, at_limit, within_limit, room_first, room_further, room_left, room_within, batches_none, batches_further, batches_last}
 use Rattle.snort_engine.proofs.Reading.{reading-start, reading-told, reading-whole}
 use Rattle.snort_engine.proofs.LinesLaws.{lines_of-nil, lines_of-closed, lines_of-append}
 
@@ -66,11 +67,11 @@ part_of_all : (plan : Plan) (first reader : RecordReader) (room : Option ℕ) (g
     → (whole : List ℕ) → old.left ≡ Some whole → WritesPart old.written (lines_left plan first whole Closed) new
 part_of_all plan first reader room given old left new is read part whole told =
     let found = reading-told first reader given old.left left whole read told in
-    let others = (first_of room (recording_for reader found.0)).records in
+    let others = (first_records room (recording_for reader found.0)).records in
     let all : lines_left plan first whole Closed
     ≡ lines_of plan given Open ++ lines plan given others Closed =
-    ap (λ (c : Recording). lines_of plan (first_of plan.limit c).records Closed) found.2
-    ∙ ap (λ (c : Recording). lines_of plan c.records Closed) (first_of-front plan.limit room given (recording_for reader found.0) is)
+    ap (λ (c : Recording). lines_of plan (first_records plan.limit c).records Closed) found.2
+    ∙ ap (λ (c : Recording). lines_of plan c.records Closed) (limit-front plan.limit room given (recording_for reader found.0) is)
     ∙ lines_of-append plan given others Closed in
     let P : List ℕ → Type 0 = λ x. WritesPart old.written x new in
     subst P (sym all) (WritesPart-longer old.written new (lines_of plan given Open) _ part)
@@ -101,30 +102,30 @@ reached_behind plan first start old now reached going reads =
 -- ---- how far was read
 
 -- an ending behind records that were given, where more might have been read, is the plan's
-ended_by : (plan : Plan) (first : RecordReader) (room : Option ℕ) (given : List LinkedRecord) (left : Option (List ℕ)) (ending : Ending) → IsRoom plan.limit (length given) room → 0 < most_at room → EndsWith first given left ending
+ended_by : (plan : Plan) (first : RecordReader) (room : Option ℕ) (given : List LinkedRecord) (left : Option (List ℕ)) (ending : Ending ReadFault) → IsRoom plan.limit (length given) room → 0 < most_at room → EndsWith first given left ending
     → (whole : List ℕ) → left ≡ Some whole → recording_by plan first whole ≡ record { records = given; ending = ending }
-ended_by plan first room given left ending is some ends = λ whole told. ap (first_of plan.limit) (ends whole told) ∙ below_limit plan.limit room given ending is some
+ended_by plan first room given left ending is some ends = λ whole told. ap (first_records plan.limit) (ends whole told) ∙ below_limit plan.limit room given ending is some
 
 -- and so is the limit, where no more may be read
 limited_by : (plan : Plan) (first reader : RecordReader) (room : Option ℕ) (given : List LinkedRecord) (left_first left : Option (List ℕ)) → HasRead first reader given left_first left → IsRoom plan.limit (length given) room → most_at room ≡ 0
     → (whole : List ℕ) → left_first ≡ Some whole → recording_by plan first whole ≡ record { records = given; ending = Clean }
 limited_by plan first reader room given left_first left read is none = λ whole told.
     let found = reading-told first reader given left_first left whole read told in
-    ap (first_of plan.limit) found.2 ∙ at_limit plan.limit room given (recording_for reader found.0) is none
+    ap (first_records plan.limit) found.2 ∙ at_limit plan.limit room given (recording_for reader found.0) is none
 
 -- then all is whole within what was taken
-out_by : (plan : Plan) (first : RecordReader) (given : List LinkedRecord) (ending : Ending) (taken : List ℕ) (left : Option (List ℕ)) → ((whole : List ℕ) → left ≡ Some whole → recording_by plan first whole ≡ record { records = given; ending = ending })
+out_by : (plan : Plan) (first : RecordReader) (given : List LinkedRecord) (ending : Ending ReadFault) (taken : List ℕ) (left : Option (List ℕ)) → ((whole : List ℕ) → left ≡ Some whole → recording_by plan first whole ≡ record { records = given; ending = ending })
     → (recording_by plan first taken).records ≡ given → IsReadOut plan first taken left
 out_by plan first given ending taken left ends are = λ whole told. ap (λ (r : Recording). r.records) (ends whole told) ∙ sym are
 
 module _ (plan : Plan) (first : RecordReader) (room : Option ℕ) (given : List LinkedRecord) (left : Option (List ℕ)) (failed : Type 0) (is : IsRoom plan.limit (length given) room) (some : 0 < most_at room) (taken : List ℕ)
     (are : (recording_by plan first taken).records ≡ given) where
   -- the capture ends
-  read_out : (ending : Ending) → EndsWith first given left ending → IsReadOut plan first taken left
+  read_out : (ending : Ending ReadFault) → EndsWith first given left ending → IsReadOut plan first taken left
   read_out ending ends = out_by plan first given ending taken left (ended_by plan first room given left ending is some ends) are
 
   -- or is refused, or couldn't be read on
-  fault_to : (why : ReadFault) → IsRefusedBy first given left why → HasReadTo plan first taken left failed (Err (capture_stop why))
+  fault_to : (why : ReadFault) → IsRefusedBy first given left why → HasReadTo plan first taken left failed (Err (stop.Capture why))
   fault_to fault.NotPcap ends = read_out (Refused fault.NotPcap) ends
   fault_to (fault.LinkType link_type) ends = read_out (Refused (fault.LinkType link_type)) ends
   fault_to (fault.Truncated place) ends = read_out (Refused (fault.Truncated place)) ends
@@ -185,7 +186,7 @@ close_by plan first room given old after failed outcome is wrote whole to = reco
 }
 
 -- all records were given, where more might have been read
-at_end : (plan : Plan) (first : RecordReader) (room : Option ℕ) (given : List LinkedRecord) (old after : Streams) (detector : Detector) (ending : Ending) → IsRoom plan.limit (length given) room → 0 < most_at room
+at_end : (plan : Plan) (first : RecordReader) (room : Option ℕ) (given : List LinkedRecord) (old after : Streams) (detector : Detector) (ending : Ending ReadFault) → IsRoom plan.limit (length given) room → 0 < most_at room
     → DetectorStands plan given detector
     → after.written ≡ behind old.written (lines_of plan given Open)
     → EndsWith first given old.left ending → IsAtEnd plan first old after detector ending
@@ -200,7 +201,7 @@ at_end plan first room given old after detector ending is some stands wrote ends
 fault_comes : (plan : Plan) (first : RecordReader) (room : Option ℕ) (given : List LinkedRecord) (old after : Streams) (detector : Detector) (why : ReadFault) → IsRoom plan.limit (length given) room → 0 < most_at room
     → DetectorStands plan given detector
     → after.written ≡ behind old.written (lines_of plan given Open)
-    → HasStopped first given old.left after.left → IsRefusedBy first given old.left why → Comes plan first old after detector (Err (capture_stop why))
+    → HasStopped first given old.left after.left → IsRefusedBy first given old.left why → Comes plan first old after detector (Err (stop.Capture why))
 fault_comes plan first room given old after detector why is some stands wrote stopped ends = by_fault why ends
   where
     part : WritesSome plan first old after
@@ -209,13 +210,13 @@ fault_comes plan first room given old after detector why is some stands wrote st
     to : (f : ReadFault) → EndsWith first given old.left (Refused f) → IsAtEnd plan first old after detector (Refused f)
     to f ends_so = at_end plan first room given old after detector (Refused f) is some stands wrote ends_so
 
-    by_fault : (f : ReadFault) → IsRefusedBy first given old.left f → Comes plan first old after detector (Err (capture_stop f))
-    by_fault fault.NotPcap ends = (fault.NotPcap, refl, to fault.NotPcap ends)
-    by_fault (fault.LinkType link_type) ends = (fault.LinkType link_type, refl, to (fault.LinkType link_type) ends)
-    by_fault (fault.Truncated place) ends = (fault.Truncated place, refl, to (fault.Truncated place) ends)
-    by_fault (fault.BadBlock place) ends = (fault.BadBlock place, refl, to (fault.BadBlock place) ends)
-    by_fault (fault.TooLong place len) ends = (fault.TooLong place len, refl, to (fault.TooLong place len) ends)
-    by_fault fault.TooMany ends = (fault.TooMany, refl, to fault.TooMany ends)
+    by_fault : (f : ReadFault) → IsRefusedBy first given old.left f → Comes plan first old after detector (Err (stop.Capture f))
+    by_fault fault.NotPcap ends = to fault.NotPcap ends
+    by_fault (fault.LinkType link_type) ends = to (fault.LinkType link_type) ends
+    by_fault (fault.Truncated place) ends = to (fault.Truncated place) ends
+    by_fault (fault.BadBlock place) ends = to (fault.BadBlock place) ends
+    by_fault (fault.TooLong place len) ends = to (fault.TooLong place len) ends
+    by_fault fault.TooMany ends = to fault.TooMany ends
     by_fault fault.Failed ends = (cut_off plan first room given old after is wrote stopped.whole, part)
     by_fault fault.NoMemory ends = part
 
@@ -291,7 +292,7 @@ batch_shown plan records old new failed reached faults after done few room_is fu
         let came = reached_behind plan first start old (record { reader = new.reader; records = records; left = new.streams.left }) (Fault why) going on in
         let some = some_left (short (λ e. cc)) in (
           fault_comes plan first new.room given start new.streams new.detector why (room_now first start going) some own.0 own.1 came.0 came.1,
-          close_by plan first new.room given start new.streams failed (Err (capture_stop why)) (room_now first start going) own.1 came.0.whole
+          close_by plan first new.room given start new.streams failed (Err (stop.Capture why)) (room_now first start going) own.1 came.0.whole
               (λ taken are. fault_to plan first new.room given start.left failed (room_now first start going) some taken are why came.1),
         )
 
@@ -380,7 +381,8 @@ part_shown plan records old new (Err why) shows = λ before stands. shows.emits.
 -- how far was read from the start, where the host may have failed before
 to_since : (plan : Plan) (first : RecordReader) (taken : List ℕ) (left : Option (List ℕ)) (later since : Type 0) (outcome : Result (Unit {0}) Stop) → (later → since) → HasReadTo plan first taken left later outcome → HasReadTo plan first taken left since outcome
 to_since plan first taken left later since (Ok done) rises to = to
-to_since plan first taken left later since (Err stop.CannotRead) rises to = tt
+to_since plan first taken left later since (Err (stop.Capture fault.Failed)) rises to = tt
+to_since plan first taken left later since (Err (stop.Capture fault.NoMemory)) rises to = tt
 to_since plan first taken left later since (Err stop.NoMemory) rises to = tt
 to_since plan first taken left later since (Err stop.CannotWrite) rises to =
     ⊎_elim (λ whole. inl whole) (λ (other : IsReadOut plan first taken left ⊎ later). inr (⊎_elim (λ out. inl out) (λ rose. inr (rises rose)) other)) to
@@ -416,7 +418,7 @@ close-start plan reader old failed fresh =
     (λ taken are. tt)
 
 -- a capture at its end was closed
-closed_to : (plan : Plan) (first : RecordReader) (start now : Streams) (detector : Detector) (ending : Ending) (written : Option (List ℕ)) (faults after : ℕ) (counts : Counts) → IsAtEnd plan first start now detector ending
+closed_to : (plan : Plan) (first : RecordReader) (start now : Streams) (detector : Detector) (ending : Ending ReadFault) (written : Option (List ℕ)) (faults after : ℕ) (counts : Counts) → IsAtEnd plan first start now detector ending
     → Closes plan (record { detector = detector; written = now.written; faults = faults }) (record { written = written; block = []; faults = after }) (Ok counts)
     → (left : Option (List ℕ)) → WatchesTo plan first ending start (record { left = left; written = written }) counts
 closed_to plan first start now detector ending written faults after counts came closes left = λ whole told.
@@ -430,7 +432,7 @@ closed_to plan first start now detector ending written faults after counts came 
     }
 
 -- or in part
-closed_some : (plan : Plan) (first : RecordReader) (start now : Streams) (detector : Detector) (ending : Ending) (written : Option (List ℕ)) (faults after : ℕ) (why : WriteFault) → IsAtEnd plan first start now detector ending
+closed_some : (plan : Plan) (first : RecordReader) (start now : Streams) (detector : Detector) (ending : Ending ReadFault) (written : Option (List ℕ)) (faults after : ℕ) (why : WriteFault) → IsAtEnd plan first start now detector ending
     → Closes plan (record { detector = detector; written = now.written; faults = faults }) (record { written = written; block = []; faults = after }) (Err why)
     → (left : Option (List ℕ)) → WritesSome plan first start (record { left = left; written = written })
 closed_some plan first start now detector ending written faults after why came part left = λ whole told.
@@ -458,30 +460,35 @@ module _ (plan : Plan) (first : RecordReader) (start now : Streams) (detector : 
   -- cut short before it was closed
   left_so : (watched : Result (Unit {0}) Stop) → is_whole watched ≡ false → Comes plan first start now detector watched → written ≡ now.written → Watches plan first start after_it counts watched
   left_so (Ok done) cut came same = absurd cc
-  left_so (Err stop.CannotRead) cut came same = (
+  left_so (Err (stop.Capture fault.Failed)) cut came same = (
     record { taken = came.0.taken; took = came.0.took; wrote = same ∙ came.0.wrote },
     λ whole told. subst (λ (w : Option (List ℕ)). WritesPart start.written (lines_left plan first whole Closed) w) (sym same) (came.1 whole told),
   )
   left_so (Err stop.CannotWrite) cut came same = λ whole told. subst (λ (w : Option (List ℕ)). WritesPart start.written (lines_left plan first whole Closed) w) (sym same) (came whole told)
+  left_so (Err (stop.Capture fault.NoMemory)) cut came same = λ whole told. subst (λ (w : Option (List ℕ)). WritesPart start.written (lines_left plan first whole Closed) w) (sym same) (came whole told)
   left_so (Err stop.NoMemory) cut came same = λ whole told. subst (λ (w : Option (List ℕ)). WritesPart start.written (lines_left plan first whole Closed) w) (sym same) (came whole told)
   left_so (Err why) cut came same = absurd cc
 
   -- closed
   closed_so : (watched : Result (Unit {0}) Stop) → is_whole watched ≡ true → Comes plan first start now detector watched → Closes plan (closing detector sink_then) sink_now (Ok counts) → Watches plan first start after_it counts watched
   closed_so (Ok done) whole came closes = closed_to plan first start now detector Clean written faults after counts came closes now.left
-  closed_so (Err stop.CannotRead) whole came closes = absurd cc
+  closed_so (Err (stop.Capture fault.Failed)) whole came closes = absurd cc
+  closed_so (Err (stop.Capture fault.NoMemory)) whole came closes = absurd cc
   closed_so (Err stop.CannotWrite) whole came closes = absurd cc
   closed_so (Err stop.NoMemory) whole came closes = absurd cc
-  closed_so (Err why) whole (fault_then, is, came) closes = (fault_then, is, closed_to plan first start now detector (Refused fault_then) written faults after counts came closes now.left)
+  closed_so (Err (stop.Capture why)) whole came closes = closed_to plan first start now detector (Refused why) written faults after counts came closes now.left
+  closed_so (Err why) whole came closes = absurd came
 
   -- closed in part
   closed_part_so : (watched : Result (Unit {0}) Stop) (why : WriteFault) → is_whole watched ≡ true → Comes plan first start now detector watched → Closes plan (closing detector sink_then) sink_now (Err why)
       → Watches plan first start after_it counts (Err (write_stop why))
   closed_part_so (Ok done) why whole came part = stopped_some plan first start after_it counts why (closed_some plan first start now detector Clean written faults after why came part now.left)
-  closed_part_so (Err stop.CannotRead) why whole came part = absurd cc
+  closed_part_so (Err (stop.Capture fault.Failed)) why whole came part = absurd cc
+  closed_part_so (Err (stop.Capture fault.NoMemory)) why whole came part = absurd cc
   closed_part_so (Err stop.CannotWrite) why whole came part = absurd cc
   closed_part_so (Err stop.NoMemory) why whole came part = absurd cc
-  closed_part_so (Err other) why whole (fault_then, is, came) part = stopped_some plan first start after_it counts why (closed_some plan first start now detector (Refused fault_then) written faults after why came part now.left)
+  closed_part_so (Err (stop.Capture other)) why whole came part = stopped_some plan first start after_it counts why (closed_some plan first start now detector (Refused other) written faults after why came part now.left)
+  closed_part_so (Err other) why whole came part = absurd came
 
   pub closed_watch : (watched result_then : Result (Unit {0}) Stop) → Comes plan first start now detector watched → ClosesWatched plan detector watched sink_then sink_now counts result_then
       → Watches plan first start (record { left = now.left; written = written }) counts result_then
@@ -502,10 +509,12 @@ module _ (plan : Plan) (first : RecordReader) (start now : Streams) (detector : 
   wrote_more : (watched : Result (Unit {0}) Stop) → is_whole watched ≡ true → Comes plan first start now detector watched → ((records : List LinkedRecord) → DetectorStands plan records detector → (more : List ℕ) × (written ≡ behind now.written more))
       → (more : List ℕ) × (written ≡ behind now.written more)
   wrote_more (Ok done) whole came more = more came.given came.stands
-  wrote_more (Err stop.CannotRead) whole came more = absurd cc
+  wrote_more (Err (stop.Capture fault.Failed)) whole came more = absurd cc
+  wrote_more (Err (stop.Capture fault.NoMemory)) whole came more = absurd cc
   wrote_more (Err stop.CannotWrite) whole came more = absurd cc
   wrote_more (Err stop.NoMemory) whole came more = absurd cc
-  wrote_more (Err why) whole (fault_then, is, came) more = more came.given came.stands
+  wrote_more (Err (stop.Capture why)) whole came more = more came.given came.stands
+  wrote_more (Err why) whole came more = absurd came
 
   -- a closing that was stopped stopped behind the end
   end_to : (failed : Type 0) (taken : List ℕ) (why : WriteFault) → IsReadOut plan first taken start.left → HasReadTo plan first taken start.left failed (Err (write_stop why))
@@ -515,7 +524,8 @@ module _ (plan : Plan) (first : RecordReader) (start now : Streams) (detector : 
   closing_to : (failed : Type 0) (taken : List ℕ) (watched : Result (Unit {0}) Stop) (why : WriteFault) → is_whole watched ≡ true → HasReadTo plan first taken start.left failed watched
       → HasReadTo plan first taken start.left failed (Err (write_stop why))
   closing_to failed taken (Ok done) why whole to = end_to failed taken why to
-  closing_to failed taken (Err stop.CannotRead) why whole to = absurd cc
+  closing_to failed taken (Err (stop.Capture fault.Failed)) why whole to = absurd cc
+  closing_to failed taken (Err (stop.Capture fault.NoMemory)) why whole to = absurd cc
   closing_to failed taken (Err stop.CannotWrite) why whole to = absurd cc
   closing_to failed taken (Err stop.NoMemory) why whole to = absurd cc
   closing_to failed taken (Err other) why whole to = end_to failed taken why to

@@ -15,7 +15,8 @@ use Rattle.snort_engine.specs.declared.fault.ReadFault.TheVariants as fault
 use Rattle.snort_engine.specs.declared.status.Status.{Status}
 use Rattle.snort_engine.specs.declared.status.Status.TheVariants as status
 use Rattle.snort_engine.specs.Course.{Plan, Way, Stops, Goes, Makes, Lists, Course}
-use Rattle.snort_engine.specs.Records.{Ending, Clean, Refused, Recording, records_of}
+use Rattle.pcap_input.specs.Cut.{Ending, Clean, Refused}
+use Rattle.snort_engine.specs.Records.{Recording, records_of}
 use Rattle.snort_engine.specs.Trace.{Closed}
 use Rattle.snort_engine.specs.Lines.{lines}
 use Rattle.snort_engine.specs.Counts.{counts_of, told_counts, with_counts}
@@ -46,12 +47,12 @@ fault_status fault.NoMemory = status.NoMemory
 fault_status why = status.BadCapture
 
 -- the message of an ending
-abbrev pub ending_text : List ℕ → Ending → List ℕ
+abbrev pub ending_text : List ℕ → Ending ReadFault → List ℕ
 ending_text name Clean = []
 ending_text name (Refused why) = fault_text name why
 
 -- the status of an ending
-abbrev pub ending_status : Ending → Status
+abbrev pub ending_status : Ending ReadFault → Status
 ending_status Clean = status.Done
 ending_status (Refused why) = fault_status why
 

@@ -21,7 +21,8 @@ use Rattle.snort_engine.specs.declared.status.Status.{Status}
 use Rattle.snort_engine.specs.declared.status.Status.TheVariants as status
 use Rattle.record_jobs.specs.Way.{LinkedRecord}
 use Rattle.snort_engine.specs.Course.{Plan, Way, Stops, Goes, Makes, Lists, Course}
-use Rattle.snort_engine.specs.Records.{AreWithin, records_in, records_of}
+use Rattle.pcap_input.specs.Cut.{AreWithin}
+use Rattle.snort_engine.specs.Records.{records_in, records_of}
 use Rattle.snort_engine.specs.Trace.{Open}
 use Rattle.snort_engine.specs.Lines.{lines}
 use Rattle.snort_engine.specs.Outside.{Work}

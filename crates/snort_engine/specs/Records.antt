@@ -11,39 +11,28 @@
 -- last of them the ending is Truncated at 0, and so it is of the first 23 bytes of a section header; of its 28
 -- bytes the ending is clean again. The capture that is made of any seed with 5 packets has 5 records, under a
 -- limit of 3 the first 3, and a clean ending.
-use Rattle.std.specs.Prelude.{◌≡◌, ℕ, ◌≤◌, ◌==◌, ◌&&◌, nat_le, min, Bool, false, List, [], length, map, take, Option}
-use Rattle.std.specs.Prelude.{Some, None, Result, Ok, Err, ⊤, if◌then◌else◌}
+use Rattle.std.specs.Prelude.{◌≡◌, ℕ, ◌≤◌, ◌==◌, ◌&&◌, nat_le, Bool, false, List, length, Option, Some, None, Result, Ok, Err, if◌then◌else◌}
 use Rattle.std.specs.FinMap.{get}
 use Rattle.edge_io.specs.Files.{Files}
 use Rattle.edge_io.specs.declared.link.Link.{Link}
 use Rattle.pcap_input.specs.declared.capture.CaptureFault.{CaptureFault}
 use Rattle.pcap_input.specs.declared.capture.CaptureFault.TheVariants as savefile_fault
-use Rattle.pcap_input.specs.Savefile as classic
+use Rattle.pcap_input.specs.declared.capture.Record.{Record}
+use Rattle.pcap_input.specs.Cut.{Cut, Refused, no_more, cut_by, limited, IsWhole}
 use Rattle.pcap_input.specs.Savefile.{Capture, file_header, head_of, most_records, number_at, savefile}
 use Rattle.pcap_input.specs.Generated.{generated}
 use Rattle.pcapng_input.specs.declared.capture.NgRecord.{NgRecord}
 use Rattle.pcapng_input.specs.declared.capture.NgFault.{NgFault}
 use Rattle.pcapng_input.specs.declared.capture.NgFault.TheVariants as blocks_fault
-use Rattle.pcapng_input.specs.Blocks as blocks
 use Rattle.pcapng_input.specs.Blocks.{section_type, ng_records}
 use Rattle.record_jobs.specs.Way.{LinkedRecord, linked}
 use Rattle.snort_engine.specs.declared.fault.ReadFault.{ReadFault}
 use Rattle.snort_engine.specs.declared.fault.ReadFault.TheVariants as fault
 use Rattle.snort_engine.specs.Course.{Plan, Way, Goes}
 
--- how a capture ends: at its end or at a limit, or at what can't be read
-pub data Ending : Type 0 where
-  Clean : Ending
-  Refused : ReadFault → Ending
-
--- records in order, and the ending behind them
-pub record Recording : Type 0 where
-  pub records : List LinkedRecord
-  pub ending : Ending
-
--- no record, and this ending
-abbrev pub none_before : Ending → Recording
-none_before ending = record { records = []; ending = ending }
+-- the records of a capture, with their link layers, and their ending
+abbrev pub Recording : Type 0
+Recording = Cut LinkedRecord ReadFault
 
 -- ---- a savefile
 
@@ -57,18 +46,14 @@ of_savefile savefile_fault.TooMany = fault.TooMany
 of_savefile savefile_fault.Failed = fault.Failed
 of_savefile savefile_fault.NoMemory = fault.NoMemory
 
-abbrev pub savefile_ending : classic.Ending → Ending
-savefile_ending classic.Clean = Clean
-savefile_ending (classic.Refused why) = Refused (of_savefile why)
-
 -- records of one link layer, and their ending
-abbrev pub recording_of : Link → classic.Cut → Recording
-recording_of link cut = record { records = map (linked link) cut.records; ending = savefile_ending cut.ending }
+abbrev pub recording_of : Link → Cut Record CaptureFault → Recording
+recording_of link cut = cut_by (linked link) of_savefile cut
 
 -- what a savefile holds, or the refusal of its head
 abbrev pub recording_in : Result Capture CaptureFault → Recording
 recording_in (Ok capture) = recording_of capture.head.link capture.cut
-recording_in (Err why) = none_before (Refused (of_savefile why))
+recording_in (Err why) = no_more (Refused (of_savefile why))
 
 -- ---- blocks
 
@@ -83,21 +68,18 @@ of_blocks blocks_fault.TooMany = fault.TooMany
 of_blocks blocks_fault.Failed = fault.Failed
 of_blocks blocks_fault.NoMemory = fault.NoMemory
 
-abbrev pub blocks_ending : blocks.Ending → Ending
-blocks_ending blocks.Clean = Clean
-blocks_ending (blocks.Refused why) = Refused (of_blocks why)
-
--- a record with the link layer of its own interface
+-- a record and the link layer of its own interface
 abbrev pub with_link : NgRecord → LinkedRecord
 with_link given = linked given.link given.item
 
-abbrev pub recording_of_blocks : blocks.Cut → Recording
-recording_of_blocks cut = record { records = map with_link cut.records; ending = blocks_ending cut.ending }
+-- records each of the link layer of its own interface, and their ending
+abbrev pub recording_of_blocks : Cut NgRecord NgFault → Recording
+recording_of_blocks cut = cut_by with_link of_blocks cut
 
 -- what blocks hold, or the refusal of the first of them
-abbrev pub recording_in_blocks : Result blocks.Cut NgFault → Recording
+abbrev pub recording_in_blocks : Result (Cut NgRecord NgFault) NgFault → Recording
 recording_in_blocks (Ok cut) = recording_of_blocks cut
-recording_in_blocks (Err why) = none_before (Refused (of_blocks why))
+recording_in_blocks (Err why) = no_more (Refused (of_blocks why))
 
 -- ---- either
 
@@ -115,29 +97,6 @@ records_in limit bytes =
 -- what a plan reads of these bytes
 abbrev pub records_of : Plan → List ℕ → Recording
 records_of plan bytes = records_in plan.limit bytes
-
--- the first records where there is a limit, which is then a clean ending; all where it isn't reached
-unfoldable pub first_of : Option ℕ → Recording → Recording
-first_of None recording = recording
-first_of (Some limit) recording =
-    if nat_le limit (length recording.records)
-    then record { records = take limit recording.records; ending = Clean }
-    else recording
-
--- no more records than a limit lets
-abbrev pub AreWithin : Option ℕ → List LinkedRecord → Type 0
-AreWithin None records = ⊤
-AreWithin (Some limit) records = length records ≤ limit
-
--- so many, or as many as a limit lets
-abbrev pub limited : Option ℕ → ℕ → ℕ
-limited None count = count
-limited (Some limit) count = min limit count
-
--- so many records, and a clean ending
-pub record IsWhole (count : ℕ) (recording : Recording) : Type 0 where
-  pub count_is : length recording.records ≡ count
-  pub clean : recording.ending ≡ Clean
 
 -- the law of captures that are made: a plan reads as many records as were asked for, up to its limit, and
 -- they end cleanly

@@ -1,3 +1,11 @@
+ghost use Rattle.std.specs.Prelude.{◌≡◌};
+ghost use Rattle.alert_fast.specs.Pieces.{pieces_text};
+ghost use Rattle.snort_engine.specs.Answer.{fault_status, fault_text};
+
+use crate::Status;
+use crate::stop::{alone, cannot_read, numbered};
+use alert_fast::Piece;
+use alert_fast::Piece::{Bytes, Number};
 use pcap_input::CaptureFault;
 use pcapng_input::NgFault;
 
@@ -23,8 +31,48 @@ pub(crate) enum ReadFault {
     NoMemory,
 }
 
+impl ReadFault {
+    /// The status with which it ends a run.
+    pub fn status(&self) -> Status
+        ensures { result ≡ fault_status self.now }
+    {
+        match self {
+            ReadFault::Failed => Status::HostFault,
+            ReadFault::NoMemory => Status::NoMemory,
+            ReadFault::NotPcap
+            | ReadFault::LinkType(_)
+            | ReadFault::Truncated { .. }
+            | ReadFault::BadBlock { .. }
+            | ReadFault::TooLong { .. }
+            | ReadFault::TooMany => Status::BadCapture,
+        }
+    }
+
+    /// Its message, with a line feed at its end, where the capture has this name.
+    #[tactic(auto, unfolding(crate::specs::Messages::cannot_read_text))]
+    pub fn pieces<'a>(&self, source: &'a str) -> [Piece<'a>; 5]
+        ensures { pieces_text result ≡ fault_text source.now self.now }
+    {
+        match self {
+            ReadFault::LinkType(link) => numbered(b"ERROR: capture has link type ", *link as u64),
+            ReadFault::Truncated { at } => numbered(b"ERROR: capture is truncated at byte ", *at),
+            ReadFault::BadBlock { at } => numbered(b"ERROR: capture has a bad block at byte ", *at),
+            ReadFault::TooLong { at, len } => [
+                Bytes(b"ERROR: capture has a record of "),
+                Number(*len as u64),
+                Bytes(b" bytes at byte "),
+                Number(*at),
+                Bytes(b"\n"),
+            ],
+            ReadFault::NotPcap => alone(b"ERROR: capture is not a pcap file\n"),
+            ReadFault::TooMany => alone(b"ERROR: capture has too many records\n"),
+            ReadFault::Failed => cannot_read(source.as_bytes()),
+            ReadFault::NoMemory => alone(b"ERROR: no memory\n"),
+        }
+    }
+}
+
 impl From<CaptureFault> for ReadFault {
-    ghost use Rattle.std.specs.Prelude.{◌≡◌};
     ghost use Rattle.snort_engine.specs.Records.{of_savefile};
 
     ghost from_gives = { λ why fault. fault ≡ of_savefile why };
@@ -43,7 +91,6 @@ impl From<CaptureFault> for ReadFault {
 }
 
 impl From<NgFault> for ReadFault {
-    ghost use Rattle.std.specs.Prelude.{◌≡◌};
     ghost use Rattle.snort_engine.specs.Records.{of_blocks};
 
     ghost from_gives = { λ why fault. fault ≡ of_blocks why };

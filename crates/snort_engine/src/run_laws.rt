@@ -14,7 +14,8 @@ ghost use Rattle.snort_engine.specs.CutCaptures.{Holds, IsCutBehind, IsLimited, 
 ghost use Rattle.snort_engine.specs.Lines.{lines};
 ghost use Rattle.snort_engine.specs.ReadBack.{FitsRecord, FitsRule, entries};
 ghost use Rattle.alert_lines.specs.RecordLines.{entry_lines};
-ghost use Rattle.snort_engine.specs.Records.{Clean, is_of_blocks, records_in, records_of};
+ghost use Rattle.pcap_input.specs.Cut.{Clean};
+ghost use Rattle.snort_engine.specs.Records.{is_of_blocks, records_in, records_of};
 ghost use Rattle.snort_engine.specs.Trace.{CaptureState, Closed};
 
 /// A plan with a limit of records is, on a capture that has as many, the plan without a limit on the capture cut

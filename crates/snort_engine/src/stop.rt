@@ -1,4 +1,4 @@
-ghost use Rattle.std.specs.Prelude.{◌≡◌};
+ghost use Rattle.std.specs.Prelude.{◌≡◌, ◌++◌, codes, decimal};
 ghost use Rattle.snort_engine.specs.Steps.Stop.{is_whole, stop_status, stop_text};
 ghost use Rattle.snort_engine.specs.Messages.{cannot_read_text};
 ghost use Rattle.alert_fast.specs.Pieces.{pieces_text};
@@ -27,24 +27,12 @@ pub(crate) enum Stop {
     Refused { message: Text },
     /// The host failed at this file, which stands before the capture, or lacks it.
     CannotReadFile { name: Text },
-    /// The host failed at the capture, or lacks it.
-    CannotRead,
+    /// The capture is refused, or can't be read.
+    Capture(ReadFault),
     /// The alert sink failed.
     CannotWrite,
     /// Memory ran out.
     NoMemory,
-    /// The capture begins neither as a savefile of version 2 nor with a section header and its byte-order magic.
-    NotPcap,
-    /// The capture has a link type that is not read.
-    LinkType(u32),
-    /// The capture ends inside its header, or inside the record or the block that begins at this byte.
-    Truncated { at: u64 },
-    /// The block of the capture that begins at this byte is not as the format has it.
-    BadBlock { at: u64 },
-    /// The record at this byte is longer than any packet.
-    TooLong { at: u64, len: u32 },
-    /// The capture goes on behind 4294967295 records, or, as blocks, behind 2^62 bytes.
-    TooMany,
     /// The bytes of a Unified2 file from this one on begin no record.
     BadUnified2 { at: u64 },
 }
@@ -57,7 +45,8 @@ pub(crate) fn is_whole(outcome: &Result<(), Stop>) -> bool
 {
     match outcome {
         Ok(()) => true,
-        Err(Stop::CannotRead | Stop::CannotWrite | Stop::NoMemory) => false,
+        Err(Stop::Capture(ReadFault::Failed | ReadFault::NoMemory)) => false,
+        Err(Stop::CannotWrite | Stop::NoMemory) => false,
         Err(_) => true,
     }
 }
@@ -70,21 +59,16 @@ impl Stop {
         match self {
             Stop::Usage | Stop::Version | Stop::Accepted { .. } => Status::Done,
             Stop::CommandLine | Stop::Refused { .. } => Status::Refused,
-            Stop::CannotReadFile { .. } | Stop::CannotRead => Status::HostFault,
+            Stop::CannotReadFile { .. } => Status::HostFault,
+            Stop::Capture(why) => why.status(),
             Stop::CannotWrite => Status::WriteFault,
             Stop::NoMemory => Status::NoMemory,
-            Stop::NotPcap
-            | Stop::LinkType(_)
-            | Stop::Truncated { .. }
-            | Stop::BadBlock { .. }
-            | Stop::TooLong { .. }
-            | Stop::TooMany
-            | Stop::BadUnified2 { .. } => Status::BadCapture,
+            Stop::BadUnified2 { .. } => Status::BadCapture,
         }
     }
 
     /// Its message, with a line feed at its end, where the capture has this name.
-    #[tactic(auto, unfolding(crate::specs::Steps::Stop::stop_text, crate::specs::Messages::cannot_read_text, crate::specs::Messages::accepted_text, crate::specs::Messages::link_type_text, crate::specs::Messages::truncated_text, crate::specs::Messages::bad_block_text, crate::specs::Messages::bad_unified2_text))]
+    #[tactic(auto, unfolding(crate::specs::Steps::Stop::stop_text, crate::specs::Messages::cannot_read_text, crate::specs::Messages::accepted_text))]
     pub fn pieces<'a>(&'a self, source: &'a str) -> [Piece<'a>; 5]
         ensures { pieces_text result ≡ stop_text source.now self.now }
     {
@@ -98,60 +82,33 @@ impl Stop {
             ],
             Stop::Refused { message } => alone(message.bytes()),
             Stop::CannotReadFile { name } => cannot_read(name.bytes()),
-            Stop::CannotRead => cannot_read(source.as_bytes()),
-            Stop::LinkType(link) => [
-                Bytes(b"ERROR: capture has link type "),
-                Number(*link as u64),
-                Bytes(b"\n"),
-                NOTHING,
-                NOTHING,
-            ],
-            Stop::Truncated { at } => [
-                Bytes(b"ERROR: capture is truncated at byte "),
-                Number(*at),
-                Bytes(b"\n"),
-                NOTHING,
-                NOTHING,
-            ],
-            Stop::BadBlock { at } => [
-                Bytes(b"ERROR: capture has a bad block at byte "),
-                Number(*at),
-                Bytes(b"\n"),
-                NOTHING,
-                NOTHING,
-            ],
-            Stop::BadUnified2 { at } => [
-                Bytes(b"ERROR: unified2 file is bad at byte "),
-                Number(*at),
-                Bytes(b"\n"),
-                NOTHING,
-                NOTHING,
-            ],
-            Stop::TooLong { at, len } => [
-                Bytes(b"ERROR: capture has a record of "),
-                Number(*len as u64),
-                Bytes(b" bytes at byte "),
-                Number(*at),
-                Bytes(b"\n"),
-            ],
+            Stop::Capture(why) => why.pieces(source),
+            Stop::BadUnified2 { at } => numbered(b"ERROR: unified2 file is bad at byte ", *at),
             Stop::Usage => alone(b"usage: snort -c CONF -r FILE [options]\n"),
             Stop::Version => alone(b"snort offline profile 2.9\n"),
             Stop::CommandLine => alone(b"ERROR: command line\n"),
             Stop::CannotWrite => alone(b"ERROR: cannot write\n"),
             Stop::NoMemory => alone(b"ERROR: no memory\n"),
-            Stop::NotPcap => alone(b"ERROR: capture is not a pcap file\n"),
-            Stop::TooMany => alone(b"ERROR: capture has too many records\n"),
         }
     }
 }
 
-fn alone(text: &[u8]) -> [Piece<'_>; 5]
+/// A message that is one text.
+pub(crate) fn alone(text: &[u8]) -> [Piece<'_>; 5]
     ensures { pieces_text result ≡ text.now }
 {
     [Bytes(text), NOTHING, NOTHING, NOTHING, NOTHING]
 }
 
-fn cannot_read(name: &[u8]) -> [Piece<'_>; 5]
+/// A message that is a text, a number and the end of its line.
+pub(crate) fn numbered(text: &[u8], number: u64) -> [Piece<'_>; 5]
+    ensures { pieces_text result ≡ text.now ++ (decimal number ++ codes "\n") }
+{
+    [Bytes(text), Number(number), Bytes(b"\n"), NOTHING, NOTHING]
+}
+
+/// The message that a file of this name can't be read.
+pub(crate) fn cannot_read(name: &[u8]) -> [Piece<'_>; 5]
     ensures { pieces_text result ≡ cannot_read_text name.now }
 {
     [
@@ -207,21 +164,12 @@ impl From<WriteStop> for Stop {
 }
 
 impl From<ReadFault> for Stop {
-    ghost use Rattle.snort_engine.specs.Steps.Stop.{capture_stop};
+    ghost use Rattle.snort_engine.specs.declared.stop.Stop.TheVariants.{Capture};
 
-    ghost from_gives = { λ why stop. stop ≡ capture_stop why };
+    ghost from_gives = { λ why stop. stop ≡ Capture why };
 
     fn from(why: ReadFault) -> Stop {
-        match why {
-            ReadFault::NotPcap => Stop::NotPcap,
-            ReadFault::LinkType(link_type) => Stop::LinkType(link_type),
-            ReadFault::Truncated { at } => Stop::Truncated { at },
-            ReadFault::BadBlock { at } => Stop::BadBlock { at },
-            ReadFault::TooLong { at, len } => Stop::TooLong { at, len },
-            ReadFault::TooMany => Stop::TooMany,
-            ReadFault::Failed => Stop::CannotRead,
-            ReadFault::NoMemory => Stop::NoMemory,
-        }
+        Stop::Capture(why)
     }
 }
 

@@ -10,12 +10,12 @@ use Rattle.record_jobs.specs.Way.{LinkedRecord}
 use Rattle.snort_engine.specs.declared.reader.RecordReader.{RecordReader}
 use Rattle.snort_engine.specs.declared.fault.ReadFault.{ReadFault}
 use Rattle.snort_engine.specs.declared.fault.ReadFault.TheVariants as fault
-use Rattle.snort_engine.specs.Records.{Clean}
+use Rattle.pcap_input.specs.Cut.{Clean}
 use Rattle.snort_engine.specs.Steps.Reader.{IsFresh, HasRead, AreWhole, EndsWith, IsRefusedBy, refusal_of}
 use Rattle.snort_engine.specs.declared.batch.Reached.{Reached}
 use Rattle.snort_engine.specs.declared.batch.Reached.TheVariants.{More, End, Fault}
 use Rattle.snort_engine.specs.declared.stop.Stop.{Stop}
-use Rattle.snort_engine.specs.Steps.Stop.{capture_stop}
+use Rattle.snort_engine.specs.declared.stop.Stop.TheVariants.{Capture}
 
 -- where reading stands: the reader, the records of the batch so far, and what is left, where it is told
 pub record Place : Type 0 where
@@ -63,4 +63,4 @@ lacks_memory reached = false
 abbrev pub more_of : Reached → Result Bool Stop
 more_of More = Ok true
 more_of End = Ok false
-more_of (Fault why) = Err (capture_stop why)
+more_of (Fault why) = Err (Capture why)

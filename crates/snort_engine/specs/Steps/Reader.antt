@@ -21,8 +21,9 @@ use Rattle.snort_engine.specs.declared.fault.ReadFault.{ReadFault}
 use Rattle.snort_engine.specs.declared.fault.ReadFault.TheVariants as fault
 use Rattle.snort_engine.specs.declared.reader.RecordReader.{RecordReader}
 use Rattle.snort_engine.specs.declared.reader.RecordReader.TheVariants.{Savefile, Blocks}
-use Rattle.snort_engine.specs.Records.{Ending, Clean, Refused, Recording, of_savefile, of_blocks, recording_of, recording_of_blocks}
-use Rattle.snort_engine.specs.Records.{records_in, first_of, IsOther, IsToldOther}
+use Rattle.pcap_input.specs.Cut.{Ending, Clean, Refused, first_records, with_front}
+use Rattle.snort_engine.specs.Records.{Recording, of_savefile, of_blocks, recording_of, recording_of_blocks}
+use Rattle.snort_engine.specs.Records.{records_in, IsOther, IsToldOther}
 
 -- ---- a reader
 
@@ -63,10 +64,6 @@ pub record HasGoneOn (old new : RecordReader) (count : ℕ) : Type 0 where
 
 -- ---- reading
 
--- some records, and then what stands behind them
-abbrev pub with_front : List LinkedRecord → Recording → Recording
-with_front given recording = record { records = given ++ recording.records; ending = recording.ending }
-
 -- the first reader has become the second, and has not refused: it took some bytes and gave these records;
 -- whatever follows, the rest of the records and the ending are the second one's
 pub record HasRead (first reader : RecordReader) (given : List LinkedRecord) (left_first left : Option (List ℕ)) : Type 0 where
@@ -82,7 +79,7 @@ pub record AreWhole (first : RecordReader) (given : List LinkedRecord) (left_fir
   pub are : (recording_for first taken).records ≡ given
 
 -- where the bytes that were left are told, these are all their records, and this is their ending
-abbrev pub EndsWith : RecordReader → List LinkedRecord → Option (List ℕ) → Ending → Type 0
+abbrev pub EndsWith : RecordReader → List LinkedRecord → Option (List ℕ) → Ending ReadFault → Type 0
 EndsWith first given left_first ending =
     (whole : List ℕ) → left_first ≡ Some whole → recording_for first whole ≡ record { records = given; ending = ending }
 
@@ -106,7 +103,7 @@ Gives old new (Err why) left_old left_new = AreWhole old [] left_old left_new ×
 -- reader has yet to give
 abbrev pub BeginsBehind : List ℕ → RecordReader → Type 0
 BeginsBehind front reader =
-    (limit : Option ℕ) (more : List ℕ) → records_in limit (front ++ more) ≡ first_of limit (recording_for reader more)
+    (limit : Option ℕ) (more : List ℕ) → records_in limit (front ++ more) ≡ first_records limit (recording_for reader more)
 
 -- the capture that holds these bytes was opened, and the reader begins behind those that were taken
 pub record IsBegun (held : Option (List ℕ)) (reader : RecordReader) (left : Option (List ℕ)) : Type 0 where

@@ -7,15 +7,14 @@ use Rattle.snort_setup.specs.declared.stop.SetupStop.{SetupStop}
 use Rattle.snort_setup.specs.declared.stop.SetupStop.TheVariants as setup
 use Rattle.alert_lines.specs.declared.fault.WriteFault.{WriteFault}
 use Rattle.alert_lines.specs.declared.fault.WriteFault.TheVariants as write
-use Rattle.snort_engine.specs.declared.fault.ReadFault.{ReadFault}
 use Rattle.snort_engine.specs.declared.fault.ReadFault.TheVariants as fault
 use Rattle.snort_engine.specs.declared.status.Status.{Status}
 use Rattle.snort_engine.specs.declared.status.Status.TheVariants as status
 use Rattle.snort_engine.specs.declared.stop.Stop.{Stop}
 use Rattle.snort_engine.specs.declared.stop.Stop.TheVariants as stop
+use Rattle.snort_engine.specs.Answer.{fault_status, fault_text}
 use Rattle.snort_engine.specs.Messages.{usage_text, version_text, accepted_text, command_line_text, cannot_read_text}
-use Rattle.snort_engine.specs.Messages.{cannot_write_text, no_memory_text, not_pcap_text, link_type_text}
-use Rattle.snort_engine.specs.Messages.{truncated_text, bad_block_text, too_long_text, too_many_text, bad_unified2_text}
+use Rattle.snort_engine.specs.Messages.{cannot_write_text, no_memory_text, bad_unified2_text}
 
 -- the status of a stop
 abbrev pub stop_status : Stop → Status
@@ -25,15 +24,9 @@ stop_status (stop.Accepted rules) = status.Done
 stop_status stop.CommandLine = status.Refused
 stop_status (stop.Refused message) = status.Refused
 stop_status (stop.CannotReadFile name) = status.HostFault
-stop_status stop.CannotRead = status.HostFault
+stop_status (stop.Capture why) = fault_status why
 stop_status stop.CannotWrite = status.WriteFault
 stop_status stop.NoMemory = status.NoMemory
-stop_status stop.NotPcap = status.BadCapture
-stop_status (stop.LinkType link_type) = status.BadCapture
-stop_status (stop.Truncated at) = status.BadCapture
-stop_status (stop.BadBlock at) = status.BadCapture
-stop_status (stop.TooLong at len) = status.BadCapture
-stop_status stop.TooMany = status.BadCapture
 stop_status (stop.BadUnified2 at) = status.BadCapture
 
 -- the message of a stop, where the capture has this name
@@ -44,27 +37,10 @@ stop_text source (stop.Accepted rules) = accepted_text rules
 stop_text source stop.CommandLine = command_line_text
 stop_text source (stop.Refused message) = message
 stop_text source (stop.CannotReadFile name) = cannot_read_text name
-stop_text source stop.CannotRead = cannot_read_text source
+stop_text source (stop.Capture why) = fault_text source why
 stop_text source stop.CannotWrite = cannot_write_text
 stop_text source stop.NoMemory = no_memory_text
-stop_text source stop.NotPcap = not_pcap_text
-stop_text source (stop.LinkType link_type) = link_type_text link_type
-stop_text source (stop.Truncated at) = truncated_text at
-stop_text source (stop.BadBlock at) = bad_block_text at
-stop_text source (stop.TooLong at len) = too_long_text at len
-stop_text source stop.TooMany = too_many_text
 stop_text source (stop.BadUnified2 at) = bad_unified2_text at
-
--- how a fault of the capture stops a run
-abbrev pub capture_stop : ReadFault → Stop
-capture_stop fault.NotPcap = stop.NotPcap
-capture_stop (fault.LinkType link_type) = stop.LinkType link_type
-capture_stop (fault.Truncated at) = stop.Truncated at
-capture_stop (fault.BadBlock at) = stop.BadBlock at
-capture_stop (fault.TooLong at len) = stop.TooLong at len
-capture_stop fault.TooMany = stop.TooMany
-capture_stop fault.Failed = stop.CannotRead
-capture_stop fault.NoMemory = stop.NoMemory
 
 -- how a setup without a detector stops a run
 abbrev pub setup_stop : SetupStop → Stop
@@ -86,7 +62,8 @@ IsWriteStop why = ⊥
 -- sink failed, and memory was there
 abbrev pub is_whole : {A : Type 0} → Result A Stop → Bool
 is_whole (Ok done) = true
-is_whole (Err stop.CannotRead) = false
+is_whole (Err (stop.Capture fault.Failed)) = false
+is_whole (Err (stop.Capture fault.NoMemory)) = false
 is_whole (Err stop.CannotWrite) = false
 is_whole (Err stop.NoMemory) = false
 is_whole (Err why) = true

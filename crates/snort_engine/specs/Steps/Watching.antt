@@ -23,15 +23,17 @@ use Rattle.snort_engine.specs.declared.plan.Plan as code
 use Rattle.snort_engine.specs.declared.reader.RecordReader.{RecordReader}
 use Rattle.snort_engine.specs.declared.stop.Stop.{Stop}
 use Rattle.snort_engine.specs.declared.stop.Stop.TheVariants as stop
+use Rattle.snort_engine.specs.declared.fault.ReadFault.TheVariants as fault
 use Rattle.snort_engine.specs.Course.{Plan}
 use Rattle.snort_engine.specs.Steps.Sources.{source_name}
-use Rattle.snort_engine.specs.Records.{AreWithin, Ending, Clean, Refused, Recording, first_of}
+use Rattle.pcap_input.specs.Cut.{AreWithin, Ending, Clean, Refused, first_records}
+use Rattle.snort_engine.specs.Records.{Recording}
 use Rattle.snort_engine.specs.Steps.Reader.{recording_for, number_of, HasRead, IsReadable}
 use Rattle.snort_engine.specs.Trace.{Open, Closed, CaptureState}
 use Rattle.snort_engine.specs.Lines.{lines}
 use Rattle.snort_engine.specs.Counts.{counts_of}
 use Rattle.snort_engine.specs.ReadAhead.{batch, AreBatches}
-use Rattle.snort_engine.specs.Steps.Stop.{capture_stop, is_whole, write_stop}
+use Rattle.snort_engine.specs.Steps.Stop.{is_whole, write_stop}
 use Rattle.snort_engine.specs.Steps.Detecting.{Detecting, DetectorStands, IsClosable, Knows, Closes}
 
 -- the test says which rules of a set match, by what its patterns find
@@ -76,7 +78,7 @@ lines_of plan records state = lines plan [] records state
 
 -- what these bytes hold for a reader, up to the plan's limit
 abbrev pub recording_by : Plan → RecordReader → List ℕ → Recording
-recording_by plan reader rest = first_of plan.limit (recording_for reader rest)
+recording_by plan reader rest = first_records plan.limit (recording_for reader rest)
 
 -- the lines of the records that these bytes hold for a reader
 abbrev pub lines_left : Plan → RecordReader → List ℕ → CaptureState → List ℕ
@@ -87,7 +89,7 @@ abbrev pub counts_left : Plan → RecordReader → List ℕ → Counts
 counts_left plan reader rest = counts_of plan (recording_by plan reader rest).records
 
 -- all lines of the bytes that were left were written, they end so, and all was counted
-pub record IsWatched (plan : Plan) (reader : RecordReader) (rest : List ℕ) (ending : Ending) (old new : Streams)
+pub record IsWatched (plan : Plan) (reader : RecordReader) (rest : List ℕ) (ending : Ending ReadFault) (old new : Streams)
     (counts : Counts) : Type 0 where
   pub ends : (recording_by plan reader rest).ending ≡ ending
   pub wrote : new.written ≡ behind old.written (lines_left plan reader rest Closed)
@@ -108,7 +110,8 @@ IsReadOut plan reader taken left =
 -- or to the end, or to where the host failed
 abbrev pub HasReadTo : Plan → RecordReader → List ℕ → Option (List ℕ) → Type 0 → Result (Unit {0}) Stop → Type 0
 HasReadTo plan reader taken left failed (Ok done) = IsReadOut plan reader taken left
-HasReadTo plan reader taken left failed (Err stop.CannotRead) = ⊤
+HasReadTo plan reader taken left failed (Err (stop.Capture fault.Failed)) = ⊤
+HasReadTo plan reader taken left failed (Err (stop.Capture fault.NoMemory)) = ⊤
 HasReadTo plan reader taken left failed (Err stop.NoMemory) = ⊤
 HasReadTo plan reader taken left failed (Err stop.CannotWrite) =
     AreBatches (recording_by plan reader taken).records ⊎ (IsReadOut plan reader taken left ⊎ failed)
@@ -137,7 +140,7 @@ WritesSome plan reader old new =
     (rest : List ℕ) → old.left ≡ Some rest → WritesPart old.written (lines_left plan reader rest Closed) new.written
 
 -- the capture was watched to an ending
-abbrev pub WatchesTo : Plan → RecordReader → Ending → Streams → Streams → Counts → Type 0
+abbrev pub WatchesTo : Plan → RecordReader → Ending ReadFault → Streams → Streams → Counts → Type 0
 WatchesTo plan reader ending old new counts =
     (rest : List ℕ) → old.left ≡ Some rest → IsWatched plan reader rest ending old new counts
 
@@ -145,11 +148,13 @@ WatchesTo plan reader ending old new counts =
 -- want of memory; or at what can't be read
 abbrev pub Watches : Plan → RecordReader → Streams → Streams → Counts → Result (Unit {0}) Stop → Type 0
 Watches plan reader old new counts (Ok done) = WatchesTo plan reader Clean old new counts
-Watches plan reader old new counts (Err stop.CannotRead) = IsReadCutShort plan reader old new × WritesSome plan reader old new
+Watches plan reader old new counts (Err (stop.Capture fault.Failed)) =
+    IsReadCutShort plan reader old new × WritesSome plan reader old new
+Watches plan reader old new counts (Err (stop.Capture fault.NoMemory)) = WritesSome plan reader old new
+Watches plan reader old new counts (Err (stop.Capture why)) = WatchesTo plan reader (Refused why) old new counts
 Watches plan reader old new counts (Err stop.CannotWrite) = WritesSome plan reader old new
 Watches plan reader old new counts (Err stop.NoMemory) = WritesSome plan reader old new
-Watches plan reader old new counts (Err why) =
-    (fault : ReadFault) × (why ≡ capture_stop fault) × WatchesTo plan reader (Refused fault) old new counts
+Watches plan reader old new counts (Err why) = ⊥
 
 -- ---- batch by batch
 
@@ -200,7 +205,7 @@ pub record IsUnderWay (plan : Plan) (first : RecordReader) (start : Streams) (no
 -- all records were given, up to this ending, the detector stands for them, and their lines were written:
 -- nothing is closed yet
 pub record IsAtEnd (plan : Plan) (first : RecordReader) (start : Streams) (now : Streams) (detector : Detector)
-    (ending : Ending) : Type 0 where
+    (ending : Ending ReadFault) : Type 0 where
   pub given : List LinkedRecord
   pub ends : (rest : List ℕ) → start.left ≡ Some rest → recording_by plan first rest ≡ record { records = given; ending = ending }
   pub stands : DetectorStands plan given detector
@@ -209,11 +214,13 @@ pub record IsAtEnd (plan : Plan) (first : RecordReader) (start : Streams) (now :
 -- how the reading of all batches ends
 abbrev pub Comes : Plan → RecordReader → Streams → Streams → Detector → Result (Unit {0}) Stop → Type 0
 Comes plan first start now detector (Ok done) = IsAtEnd plan first start now detector Clean
-Comes plan first start now detector (Err stop.CannotRead) = IsReadCutShort plan first start now × WritesSome plan first start now
+Comes plan first start now detector (Err (stop.Capture fault.Failed)) =
+    IsReadCutShort plan first start now × WritesSome plan first start now
+Comes plan first start now detector (Err (stop.Capture fault.NoMemory)) = WritesSome plan first start now
+Comes plan first start now detector (Err (stop.Capture why)) = IsAtEnd plan first start now detector (Refused why)
 Comes plan first start now detector (Err stop.CannotWrite) = WritesSome plan first start now
 Comes plan first start now detector (Err stop.NoMemory) = WritesSome plan first start now
-Comes plan first start now detector (Err why) =
-    (fault : ReadFault) × (why ≡ capture_stop fault) × IsAtEnd plan first start now detector (Refused fault)
+Comes plan first start now detector (Err why) = ⊥
 
 -- and its lines are close behind its records
 abbrev pub ComesOver : Plan → RecordReader → Streams → Streams → Type 0 → Detector → Result (Unit {0}) Stop → Type 0

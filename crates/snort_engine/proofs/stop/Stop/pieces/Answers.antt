@@ -1,11 +1,6 @@
-use Rattle.std.proofs.Common.{append_assoc}
 use Rattle.snort_engine.specs.Steps.Stop.{stop_text}
-use Rattle.snort_engine.specs.Messages.{usage_text, version_text, command_line_text, cannot_write_text, no_memory_text, not_pcap_text, too_long_text, too_many_text}
+use Rattle.snort_engine.specs.Messages.{bad_unified2_text, usage_text, version_text, command_line_text, cannot_write_text, no_memory_text}
 use Rattle.snort_engine.proofs.stop.Stop.pieces.Goals as goal
-
-pub returns-in-TooLong : goal.returns-in-TooLong
-unfolding stop_text too_long_text
-returns-in-TooLong c = rw c.in-TooLong.is (simp append_assoc)
 
 pub returns-in-Usage : goal.returns-in-Usage
 unfolding stop_text usage_text
@@ -27,10 +22,6 @@ pub returns-in-NoMemory : goal.returns-in-NoMemory
 unfolding stop_text no_memory_text
 returns-in-NoMemory c = rw c.in-NoMemory.is c.alone-in-NoMemory.ensures
 
-pub returns-in-NotPcap : goal.returns-in-NotPcap
-unfolding stop_text not_pcap_text
-returns-in-NotPcap c = rw c.in-NotPcap.is c.alone-in-NotPcap.ensures
-
-pub returns-in-TooMany : goal.returns-in-TooMany
-unfolding stop_text too_many_text
-returns-in-TooMany c = rw c.in-TooMany.is c.alone-in-TooMany.ensures
+pub returns-in-BadUnified2 : goal.returns-in-BadUnified2
+unfolding stop_text bad_unified2_text
+returns-in-BadUnified2 c = rw c.in-BadUnified2.is c.numbered.ensures
