@@ -5,3 +5,4 @@ pub mod FlowNumbers
 pub mod Value
 pub mod Reading
 pub mod Tokens
+pub mod LineEvents

@@ -4,15 +4,18 @@
 //! whose members stand in Suricata's order. The text is UTF-8, and as JSON (RFC 8259) it is exactly the
 //! event's value, by the kit's own definition of reading (specs/Reading). A flow's number and its community
 //! ID are those of specs/FlowNumbers. Where memory is lacking the buffer stays as it was.
+//! `event_of` makes the event of an alert line that `alert_fast` has read.
 #![tactic(auto)]
 
 mod event;
 mod fields;
 mod flow_ids;
 mod line;
+mod line_event;
 mod members;
 mod stamp;
 mod texts;
 
 pub use event::{Alert, Captured, Event, Flow, Pair, Run};
 pub use line::push_event;
+pub use line_event::event_of;
