@@ -3,4 +3,3 @@ pub mod FrontSteps
 pub mod Pieces
 pub mod Copying
 pub mod Running
-pub mod Options

@@ -1,62 +1,85 @@
 -- What the words of the command ask for.
 --
--- Behind the program's name come options, each with its value, and then the name of the file; of an option that comes twice
--- the last one counts. Options are those of the manual's `tools/eve`.
--- To try it on: `snort_eve --host a --community-id-seed 7 f` asks for the file `f`, the host `a` and the seed 7.
-use Rattle.std.specs.Prelude.{ℕ, if◌then◌else◌, List, [], ◌∷◌, Option, Some, None, option_map, bytes_eq, codes}
+-- Words are read as clap reads them (specs/Command). Without a name of a file, and where it is `-`, standard input is read,
+-- by the name that the system has for it.
+-- To try it on: `--host a --community-id-seed 7 f -` asks for the files `f` and `/dev/stdin`, the host `a` and the seed 7;
+-- `--community-id-seed 65536` asks for nothing, and is refused.
+use Rattle.std.specs.Prelude.{ℕ, Bool, if◌then◌else◌, List, [], ◌∷◌, map, Option, Some, None, bytes_eq, codes, find, is_some, option_map, option_and_then, slice_get}
+use Rattle.std.specs.Borrow.{Bor}
+use Rattle.clap.specs.Walk.{Row, Text, all_of}
+use Rattle.clap.specs.declared.parser.matches.ValueSource.{ValueSource}
+use Rattle.clap.specs.declared.parser.matches.ValueSource.TheVariants.{CommandLine, DefaultValue}
 use Rattle.net_lists.specs.Numbers.{number_in}
 use Rattle.alert_json.specs.Facts.{RunFacts, run_facts}
-use Rattle.snort_eve.specs.declared.words.Words.{Words}
+use Rattle.snort_eve.specs.Command.{clap_rows}
+use Rattle.snort_eve.specs.declared.words.Asked.{Asked as Kept}
+use Rattle.snort_eve.specs.declared.words.Asked.TheVariants as kept
+use Rattle.snort_eve.specs.declared.words.Wanted.{Wanted as KeptWanted}
 
--- what all records have alike, and the name of the file
-pub record Asked : Type 0 where
+-- what all records have alike, and the names of the files, in their order
+pub record Wanted : Type 0 where
   pub run : RunFacts
-  pub name : List ℕ
+  pub files : List (List ℕ)
 
-abbrev pub asked_for : RunFacts → List ℕ → Asked
-asked_for run name = record { run = run; name = name }
+-- the usage, or lines
+pub data Asked : Type 0 where
+  help : Asked
+  lines : Wanted → Asked
 
--- no option was given
-abbrev pub no_names : RunFacts
-no_names = record { seed = 0; host = None; pcap_filename = None }
+-- ---- what the rows say of the words
 
-abbrev pub with_seed : RunFacts → ℕ → RunFacts
-with_seed run seed = record { seed = seed; host = run.host; pcap_filename = run.pcap_filename }
+-- a text that the words gave
+abbrev pub if_given : Option ValueSource → Option Text → Option Text
+if_given None text = None
+if_given (Some DefaultValue) text = None
+if_given (Some CommandLine) text = text
 
-abbrev pub with_host : RunFacts → List ℕ → RunFacts
-with_host run name = record { seed = run.seed; host = Some name; pcap_filename = run.pcap_filename }
+abbrev pub given_text : Row → Option Text
+given_text row = if_given row.source (slice_get row.values 0)
 
-abbrev pub with_capture : RunFacts → List ℕ → RunFacts
-with_capture run name = record { seed = run.seed; host = run.host; pcap_filename = Some name }
+-- the text that the words gave an option or a flag; a flag's is `true`
+abbrev pub given_in : List Row → Text → Option Text
+given_in rows id = option_and_then given_text (find (λ row. bytes_eq row.id id) rows)
 
--- with the seed that a value spells
-abbrev pub seeded : RunFacts → List ℕ → Option RunFacts
-seeded run value = option_map (with_seed run) (number_in 0 65535 value)
+-- ---- what is asked for
 
--- with one option more
-unfoldable pub with_option : RunFacts → List ℕ → List ℕ → Option RunFacts
-with_option run option value =
-    if bytes_eq option (codes "--host") then Some (with_host run value)
-    else if bytes_eq option (codes "--pcap-filename") then Some (with_capture run value)
-    else if bytes_eq option (codes "--community-id-seed") then seeded run value
-    else None
+-- the name of standard input
+abbrev pub input_name : List ℕ
+input_name = codes "/dev/stdin"
 
--- the same, unless an option before was none
-abbrev pub next_option : Option RunFacts → List ℕ → List ℕ → Option RunFacts
-next_option None option value = None
-next_option (Some run) option value = with_option run option value
+abbrev pub file_of : List ℕ → List ℕ
+file_of name = if bytes_eq name (codes "-") then input_name else name
 
--- options, and the name behind them
-abbrev pub asked_with : Option RunFacts → List (List ℕ) → Option Asked
-asked_with run [] = None
-asked_with run (name ∷ []) = option_map (λ (r : RunFacts). asked_for r name) run
-asked_with run (option ∷ value ∷ rest) = asked_with (next_option run option value) rest
+abbrev pub files_of : Option (List (List ℕ)) → List (List ℕ)
+files_of None = input_name ∷ []
+files_of (Some names) = map file_of names
 
--- what the words ask for, behind the program's name
+-- the seed that a value spells; 0 without one
+abbrev pub seed_of : Option (List ℕ) → Option ℕ
+seed_of None = Some 0
+seed_of (Some value) = number_in 0 65535 value
+
+abbrev pub with_seed : List Row → ℕ → Asked
+with_seed rows seed = lines (record {
+  run = record { seed = seed; host = given_in rows (codes "host"); pcap_filename = given_in rows (codes "pcap-filename") };
+  files = files_of (all_of (codes "FILE") rows);
+})
+
+-- what the rows ask for
+abbrev pub asked_in : List Row → Option Asked
+asked_in rows =
+    if is_some (given_in rows (codes "help")) then Some help
+    else option_map (with_seed rows) (seed_of (given_in rows (codes "community-id-seed")))
+
+-- what the words ask for, the program's name among them; None where they are no command line
 abbrev pub asked_of : List (List ℕ) → Option Asked
-asked_of [] = None
-asked_of (program ∷ words) = asked_with (Some no_names) words
+asked_of words = option_and_then asked_in (clap_rows words)
 
--- the same of words that are lent
-abbrev pub asked_facts : Words → Asked
-asked_facts words = record { run = run_facts words.run; name = words.name.now }
+-- ---- the same of words that are lent
+
+abbrev pub wanted_facts : KeptWanted → Wanted
+wanted_facts wanted = record { run = run_facts wanted.run; files = map (λ (name : Bor (List ℕ)). name.now) wanted.files.items }
+
+abbrev pub asked_facts : Kept → Asked
+asked_facts kept.Help = help
+asked_facts (kept.Lines wanted) = lines (wanted_facts wanted)

@@ -2,5 +2,6 @@ pub mod Joins
 pub mod Events
 pub mod Streams
 pub mod Copies
+pub mod Command
 pub mod Asking
 pub mod Runs

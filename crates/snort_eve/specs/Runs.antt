@@ -1,23 +1,24 @@
--- A run: a file of Unified2 records becomes JSON lines.
+-- A run: files of Unified2 records become JSON lines.
 --
--- The words name a file, and what all records have alike (`Asking`). The lines are those of the events of the file's
--- records (`event_line` of alert_json), in order, each event once. Where bytes are left at which no record begins, or that
--- are too few, the run says so, behind the lines of what is whole; where a read or a write fails it has written a beginning
--- of the lines.
--- To try it on: of a file with an event, and a packet of which a byte is lacking, the line of the event is written, and the
--- status is 2.
-use Rattle.std.specs.Prelude.{◌≡◌, ℕ, ◌^◌, ◌≤◌, length, List, [], ◌++◌, Option, Some, None, codes, decimal, Result, Ok, Err}
+-- The words name the files, and what all records have alike (`Asking`). The lines are those of the events of the files'
+-- records (`event_line` of alert_json), file by file in their order, each event once. A run ends at the first file that isn't
+-- records up to its end, that can't be opened or read, or behind which a write fails or memory is lacking: the files before
+-- are done, and of this one the lines of what is whole, or a beginning of the lines, are written.
+-- To try it on: of a file with two events, and one with an event and a packet of which a byte is lacking, the lines of three
+-- events are written, and the status is 2.
+use Rattle.std.specs.Prelude.{◌≡◌, ⊤, ℕ, ◌^◌, ◌≤◌, length, List, [], ◌∷◌, ◌++◌, Option, Some, None, codes, decimal, Result, Ok, Err}
+use Rattle.std.specs.Borrow.{Bor}
 use Rattle.std.specs.FinMap.{get}
-use Rattle.edge_io.specs.Files.{Files, Lacks}
+use Rattle.edge_io.specs.Files.{Files}
 use Rattle.edge_io.specs.Told.{behind}
 use Rattle.alert_json.specs.Facts.{RunFacts}
 use Rattle.alert_json.specs.Value.{event_line}
 use Rattle.snort_eve.specs.Joins.{Joined}
 use Rattle.snort_eve.specs.Events.{event_of}
-use Rattle.snort_eve.specs.Asking.{Asked}
+use Rattle.snort_eve.specs.Asking.{Asked, help, lines}
 use Rattle.snort_eve.specs.Copies.{IsDone, IsBad, IsBeginning}
-use Rattle.snort_eve.specs.declared.run.Outcome.{Outcome}
-use Rattle.snort_eve.specs.declared.run.Outcome.TheVariants as outcome
+use Rattle.snort_eve.specs.declared.outcome.Outcome.{Outcome}
+use Rattle.snort_eve.specs.declared.outcome.Outcome.TheVariants as outcome
 use Rattle.snort_eve.specs.declared.copy.Ending.{Ending}
 use Rattle.snort_eve.specs.declared.copy.Ending.TheVariants.{Done, Bad}
 use Rattle.snort_eve.specs.declared.copy.Stop.{Stop}
@@ -27,61 +28,131 @@ use Rattle.snort_eve.specs.declared.copy.Stop.TheVariants.{Unread, Unwritten, To
 abbrev pub line_of : RunFacts → Joined → List ℕ
 line_of run it = event_line (event_of it) run
 
+-- ---- a file
+
 -- the file has this name, and its bytes are so
 pub record HasBytes (name : List ℕ) (files : Files) (Holds : List ℕ → Type 0) : Type 0 where
   pub bytes : List ℕ
   pub has : get files name ≡ Some bytes
   pub holds : Holds bytes
 
--- a beginning of the lines of the file's events was written
-abbrev pub IsCut : Asked → Files → List ℕ → Type 0
-IsCut asked files wrote = (bytes : List ℕ) → get files asked.name ≡ Some bytes → IsBeginning (line_of asked.run) bytes wrote
+-- a beginning of the lines of the file's events
+abbrev pub IsCut : (Joined → List ℕ) → Files → List ℕ → List ℕ → Type 0
+IsCut line files name wrote = (bytes : List ℕ) → get files name ≡ Some bytes → IsBeginning line bytes wrote
 
 -- where there is such a file, it has more bytes than can be counted
 abbrev pub IsTooLong : List ℕ → Files → Type 0
 IsTooLong name files = (bytes : List ℕ) → get files name ≡ Some bytes → 2 ^ 64 ≤ length bytes
 
--- the host told its files, and lacks the one that is named
-abbrev pub LacksNamed : Option Files → Option Asked → Type 0
-LacksNamed contents None = ⊥
-LacksNamed contents (Some asked) = Lacks contents asked.name
+-- what was written of a file, by how its copying ended
+abbrev pub IsFileRun : (Joined → List ℕ) → Files → List ℕ → List ℕ → Outcome → Type 0
+IsFileRun line files name wrote outcome.Done = HasBytes name files (λ bytes. IsDone line bytes wrote)
+IsFileRun line files name wrote outcome.Help = ⊥
+IsFileRun line files name wrote outcome.CommandLine = ⊥
+IsFileRun line files name wrote (outcome.Bad told at) =
+    (told.now ≡ name) × HasBytes name files (λ bytes. IsBad line bytes wrote at)
+IsFileRun line files name wrote (outcome.Unread told) = (told.now ≡ name) × IsCut line files name wrote
+IsFileRun line files name wrote outcome.Unwritten = IsCut line files name wrote
+IsFileRun line files name wrote (outcome.TooLong told) = (told.now ≡ name) × (IsCut line files name wrote × IsTooLong name files)
+IsFileRun line files name wrote outcome.NoMemory = IsCut line files name wrote
 
--- what a run that asks for this has written at its end
-abbrev pub IsFileRun : Asked → Files → List ℕ → Outcome → Type 0
-IsFileRun asked files wrote outcome.Done = HasBytes asked.name files (λ bytes. IsDone (line_of asked.run) bytes wrote)
-IsFileRun asked files wrote outcome.Refused = ⊥
-IsFileRun asked files wrote (outcome.Bad at) = HasBytes asked.name files (λ bytes. IsBad (line_of asked.run) bytes wrote at)
-IsFileRun asked files wrote outcome.Unread = IsCut asked files wrote
-IsFileRun asked files wrote outcome.Unwritten = IsCut asked files wrote
-IsFileRun asked files wrote outcome.TooLong = IsCut asked files wrote × IsTooLong asked.name files
-IsFileRun asked files wrote outcome.NoMemory = IsCut asked files wrote
+-- ---- files
 
--- and a run over the file that words name; without one it is refused, and nothing was written
+-- files that are records up to their ends, one after another
+abbrev pub AreDone : (Joined → List ℕ) → Files → List (List ℕ) → List ℕ → Type 0
+AreDone line files [] wrote = wrote ≡ []
+AreDone line files (name ∷ names) wrote =
+    (first : List ℕ) × (later : List ℕ) × (wrote ≡ first ++ later)
+    × IsFileRun line files name first outcome.Done × AreDone line files names later
+
+-- how a run ends that has no file left
+abbrev pub IsAtEnd : Outcome → Type 0
+IsAtEnd outcome.Done = ⊤
+IsAtEnd outcome.NoMemory = ⊤
+IsAtEnd other = ⊥
+
+-- where these files are left, the run ended at the first one
+abbrev pub EndsAt : (Joined → List ℕ) → Files → List (List ℕ) → List ℕ → Outcome → Type 0
+EndsAt line files [] wrote ended = (wrote ≡ []) × IsAtEnd ended
+EndsAt line files (name ∷ names) wrote ended = (ended ≡ outcome.Done → ⊥) × IsFileRun line files name wrote ended
+
+-- the first files are done, and the run ended at those that are left
+pub record AreRun (line : Joined → List ℕ) (files : Files) (names : List (List ℕ)) (wrote : List ℕ)
+    (ended : Outcome) : Type 0 where
+  pub done : List (List ℕ)
+  pub left : List (List ℕ)
+  pub names_are : names ≡ done ++ left
+  pub before : List ℕ
+  pub now : List ℕ
+  pub split : wrote ≡ before ++ now
+  pub are : AreDone line files done before
+  pub ends : EndsAt line files left now ended
+
+-- ---- a run
+
+-- how it ends where words are refused, or ask for the usage
+abbrev pub IsRefused : Outcome → Type 0
+IsRefused outcome.CommandLine = ⊤
+IsRefused outcome.NoMemory = ⊤
+IsRefused other = ⊥
+
+abbrev pub IsHelp : Outcome → Type 0
+IsHelp outcome.Help = ⊤
+IsHelp outcome.NoMemory = ⊤
+IsHelp other = ⊥
+
+-- what a run has written at its end, by what its words ask for
 abbrev pub IsRun : Option Asked → Files → List ℕ → Outcome → Type 0
-IsRun None files wrote ended = (ended ≡ outcome.Refused) × (wrote ≡ [])
-IsRun (Some asked) files wrote ended = IsFileRun asked files wrote ended
+IsRun None files wrote ended = (wrote ≡ []) × IsRefused ended
+IsRun (Some help) files wrote ended = (wrote ≡ []) × IsHelp ended
+IsRun (Some (lines wanted)) files wrote ended = AreRun (line_of wanted.run) files wanted.files wrote ended
 
--- a run, by all files that agree with what the host answered
-pub record Runs (named : Option Asked) (agrees : Files → Type 0) (old new : Option (List ℕ)) (ended : Outcome) : Type 0 where
+-- what was written between two states of a sink, by all files that agree
+pub record Writes (agrees : Files → Type 0) (old new : Option (List ℕ)) (Holds : Files → List ℕ → Type 0) : Type 0 where
   pub wrote : List ℕ
   pub told : new ≡ behind old wrote
-  pub ends : (files : Files) → agrees files → IsRun named files wrote ended
+  pub holds : (files : Files) → agrees files → Holds files wrote
 
--- how a run ends whose copying ended so
-abbrev pub outcome_of : Result Ending Stop → Outcome
-outcome_of (Ok Done) = outcome.Done
-outcome_of (Ok (Bad at)) = outcome.Bad at
-outcome_of (Err Unread) = outcome.Unread
-outcome_of (Err Unwritten) = outcome.Unwritten
-outcome_of (Err TooLong) = outcome.TooLong
-outcome_of (Err NoMemory) = outcome.NoMemory
+-- a run, by all files that agree with what the host answered
+abbrev pub Runs : Option Asked → (Files → Type 0) → Option (List ℕ) → Option (List ℕ) → Outcome → Type 0
+Runs asked agrees old new ended = Writes agrees old new (λ files wrote. IsRun asked files wrote ended)
 
--- the message of a run that didn't end well
+-- how a file ends whose copying ended so
+abbrev pub outcome_of : Bor (List ℕ) → Result Ending Stop → Outcome
+outcome_of name (Ok Done) = outcome.Done
+outcome_of name (Ok (Bad at)) = outcome.Bad name at
+outcome_of name (Err Unread) = outcome.Unread name
+outcome_of name (Err Unwritten) = outcome.Unwritten
+outcome_of name (Err TooLong) = outcome.TooLong name
+outcome_of name (Err NoMemory) = outcome.NoMemory
+
+-- a file wasn't opened or read, and this holds of its name; else nothing is said
+abbrev pub OnUnread : Outcome → (List ℕ → Type 0) → Type 0
+OnUnread (outcome.Unread name) Holds = Holds name.now
+OnUnread other Holds = ⊤
+
+-- this holds, unless a file wasn't opened or read
+abbrev pub UnlessUnread : Outcome → Type 0 → Type 0
+UnlessUnread (outcome.Unread name) Holds = ⊤
+UnlessUnread other Holds = Holds
+
+-- no whole record begins at this byte of this file
+abbrev pub bad_front : List ℕ → List ℕ
+bad_front name = codes "ERROR: unified2 file " ++ name ++ codes " is bad at byte "
+
+abbrev pub place_text : ℕ → List ℕ
+place_text at = decimal at ++ codes "\n"
+
+abbrev pub bad_text : List ℕ → ℕ → List ℕ
+bad_text name at = bad_front name ++ place_text at
+
+-- the message of a run
 unfoldable pub message_text : Outcome → List ℕ
 message_text outcome.Done = []
-message_text outcome.Refused = codes "ERROR: snort_eve [--host NAME] [--pcap-filename NAME] [--community-id-seed N] FILE\n"
-message_text (outcome.Bad at) = codes "ERROR: no whole record at byte " ++ decimal at ++ codes "\n"
-message_text outcome.Unread = codes "ERROR: cannot read the file\n"
+message_text outcome.Help = codes "usage: snort_eve [--host NAME] [--pcap-filename NAME] [--community-id-seed N] [FILE..]\n"
+message_text outcome.CommandLine = codes "ERROR: command line\n"
+message_text (outcome.Bad name at) = bad_text name.now at
+message_text (outcome.Unread name) = codes "ERROR: cannot read " ++ name.now ++ codes "\n"
 message_text outcome.Unwritten = codes "ERROR: cannot write\n"
-message_text outcome.TooLong = codes "ERROR: the file is too long\n"
+message_text (outcome.TooLong name) = codes "ERROR: unified2 file " ++ name.now ++ codes " is too long\n"
 message_text outcome.NoMemory = codes "ERROR: no memory\n"

@@ -174,6 +174,7 @@ fn next_piece<H: Host, T: Teller, A: Sink>(
     ensures small { result ≡ Ok true → read.new < 2 ^ 64 }
     ensures room { length block.new ≡ length block.old }
     ensures earlier { (files : Files) → H.agrees host.new files → H.agrees host.old files }
+    ensures same_contents { H.contents host.new ≡ H.contents host.old }
     ensures unread { IsErrOf result Stop.Unread → Rose (H.faults host.old) (H.faults host.new) }
     ensures unwritten { IsErrOf result Stop.Unwritten → Rose (A.faults alerts.old) (A.faults alerts.new) }
     ensures quiet { (IsErrOf result Stop.Unread → ⊥) → H.faults host.new ≡ H.faults host.old }
@@ -206,6 +207,7 @@ fn copy_pieces<H: Host, T: Teller, A: Sink>(
     ensures over { OnOk result (IsOver (H.agrees host.new) (H.left_of host.new) stream.new.rest.items) }
     ensures long { IsErrOf result Stop.TooLong → IsLong (H.agrees host.new) (H.left_of host.old) }
     ensures earlier { (files : Files) → H.agrees host.new files → H.agrees host.old files }
+    ensures same_contents { H.contents host.new ≡ H.contents host.old }
     ensures unread { IsErrOf result Stop.Unread → Rose (H.faults host.old) (H.faults host.new) }
     ensures unwritten { IsErrOf result Stop.Unwritten → Rose (A.faults alerts.old) (A.faults alerts.new) }
     ensures quiet { (IsErrOf result Stop.Unread → ⊥) → H.faults host.new ≡ H.faults host.old }
@@ -289,6 +291,7 @@ pub(crate) fn copy_records<H: Host, T: Teller, A: Sink>(
         (Stops (T.line teller.now) (H.agrees host.new) (H.left_of host.old) (A.written alerts.old) (A.written alerts.new)) }
     ensures long { IsErrOf result Stop.TooLong → IsLong (H.agrees host.new) (H.left_of host.old) }
     ensures earlier { (files : Files) → H.agrees host.new files → H.agrees host.old files }
+    ensures same_contents { H.contents host.new ≡ H.contents host.old }
     ensures unread { IsErrOf result Stop.Unread → Rose (H.faults host.old) (H.faults host.new) }
     ensures unwritten { IsErrOf result Stop.Unwritten → Rose (A.faults alerts.old) (A.faults alerts.new) }
     ensures quiet { (IsErrOf result Stop.Unread → ⊥) → H.faults host.new ≡ H.faults host.old }

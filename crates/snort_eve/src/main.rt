@@ -1,6 +1,6 @@
-//! The program `snort_eve`: the alerts in a file of Unified2 records become JSON lines.
+//! The program `snort_eve`: the alerts in files of Unified2 records become JSON lines.
 //!
-//! `snort_eve FILE`, with options in front of the name, writes one line an event to standard output, in the form of
+//! `snort_eve FILE..`, or standard input without a name, writes one line an event to standard output, in the form of
 //! Suricata's EVE records. What the lines are is the contract of `copy_on_system`: that of `copy_named`, by any files that
 //! give all that the system answered.
 #![tactic(auto)]
@@ -8,18 +8,21 @@
 ghost use Rattle.std.specs.Prelude.{◌≡◌, Some, map, string_bytes};
 ghost use Rattle.edge_io.specs.Told.{Rose};
 ghost use Rattle.edge_io.specs.Answers.{Agree, taken_of};
-ghost use Rattle.snort_eve.specs.Runs.{Runs};
+ghost use Rattle.snort_eve.specs.Runs.{OnUnread, Runs, UnlessUnread};
 ghost use Rattle.snort_eve.specs.Asking.{asked_of};
 
 mod copy;
 mod events;
 mod joins;
+mod outcome;
 mod records;
 mod run;
 mod stream;
+mod syntax;
 mod words;
 
-use crate::run::{Outcome, copy_named, tell};
+use crate::outcome::{Outcome, tell};
+use crate::run::copy_named;
 use edge_io::{FileHost, HeardHost, HeardSink, StdSink};
 use std::alloc::Global;
 use std::io::Stdout;
@@ -27,20 +30,20 @@ use std::process::ExitCode;
 use std::rt::{Env, Files};
 use std::{env, io};
 
-/// Writes the lines of the events of the file that the words name, from the system's files to standard output.
+/// Writes the lines of the events of the files that the words name, from the system's files to standard output.
 ///
 /// Whatever files give all that the host answered in this run, what the stream took is what `Runs` says of these files.
-fn copy_on_system<R: Files>(
+fn copy_on_system<'a, R: Files>(
     alloc: Global,
-    words: &[String],
+    words: &'a [String],
     host: &mut HeardHost<R>,
     alerts: &mut HeardSink<Stdout>,
-) -> Outcome
-    ensures runs { Runs (asked_of (map string_bytes words.now)) (Agree host.new.heard.answers)
+) -> Outcome<'a>
+    ensures runs { Runs (asked_of (map string_bytes words.entry.now)) (Agree host.new.heard.answers)
         (Some (taken_of alerts.old.heard.answers)) (Some (taken_of alerts.new.heard.answers)) result }
-    ensures unread { result ≡ Outcome.Unread → Rose host.old.host.faults host.new.host.faults }
+    ensures unread { OnUnread result (λ name. Rose host.old.host.faults host.new.host.faults) }
     ensures unwritten { result ≡ Outcome.Unwritten → Rose alerts.old.sink.faults alerts.new.sink.faults }
-    ensures quiet { (result ≡ Outcome.Unread → ⊥) → host.new.host.faults ≡ host.old.host.faults }
+    ensures quiet { UnlessUnread result (host.new.host.faults ≡ host.old.host.faults) }
     ensures quiet_alerts { (result ≡ Outcome.Unwritten → ⊥) → alerts.new.sink.faults ≡ alerts.old.sink.faults }
 {
     copy_named(alloc, words, host, alerts)

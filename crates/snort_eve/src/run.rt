@@ -1,167 +1,149 @@
-//! A run: from the words to the status.
-ghost use Rattle.std.specs.Prelude.{◌≡◌, ◌++◌, ◌⊎◌, ℕ, List, Some, true, map, string_bytes, IfOk, OnOk};
+//! A run: from the words to its end.
+ghost use Rattle.std.specs.Prelude.{◌≡◌, ◌⊎◌, ℕ, List, Some, map, string_bytes, option_map};
 ghost use Rattle.edge_io.specs.Files.{Files, Lacks, IsOpened};
-ghost use Rattle.edge_io.specs.Told.{Rose, behind};
-ghost use Rattle.snort_eve.specs.Runs.{LacksNamed, Runs, outcome_of, message_text};
-ghost use Rattle.snort_eve.specs.Asking.{asked_of, asked_facts, asked_for};
-ghost use Rattle.alert_json.specs.Facts.{run_facts};
+ghost use Rattle.edge_io.specs.Told.{Rose};
+ghost use Rattle.snort_eve.specs.Runs.{AreRun, IsFileRun, OnUnread, Runs, UnlessUnread, Writes};
+ghost use Rattle.snort_eve.specs.Asking.{asked_facts, asked_of, lines, wanted_facts};
 
-use crate::copy::{Ending, Stop, copy_records};
+use crate::copy::copy_records;
 use crate::events::Lines;
-use crate::words::{Words, asked_of};
-use alert_fast::Piece::{Bytes, Number};
-use alert_fast::push_pieces;
-use alert_json::Run;
-use edge_io::{Failed, Host, NoMemory, Sink, write_all};
+use crate::joins::Teller;
+use crate::outcome::{Outcome, is_done, outcome_of};
+use crate::words::{Asked, Wanted, asked_of};
+use edge_io::{Failed, Host, NoMemory, Sink};
 use std::alloc::Global;
 
-/// How a run ends.
-#[derive(Clone, Copy, Debug, PartialEq, Eq)]
-pub(crate) enum Outcome {
-    /// All of the file was told.
-    Done,
-    /// The words name no file.
-    Refused,
-    /// No whole record begins at this byte.
-    Bad { at: u64 },
-    /// The file can't be opened, or a read failed.
-    Unread,
-    /// A write failed.
-    Unwritten,
-    /// The file has 2^64 bytes or more.
-    TooLong,
-    /// Memory ran out.
-    NoMemory,
+/// Writes the lines of the events of the file that is open, of this name.
+fn copy_open<'a, H: Host, T: Teller, A: Sink>(
+    alloc: Global,
+    host: &mut H,
+    teller: &T,
+    name: &'a str,
+    alerts: &mut A,
+) -> Outcome<'a>
+    ensures runs { ((files : Files) → H.agrees host.old files → IsOpened (Some files) name.entry.now (H.left_of host.old files))
+        → Writes (H.agrees host.new) (A.written alerts.old) (A.written alerts.new)
+        (λ files wrote. IsFileRun (T.line teller.now) files name.entry.now wrote result) }
+    ensures earlier { (files : Files) → H.agrees host.new files → H.agrees host.old files }
+    ensures same_contents { H.contents host.new ≡ H.contents host.old }
+    ensures unread { OnUnread result (λ name. Rose (H.faults host.old) (H.faults host.new)) }
+    ensures unwritten { result ≡ Outcome.Unwritten → Rose (A.faults alerts.old) (A.faults alerts.new) }
+    ensures quiet { UnlessUnread result (H.faults host.new ≡ H.faults host.old) }
+    ensures quiet_alerts { (result ≡ Outcome.Unwritten → ⊥) → A.faults alerts.new ≡ A.faults alerts.old }
+{
+    outcome_of(name, copy_records(alloc, host, teller, alerts))
 }
 
-impl Outcome {
-    /// The exit status.
-    pub(crate) fn code(self) -> u8 {
-        match self {
-            Outcome::Done => 0,
-            Outcome::Refused => 1,
-            Outcome::Bad { .. } => 2,
-            Outcome::Unread | Outcome::TooLong => 3,
-            Outcome::Unwritten => 4,
-            Outcome::NoMemory => 5,
+/// Writes the lines of the events of the file of this name.
+fn copy_file<'a, H: Host, T: Teller, A: Sink>(
+    alloc: Global,
+    host: &mut H,
+    teller: &T,
+    name: &'a str,
+    alerts: &mut A,
+) -> Outcome<'a>
+    ensures runs { Writes (H.agrees host.new) (A.written alerts.old) (A.written alerts.new)
+        (λ files wrote. IsFileRun (T.line teller.now) files name.entry.now wrote result) }
+    ensures earlier { (files : Files) → H.agrees host.new files → H.agrees host.old files }
+    ensures same_contents { H.contents host.new ≡ H.contents host.old }
+    ensures unread { OnUnread result (λ name. Rose (H.faults host.old) (H.faults host.new) ⊎ Lacks (H.contents host.old) name) }
+    ensures unwritten { result ≡ Outcome.Unwritten → Rose (A.faults alerts.old) (A.faults alerts.new) }
+    ensures quiet { UnlessUnread result (H.faults host.new ≡ H.faults host.old) }
+    ensures quiet_alerts { (result ≡ Outcome.Unwritten → ⊥) → A.faults alerts.new ≡ A.faults alerts.old }
+{
+    match host.open(name) {
+        Ok(()) => copy_open(alloc, host, teller, name, alerts),
+        Err(Failed) => Outcome::Unread { name },
+    }
+}
+
+/// Writes the lines of the events of files, one after another, up to the first that isn't done.
+fn copy_files<'a, H: Host, T: Teller, A: Sink>(
+    alloc: Global,
+    host: &mut H,
+    teller: &T,
+    names: &[&'a str],
+    alerts: &mut A,
+) -> Outcome<'a>
+    ensures runs { Writes (H.agrees host.new) (A.written alerts.old) (A.written alerts.new)
+        (λ files wrote. AreRun (T.line teller.now) files (map (λ name. name.now) names.now) wrote result) }
+    ensures unread { OnUnread result (λ name. Rose (H.faults host.old) (H.faults host.new) ⊎ Lacks (H.contents host.old) name) }
+    ensures unwritten { result ≡ Outcome.Unwritten → Rose (A.faults alerts.old) (A.faults alerts.new) }
+    ensures quiet { UnlessUnread result (H.faults host.new ≡ H.faults host.old) }
+    ensures quiet_alerts { (result ≡ Outcome.Unwritten → ⊥) → A.faults alerts.new ≡ A.faults alerts.old }
+{
+    for name in names {
+        let outcome = copy_file(alloc, host, teller, *name, alerts);
+        if !is_done(outcome) {
+            return outcome;
         }
     }
+    Outcome::Done
 }
 
-fn outcome_of(copied: Result<Ending, Stop>) -> Outcome
-    ensures { result ≡ outcome_of copied }
-{
-    match copied {
-        Ok(Ending::Done) => Outcome::Done,
-        Ok(Ending::Bad { at }) => Outcome::Bad { at },
-        Err(Stop::Unread) => Outcome::Unread,
-        Err(Stop::Unwritten) => Outcome::Unwritten,
-        Err(Stop::TooLong) => Outcome::TooLong,
-        Err(Stop::NoMemory) => Outcome::NoMemory,
-    }
-}
-
-/// Writes the lines of the events of the file that is asked for.
-fn copy_file<H: Host, A: Sink>(
+/// Writes the lines that are wanted.
+fn copy_wanted<'a, H: Host, A: Sink>(
     alloc: Global,
-    asked: Words<'_>,
+    wanted: &Wanted<'a>,
     host: &mut H,
     alerts: &mut A,
-) -> Outcome
-    ensures runs { Runs (Some (asked_facts asked.entry)) (H.agrees host.new)
+) -> Outcome<'a>
+    ensures runs { Runs (Some (lines (wanted_facts wanted.now))) (H.agrees host.new)
         (A.written alerts.old) (A.written alerts.new) result }
-    ensures unread { result ≡ Outcome.Unread
-        → Rose (H.faults host.old) (H.faults host.new) ⊎ Lacks (H.contents host.old) asked.entry.name.now }
+    ensures unread { OnUnread result (λ name. Rose (H.faults host.old) (H.faults host.new) ⊎ Lacks (H.contents host.old) name) }
     ensures unwritten { result ≡ Outcome.Unwritten → Rose (A.faults alerts.old) (A.faults alerts.new) }
-    ensures quiet { (result ≡ Outcome.Unread → ⊥) → H.faults host.new ≡ H.faults host.old }
+    ensures quiet { UnlessUnread result (H.faults host.new ≡ H.faults host.old) }
     ensures quiet_alerts { (result ≡ Outcome.Unwritten → ⊥) → A.faults alerts.new ≡ A.faults alerts.old }
 {
-    match host.open(asked.name) {
-        Ok(()) => copy_open(alloc, asked.run, host, alerts),
-        Err(Failed) => Outcome::Unread,
+    copy_files(
+        alloc,
+        host,
+        &Lines { run: wanted.run },
+        &wanted.files,
+        alerts,
+    )
+}
+
+/// Writes the lines that are asked for, if any are.
+fn copy_asked<'a, H: Host, A: Sink>(
+    alloc: Global,
+    asked: Option<Asked<'a>>,
+    host: &mut H,
+    alerts: &mut A,
+) -> Outcome<'a>
+    ensures runs { Runs (option_map asked_facts asked.entry) (H.agrees host.new)
+        (A.written alerts.old) (A.written alerts.new) result }
+    ensures unread { OnUnread result (λ name. Rose (H.faults host.old) (H.faults host.new) ⊎ Lacks (H.contents host.old) name) }
+    ensures unwritten { result ≡ Outcome.Unwritten → Rose (A.faults alerts.old) (A.faults alerts.new) }
+    ensures quiet { UnlessUnread result (H.faults host.new ≡ H.faults host.old) }
+    ensures quiet_alerts { (result ≡ Outcome.Unwritten → ⊥) → A.faults alerts.new ≡ A.faults alerts.old }
+{
+    match asked {
+        None => Outcome::CommandLine,
+        Some(Asked::Help) => Outcome::Help,
+        Some(Asked::Lines(wanted)) => copy_wanted(alloc, &wanted, host, alerts),
     }
 }
 
-/// Writes the lines of the events of the file that is open.
-fn copy_open<H: Host, A: Sink>(alloc: Global, run: Run<'_>, host: &mut H, alerts: &mut A) -> Outcome
-    ensures runs { (name : List ℕ)
-        → ((files : Files) → H.agrees host.old files → IsOpened (Some files) name (H.left_of host.old files))
-        → Runs (Some (asked_for (run_facts run.entry) name)) (H.agrees host.new)
-        (A.written alerts.old) (A.written alerts.new) result }
-    ensures unread { result ≡ Outcome.Unread → Rose (H.faults host.old) (H.faults host.new) }
-    ensures unwritten { result ≡ Outcome.Unwritten → Rose (A.faults alerts.old) (A.faults alerts.new) }
-    ensures quiet { (result ≡ Outcome.Unread → ⊥) → H.faults host.new ≡ H.faults host.old }
-    ensures quiet_alerts { (result ≡ Outcome.Unwritten → ⊥) → A.faults alerts.new ≡ A.faults alerts.old }
-{
-    outcome_of(copy_records(alloc, host, &Lines { run }, alerts))
-}
-
-/// Writes the lines of the events of the file that the words name.
+/// Writes the lines of the events of the files that the words name.
 ///
-/// Where a host tells its files, or notes what it answered, the lines are those of the file's events, in order, each event
+/// Where a host tells its files, or notes what it answered, the lines are those of the files' events, in order, each event
 /// once; where a read or a write fails or memory is lacking, a beginning of them.
-pub(crate) fn copy_named<H: Host, A: Sink>(
+pub(crate) fn copy_named<'a, H: Host, A: Sink>(
     alloc: Global,
-    words: &[String],
+    words: &'a [String],
     host: &mut H,
     alerts: &mut A,
-) -> Outcome
-    ensures runs { Runs (asked_of (map string_bytes words.now)) (H.agrees host.new)
+) -> Outcome<'a>
+    ensures runs { Runs (asked_of (map string_bytes words.entry.now)) (H.agrees host.new)
         (A.written alerts.old) (A.written alerts.new) result }
-    ensures unread { result ≡ Outcome.Unread
-        → Rose (H.faults host.old) (H.faults host.new)
-        ⊎ LacksNamed (H.contents host.old) (asked_of (map string_bytes words.now)) }
+    ensures unread { OnUnread result (λ name. Rose (H.faults host.old) (H.faults host.new) ⊎ Lacks (H.contents host.old) name) }
     ensures unwritten { result ≡ Outcome.Unwritten → Rose (A.faults alerts.old) (A.faults alerts.new) }
-    ensures quiet { (result ≡ Outcome.Unread → ⊥) → H.faults host.new ≡ H.faults host.old }
+    ensures quiet { UnlessUnread result (H.faults host.new ≡ H.faults host.old) }
     ensures quiet_alerts { (result ≡ Outcome.Unwritten → ⊥) → A.faults alerts.new ≡ A.faults alerts.old }
 {
-    match asked_of(words) {
-        Some(asked) => copy_file(alloc, asked, host, alerts),
-        None => Outcome::Refused,
-    }
-}
-
-#[tactic(auto, unfolding(crate::specs::Runs::message_text))]
-fn push_message(outcome: Outcome, out: &mut Vec<u8>) -> Result<(), NoMemory>
-    ensures { OnOk result (out.new.items ≡ out.old.items ++ message_text outcome) }
-{
-    match outcome {
-        Outcome::Done => Ok(()),
-        Outcome::Refused => push_pieces(
-            out,
-            &[Bytes(
-                b"ERROR: snort_eve [--host NAME] [--pcap-filename NAME] [--community-id-seed N] FILE\n",
-            )],
-        ),
-        Outcome::Bad { at } => push_pieces(
-            out,
-            &[
-                Bytes(b"ERROR: no whole record at byte "),
-                Number(at),
-                Bytes(b"\n"),
-            ],
-        ),
-        Outcome::Unread => push_pieces(out, &[Bytes(b"ERROR: cannot read the file\n")]),
-        Outcome::Unwritten => push_pieces(out, &[Bytes(b"ERROR: cannot write\n")]),
-        Outcome::TooLong => push_pieces(out, &[Bytes(b"ERROR: the file is too long\n")]),
-        Outcome::NoMemory => push_pieces(out, &[Bytes(b"ERROR: no memory\n")]),
-    }
-}
-
-fn message(alloc: Global, outcome: Outcome) -> Result<Vec<u8>, NoMemory>
-    ensures { IfOk result (λ text. text.items ≡ message_text outcome) }
-{
-    let mut text = Vec::new(alloc);
-    push_message(outcome, &mut text)?;
-    Ok(text)
-}
-
-/// Tells how a run ended. A fault of the stream of errors changes nothing, nor does want of memory for the message.
-pub(crate) fn tell<E: Sink>(alloc: Global, outcome: Outcome, errors: &mut E) -> bool
-    ensures { result ≡ true → E.written errors.new ≡ behind (E.written errors.old) (message_text outcome) }
-{
-    match message(alloc, outcome) {
-        Ok(text) => write_all(errors, &text).is_ok(),
-        Err(NoMemory) => false,
+    match asked_of(alloc, words) {
+        Ok(asked) => copy_asked(alloc, asked, host, alerts),
+        Err(NoMemory) => Outcome::NoMemory,
     }
 }

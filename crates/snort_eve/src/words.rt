@@ -1,108 +1,148 @@
 //! What the words of the command ask for.
-ghost use Rattle.std.specs.Prelude.{◌≡◌, ◌<◌, Some, length, map, option_map, string_bytes};
-ghost use Rattle.alert_json.specs.Facts.{run_facts};
-ghost use Rattle.snort_eve.specs.Asking.{no_names, seeded, with_option, next_option, asked_for, asked_with, asked_of, asked_facts};
+ghost use Rattle.std.specs.Prelude.{◌≡◌, ◌++◌, codes, is_some, map, option_map, string_bytes, IfOk, OnOk};
+ghost use Rattle.clap.specs.Words.{found_of, rows_of};
+ghost use Rattle.clap.specs.Walk.{all_of};
+ghost use Rattle.alert_json.specs.Facts.{bytes_of};
+ghost use Rattle.snort_eve.specs.Asking.{asked_facts, asked_in, asked_of, file_of, files_of, given_in, if_given, seed_of, with_seed};
 
+use crate::syntax::matches;
 use alert_json::Run;
+use clap::ArgMatches;
+use clap::parser::ValueSource;
+use edge_io::NoMemory;
 use net_lists::number_in;
+use std::alloc::Global;
 
-/// The name of the file, and what all records have alike.
-#[derive(Clone, Copy)]
-pub(crate) struct Words<'a> {
+/// What all records have alike, and the names of the files, in their order.
+#[derive(Drop)]
+pub(crate) struct Wanted<'a> {
     pub(crate) run: Run<'a>,
-    pub(crate) name: &'a str,
+    pub(crate) files: Vec<&'a str>,
 }
 
-const NO_NAMES: Run<'static> = Run {
-    seed: 0,
-    host: None,
-    pcap_filename: None,
-};
+/// What the words ask for.
+#[derive(Drop)]
+pub(crate) enum Asked<'a> {
+    /// The usage.
+    Help,
+    /// The lines of files.
+    Lines(Wanted<'a>),
+}
 
-fn seeded<'a>(run: Run<'a>, value: &[u8]) -> Option<Run<'a>>
-    ensures { option_map run_facts result ≡ seeded (run_facts run.entry) value.now }
+/// The name of standard input.
+const INPUT: &str = "/dev/stdin";
+
+/// A text, if the words gave it.
+fn if_given<'a>(source: Option<ValueSource>, text: Option<&'a str>) -> Option<&'a str>
+    ensures { option_map (λ t. t.now) result ≡ if_given source (option_map (λ t. t.now) text.entry) }
 {
-    match number_in(0, 65535, value) {
-        Some(seed) => Some(Run {
-            seed: seed as u16,
-            host: run.host,
-            pcap_filename: run.pcap_filename,
-        }),
+    match source {
+        Some(ValueSource::CommandLine) => text,
+        Some(ValueSource::DefaultValue) | None => None,
+    }
+}
+
+/// The text that the words gave an option or a flag; a flag's is `true`.
+fn given<'a>(matches: &ArgMatches<'a>, id: &str) -> Option<&'a str>
+    ensures { option_map (λ t. t.now) result ≡ given_in (rows_of (found_of matches.now)) id.now }
+{
+    if_given(matches.value_source(id), matches.get_str(id))
+}
+
+/// The bytes of a text, if there is one.
+fn bytes_of<'a>(text: Option<&'a str>) -> Option<&'a [u8]>
+    ensures { bytes_of result ≡ option_map (λ t. t.now) text.entry }
+{
+    match text {
         None => None,
+        Some(text) => Some(text.as_bytes()),
     }
 }
 
-#[tactic(auto, unfolding(crate::specs::Asking::with_option))]
-fn with_option<'a>(run: Run<'a>, option: &[u8], value: &'a [u8]) -> Option<Run<'a>>
-    ensures { option_map run_facts result ≡ with_option (run_facts run.entry) option.now value.entry.now }
+fn seed_of(value: Option<&str>) -> Option<u16>
+    ensures { result ≡ seed_of (option_map (λ t. t.now) value.entry) }
 {
-    if option == b"--host".as_slice() {
-        Some(Run {
-            seed: run.seed,
-            host: Some(value),
-            pcap_filename: run.pcap_filename,
-        })
-    } else if option == b"--pcap-filename".as_slice() {
-        Some(Run {
-            seed: run.seed,
-            host: run.host,
-            pcap_filename: Some(value),
-        })
-    } else if option == b"--community-id-seed".as_slice() {
-        seeded(run, value)
-    } else {
-        None
+    match value {
+        None => Some(0),
+        Some(value) => Some(number_in(0, 65535, value.as_bytes())? as u16),
     }
 }
 
-fn next_option<'a>(run: Option<Run<'a>>, option: &[u8], value: &'a [u8]) -> Option<Run<'a>>
-    ensures { option_map run_facts result ≡ next_option (option_map run_facts run.entry) option.now value.entry.now }
+fn file_of<'a>(name: &'a str) -> &'a str
+    ensures { result.now ≡ file_of name.entry.now }
 {
-    match run {
-        Some(run) => with_option(run, option, value),
-        None => None,
+    if name == "-" { INPUT } else { name }
+}
+
+/// Adds the files of these names.
+fn push_files<'a>(names: &[&'a str], files: &mut Vec<&'a str>) -> Result<(), NoMemory>
+    ensures { OnOk result (map (λ name. name.now) files.new.items
+        ≡ map (λ name. name.now) files.old.items ++ map file_of (map (λ name. name.now) names.now)) }
+{
+    for name in names {
+        files.push(file_of(*name))?;
+    }
+    Ok(())
+}
+
+/// Adds the files of these names, if there are any, else standard input.
+fn push_named<'a>(names: Option<&[&'a str]>, files: &mut Vec<&'a str>) -> Result<(), NoMemory>
+    ensures { OnOk result (map (λ name. name.now) files.new.items
+        ≡ map (λ name. name.now) files.old.items ++ files_of (option_map (λ ns. map (λ name. name.now) ns.now) names.entry)) }
+{
+    match names {
+        None => Ok(files.push(INPUT)?),
+        Some(names) => push_files(names, files),
     }
 }
 
-// What the last word, if it is one, asks for.
-fn named<'a>(run: Option<Run<'a>>, words: &'a [String]) -> Option<Words<'a>>
-    ensures { length words.entry.now < 2 → option_map asked_facts result
-        ≡ asked_with (option_map run_facts run.entry) (map string_bytes words.entry.now) }
+/// The files that the words name.
+fn files_of<'a>(alloc: Global, matches: &ArgMatches<'a>) -> Result<Vec<&'a str>, NoMemory>
+    ensures { IfOk result (λ files. map (λ name. name.now) files.items
+        ≡ files_of (all_of (codes "FILE") (rows_of (found_of matches.now)))) }
 {
-    match words {
-        [name] => named_one(run, name.as_str()),
-        _ => None,
+    let mut files = Vec::new(alloc);
+    push_named(matches.get_strs("FILE"), &mut files)?;
+    Ok(files)
+}
+
+/// The lines that are asked for, with this seed.
+fn with_seed<'a>(alloc: Global, matches: &ArgMatches<'a>, seed: u16) -> Result<Asked<'a>, NoMemory>
+    ensures { IfOk result (λ asked. asked_facts asked ≡ with_seed (rows_of (found_of matches.now)) seed) }
+{
+    let files = files_of(alloc, matches)?;
+    Ok(Asked::Lines(Wanted {
+        run: Run {
+            seed,
+            host: bytes_of(given(matches, "host")),
+            pcap_filename: bytes_of(given(matches, "pcap-filename")),
+        },
+        files,
+    }))
+}
+
+/// What the matches of the words ask for.
+fn asked_in<'a>(alloc: Global, matches: &ArgMatches<'a>) -> Result<Option<Asked<'a>>, NoMemory>
+    ensures { IfOk result (λ asked. option_map asked_facts asked ≡ asked_in (rows_of (found_of matches.now))) }
+{
+    if given(matches, "help").is_some() {
+        return Ok(Some(Asked::Help));
+    }
+    match seed_of(given(matches, "community-id-seed")) {
+        None => Ok(None),
+        Some(seed) => Ok(Some(with_seed(alloc, matches, seed)?)),
     }
 }
 
-fn named_one<'a>(run: Option<Run<'a>>, name: &'a str) -> Option<Words<'a>>
-    ensures { option_map asked_facts result
-        ≡ option_map (λ r. asked_for r name.entry.now) (option_map run_facts run.entry) }
+/// What the words ask for, the program's name among them; None where they are no command line.
+pub(crate) fn asked_of<'a>(
+    alloc: Global,
+    words: &'a [String],
+) -> Result<Option<Asked<'a>>, NoMemory>
+    ensures { IfOk result (λ asked. option_map asked_facts asked ≡ asked_of (map string_bytes words.entry.now)) }
 {
-    match run {
-        Some(run) => Some(Words { run, name }),
-        None => None,
-    }
-}
-
-fn asked_with<'a>(words: &'a [String]) -> Option<Words<'a>>
-    ensures { option_map asked_facts result ≡ asked_with (Some no_names) (map string_bytes words.entry.now) }
-{
-    let mut run = Some(NO_NAMES);
-    let mut rest = words;
-    'options: while let [option, value, behind @ ..] = rest {
-        run = next_option(run, option.as_bytes(), value.as_bytes());
-        rest = behind;
-    }
-    named(run, rest)
-}
-
-/// What the words ask for, behind the program's name.
-pub(crate) fn asked_of<'a>(words: &'a [String]) -> Option<Words<'a>>
-    ensures { option_map asked_facts result ≡ asked_of (map string_bytes words.entry.now) }
-{
-    match words {
-        [_, words @ ..] => asked_with(words),
-        [] => None,
+    match matches(alloc, words)? {
+        None => Ok(None),
+        Some(matches) => asked_in(alloc, &matches),
     }
 }

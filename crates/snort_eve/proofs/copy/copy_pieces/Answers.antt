@@ -8,6 +8,7 @@ pieces-init g c = record {
   comes = come-start (g.T.Teller.line c.args.teller.now) (g.H.Host.agrees c.args.host.now) (g.H.Host.left_of c.args.host.now) _ _ _ c.requires.empty c.requires.free;
   room = c.requires.room;
   earlier = λ files a. a;
+  same_contents = refl;
   quiet = refl;
   quiet_alerts = refl;
 }

@@ -10,6 +10,7 @@ invariant-pieces g l = record {
       l.stream.rest.items l.stream.held l.read (g.A.Sink.written l.fn.alerts) (g.A.Sink.written l.alerts);
   room : 0 < length l.block;
   earlier : (files : Files) → g.H.Host.agrees l.host files → g.H.Host.agrees l.fn.host files;
+  same_contents : g.H.Host.contents l.host ≡ g.H.Host.contents l.fn.host;
   quiet : g.H.Host.faults l.host ≡ g.H.Host.faults l.fn.host;
   quiet_alerts : g.A.Sink.faults l.alerts ≡ g.A.Sink.faults l.fn.alerts;
 }

@@ -1,5 +1,6 @@
-use Rattle.snort_eve.proofs.Running.{run-unopened}
+use Rattle.snort_eve.proofs.Running.{file-unopened}
 use Rattle.snort_eve.proofs.run.copy_file.Goals as goal
 
 pub returns-in-Err-clause-runs : goal.returns-in-Err-clause-runs
-returns-in-Err-clause-runs g c = run-unopened _ _ _
+returns-in-Err-clause-runs g c =
+    file-unopened (g.T.Teller.line c.args.teller.now) (g.H.Host.agrees c.open.new.self) c.args.name (g.A.Sink.written c.args.alerts.now)

@@ -1,14 +1,25 @@
-use Rattle.std.proofs.Common.{Some, sym, subst}
-use Rattle.snort_eve.specs.declared.run.Outcome.{Outcome}
-use Rattle.alert_json.specs.Facts.{run_facts}
-use Rattle.snort_eve.specs.Asking.{asked_for}
-use Rattle.snort_eve.specs.Runs.{Runs}
-use Rattle.snort_eve.proofs.Running.{run-copied}
+use Rattle.std.proofs.Common.{◌≡◌, List, ℕ, sym, subst}
+use Rattle.snort_eve.specs.declared.outcome.Outcome.{Outcome}
+use Rattle.edge_io.specs.Told.{Rose}
+use Rattle.snort_eve.specs.Runs.{OnUnread, UnlessUnread}
+use Rattle.snort_eve.proofs.Running.{FileRuns, file-copied, on-unread, unless-unread}
 use Rattle.snort_eve.proofs.run.copy_open.Goals as goal
 
 pub returns-clause-runs : goal.returns-clause-runs
-returns-clause-runs g c name opened =
-    subst (λ (o : Outcome). Runs (Some (asked_for (run_facts c.args.run) name)) (g.H.Host.agrees c.copy_records.new.host) (g.A.Sink.written c.args.alerts.now) (g.A.Sink.written c.copy_records.new.alerts) o)
+returns-clause-runs g c opened =
+    subst (λ (o : Outcome). FileRuns (g.T.Teller.line c.args.teller.now) (g.H.Host.agrees c.copy_records.new.host) c.args.name (g.A.Sink.written c.args.alerts.now) (g.A.Sink.written c.copy_records.new.alerts) o)
     (sym c.outcome_of.ensures)
-    (run-copied (run_facts c.args.run) name (g.H.Host.agrees c.copy_records.new.host) (g.H.Host.left_of c.args.host.now) _ _ c.copy_records.result
+    (file-copied (g.T.Teller.line c.args.teller.now) c.args.name (g.H.Host.agrees c.copy_records.new.host) (g.H.Host.left_of c.args.host.now) _ _ c.copy_records.result
     (λ files a. opened files (c.copy_records.ensures.earlier files a)) c.copy_records.ensures.copies c.copy_records.ensures.stops c.copy_records.ensures.long)
+
+pub returns-clause-unread : goal.returns-clause-unread
+returns-clause-unread g c =
+    let cause = λ (name : List ℕ). Rose (g.H.Host.faults c.args.host.now) (g.H.Host.faults c.copy_records.new.host) in
+    subst (λ (o : Outcome). OnUnread o cause) (sym c.outcome_of.ensures)
+    (on-unread cause c.args.name c.copy_records.result c.copy_records.ensures.unread)
+
+pub returns-clause-quiet : goal.returns-clause-quiet
+returns-clause-quiet g c =
+    let same = g.H.Host.faults c.copy_records.new.host ≡ g.H.Host.faults c.args.host.now in
+    subst (λ (o : Outcome). UnlessUnread o same) (sym c.outcome_of.ensures)
+    (unless-unread same c.args.name c.copy_records.result c.copy_records.ensures.quiet)

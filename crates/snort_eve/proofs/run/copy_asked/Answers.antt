@@ -1,0 +1,14 @@
+use Rattle.std.proofs.Common.{Option, subst, ap}
+use Rattle.std.specs.Prelude.{option_map}
+use Rattle.snort_eve.specs.Asking.{Asked, asked_facts}
+use Rattle.snort_eve.specs.Runs.{Runs}
+use Rattle.snort_eve.specs.declared.outcome.Outcome.TheVariants as outcome
+use Rattle.snort_eve.proofs.Running.{run-refused, run-help}
+use Rattle.snort_eve.proofs.run.copy_asked.Goals as goal
+
+pub returns-in-None-clause-runs : goal.returns-in-None-clause-runs
+returns-in-None-clause-runs g c = rw c.in-None.is (run-refused (g.H.Host.agrees c.args.host.now) (g.A.Sink.written c.args.alerts.now))
+
+pub returns-in-Some-Help-clause-runs : goal.returns-in-Some-Help-clause-runs
+returns-in-Some-Help-clause-runs g c =
+    rw c.in-Some-Help.is (rw c.in-Some-Help.field-0-is (run-help (g.H.Host.agrees c.args.host.now) (g.A.Sink.written c.args.alerts.now)))

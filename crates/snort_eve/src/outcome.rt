@@ -1,0 +1,154 @@
+//! How a run ends, its status and its message.
+ghost use Rattle.std.specs.Prelude.{◌≡◌, ◌++◌, true, false, IfOk, OnOk};
+ghost use Rattle.edge_io.specs.Told.{behind};
+ghost use Rattle.snort_eve.specs.Runs.{bad_front, bad_text, message_text, outcome_of, place_text};
+
+use crate::copy::{Ending, Stop};
+use alert_fast::Piece::{Bytes, Number};
+use alert_fast::push_pieces;
+use edge_io::{NoMemory, Sink, write_all};
+use std::alloc::Global;
+
+/// How a run ends, or the copying of one of its files.
+#[derive(Clone, Copy, Debug)]
+pub(crate) enum Outcome<'a> {
+    /// All is told.
+    Done,
+    /// The words ask for the usage.
+    Help,
+    /// The words are no command line.
+    CommandLine,
+    /// No whole record begins at this byte of this file.
+    Bad { name: &'a str, at: u64 },
+    /// This file can't be opened, or a read of it failed.
+    Unread { name: &'a str },
+    /// A write failed.
+    Unwritten,
+    /// This file has 2^64 bytes or more.
+    TooLong { name: &'a str },
+    /// Memory ran out.
+    NoMemory,
+}
+
+impl<'a> Outcome<'a> {
+    /// The exit status.
+    pub(crate) fn code(self) -> u8 {
+        match self {
+            Outcome::Done | Outcome::Help => 0,
+            Outcome::CommandLine => 1,
+            Outcome::Bad { .. } => 2,
+            Outcome::Unread { .. } | Outcome::TooLong { .. } => 3,
+            Outcome::Unwritten => 4,
+            Outcome::NoMemory => 5,
+        }
+    }
+}
+
+/// Whether all is told.
+pub(crate) fn is_done(outcome: Outcome<'_>) -> bool
+    ensures done { result ≡ true → outcome.entry ≡ Outcome.Done }
+    ensures other { result ≡ false → outcome.entry ≡ Outcome.Done → ⊥ }
+{
+    match outcome {
+        Outcome::Done => true,
+        Outcome::Help
+        | Outcome::CommandLine
+        | Outcome::Bad { .. }
+        | Outcome::Unread { .. }
+        | Outcome::Unwritten
+        | Outcome::TooLong { .. }
+        | Outcome::NoMemory => false,
+    }
+}
+
+/// How the file of this name ends whose copying ended so.
+pub(crate) fn outcome_of<'a>(name: &'a str, copied: Result<Ending, Stop>) -> Outcome<'a>
+    ensures { result ≡ outcome_of name.entry copied }
+{
+    match copied {
+        Ok(Ending::Done) => Outcome::Done,
+        Ok(Ending::Bad { at }) => Outcome::Bad { name, at },
+        Err(Stop::Unread) => Outcome::Unread { name },
+        Err(Stop::Unwritten) => Outcome::Unwritten,
+        Err(Stop::TooLong) => Outcome::TooLong { name },
+        Err(Stop::NoMemory) => Outcome::NoMemory,
+    }
+}
+
+/// The usage.
+const USAGE: &[u8] =
+    b"usage: snort_eve [--host NAME] [--pcap-filename NAME] [--community-id-seed N] [FILE..]\n";
+
+fn push_bad_front(name: &[u8], out: &mut Vec<u8>) -> Result<(), NoMemory>
+    ensures { OnOk result (out.new.items ≡ out.old.items ++ bad_front name.now) }
+{
+    push_pieces(
+        out,
+        &[
+            Bytes(b"ERROR: unified2 file "),
+            Bytes(name),
+            Bytes(b" is bad at byte "),
+        ],
+    )
+}
+
+fn push_place(at: u64, out: &mut Vec<u8>) -> Result<(), NoMemory>
+    ensures { OnOk result (out.new.items ≡ out.old.items ++ place_text at) }
+{
+    push_pieces(out, &[Number(at), Bytes(b"\n")])
+}
+
+fn push_bad(name: &[u8], at: u64, out: &mut Vec<u8>) -> Result<(), NoMemory>
+    ensures { OnOk result (out.new.items ≡ out.old.items ++ bad_text name.now at) }
+{
+    push_bad_front(name, out)?;
+    push_place(at, out)
+}
+
+#[tactic(auto, unfolding(crate::specs::Runs::message_text))]
+fn push_message(outcome: Outcome<'_>, out: &mut Vec<u8>) -> Result<(), NoMemory>
+    ensures { OnOk result (out.new.items ≡ out.old.items ++ message_text outcome.entry) }
+{
+    match outcome {
+        Outcome::Done => Ok(()),
+        Outcome::Help => push_pieces(out, &[Bytes(USAGE)]),
+        Outcome::CommandLine => push_pieces(out, &[Bytes(b"ERROR: command line\n")]),
+        Outcome::Bad { name, at } => push_bad(name.as_bytes(), at, out),
+        Outcome::Unread { name } => push_pieces(
+            out,
+            &[
+                Bytes(b"ERROR: cannot read "),
+                Bytes(name.as_bytes()),
+                Bytes(b"\n"),
+            ],
+        ),
+        Outcome::Unwritten => push_pieces(out, &[Bytes(b"ERROR: cannot write\n")]),
+        Outcome::TooLong { name } => push_pieces(
+            out,
+            &[
+                Bytes(b"ERROR: unified2 file "),
+                Bytes(name.as_bytes()),
+                Bytes(b" is too long\n"),
+            ],
+        ),
+        Outcome::NoMemory => push_pieces(out, &[Bytes(b"ERROR: no memory\n")]),
+    }
+}
+
+fn message(alloc: Global, outcome: Outcome<'_>) -> Result<Vec<u8>, NoMemory>
+    ensures { IfOk result (λ text. text.items ≡ message_text outcome.entry) }
+{
+    let mut text = Vec::new(alloc);
+    push_message(outcome, &mut text)?;
+    Ok(text)
+}
+
+/// Tells how a run ended. A fault of the stream of errors changes nothing, nor does want of memory for the message.
+pub(crate) fn tell<E: Sink>(alloc: Global, outcome: Outcome<'_>, errors: &mut E) -> bool
+    ensures { result ≡ true → E.written errors.new ≡ behind (E.written errors.old) (message_text outcome.entry) }
+{
+    match message(alloc, outcome) {
+        Ok(text) => write_all(errors, &text).is_ok(),
+        Err(NoMemory) => false,
+    }
+}
