@@ -1,6 +1,7 @@
 //! The configuration of a setup.
-ghost use Rattle.std.specs.Prelude.{◌≡◌, ◌≤◌, IfOk, IfErr, Some, Option};
-ghost use Rattle.edge_io.specs.Files.{Files, MaySee};
+ghost use Rattle.std.specs.Prelude.{◌≡◌, IfOk, IfErr, Some};
+ghost use Rattle.edge_io.specs.Files.{Files};
+ghost use Rattle.edge_io.specs.Frames.{OnlyLoaded};
 ghost use Rattle.edge_io.specs.Told.{Rose};
 ghost use Rattle.conf_parser.specs.Reading.{told};
 ghost use Rattle.conf_types.specs.Sound.{IsSound};
@@ -79,13 +80,8 @@ pub(crate) fn read_conf<H: Host>(
         (conf_read (words_of words.now) (told files)) }
     ensures cause { IfErr result (HasCause (Rose (H.faults host.old) (H.faults host.new)) (H.contents host.old)) }
     ensures sound { IfOk result (λ configured. IsSound configured.loaded.config) }
-    ensures same { (H.contents host.new ≡ H.contents host.old)
-        × (H.left host.new ≡ H.left host.old) × (H.opens host.new ≡ H.opens host.old) }
-    ensures same_left { (files : Files) → H.left_of host.new files ≡ H.left_of host.old files }
-    ensures earlier { (seen : Option Files) → MaySee (H.contents host.new) (H.agrees host.new) seen
-        → MaySee (H.contents host.old) (H.agrees host.old) seen }
     ensures quiet { OnReadyOrRefused (H.faults host.new ≡ H.faults host.old) result }
-    ensures later { H.faults host.old ≤ H.faults host.new }
+    ensures only_loaded { OnlyLoaded H.Host host.old host.new }
 {
     let mut vars = first_variables(alloc, words)?;
     let mut loaded = Loaded::new(alloc);

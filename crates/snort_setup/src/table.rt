@@ -1,7 +1,8 @@
 //! The host table of a setup.
-ghost use Rattle.std.specs.Prelude.{◌≡◌, ◌≤◌, IfErr, Some, length, Option};
+ghost use Rattle.std.specs.Prelude.{◌≡◌, ◌≤◌, IfErr, Some, length};
 ghost use Rattle.std.specs.Option.{option_map};
-ghost use Rattle.edge_io.specs.Files.{Files, MaySee};
+ghost use Rattle.edge_io.specs.Files.{Files};
+ghost use Rattle.edge_io.specs.Frames.{OnlyLoaded};
 ghost use Rattle.edge_io.specs.Told.{Rose};
 ghost use Rattle.snort_setup.specs.Setup.{table_of, table_in, table_read, most_bytes};
 ghost use Rattle.host_table.specs.Hosts.{hosts_of};
@@ -56,13 +57,8 @@ fn named_table<H: Host>(alloc: Global, name: &str, host: &mut H) -> Result<Hosts
     ensures gives { (files : Files) → H.agrees host.new files
         → TableGives (Some name.now) files (Rose (H.faults host.old) (H.faults host.new)) result }
     ensures cause { IfErr result (HasCause (Rose (H.faults host.old) (H.faults host.new)) (H.contents host.old)) }
-    ensures same { (H.contents host.new ≡ H.contents host.old)
-        × (H.left host.new ≡ H.left host.old) × (H.opens host.new ≡ H.opens host.old) }
-    ensures same_left { (files : Files) → H.left_of host.new files ≡ H.left_of host.old files }
-    ensures earlier { (seen : Option Files) → MaySee (H.contents host.new) (H.agrees host.new) seen
-        → MaySee (H.contents host.old) (H.agrees host.old) seen }
     ensures quiet { OnReadyOrRefused (H.faults host.new ≡ H.faults host.old) result }
-    ensures later { H.faults host.old ≤ H.faults host.new }
+    ensures only_loaded { OnlyLoaded H.Host host.old host.new }
 {
     let mut bytes = Vec::new(alloc);
     match host.load(name, LONGEST_TABLE, &mut bytes) {
@@ -81,13 +77,8 @@ pub(crate) fn read_table<H: Host>(
     ensures gives { (files : Files) → H.agrees host.new files
         → TableGives (option_map (λ name. name.now) name.entry) files (Rose (H.faults host.old) (H.faults host.new)) result }
     ensures cause { IfErr result (HasCause (Rose (H.faults host.old) (H.faults host.new)) (H.contents host.old)) }
-    ensures same { (H.contents host.new ≡ H.contents host.old)
-        × (H.left host.new ≡ H.left host.old) × (H.opens host.new ≡ H.opens host.old) }
-    ensures same_left { (files : Files) → H.left_of host.new files ≡ H.left_of host.old files }
-    ensures earlier { (seen : Option Files) → MaySee (H.contents host.new) (H.agrees host.new) seen
-        → MaySee (H.contents host.old) (H.agrees host.old) seen }
     ensures quiet { OnReadyOrRefused (H.faults host.new ≡ H.faults host.old) result }
-    ensures later { H.faults host.old ≤ H.faults host.new }
+    ensures only_loaded { OnlyLoaded H.Host host.old host.new }
 {
     match name {
         None => Ok(Hosts::empty(alloc)),

@@ -56,8 +56,8 @@ returns-in_err-hosts-clause-agreed g c = λ files agree.
     let new = g.H.Host.faults c.read_table.new.host in
     rw (p.1, p.2) (table-stopped ready_of words files (Rose old new)
     (grown_by (g.M.PatternMaker.refusals c.args.maker.now) (g.M.PatternMaker.refusals c.read_ruled.new.maker)) c.read_ruled.new.warnings (ruled_of {P = g.row.M-Made.Denot}) c.in_ok-ruled.ruled c.in_err-hosts.field-0.0
-    (c.in_ok-ruled.ensures.gives words refl (conf_read words (told files)) (c.in_ok-configured.ensures.ends files (c.read_table.ensures.earlier (Some files) agree)))
-    (table-since words.host_table files (Rose mid new) (Rose old new) (rose-since old mid new c.read_conf.ensures.later) (Err c.in_err-hosts.field-0.0) (c.in_err-hosts.ensures.gives files agree)))
+    (c.in_ok-ruled.ensures.gives words refl (conf_read words (told files)) (c.in_ok-configured.ensures.ends files (c.read_table.ensures.only_loaded.earlier (Some files) agree)))
+    (table-since words.host_table files (Rose mid new) (Rose old new) (rose-since old mid new c.read_conf.ensures.only_loaded.later) (Err c.in_err-hosts.field-0.0) (c.in_err-hosts.ensures.gives files agree)))
 
 pub returns-in_err-hosts-clause-cause : goal.returns-in_err-hosts-clause-cause
 returns-in_err-hosts-clause-cause g c =
@@ -65,7 +65,8 @@ returns-in_err-hosts-clause-cause g c =
     let old = g.H.Host.faults c.args.host.now in
     let mid = g.H.Host.faults c.read_conf.new.host in
     let new = g.H.Host.faults c.read_table.new.host in
-    rw (p.1, p.2) (cause-since (Rose mid new) (Rose old new) (g.H.Host.contents c.read_conf.new.host) (g.H.Host.contents c.args.host.now) (rose-since old mid new c.read_conf.ensures.later) c.read_conf.ensures.same.0 c.in_err-hosts.field-0.0 c.in_err-hosts.ensures.cause)
+    rw (p.1, p.2) (cause-since (Rose mid new) (Rose old new) (g.H.Host.contents c.read_conf.new.host) (g.H.Host.contents c.args.host.now)
+    (rose-since old mid new c.read_conf.ensures.only_loaded.later) c.read_conf.ensures.only_loaded.files c.in_err-hosts.field-0.0 c.in_err-hosts.ensures.cause)
 
 pub returns-clause-agreed : goal.returns-clause-agreed
 returns-clause-agreed g c = λ files agree.
@@ -75,30 +76,34 @@ returns-clause-agreed g c = λ files agree.
     let new = g.H.Host.faults c.read_table.new.host in
     all-ready ready_of words files (Rose old new)
     (grown_by (g.M.PatternMaker.refusals c.args.maker.now) (g.M.PatternMaker.refusals c.read_ruled.new.maker)) c.read_ruled.new.warnings (ruled_of {P = g.row.M-Made.Denot}) c.in_ok-ruled.ruled c.in_ok-hosts.hosts _
-    (c.in_ok-ruled.ensures.gives words refl (conf_read words (told files)) (c.in_ok-configured.ensures.ends files (c.read_table.ensures.earlier (Some files) agree)))
-    (table-since words.host_table files (Rose mid new) (Rose old new) (rose-since old mid new c.read_conf.ensures.later) (Ok c.in_ok-hosts.hosts) (c.in_ok-hosts.ensures.gives files agree))
+    (c.in_ok-ruled.ensures.gives words refl (conf_read words (told files)) (c.in_ok-configured.ensures.ends files (c.read_table.ensures.only_loaded.earlier (Some files) agree)))
+    (table-since words.host_table files (Rose mid new) (Rose old new) (rose-since old mid new c.read_conf.ensures.only_loaded.later) (Ok c.in_ok-hosts.hosts) (c.in_ok-hosts.ensures.gives files agree))
     refl
 
 pub returns-in_err-configured-clause-setup : goal.returns-in_err-configured-clause-setup
 returns-in_err-configured-clause-setup g c = λ files is.
     let host = c.read_conf.new.host in
     returns-in_err-configured-clause-agreed g c files
-    (rw is at (told_before (g.H.Host.contents c.args.host.now) (g.H.Host.contents host) (g.H.Host.left host) (g.H.Host.agrees host) (g.H.Host.left_of host) (g.met.H.Host.as_told host) c.read_conf.ensures.same.0))
+    (rw is at (told_before (g.H.Host.contents c.args.host.now) (g.H.Host.contents host) (g.H.Host.left host) (g.H.Host.agrees host) (g.H.Host.left_of host)
+    (g.met.H.Host.as_told host) c.read_conf.ensures.only_loaded.files))
 
 pub returns-in_err-ruled-clause-setup : goal.returns-in_err-ruled-clause-setup
 returns-in_err-ruled-clause-setup g c = λ files is.
     let host = c.read_conf.new.host in
     returns-in_err-ruled-clause-agreed g c files
-    (rw is at (told_before (g.H.Host.contents c.args.host.now) (g.H.Host.contents host) (g.H.Host.left host) (g.H.Host.agrees host) (g.H.Host.left_of host) (g.met.H.Host.as_told host) c.read_conf.ensures.same.0))
+    (rw is at (told_before (g.H.Host.contents c.args.host.now) (g.H.Host.contents host) (g.H.Host.left host) (g.H.Host.agrees host) (g.H.Host.left_of host)
+    (g.met.H.Host.as_told host) c.read_conf.ensures.only_loaded.files))
 
 pub returns-in_err-hosts-clause-setup : goal.returns-in_err-hosts-clause-setup
 returns-in_err-hosts-clause-setup g c = λ files is.
     let host = c.read_table.new.host in
     returns-in_err-hosts-clause-agreed g c files
-    (rw is at (told_before (g.H.Host.contents c.args.host.now) (g.H.Host.contents host) (g.H.Host.left host) (g.H.Host.agrees host) (g.H.Host.left_of host) (g.met.H.Host.as_told host) (c.read_table.ensures.same.0 ∙ c.read_conf.ensures.same.0)))
+    (rw is at (told_before (g.H.Host.contents c.args.host.now) (g.H.Host.contents host) (g.H.Host.left host) (g.H.Host.agrees host) (g.H.Host.left_of host)
+    (g.met.H.Host.as_told host) (c.read_table.ensures.only_loaded.files ∙ c.read_conf.ensures.only_loaded.files)))
 
 pub returns-clause-setup : goal.returns-clause-setup
 returns-clause-setup g c = λ files is.
     let host = c.read_table.new.host in
     returns-clause-agreed g c files
-    (rw is at (told_before (g.H.Host.contents c.args.host.now) (g.H.Host.contents host) (g.H.Host.left host) (g.H.Host.agrees host) (g.H.Host.left_of host) (g.met.H.Host.as_told host) (c.read_table.ensures.same.0 ∙ c.read_conf.ensures.same.0)))
+    (rw is at (told_before (g.H.Host.contents c.args.host.now) (g.H.Host.contents host) (g.H.Host.left host) (g.H.Host.agrees host) (g.H.Host.left_of host)
+    (g.met.H.Host.as_told host) (c.read_table.ensures.only_loaded.files ∙ c.read_conf.ensures.only_loaded.files)))
