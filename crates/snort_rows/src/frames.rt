@@ -1,11 +1,12 @@
 //! The packets of rows: over Ethernet II and IPv4, from C, 10.0.0.1, to S, 10.0.0.2, or back.
 
-use std::alloc::{AllocError, Global};
+use row_files::{Parts, cut};
+use std::alloc::AllocError;
 
 /// An end of a packet: C or S, and a port.
 #[derive(Clone, Copy)]
 pub(crate) struct End {
-    pub host: u8,
+    pub host: u16,
     pub port: u16,
 }
 
@@ -17,61 +18,56 @@ pub(crate) const HEAD: &[u8] =
     b"\xd4\xc3\xb2\xa1\x02\0\x04\0\0\0\0\0\0\0\0\0\xff\xff\0\0\x01\0\0\0";
 
 /// The end that a text such as `C:1000` names.
-pub(crate) fn end_of(text: &str) -> Option<End> {
-    let (host, port) = text.split_once(':')?;
-    let port = port.parse::<u16>().ok()?;
-    Some(End {
-        host: host_of(host)?,
-        port,
-    })
+fn end_of(parts: &mut Parts<'_>, text: &str) -> End {
+    let (name, port) = cut(text, ':');
+    let mut port = Parts::of(port, ' ');
+    let end = End {
+        host: host_of(parts, name),
+        port: port.short(),
+    };
+    if port.is_wrong() {
+        parts.refuse();
+    }
+    end
 }
 
 /// The last number of a host's address.
-fn host_of(name: &str) -> Option<u8> {
-    if name == "C" {
-        Some(1)
-    } else if name == "S" {
-        Some(2)
-    } else {
-        None
+fn host_of(parts: &mut Parts<'_>, name: &str) -> u16 {
+    match name {
+        "C" => 1,
+        "S" => 2,
+        _ => {
+            parts.refuse();
+            0
+        }
     }
 }
 
-/// Both ends of a packet, as `C:1000>S:2000`.
-pub(crate) fn ends_of(text: &str) -> Option<(End, End)> {
-    let (source, target) = text.split_once('>')?;
-    Some((end_of(source)?, end_of(target)?))
+/// Both ends of a packet, which the next part says, as `C:1000>S:2000`.
+pub(crate) fn ends_of(parts: &mut Parts<'_>) -> (End, End) {
+    let (source, target) = cut(parts.word(), '>');
+    (end_of(parts, source), end_of(parts, target))
 }
 
-/// The bytes of numbers, most significant first.
-fn big_endian(alloc: Global, numbers: &[u16]) -> Result<Vec<u8>, AllocError> {
-    let mut bytes = Vec::new(alloc);
-    for number in numbers {
-        bytes.extend_from_slice(&number.to_be_bytes())?;
+/// Appends the bytes of numbers, most significant first.
+fn push_words(packet: &mut Vec<u8>, words: &[u16]) -> Result<(), AllocError> {
+    for word in words {
+        packet.extend_from_slice(&word.to_be_bytes())?;
     }
-    Ok(bytes)
+    Ok(())
 }
 
-/// The bytes of numbers, least significant first.
-fn little_endian(alloc: Global, numbers: &[u32]) -> Result<Vec<u8>, AllocError> {
-    let mut bytes = Vec::new(alloc);
-    for number in numbers {
-        bytes.extend_from_slice(&number.to_le_bytes())?;
+/// The sum of words.
+fn sum_of(words: &[u16]) -> u64 {
+    let mut sum = 0u64;
+    for word in words {
+        sum = sum.wrapping_add(u64::from(*word));
     }
-    Ok(bytes)
-}
-
-/// Parts, one behind another.
-fn joined(alloc: Global, parts: &[&[u8]]) -> Result<Vec<u8>, AllocError> {
-    let mut bytes = Vec::new(alloc);
-    for part in parts {
-        bytes.extend_from_slice(part)?;
-    }
-    Ok(bytes)
+    sum
 }
 
 /// The sum of the big-endian 16-bit words of bytes (RFC 1071).
-fn word_sum(bytes: &[u8]) -> u64 {
+fn byte_sum(bytes: &[u8]) -> u64 {
     let mut sum = 0u64;
     let mut place = 256u64;
     for byte in bytes {
@@ -96,43 +92,55 @@ struct Fields {
     id: u16,
     /// Flags and offset.
     offset: u16,
-    protocol: u8,
-    source: u8,
-    target: u8,
-}
-
-/// An IPv4 datagram behind its link header.
-fn datagram(alloc: Global, fields: Fields, payload: &[u8]) -> Result<Vec<u8>, AllocError> {
-    let size = size_of(payload).saturating_add(20);
-    let ttl = 0x4000 + u16::from(fields.protocol);
-    let front = big_endian(alloc, &[0x4500, size, fields.id, fields.offset, ttl])?;
-    let addresses = addresses_of(alloc, fields.source, fields.target)?;
-    let sum = checksum(word_sum(&front).wrapping_add(word_sum(&addresses)));
-    let sum = big_endian(alloc, &[sum])?;
-    joined(alloc, &[LINK, &front, &sum, &addresses, payload])
+    protocol: u16,
+    source: u16,
+    target: u16,
+    /// How many bytes the datagram has.
+    size: u16,
 }
 
 /// The addresses of both hosts, by their last numbers.
-fn addresses_of(alloc: Global, source: u8, target: u8) -> Result<Vec<u8>, AllocError> {
-    big_endian(
-        alloc,
-        &[0x0a00, u16::from(source), 0x0a00, u16::from(target)],
-    )
+fn addresses_of(source: u16, target: u16) -> [u16; 4] {
+    [0x0a00, source, 0x0a00, target]
 }
 
-/// A UDP packet without a checksum.
-pub(crate) fn udp(alloc: Global, ends: (End, End), text: &[u8]) -> Result<Vec<u8>, AllocError> {
+/// Appends a link header and an IPv4 header.
+fn push_head(packet: &mut Vec<u8>, fields: Fields) -> Result<(), AllocError> {
+    let ttl_and_protocol = 0x4000 + fields.protocol % 256;
+    let front = [
+        0x4500,
+        fields.size,
+        fields.id,
+        fields.offset,
+        ttl_and_protocol,
+    ];
+    let addresses = addresses_of(fields.source, fields.target);
+    let sum = checksum(sum_of(&front).wrapping_add(sum_of(&addresses)));
+    packet.extend_from_slice(LINK)?;
+    push_words(packet, &front)?;
+    push_words(packet, &[sum])?;
+    push_words(packet, &addresses)
+}
+
+/// Appends a UDP packet without a checksum.
+pub(crate) fn push_udp(
+    packet: &mut Vec<u8>,
+    ends: (End, End),
+    text: &[u8],
+) -> Result<(), AllocError> {
     let (source, target) = ends;
     let size = size_of(text).saturating_add(8);
-    let front = big_endian(alloc, &[source.port, target.port, size, 0])?;
     let fields = Fields {
         id: 1,
         offset: 0,
         protocol: 17,
         source: source.host,
         target: target.host,
+        size: size.saturating_add(20),
     };
-    datagram(alloc, fields, &joined(alloc, &[&front, text])?)
+    push_head(packet, fields)?;
+    push_words(packet, &[source.port, target.port, size, 0])?;
+    packet.extend_from_slice(text)
 }
 
 /// The upper and the lower half of a number.
@@ -141,64 +149,57 @@ fn halves(number: u32) -> (u16, u16) {
 }
 
 /// A TCP header up to its checksum: 20 bytes long, window 65535.
-fn tcp_front(
-    alloc: Global,
-    ports: (u16, u16),
-    flags: u8,
-    numbers: (u32, u32),
-) -> Result<Vec<u8>, AllocError> {
+fn tcp_front(ends: (End, End), flags: u16, numbers: (u32, u32)) -> [u16; 8] {
     let (sequence_high, sequence_low) = halves(numbers.0);
     let (acknowledged_high, acknowledged_low) = halves(numbers.1);
-    let length_and_flags = 0x5000 + u16::from(flags);
-    big_endian(
-        alloc,
-        &[
-            ports.0,
-            ports.1,
-            sequence_high,
-            sequence_low,
-            acknowledged_high,
-            acknowledged_low,
-            length_and_flags,
-            0xffff,
-        ],
-    )
+    [
+        ends.0.port,
+        ends.1.port,
+        sequence_high,
+        sequence_low,
+        acknowledged_high,
+        acknowledged_low,
+        0x5000 + flags % 256,
+        0xffff,
+    ]
 }
 
-/// A TCP packet with a header of 20 bytes, window 65535 and its checksum.
-pub(crate) fn tcp(
-    alloc: Global,
+/// Appends a TCP packet with a header of 20 bytes, window 65535 and its checksum.
+pub(crate) fn push_tcp(
+    packet: &mut Vec<u8>,
     ends: (End, End),
-    flags: u8,
+    flags: u16,
     numbers: (u32, u32),
     text: &[u8],
-) -> Result<Vec<u8>, AllocError> {
-    let (source, target) = ends;
-    let front = tcp_front(alloc, (source.port, target.port), flags, numbers)?;
-    let addresses = addresses_of(alloc, source.host, target.host)?;
+) -> Result<(), AllocError> {
+    let front = tcp_front(ends, flags, numbers);
+    let addresses = addresses_of(ends.0.host, ends.1.host);
     let size = size_of(text).saturating_add(20);
-    let pseudo = word_sum(&addresses).wrapping_add(6 + u64::from(size));
-    let sum = pseudo
-        .wrapping_add(word_sum(&front))
-        .wrapping_add(word_sum(text));
-    let behind = big_endian(alloc, &[checksum(sum), 0])?;
+    let sum = sum_of(&addresses)
+        .wrapping_add(6 + u64::from(size))
+        .wrapping_add(sum_of(&front))
+        .wrapping_add(byte_sum(text));
     let fields = Fields {
         id: 1,
         offset: 0,
         protocol: 6,
-        source: source.host,
-        target: target.host,
+        source: ends.0.host,
+        target: ends.1.host,
+        size: size.saturating_add(20),
     };
-    datagram(alloc, fields, &joined(alloc, &[&front, &behind, text])?)
+    push_head(packet, fields)?;
+    push_words(packet, &front)?;
+    push_words(packet, &[checksum(sum), 0])?;
+    packet.extend_from_slice(text)
 }
 
-/// A fragment from C to S: number 7, protocol 253, the offset in bytes.
-pub(crate) fn fragment(
-    alloc: Global,
+/// Appends a fragment from C to S: number 7, protocol 253, the offset in bytes.
+pub(crate) fn push_fragment(
+    packet: &mut Vec<u8>,
     offset: u16,
     has_more: bool,
     text: &[u8],
-) -> Result<Vec<u8>, AllocError> {
+) -> Result<(), AllocError> {
     let more = if has_more { 0x2000 } else { 0 };
     let fields = Fields {
         id: 7,
@@ -206,17 +207,14 @@ pub(crate) fn fragment(
         protocol: 253,
         source: 1,
         target: 2,
+        size: size_of(text).saturating_add(20),
     };
-    datagram(alloc, fields, text)
+    push_head(packet, fields)?;
+    packet.extend_from_slice(text)
 }
 
-/// A record of these bytes.
-pub(crate) fn record_of(
-    alloc: Global,
-    moment: (u32, u32),
-    bytes: &[u8],
-) -> Result<Vec<u8>, AllocError> {
+/// The header of a record with these bytes: numbers, least significant byte first.
+pub(crate) fn record_head(moment: (u32, u32), bytes: &[u8]) -> [u32; 4] {
     let size = u32::try_from(bytes.len()).unwrap_or(u32::MAX);
-    let header = little_endian(alloc, &[moment.0, moment.1, size, size])?;
-    joined(alloc, &[&header, bytes])
+    [moment.0, moment.1, size, size]
 }

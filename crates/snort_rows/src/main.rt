@@ -7,15 +7,13 @@
 #![tactic(auto)]
 
 mod frames;
-mod key;
 mod notation;
 mod outcome;
 mod row;
 
 use crate::notation::apply;
-use crate::outcome::differences;
+use crate::outcome::note_differences;
 use crate::row::Row;
-use edge_io::NoMemory;
 use row_files::{Count, words_of};
 use std::alloc::Global;
 use std::process::ExitCode;
@@ -33,21 +31,37 @@ fn close_row<R: Print + Threads + Sync>(
     if row.label.is_empty() || !row.label.contains(only) {
         return Ok(());
     }
-    match differences(rt, alloc, row) {
-        Ok(text) => {
-            if text.is_empty() {
-                count.pass();
-            } else {
-                count.differ();
-                println!(rt; "{}:{}", row.label, text)?;
-            }
-            Ok(())
-        }
-        Err(NoMemory) => {
-            count.differ();
-            println!(rt; "{}: memory is lacking", row.label)
-        }
+    let mut text = String::new(alloc);
+    if note_differences(rt, alloc, row, &mut text).is_err() {
+        count.differ();
+        return println!(rt; "{}: memory is lacking", row.label);
     }
+    if text.is_empty() {
+        count.pass();
+        return Ok(());
+    }
+    count.differ();
+    println!(rt; "{}:{}", row.label, text)
+}
+
+/// Applies a line to a row, or says that it isn't understood.
+fn take_line<R: Print + Threads + Sync>(
+    rt: &R,
+    alloc: Global,
+    row: &mut Row,
+    number: usize,
+    line: &str,
+    count: &mut Count,
+) -> io::Result<()> {
+    if apply(alloc, row, line)? {
+        return Ok(());
+    }
+    count.differ();
+    println!(rt;
+        "line {} is not understood: {}",
+        number.saturating_add(1),
+        line
+    )
 }
 
 /// Runs the rows of a text whose labels have another.
@@ -62,17 +76,12 @@ fn run_rows<R: Print + Threads + Sync>(
     for (number, line) in text.lines().enumerate() {
         if let Some(label) = line.strip_prefix("row ") {
             close_row(rt, alloc, &row, only, count)?;
-            row = Row::labelled(alloc, label)?;
+            row.begin(alloc, label)?;
         } else if let Some(label) = line.strip_prefix("again ") {
             close_row(rt, alloc, &row, only, count)?;
-            row = row.again(alloc, label)?;
-        } else if !apply(alloc, &mut row, line)? {
-            count.differ();
-            println!(rt;
-                "line {} is not understood: {}",
-                number.saturating_add(1),
-                line
-            )?;
+            row.again(label)?;
+        } else {
+            take_line(rt, alloc, &mut row, number, line, count)?;
         }
     }
     close_row(rt, alloc, &row, only, count)

@@ -1,9 +1,10 @@
 //! The lines of a row.
 
-use crate::frames::{End, HEAD, ends_of, fragment, record_of, tcp, udp};
-use crate::key::{Captured, Given, Key, Left, key_of};
+ghost use Rattle.std.specs.Prelude.{◌≤◌};
+
+use crate::frames::{HEAD, ends_of, push_fragment, push_tcp, push_udp, record_head};
 use crate::row::Row;
-use row_files::{Files, RowLine};
+use row_files::{Files, Parts, RowLine, cut};
 use std::alloc::{AllocError, Global};
 
 /// The configuration and the capture of a row.
@@ -23,46 +24,51 @@ pub(crate) fn apply(alloc: Global, row: &mut Row, line: &str) -> Result<bool, Al
     Ok(true)
 }
 
+/// Applies a line: what the run is given, its capture, or what it must leave.
 fn apply_once(alloc: Global, row: &mut Row, line: &str) -> Result<bool, AllocError> {
-    let (word, rest) = line.split_once(' ').unwrap_or((line, ""));
-    match key_of(word) {
-        Some(key) => apply_key(alloc, row, key, rest),
-        None => Ok(false),
-    }
+    let (key, rest) = cut(line, ' ');
+    Ok(
+        apply_given(alloc, row, key, rest)?
+            || apply_failing(row, key, rest)?
+            || apply_captured(alloc, row, key, rest)?
+            || apply_packet(alloc, row, key, rest)?
+            || apply_left(row, key, rest)?,
+    )
 }
 
-fn apply_key(alloc: Global, row: &mut Row, key: Key, rest: &str) -> Result<bool, AllocError> {
+/// The words and the files.
+fn apply_given(alloc: Global, row: &mut Row, key: &str, rest: &str) -> Result<bool, AllocError> {
     match key {
-        Key::Given(key) => apply_given(alloc, row, key, rest),
-        Key::Captured(key) => apply_captured(alloc, row, key, rest),
-        Key::Left(key) => apply_left(row, key, rest),
+        "words" => set_words(row, rest),
+        "conf" => append_line(row, CONF, rest),
+        "conf-" => append_part(row, rest),
+        "confhex" => append_hex(alloc, &mut row.files, CONF, rest),
+        "file" => append_file_line(row, rest),
+        _ => Ok(false),
     }
 }
 
-/// The words, the files, and the calls that fail.
-fn apply_given(alloc: Global, row: &mut Row, key: Given, rest: &str) -> Result<bool, AllocError> {
+/// The bytes that a sink takes at a call, and the calls that fail.
+fn apply_failing(row: &mut Row, key: &str, rest: &str) -> Result<bool, AllocError> {
     match key {
-        Given::Words => set_words(alloc, row, rest),
-        Given::Conf => append_line(row, CONF, rest),
-        Given::ConfPart => append_part(row, rest),
-        Given::ConfHex => append_hex(alloc, &mut row.files, CONF, rest),
-        Given::File => append_file_line(row, rest),
-        Given::Step => set_step(row, rest),
-        Given::Host => push_number(&mut row.host, rest),
-        Given::Maker => push_number(&mut row.maker, rest),
-        Given::Alerts => push_number(&mut row.alerts, rest),
-        Given::Errors => push_number(&mut row.errors, rest),
+        "step" => Ok(set_step(row, rest)),
+        "host" => push_number(&mut row.host, rest),
+        "maker" => push_number(&mut row.maker, rest),
+        "alerts" => push_number(&mut row.alerts, rest),
+        "errors" => push_number(&mut row.errors, rest),
+        _ => Ok(false),
     }
 }
 
-fn set_words(alloc: Global, row: &mut Row, words: &str) -> Result<bool, AllocError> {
-    row.words = String::from_str(alloc, words)?;
+fn set_words(row: &mut Row, words: &str) -> Result<bool, AllocError> {
+    row.words.clear();
+    row.words.push_str(words)?;
     Ok(true)
 }
 
-fn set_step(row: &mut Row, text: &str) -> Result<bool, AllocError> {
-    row.step = text.parse::<u32>().unwrap_or(0);
-    Ok(row.step > 0)
+fn set_step(row: &mut Row, text: &str) -> bool {
+    row.step = Parts::of(text, ' ').number();
+    row.step > 0
 }
 
 fn append_line(row: &mut Row, name: &str, line: &str) -> Result<bool, AllocError> {
@@ -72,7 +78,7 @@ fn append_line(row: &mut Row, name: &str, line: &str) -> Result<bool, AllocError
 
 /// `NAME TEXT`: a line of the file of this name.
 fn append_file_line(row: &mut Row, rest: &str) -> Result<bool, AllocError> {
-    let (name, line) = rest.split_once(' ').unwrap_or((rest, ""));
+    let (name, line) = cut(rest, ' ');
     append_line(row, name, line)
 }
 
@@ -82,30 +88,31 @@ fn append_part(row: &mut Row, line: &str) -> Result<bool, AllocError> {
     Ok(true)
 }
 
+/// Appends the number that a text is; false where it is none.
 fn push_number(numbers: &mut Vec<u32>, text: &str) -> Result<bool, AllocError> {
-    let Ok(number) = text.parse::<u32>() else {
-        return Ok(false);
-    };
-    numbers.push(number)?;
-    Ok(true)
+    let mut parts = Parts::of(text, ' ');
+    numbers.push(parts.number())?;
+    Ok(parts.is_read())
 }
 
-/// The bytes of the capture.
-fn apply_captured(
-    alloc: Global,
-    row: &mut Row,
-    key: Captured,
-    rest: &str,
-) -> Result<bool, AllocError> {
+/// The bytes of the capture, and the moment of its next record.
+fn apply_captured(alloc: Global, row: &mut Row, key: &str, rest: &str) -> Result<bool, AllocError> {
     match key {
-        Captured::Head => append_head(row),
-        Captured::Hex => append_hex(alloc, &mut row.files, CAPTURE, rest),
-        Captured::At => set_moment(row, rest),
-        Captured::Udp => append_udp(alloc, row, rest),
-        Captured::UdpHex => append_udp_hex(alloc, row, rest),
-        Captured::Tcp => append_tcp(alloc, row, rest),
-        Captured::Fragment => append_fragment(alloc, row, rest),
+        "head" => append_head(row),
+        "hex" => append_hex(alloc, &mut row.files, CAPTURE, rest),
+        "at" => Ok(set_moment(row, rest)),
+        _ => Ok(false),
     }
+}
+
+/// A packet in a record.
+fn apply_packet(alloc: Global, row: &mut Row, key: &str, rest: &str) -> Result<bool, AllocError> {
+    let mut packet = Vec::new(alloc);
+    if !push_packet(alloc, &mut packet, key, rest)? {
+        return Ok(false);
+    }
+    append_record(row, &packet)?;
+    Ok(true)
 }
 
 fn append_head(row: &mut Row) -> Result<bool, AllocError> {
@@ -113,132 +120,103 @@ fn append_head(row: &mut Row) -> Result<bool, AllocError> {
     Ok(true)
 }
 
-fn set_moment(row: &mut Row, text: &str) -> Result<bool, AllocError> {
-    row.moment = moment_of(text);
-    Ok(row.moment.is_some())
-}
-
 /// Seconds and microseconds, as `1 500000`.
-fn moment_of(text: &str) -> Option<(u32, u32)> {
-    let (seconds, micros) = text.split_once(' ')?;
-    Some((seconds.parse::<u32>().ok()?, micros.parse::<u32>().ok()?))
+fn set_moment(row: &mut Row, text: &str) -> bool {
+    let mut parts = Parts::of(text, ' ');
+    row.moment = Some((parts.number(), parts.number()));
+    parts.is_read()
 }
 
 /// Appends a record: its moment is the one that was told, or as many seconds as records stand before.
-fn append_record(alloc: Global, row: &mut Row, packet: &[u8]) -> Result<bool, AllocError> {
+fn append_record(row: &mut Row, packet: &[u8]) -> Result<(), AllocError> {
     let moment = row.moment.unwrap_or((row.records, 0));
-    let bytes = record_of(alloc, moment, packet)?;
-    row.files.append(CAPTURE, &bytes)?;
+    let head = record_head(moment, packet);
+    for number in &head {
+        row.files.append(CAPTURE, &number.to_le_bytes())?;
+    }
+    row.files.append(CAPTURE, packet)?;
     row.records = row.records.saturating_add(1);
     row.moment = None;
-    Ok(true)
+    Ok(())
 }
 
-/// `U C:1000>S:2000 TEXT`
-fn append_udp(alloc: Global, row: &mut Row, rest: &str) -> Result<bool, AllocError> {
-    let (ends, text) = rest.split_once(' ').unwrap_or((rest, ""));
-    let Some(ends) = ends_of(ends) else {
-        return Ok(false);
-    };
-    let packet = udp(alloc, ends, text.as_bytes())?;
-    append_record(alloc, row, &packet)
-}
-
-/// `UX C:1000>S:2000 HEX`
-fn append_udp_hex(alloc: Global, row: &mut Row, rest: &str) -> Result<bool, AllocError> {
-    let (ends, digits) = rest.split_once(' ').unwrap_or((rest, ""));
-    let Some(ends) = ends_of(ends) else {
-        return Ok(false);
-    };
-    let mut payload = Vec::new(alloc);
-    if !push_hex(&mut payload, digits)? {
-        return Ok(false);
+/// Appends the packet of a line to an empty one; false where it says none.
+fn push_packet(
+    alloc: Global,
+    packet: &mut Vec<u8>,
+    key: &str,
+    rest: &str,
+) -> Result<bool, AllocError> {
+    let mut parts = Parts::of(rest, ' ');
+    match key {
+        "U" => push_udp_line(packet, &mut parts)?,
+        "UX" => push_hex_line(alloc, packet, &mut parts)?,
+        "T" => push_tcp_line(packet, &mut parts)?,
+        "F" => push_fragment_line(packet, &mut parts)?,
+        _ => parts.refuse(),
     }
-    let packet = udp(alloc, ends, &payload)?;
-    append_record(alloc, row, &packet)
+    Ok(!parts.is_wrong())
 }
 
-/// What a line of TCP says.
-#[derive(Clone, Copy)]
-struct TcpLine<'a> {
-    ends: (End, End),
-    flags: u8,
-    numbers: (u32, u32),
-    text: &'a str,
+/// `C:1000>S:2000 TEXT`
+fn push_udp_line(packet: &mut Vec<u8>, parts: &mut Parts<'_>) -> Result<(), AllocError> {
+    let ends = ends_of(parts);
+    push_udp(packet, ends, parts.left().as_bytes())
 }
 
-/// The letters of TCP flags.
-const FLAGS: [(&str, u8); 5] = [("S", 2), ("SA", 18), ("A", 16), ("FA", 17), ("R", 4)];
+/// `C:1000>S:2000 HEX`
+fn push_hex_line(
+    alloc: Global,
+    packet: &mut Vec<u8>,
+    parts: &mut Parts<'_>,
+) -> Result<(), AllocError> {
+    let ends = ends_of(parts);
+    let mut payload = Vec::new(alloc);
+    if !push_hex(&mut payload, parts.left())? {
+        parts.refuse();
+    }
+    push_udp(packet, ends, &payload)
+}
 
-fn flags_of(text: &str) -> Option<u8> {
-    for (name, flags) in FLAGS.iter() {
-        if *name == text {
-            return Some(*flags);
+/// The TCP flags of these letters.
+fn flags_of(parts: &mut Parts<'_>) -> u16 {
+    match parts.word() {
+        "S" => 2,
+        "SA" => 18,
+        "A" => 16,
+        "FA" => 17,
+        "R" => 4,
+        _ => {
+            parts.refuse();
+            0
         }
     }
-    None
 }
 
-/// What `C:1000>S:80 A 1 101 TEXT` says.
-fn tcp_line(rest: &str) -> Option<TcpLine<'_>> {
-    let (ends, rest) = rest.split_once(' ')?;
-    let (flags, rest) = rest.split_once(' ')?;
-    let (sequence, rest) = rest.split_once(' ')?;
-    let (acknowledgement, text) = rest.split_once(' ').unwrap_or((rest, ""));
-    Some(TcpLine {
-        ends: ends_of(ends)?,
-        flags: flags_of(flags)?,
-        numbers: (
-            sequence.parse::<u32>().ok()?,
-            acknowledgement.parse::<u32>().ok()?,
-        ),
-        text,
-    })
+/// `C:1000>S:80 A 1 101 TEXT`
+fn push_tcp_line(packet: &mut Vec<u8>, parts: &mut Parts<'_>) -> Result<(), AllocError> {
+    let ends = ends_of(parts);
+    let flags = flags_of(parts);
+    let numbers = (parts.number(), parts.number());
+    push_tcp(packet, ends, flags, numbers, parts.left().as_bytes())
 }
 
-/// `T C:1000>S:80 A 1 101 TEXT`
-fn append_tcp(alloc: Global, row: &mut Row, rest: &str) -> Result<bool, AllocError> {
-    let Some(line) = tcp_line(rest) else {
-        return Ok(false);
-    };
-    let packet = tcp(
-        alloc,
-        line.ends,
-        line.flags,
-        line.numbers,
-        line.text.as_bytes(),
-    )?;
-    append_record(alloc, row, &packet)
+/// `8 M TEXT`, or `-` in place of M
+fn push_fragment_line(packet: &mut Vec<u8>, parts: &mut Parts<'_>) -> Result<(), AllocError> {
+    let offset = parts.short();
+    let more = parts.word() == "M";
+    push_fragment(packet, offset, more, parts.left().as_bytes())
 }
 
-/// `F 8 M TEXT`, or `-` in place of M
-fn append_fragment(alloc: Global, row: &mut Row, rest: &str) -> Result<bool, AllocError> {
-    let Some((offset, rest)) = rest.split_once(' ') else {
-        return Ok(false);
-    };
-    let (more, text) = rest.split_once(' ').unwrap_or((rest, ""));
-    let Ok(offset) = offset.parse::<u16>() else {
-        return Ok(false);
-    };
-    let packet = fragment(alloc, offset, more == "M", text.as_bytes())?;
-    append_record(alloc, row, &packet)
-}
-
-fn hex_digit(byte: u8) -> Option<u8> {
+/// The value of a hexadecimal digit; 16 where it is none.
+fn hex_digit(byte: u8) -> u8
+    ensures { result ≤ 16 }
+{
     match byte {
-        b'0'..=b'9' => Some(byte - b'0'),
-        b'a'..=b'f' => Some(byte - b'a' + 10),
-        _ => None,
+        b'0'..=b'9' => byte - b'0',
+        b'a'..=b'f' => byte - b'a' + 10,
+        _ => 16,
     }
-}
-
-/// The byte of two digits.
-fn hex_byte(high: u8, low: u8) -> Option<u8> {
-    Some(
-        hex_digit(high)?
-            .wrapping_mul(16)
-            .wrapping_add(hex_digit(low)?),
-    )
 }
 
 /// Pairs of hexadecimal digits, between which blanks may stand. Without any the file is there, and
@@ -267,41 +245,57 @@ fn push_hex(bytes: &mut Vec<u8>, digits: &str) -> Result<bool, AllocError> {
     Ok(true)
 }
 
+/// Appends the byte of two digits.
+fn push_byte(bytes: &mut Vec<u8>, high: u8, low: u8) -> Result<bool, AllocError> {
+    if high > 15 || low > 15 {
+        return Ok(false);
+    }
+    bytes.push(high * 16 + low)?;
+    Ok(true)
+}
+
+/// Appends the byte of a pair of digits.
+fn push_pair(bytes: &mut Vec<u8>, pair: &[u8]) -> Result<bool, AllocError> {
+    match pair {
+        [high, low] => push_byte(bytes, hex_digit(*high), hex_digit(*low)),
+        _ => Ok(false),
+    }
+}
+
 /// Appends the bytes of pairs of hexadecimal digits.
 fn push_pairs(bytes: &mut Vec<u8>, digits: &[u8]) -> Result<bool, AllocError> {
     for pair in digits.chunks(2) {
-        let [high, low] = pair else {
+        if !push_pair(bytes, pair)? {
             return Ok(false);
-        };
-        let Some(value) = hex_byte(*high, *low) else {
-            return Ok(false);
-        };
-        bytes.push(value)?;
+        }
     }
     Ok(true)
 }
 
 /// What the run must leave.
-fn apply_left(row: &mut Row, key: Left, rest: &str) -> Result<bool, AllocError> {
+fn apply_left(row: &mut Row, key: &str, rest: &str) -> Result<bool, AllocError> {
     match key {
-        Left::Status => set_status(row, rest),
-        Left::Alert => push_line(&mut row.alert_bytes, rest),
-        Left::AlertPart => push_part(&mut row.alert_bytes, rest),
-        Left::AlertHex => push_hex(&mut row.alert_bytes, rest),
-        Left::Error => push_line(&mut row.error_bytes, rest),
-        Left::ErrorPart => push_part(&mut row.error_bytes, rest),
-        Left::Bytes => set_left(row, rest),
+        "status" => Ok(set_status(row, rest)),
+        "left" => Ok(set_left(row, rest)),
+        "alert" => push_line(&mut row.alert_bytes, rest),
+        "alert-" => push_part(&mut row.alert_bytes, rest),
+        "alerthex" => push_hex(&mut row.alert_bytes, rest),
+        "error" => push_line(&mut row.error_bytes, rest),
+        "error-" => push_part(&mut row.error_bytes, rest),
+        _ => Ok(false),
     }
 }
 
-fn set_status(row: &mut Row, text: &str) -> Result<bool, AllocError> {
-    row.status = text.parse::<u32>().unwrap_or(99);
-    Ok(true)
+fn set_status(row: &mut Row, text: &str) -> bool {
+    let mut parts = Parts::of(text, ' ');
+    row.status = parts.number();
+    parts.is_read()
 }
 
-fn set_left(row: &mut Row, text: &str) -> Result<bool, AllocError> {
-    row.left = text.parse::<u32>().ok();
-    Ok(row.left.is_some())
+fn set_left(row: &mut Row, text: &str) -> bool {
+    let mut parts = Parts::of(text, ' ');
+    row.left = Some(parts.number());
+    parts.is_read()
 }
 
 fn push_part(bytes: &mut Vec<u8>, text: &str) -> Result<bool, AllocError> {

@@ -38,10 +38,6 @@ fn left_of(host: &mut MemHost) -> Result<u32, NoMemory> {
     Ok(left)
 }
 
-fn text_of(alloc: Global, bytes: &[u8]) -> Result<String, NoMemory> {
-    Ok(String::from_utf8_lossy(alloc, bytes)?)
-}
-
 fn maker_of(alloc: Global, refused: &[u32]) -> Result<LiteralMaker, NoMemory> {
     let mut maker = LiteralMaker::new(alloc);
     maker.fail_calls(refused)?;
@@ -63,15 +59,17 @@ fn status_of<R: Threads + Sync>(
 }
 
 /// Tells of a number that differs.
-fn note_number(
-    alloc: Global,
-    text: &mut String,
-    what: &str,
-    found: u32,
-    wanted: u32,
-) -> Result<(), NoMemory> {
-    if found != wanted {
-        text.push_str(&format!(in alloc; " {what} {found}, not {wanted};")?)?;
+fn note_number(text: &mut String, what: &str, found: u32, wanted: u32) -> Result<(), NoMemory> {
+    if found != wanted && write!(text, " {what} {found}, not {wanted};").is_err() {
+        return Err(NoMemory);
+    }
+    Ok(())
+}
+
+/// Tells of bytes.
+fn note_shown(text: &mut String, what: &str, shown: &str) -> Result<(), NoMemory> {
+    if write!(text, " {what} {shown};").is_err() {
+        return Err(NoMemory);
     }
     Ok(())
 }
@@ -84,11 +82,11 @@ fn note_bytes(
     found: &[u8],
     wanted: &[u8],
 ) -> Result<(), NoMemory> {
-    if found != wanted {
-        let shown = text_of(alloc, found)?;
-        text.push_str(&format!(in alloc; " {what} {shown};")?)?;
+    if found == wanted {
+        return Ok(());
     }
-    Ok(())
+    let shown = String::from_utf8_lossy(alloc, found)?;
+    note_shown(text, what, &shown)
 }
 
 /// The words of the row's command.
@@ -100,34 +98,60 @@ fn command_of(row: &Row) -> &str {
     }
 }
 
-/// Runs a row. The answer is empty where the run leaves what the row says, and else tells what
-/// differs.
-pub(crate) fn differences<R: Threads + Sync>(
+/// Tells of what the sinks have.
+fn note_sinks(
+    alloc: Global,
+    row: &Row,
+    alerts: &MemSink,
+    errors: &MemSink,
+    text: &mut String,
+) -> Result<(), NoMemory> {
+    note_bytes(alloc, text, "alerts", alerts.bytes(), &row.alert_bytes)?;
+    note_bytes(alloc, text, "errors", errors.bytes(), &row.error_bytes)
+}
+
+/// Runs a command over a host, with the row's maker and sinks, and tells what differs.
+fn note_run<R: Threads + Sync>(
     rt: &R,
     alloc: Global,
     row: &Row,
-) -> Result<String, NoMemory> {
-    let words = words_of(alloc, command_of(row))?;
-    let mut host = row.files.host(&row.host)?;
+    words: &[String],
+    host: &mut MemHost,
+    text: &mut String,
+) -> Result<(), NoMemory> {
     let mut alerts = sink_of(alloc, row.step, &row.alerts)?;
     let mut errors = sink_of(alloc, row.step, &row.errors)?;
     let mut maker = maker_of(alloc, &row.maker)?;
-    let status = status_of(
-        rt,
-        alloc,
-        &words,
-        &mut host,
-        &mut maker,
-        &mut alerts,
-        &mut errors,
-    );
-    let mut text = String::new(alloc);
-    note_number(alloc, &mut text, "status", status, row.status)?;
-    note_bytes(alloc, &mut text, "alerts", alerts.bytes(), &row.alert_bytes)?;
-    note_bytes(alloc, &mut text, "errors", errors.bytes(), &row.error_bytes)?;
-    if let Some(wanted) = row.left {
-        let left = left_of(&mut host)?;
-        note_number(alloc, &mut text, "bytes left", left, wanted)?;
+    let status = status_of(rt, alloc, words, host, &mut maker, &mut alerts, &mut errors);
+    note_number(text, "status", status, row.status)?;
+    note_sinks(alloc, row, &alerts, &errors, text)
+}
+
+/// Tells of the bytes that are left of the capture, where the row says how many.
+fn note_left(
+    alloc: Global,
+    row: &Row,
+    host: &mut MemHost,
+    text: &mut String,
+) -> Result<(), NoMemory> {
+    match row.left {
+        Some(wanted) => {
+            let left = left_of(host)?;
+            note_number(text, "bytes left", left, wanted)
+        }
+        None => Ok(()),
     }
-    Ok(text)
+}
+
+/// Runs a row. The text stays empty where the run leaves what the row says, and else tells what differs.
+pub(crate) fn note_differences<R: Threads + Sync>(
+    rt: &R,
+    alloc: Global,
+    row: &Row,
+    text: &mut String,
+) -> Result<(), NoMemory> {
+    let words = words_of(alloc, command_of(row))?;
+    let mut host = row.files.host(&row.host)?;
+    note_run(rt, alloc, row, &words, &mut host, text)?;
+    note_left(alloc, row, &mut host, text)
 }

@@ -46,21 +46,27 @@ impl Row {
         }
     }
 
-    /// A row with a label and nothing else.
-    pub fn labelled(alloc: Global, label: &str) -> Result<Row, AllocError> {
-        let mut row = Row::new(alloc);
-        row.label = String::from_str(alloc, label)?;
-        Ok(row)
+    /// Becomes a row with a label that is given what it was, but for the calls that fail; nothing must be left.
+    pub fn again(&mut self, label: &str) -> Result<(), AllocError> {
+        self.moment = None;
+        self.status = 0;
+        self.left = None;
+        self.host.clear();
+        self.maker.clear();
+        self.alerts.clear();
+        self.errors.clear();
+        self.alert_bytes.clear();
+        self.error_bytes.clear();
+        self.label.clear();
+        self.label.push_str(label)
     }
 
-    /// A row with a label that is given what this one is, but for the calls that fail; nothing must be
-    /// left.
-    pub fn again(self, alloc: Global, label: &str) -> Result<Row, AllocError> {
-        let mut row = Row::labelled(alloc, label)?;
-        row.words = self.words;
-        row.files = self.files;
-        row.records = self.records;
-        row.step = self.step;
-        Ok(row)
+    /// Becomes a row with a label and nothing else.
+    pub fn begin(&mut self, alloc: Global, label: &str) -> Result<(), AllocError> {
+        self.words.clear();
+        self.files = Files::new(alloc);
+        self.records = 0;
+        self.step = 10;
+        self.again(label)
     }
 }
