@@ -1,3 +1,4 @@
+-- The definitions that the contracts of alert_fast cite.
 pub mod Calendar
 pub mod Pieces
 pub mod Line

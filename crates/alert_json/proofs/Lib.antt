@@ -1,3 +1,4 @@
+-- Laws of the definitions of alert_json, and lemmas that its proofs share.
 pub mod FlowLaws
 pub mod Groups
 pub mod Latin

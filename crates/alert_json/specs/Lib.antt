@@ -1,3 +1,4 @@
+-- The definitions that the contracts of alert_json cite.
 pub mod Facts
 pub mod Texts
 pub mod Stamps

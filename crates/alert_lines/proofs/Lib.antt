@@ -1,3 +1,4 @@
+-- Laws of the definitions of alert_lines, and lemmas that its proofs share.
 pub mod Prefixes
 pub mod Emitting
 pub mod Texts

@@ -1,3 +1,4 @@
+-- Laws of the definitions of command_words, and lemmas that its proofs share.
 pub mod Rules
 pub mod Steps
 pub mod Letters

@@ -1,3 +1,4 @@
+-- Laws of the definitions of conf_parser, and lemmas that its proofs share.
 pub mod ListKinds
 pub mod StreamParts
 pub mod Pairs

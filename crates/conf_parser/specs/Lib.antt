@@ -1,3 +1,4 @@
+-- The definitions that the contracts of conf_parser cite.
 pub mod Values
 pub mod Options
 pub mod Settings

@@ -1,3 +1,4 @@
+-- Laws of the definitions of edge_io, and lemmas that its proofs share.
 pub mod Addresses
 pub mod Along
 pub mod AlongClasses

@@ -1,3 +1,4 @@
+-- The definitions that the contracts of edge_io cite.
 pub mod Along
 pub mod Addresses
 pub mod Bytes

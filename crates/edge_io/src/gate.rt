@@ -1,3 +1,4 @@
+//! What each lane passes at the start of its work, by which tests hold a lane back.
 ghost use Rattle.std.specs.Prelude.{◌≡◌, false};
 
 /// A gate at the entry of each lane's work.

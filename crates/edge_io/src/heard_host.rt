@@ -1,3 +1,4 @@
+//! Real files whose answers are noted for contracts.
 ghost use Rattle.std.specs.Prelude.{◌≡◌, ◌<◌, ◌≤◌, ◌+◌, ◌++◌, ◌∷◌, [], None, length, vec_len, take, drop, IfOk, OnOk, OnErr, IsSome, IsErrOf, refl};
 ghost use Rattle.std.specs.Io.KnownBytes.{Consumes, Keeps, IsAtEnd};
 ghost use Rattle.edge_io.specs.Answers.{Agree, left_behind, loaded, longer, opened, closed, gave};

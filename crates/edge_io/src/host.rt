@@ -1,3 +1,4 @@
+//! What a run reads from: files that are loaded, and one capture that is open.
 ghost use Rattle.std.specs.Prelude.{◌≡◌, ℕ, ◌+◌, ◌<◌, ◌≤◌, ◌++◌, ◌⊎◌, Option, None, Some, List, length, take, drop, vec_len, IfOk, OnOk, OnErr, IsErrOf};
 ghost use Rattle.std.specs.FinMap.{get};
 ghost use Rattle.edge_io.specs.Told.{before, NothingLeft, one_more, Rose};

@@ -1,3 +1,4 @@
+//! Elements that a value owns.
 ghost use Rattle.std.specs.Prelude.{◌≡◌, [], ◌∷◌, ◌++◌, OnOk, OnErr};
 
 use crate::NoMemory;

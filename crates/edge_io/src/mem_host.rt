@@ -1,3 +1,4 @@
+//! Files in memory, with short reads and failures.
 ghost use Rattle.std.specs.Prelude.{◌≡◌, ◌<◌, ◌≤◌, ◌++◌, [], Option, Some, None, length, drop, take, vec_len, min, Ok, Err, IfOk, OnOk, OnErr, IfSome, IfNone, IsErrOf, IsErr, IsSome, IsTrue, false, refl};
 ghost use Rattle.std.specs.FinMap.{get, insert};
 ghost use Rattle.std.specs.Option.{option_copied};

@@ -1,3 +1,4 @@
+//! A sink in memory, with short writes and failures.
 ghost use Rattle.std.specs.Prelude.{◌≡◌, ◌≤◌, ◌<◌, Some, false, length, take, OnOk, OnErr, IfOk, IsTrue};
 ghost use Rattle.edge_io.specs.HeldBytes.{nothing_written, refuses, taken_count, after_write};
 ghost use Rattle.edge_io.specs.Told.{behind};

@@ -1,3 +1,4 @@
+//! Regular expressions as rules use them: what makes them, and what a search finds.
 ghost use Rattle.std.specs.Prelude.{◌≡◌, ℕ, ◌≤◌, [], ◌∷◌, ◌++◌, List, Option, length, IfOk, IfSome, OnOk, IsErrOf};
 
 use crate::{NoMemory, Text};

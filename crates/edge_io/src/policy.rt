@@ -1,3 +1,4 @@
+//! The policies by which hosts put overlapping fragments and segments together.
 ghost use Rattle.std.specs.Prelude.{◌≡◌};
 ghost use Rattle.edge_io.specs.declared.policy.FragPolicy.{FragPolicy};
 ghost use Rattle.edge_io.specs.declared.policy.StreamPolicy.{StreamPolicy};

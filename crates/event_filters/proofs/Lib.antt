@@ -1,3 +1,4 @@
+-- Laws of the definitions of event_filters, and lemmas that its proofs share.
 pub mod KeyTests
 pub mod Numbers
 pub mod Intervals

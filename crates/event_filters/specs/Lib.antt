@@ -1,3 +1,4 @@
+-- The definitions that the contracts of event_filters cite.
 pub mod Keys
 pub mod Counting
 pub mod Queue

@@ -1,3 +1,4 @@
+-- Laws of the definitions of fast_pattern, and lemmas that its proofs share.
 pub mod Blocking
 pub mod Children
 pub mod Choosing

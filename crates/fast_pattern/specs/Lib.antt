@@ -1,3 +1,4 @@
+-- The definitions that the contracts of fast_pattern cite.
 pub mod Blocks
 pub mod Candidates
 pub mod Doors

@@ -1,3 +1,4 @@
+-- Laws of the definitions of flow_lanes, and lemmas that its proofs share.
 pub mod Course
 pub mod Open
 pub mod ItemHits

@@ -1,3 +1,4 @@
+-- The definitions that the contracts of flow_lanes cite.
 pub mod Streams
 pub mod Sides
 pub mod Engines

@@ -1,1 +1,2 @@
+-- Laws of the definitions of flowbit_state, and lemmas that its proofs share.
 pub mod WordLaws

@@ -1,2 +1,3 @@
+-- The definitions that the contracts of flowbit_state cite.
 pub mod Changes
 pub mod Words

@@ -1,3 +1,4 @@
+//! The bits that rules set in a session.
 ghost use Rattle.std.specs.Prelude.{◌≡◌, ◌<◌, IsTrue, OnOk, OnErr};
 ghost use Rattle.std.specs.FinSet.{empty, contains};
 ghost use Rattle.flowbit_state.specs.Changes.{changed};

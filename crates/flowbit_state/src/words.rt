@@ -1,3 +1,4 @@
+//! A set of 1024 bits in sixteen words.
 ghost use Rattle.std.specs.Prelude.{◌≡◌, ◌==◌, ℕ, ◌<◌, IsTrue, if◌then◌else◌};
 ghost use Rattle.std.specs.FinSet.{empty, contains};
 ghost use Rattle.flowbit_state.specs.Changes.{changed, bit_after};

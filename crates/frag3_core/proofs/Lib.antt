@@ -1,3 +1,4 @@
+-- Laws of the definitions of frag3_core, and lemmas that its proofs share.
 pub mod Bytes
 pub mod Entries
 pub mod Held

@@ -1,3 +1,4 @@
+-- The definitions that the contracts of frag3_core cite.
 pub mod Trackers
 pub mod Sound
 pub mod Held

@@ -1,3 +1,4 @@
+//! What a fragment is answered: by which rules, and what came of it.
 use edge_io::{Preference, Text};
 use packet_decode::IpHead;
 

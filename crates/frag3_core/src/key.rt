@@ -1,3 +1,4 @@
+//! Which datagram a fragment belongs to.
 ghost use Rattle.std.specs.Prelude.{◌≡◌};
 ghost use Rattle.frag3_core.specs.Trackers.{key_of};
 

@@ -1,3 +1,4 @@
+//! The fragments of one datagram.
 ghost use Rattle.std.specs.Prelude.{◌≡◌, ◌^◌, ◌<◌, ◌≤◌, length, IfOk, OnOk, OnErr, option_and_then};
 ghost use Rattle.frag3_core.specs.Trackers.{begun, datagram_of, end_of, is_timed_out, joined};
 ghost use Rattle.frag3_core.specs.Parts.{IsRoomFor, first_bytes};

@@ -1,1 +1,2 @@
+-- The definitions that the contracts of header_eval cite.
 pub mod Fields

@@ -1,3 +1,4 @@
+-- Laws of the definitions of host_table, and lemmas that its proofs share.
 pub mod Networks
 pub mod Places
 pub mod Longest

@@ -1,3 +1,4 @@
+-- The definitions that the contracts of host_table cite.
 pub mod Lines
 pub mod HostLine
 pub mod Hosts

@@ -1,3 +1,4 @@
+//! Why a host table is refused.
 use edge_io::NoMemory;
 use std::alloc::{AllocError, AllocFailed};
 use thiserror::Error;

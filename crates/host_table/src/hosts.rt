@@ -1,3 +1,4 @@
+//! A table of hosts: reading it, and the entry of an address.
 ghost use Rattle.std.specs.Prelude.{◌≡◌, ◌≤◌, [], ◌∷◌, ◌++◌, false, IfOk, option_copied};
 ghost use Rattle.net_lists.specs.Addresses.{IsNetwork, network_at, bits_of};
 ghost use Rattle.host_table.specs.HostLine.{is_given};

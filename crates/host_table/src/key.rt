@@ -1,3 +1,4 @@
+//! A network as a key, so that the longest prefix is found.
 ghost use Rattle.std.specs.Prelude.{◌≡◌};
 ghost use Rattle.host_table.specs.Keys.{key_of};
 

@@ -1,3 +1,4 @@
+//! The fixed header of IPv6 (RFC 8200).
 ghost use Rattle.std.specs.Prelude.{◌≡◌, ◌+◌, ◌/◌, ◌%◌, ◌≤◌, length, IfOk};
 ghost use Rattle.edge_io.specs.Bytes.{be16};
 ghost use Rattle.ipv6_decode.specs.Headers.{packet_stop, head_at};

@@ -1,3 +1,4 @@
+//! Numbers of sixteen bytes, the most significant first.
 ghost use Rattle.std.specs.Prelude.{◌≡◌, ◌+◌, ◌≤◌, length};
 ghost use Rattle.ipv6_decode.specs.Headers.{be128};
 

@@ -1,3 +1,4 @@
+//! Decoding a packet of IPv6, whole or a fragment.
 ghost use Rattle.std.specs.Prelude.{◌≡◌, ◌+◌, ◌≤◌, length, IfOk};
 ghost use Rattle.packet_decode.specs.Decoding.{seen};
 ghost use Rattle.packet_decode.specs.Versions.{version_of};

@@ -1,3 +1,4 @@
+//! Walking over extension headers to the transport header.
 ghost use Rattle.std.specs.Prelude.{◌≡◌, ◌+◌, ◌≤◌, length, IfOk};
 ghost use Rattle.ipv6_decode.specs.Headers.{has_length_field, is_at_header, behind_length_field, fragment_head, behind_fragment_header, behind_header, most_headers, walk_end};
 

@@ -1,3 +1,4 @@
+-- Laws of the definitions of net_lists, and lemmas that its proofs share.
 pub mod FirstLine
 pub mod Fronts
 pub mod Ranges

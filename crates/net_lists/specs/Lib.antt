@@ -1,3 +1,4 @@
+-- The definitions that the contracts of net_lists cite.
 pub mod Numbers
 pub mod Cutting
 pub mod Lines

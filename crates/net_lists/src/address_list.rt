@@ -1,3 +1,4 @@
+//! Lists of addresses: reading them, and whether an address is among them.
 ghost use Rattle.std.specs.Prelude.{◌≡◌, ◌↔◌, IsTrue, IfOk, IsErrOf, List, []};
 ghost use Rattle.net_lists.specs.declared.part.AddrBounds.{AddrBounds};
 ghost use Rattle.net_lists.specs.declared.part.Part.{Part};

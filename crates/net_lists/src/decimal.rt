@@ -1,3 +1,4 @@
+//! Numbers in decimal digits.
 ghost use Rattle.std.specs.Prelude.{◌≡◌, ◌<◌, ◌≤◌, ◌^◌, min, IfSome};
 ghost use Rattle.net_lists.specs.Numbers.{decimal_value, are_digits, digits_upto, has_leading_zero};
 

@@ -1,3 +1,4 @@
+//! Putting the values of variables in place of their forms.
 ghost use Rattle.std.specs.Prelude.{◌≡◌, ◌++◌, ◌≤◌, ◌<◌, drop, length, vec_len, OnOk, OnErr, IfOk};
 ghost use Rattle.net_lists.specs.Expansion.{expansion, Expands, GivesPiece};
 

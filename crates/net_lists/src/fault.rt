@@ -1,3 +1,4 @@
+//! Why a text isn't read as a list.
 ghost use Rattle.std.specs.Prelude.{◌≡◌};
 
 use std::alloc::AllocError;

@@ -1,3 +1,4 @@
+//! The forms in which a text names a variable.
 ghost use Rattle.std.specs.Prelude.{◌≡◌, ◌≤◌, ◌<◌, length, option_map, IfSome};
 ghost use Rattle.net_lists.specs.Forms.{form_at, bare, parenthesized, named_form, closed, name_len, IsSpan};
 ghost use Rattle.net_lists.specs.Found.{form_of, otherwise_span};

@@ -1,3 +1,4 @@
+//! What a variable may be called.
 ghost use Rattle.std.specs.Prelude.{◌≡◌};
 ghost use Rattle.std.specs.List.{list_all};
 ghost use Rattle.net_lists.specs.Variables.{is_name, begins_name, continues_name};

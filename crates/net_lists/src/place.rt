@@ -1,3 +1,4 @@
+//! What may come next while a list is read.
 ghost use Rattle.std.specs.Prelude.{◌≡◌, ◌+◌, ◌<◌, ◌^◌, IfSome};
 ghost use Rattle.net_lists.specs.Tokenized.{symbol_of};
 ghost use Rattle.net_lists.specs.Machine.{IsNext, step_of, start, is_end, is_negated, no_part, at, behind_word, behind_open, behind_close, behind_comma, behind_not};

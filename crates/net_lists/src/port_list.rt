@@ -1,3 +1,4 @@
+//! Lists of ports: reading them, and whether a port is among them.
 ghost use Rattle.std.specs.Prelude.{◌≡◌, ◌↔◌, IsTrue, IfOk, IsErrOf, List, [], ℕ, map};
 ghost use Rattle.net_lists.specs.declared.part.Bounds.{Bounds};
 ghost use Rattle.net_lists.specs.declared.part.Part.{Part};

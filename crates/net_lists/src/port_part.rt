@@ -1,3 +1,4 @@
+//! A port or a range of ports.
 ghost use Rattle.std.specs.Prelude.{◌≡◌, ◌<◌};
 ghost use Rattle.net_lists.specs.Numbers.{number_in};
 ghost use Rattle.net_lists.specs.Parts.{port_end, between_ends, port_bounds};

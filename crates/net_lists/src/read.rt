@@ -1,3 +1,4 @@
+//! Reading a list of either kind, part by part.
 ghost use Rattle.std.specs.Prelude.{◌≡◌, ◌++◌, OnOk, option_copied, option_to_list};
 ghost use Rattle.net_lists.specs.Machine.{Reads, ReadsList, group_parts, operand_parts, signed_parts, list_parts, bracketed, IsOne};
 

@@ -1,3 +1,4 @@
+//! Cutting a text at a byte.
 ghost use Rattle.std.specs.Prelude.{◌≡◌, ◌<◌, ◌==◌, length, position, option_map, IfSome};
 ghost use Rattle.net_lists.specs.Addresses.{cut};
 

@@ -1,3 +1,4 @@
+//! The tokens of a list.
 ghost use Rattle.std.specs.Prelude.{◌≡◌, ◌<◌, ◌≤◌, [], ◌∷◌, length, true, false, MatchOption, IfSome};
 ghost use Rattle.std.specs.List.{prefix_len};
 ghost use Rattle.net_lists.specs.Tokens.{symbols, is_word_byte, begins_word, begins_blank};

@@ -1,3 +1,4 @@
+//! Variables and what they have for values.
 ghost use Rattle.std.specs.Prelude.{◌≡◌, OnOk, OnErr, option_copied};
 ghost use Rattle.std.specs.FinMap as map;
 ghost use Rattle.net_lists.specs.Variables.{IsName, defined, is_fixed, value_of};

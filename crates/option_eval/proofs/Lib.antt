@@ -1,3 +1,4 @@
+-- Laws of the definitions of option_eval, and lemmas that its proofs share.
 pub mod Asking
 pub mod Chosen
 pub mod Contents

@@ -1,3 +1,4 @@
+-- The definitions that the contracts of option_eval cite.
 pub mod Numbers
 pub mod Places
 pub mod RuleSet

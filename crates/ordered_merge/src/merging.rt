@@ -1,3 +1,4 @@
+//! Parts that are in order become one list in order.
 ghost use Rattle.std.specs.Prelude.{◌≡◌, ℕ, nat_eq, All, IfOk, List};
 ghost use Rattle.std.specs.List.{IsDistinct};
 ghost use Rattle.std.specs.List.Sorted.{IsPermutation, IsStrictlyIncreasing};

@@ -1,3 +1,4 @@
+-- Laws of the definitions of overlap_core, and lemmas that its proofs share.
 mod Agreeing
 pub mod Arrivals
 pub mod Behind

@@ -1,3 +1,4 @@
+-- The definitions that the contracts of overlap_core cite.
 pub mod Segments
 pub mod Overlap
 pub mod Agreeing

@@ -1,3 +1,4 @@
+//! Segments, their bounds, and runs of bytes.
 use edge_io::Text;
 
 /// The bounds of a segment: the places from `start` on and below `end`.

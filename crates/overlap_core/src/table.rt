@@ -1,3 +1,4 @@
+//! The table of overlaps: which of two segments has a place.
 ghost use Rattle.std.specs.Prelude.{◌≡◌};
 ghost use Rattle.overlap_core.specs.Overlap.{wins};
 

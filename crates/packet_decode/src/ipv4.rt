@@ -1,3 +1,4 @@
+//! The header of IPv4 (RFC 791), and its checksum.
 ghost use Rattle.std.specs.Prelude.{◌≡◌, ◌+◌, ◌≤◌, length, IfOk};
 ghost use Rattle.packet_decode.specs.Decoding.{data_bounds, ip_head_at, is_fragment};
 

@@ -1,3 +1,4 @@
+//! An item: what rules see at once, a packet or what was put together.
 use crate::{Body, IpHead};
 use edge_io::Moment;
 

@@ -1,3 +1,4 @@
+//! Numbers of two and four bytes, the most significant first.
 ghost use Rattle.std.specs.Prelude.{◌≡◌, ◌+◌, ◌≤◌, length};
 ghost use Rattle.edge_io.specs.Bytes.{be16, be32};
 

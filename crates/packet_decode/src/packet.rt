@@ -1,3 +1,4 @@
+//! The headers of a packet and where its data is.
 ghost use Rattle.std.specs.Prelude.{◌≡◌, false};
 
 use edge_io::Addr;

@@ -1,3 +1,4 @@
+//! Decoding the bytes of a record.
 ghost use Rattle.std.specs.Prelude.{◌≡◌, ◌+◌, ◌≤◌, None, length, IfOk, OnOk};
 ghost use Rattle.std.specs.Result.{result_err};
 ghost use Rattle.packet_decode.specs.Decoding.{seen, placed, transport_at, datagram_at, decoded};

@@ -1,3 +1,4 @@
+//! Where the header of IP begins, after Ethernet, its tags or the cooked header.
 ghost use Rattle.std.specs.Prelude.{◌≡◌, ◌+◌, ◌≤◌, length, IfOk};
 ghost use Rattle.packet_decode.specs.Decoding.{behind_tag, typed_start, link_start};
 

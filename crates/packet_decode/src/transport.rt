@@ -1,3 +1,4 @@
+//! The headers of TCP, UDP and ICMP.
 ghost use Rattle.std.specs.Prelude.{◌≡◌, ◌+◌, ◌≤◌, length, IfOk, OnOk};
 ghost use Rattle.std.specs.Result.{result_err};
 ghost use Rattle.packet_decode.specs.Decoding.{seen, placed, tcp_head_at, tcp_at, udp_at, icmp_at, datagram_decoded};

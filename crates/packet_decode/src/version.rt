@@ -1,3 +1,4 @@
+//! The two versions of IP.
 ghost use Rattle.std.specs.Prelude.{◌≡◌};
 ghost use Rattle.packet_decode.specs.Versions.{ether_type, first_digit, version_of, icmp_protocol};
 

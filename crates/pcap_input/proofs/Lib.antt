@@ -1,3 +1,4 @@
+-- Laws of the definitions of pcap_input, and lemmas that its proofs share.
 pub mod Cuts
 pub mod Filling
 pub mod Told

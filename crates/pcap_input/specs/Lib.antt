@@ -1,3 +1,4 @@
+-- The definitions that the contracts of pcap_input cite.
 pub mod Cut
 pub mod Savefile
 pub mod Reader

@@ -1,3 +1,4 @@
+//! The head of a savefile, and its records.
 use edge_io::{Failed, Link, Moment, Text};
 use std::alloc::AllocError;
 use thiserror::Error;

@@ -1,3 +1,4 @@
+//! The numbers that a made capture is drawn from.
 ghost use Rattle.std.specs.Prelude.{◌≡◌, ◌<◌, ◌≤◌, length, string_bytes, IfOk};
 ghost use Rattle.pcap_input.specs.Generated.{step, steps, draw, letters, marked, payload_drawn, text_drawn};
 

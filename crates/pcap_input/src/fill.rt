@@ -1,3 +1,4 @@
+//! Reading on until a buffer is full.
 ghost use Rattle.std.specs.Prelude.{◌≡◌, ◌<◌, ◌≤◌, Option, length, take, IfOk, IfErr, OnOk, OnErr};
 ghost use Rattle.edge_io.specs.Files.{Files, IsUnopened, MaySee, left_by};
 ghost use Rattle.edge_io.specs.Frames.{OnlyRead};

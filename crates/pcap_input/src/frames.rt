@@ -1,3 +1,4 @@
+//! The headers of the frames that a made capture has.
 ghost use Rattle.std.specs.Prelude.{◌≡◌, ◌+◌, ◌*◌, ◌<◌, ◌≤◌, ◌^◌, ◌%◌, length, IfOk};
 ghost use Rattle.edge_io.specs.Bytes.{word_sum};
 ghost use Rattle.pcap_input.specs.Frames.{checksum, ip_fields, ip_header, pseudo_header, tcp_fields, tcp_sum, tcp_header, udp_header, frame, tcp_frame, udp_frame};

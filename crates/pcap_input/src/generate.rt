@@ -1,3 +1,4 @@
+//! A capture that is made of a seed.
 ghost use Rattle.std.specs.Prelude.{◌≡◌, ℕ, ◌++◌, ◌<◌, ◌≤◌, length, IfOk, Ok};
 ghost use Rattle.pcap_input.specs.Cut.{IsWhole};
 ghost use Rattle.pcap_input.specs.Generated.{record_fields, record_bytes, generated, made_cut, made_head};

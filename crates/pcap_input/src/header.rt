@@ -1,3 +1,4 @@
+//! The headers of a savefile and of its records, as bytes.
 ghost use Rattle.std.specs.Prelude.{◌≡◌, ℕ, ◌+◌, ◌<◌, ◌≤◌, ◌^◌, false, List, length, Err};
 ghost use Rattle.pcap_input.specs.Savefile.{file_header, record_header, number_at, head_with, head_behind, head_of, captured_length, moment_of};
 

@@ -1,3 +1,4 @@
+//! Memory of records that went, kept for those that come.
 ghost use Rattle.std.specs.Prelude.{◌≡◌, length, IfOk, IsOk};
 
 use std::alloc::{AllocError, Global};

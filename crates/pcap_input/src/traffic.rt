@@ -1,3 +1,4 @@
+//! Which sessions and datagrams a made capture has, packet by packet.
 ghost use Rattle.std.specs.Prelude.{◌≡◌, ◌+◌, ◌<◌, ◌≤◌, length, IfOk};
 ghost use Rattle.pcap_input.specs.Generated.{first_session, session_at, segment_at, session_behind, has_payload, payload_at, state_behind, first_traffic, made_of_session, made_segment, made_datagram, made, IsMade};
 

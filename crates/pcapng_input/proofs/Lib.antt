@@ -1,3 +1,4 @@
+-- Laws of the definitions of pcapng_input, and lemmas that its proofs share.
 pub mod Ticks
 pub mod Sizes
 pub mod OptionLists

@@ -1,3 +1,4 @@
+-- The definitions that the contracts of pcapng_input cite.
 pub mod Moments
 pub mod Options
 pub mod Blocks

@@ -1,3 +1,4 @@
+//! The head of a block: its kind and its length.
 ghost use Rattle.std.specs.Prelude.{◌≡◌, IsTrue};
 ghost use Rattle.pcapng_input.specs.Blocks.{kind_of, least_total, fixed_front, front_length, is_short, is_sized, inner_length};
 

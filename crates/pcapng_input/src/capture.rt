@@ -1,3 +1,4 @@
+//! A packet of a pcapng capture, with its link layer.
 use edge_io::{Failed, Link, NoMemory};
 use pcap_input::Record;
 use std::alloc::AllocError;

@@ -1,3 +1,4 @@
+//! What the blocks of packets say before the packet's bytes.
 ghost use Rattle.std.specs.Prelude.{◌≡◌, IsTrue, IfOk, IsErrOf, length};
 ghost use Rattle.pcapng_input.specs.Blocks.{front_length, is_sized, link_of, packet_of, enhanced_of, simple_of, interface_of, section_of, content_of, simple_length, ticks_of};
 ghost use Rattle.pcapng_input.specs.Steps.{FitsIn, IsPlain};

@@ -1,3 +1,4 @@
+//! The last four bytes of a block, which repeat its length.
 ghost use Rattle.std.specs.Prelude.{◌≡◌, ◌+◌, Option, IfOk, IfErr, IsErrOf};
 ghost use Rattle.edge_io.specs.Files.{Files, MaySee, left_by};
 ghost use Rattle.edge_io.specs.Frames.{OnlyRead};

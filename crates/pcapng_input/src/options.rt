@@ -1,3 +1,4 @@
+//! The options of an interface description.
 ghost use Rattle.std.specs.Prelude.{◌≡◌};
 ghost use Rattle.pcapng_input.specs.Options.{padded, found_in, resolution_told};
 

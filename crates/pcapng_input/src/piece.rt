@@ -1,3 +1,4 @@
+//! Reading and passing over pieces of a block.
 ghost use Rattle.std.specs.Prelude.{◌≡◌, Option, length, IfOk, IfErr, OnOk, IsErrOf};
 ghost use Rattle.edge_io.specs.Files.{Files, MaySee, left_by};
 ghost use Rattle.edge_io.specs.Frames.{OnlyRead};

@@ -1,3 +1,4 @@
+//! Reading a pcapng capture packet by packet.
 ghost use Rattle.std.specs.Prelude.{◌≡◌, ◌≤◌, ◌⊎◌, List, ℕ, Option, None, Some, IfOk, IfErr, IfSome, IfNone, Err, IsErrOf};
 ghost use Rattle.edge_io.specs.Frames.{OnlyRead};
 ghost use Rattle.edge_io.specs.Told.{one_more, Rose};

@@ -1,3 +1,4 @@
+//! How fine the clock of an interface is, and the moment that its ticks say.
 ghost use Rattle.std.specs.Prelude.{◌≡◌, ◌*◌, ◌/◌, ◌<◌, ◌^◌, SomeIff};
 ghost use Rattle.pcapng_input.specs.Moments.{ticks_a_second, moment_of, resolution_of_byte, resolution_in};
 

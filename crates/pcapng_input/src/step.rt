@@ -1,3 +1,4 @@
+//! Reading one block, whichever kind it has.
 ghost use Rattle.std.specs.Prelude.{◌≡◌, ◌<◌, ◌≤◌, Option, IsTrue, length, IfOk, IsErrOf};
 ghost use Rattle.edge_io.specs.Files.{Files, IsUnopened, MaySee, left_by};
 ghost use Rattle.edge_io.specs.Frames.{OnlyRead};

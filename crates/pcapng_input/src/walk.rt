@@ -1,3 +1,4 @@
+//! What is known while blocks are walked over: the section's byte order and its interfaces.
 ghost use Rattle.std.specs.Prelude.{◌≡◌, slice_get};
 ghost use Rattle.pcapng_input.specs.Blocks.{new_section, first_walk, bad_block, is_full};
 

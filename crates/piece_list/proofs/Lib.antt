@@ -1,3 +1,4 @@
+-- Laws of the definitions of piece_list, and lemmas that its proofs share.
 pub mod Apart
 pub mod Blocks
 pub mod Crosses

@@ -1,3 +1,4 @@
+-- The definitions that the contracts of piece_list cite.
 pub mod Held
 pub mod Left
 pub mod Linked

@@ -1,3 +1,4 @@
+-- Laws of the definitions of record_jobs, and lemmas that its proofs share.
 pub mod Bound
 pub mod OnePlace
 pub mod Growth

@@ -1,3 +1,4 @@
+-- The definitions that the contracts of record_jobs cite.
 pub mod Way
 pub mod OneWay
 pub mod Packets

@@ -1,3 +1,4 @@
+//! What jobs are made by.
 use conf_types::Config;
 use host_table::Hosts;
 use packet_decode::Checks;

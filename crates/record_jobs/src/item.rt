@@ -1,3 +1,4 @@
+//! The head of an item, as rules see it.
 ghost use Rattle.std.specs.Prelude.{◌≡◌};
 ghost use Rattle.record_jobs.specs.Packets.{untracked};
 

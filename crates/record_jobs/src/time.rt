@@ -1,3 +1,4 @@
+//! The time of a record within its capture.
 ghost use Rattle.std.specs.Prelude.{◌≡◌, unwrap_or};
 
 use edge_io::Moment;

@@ -1,3 +1,4 @@
+-- The definitions that the contracts of regex_maker cite.
 pub mod Meaning
 pub mod Searching
 pub mod Spelled

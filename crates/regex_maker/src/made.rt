@@ -1,3 +1,4 @@
+//! A pattern that was made, and its search.
 ghost use Rattle.std.specs.Prelude.{◌≡◌, option_map, IfOk};
 ghost use Rattle.regex_vm.specs.Found.{span};
 ghost use Rattle.regex_meta.specs.Programs.{leftmost};

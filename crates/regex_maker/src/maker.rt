@@ -1,3 +1,4 @@
+//! Making patterns by the library `regex`, within limits of memory.
 ghost use Rattle.std.specs.Prelude.{◌≡◌, ℕ, List, [], ◌∷◌, ◌++◌, IfOk, IsErrOf, OnOk, OnErr, string_bytes};
 ghost use Rattle.edge_io.specs.declared.pattern.PatternFlags.{PatternFlags};
 ghost use Rattle.regex_maker.specs.Finding.{found_by};

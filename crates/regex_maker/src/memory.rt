@@ -1,3 +1,4 @@
+//! The working memory of searches, and how much of it is kept.
 ghost use Rattle.std.specs.Prelude.{◌≡◌, ◌≤◌, length, true, option_map, IfOk};
 ghost use Rattle.regex_vm.specs.Found.{span};
 ghost use Rattle.regex_extract.specs.Bounds.{IsAnchored};

@@ -1,3 +1,4 @@
+//! How many rows gave what they must.
 ghost use Rattle.std.specs.Prelude.{◌≡◌, ◌+◌, ◌-◌, ◌^◌, min, nat_lt, if◌then◌else◌};
 ghost use Rattle.std.specs.Process.{exit_status};
 

@@ -1,3 +1,4 @@
+//! Files in memory, by their names.
 ghost use Rattle.std.specs.Prelude.{◌≡◌, [], ◌∷◌, ◌++◌, IfOk, OnErr, OnOk};
 ghost use Rattle.std.specs.FinMap as map;
 ghost use Rattle.edge_io.specs.HeldFiles.{no_files};

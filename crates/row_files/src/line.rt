@@ -1,3 +1,4 @@
+//! A line of a file of rows.
 ghost use Rattle.std.specs.Prelude.{◌≡◌, ◌+◌, ◌-◌, ◌^◌, min, None, IfOk, IfSome, string_bytes};
 ghost use Rattle.row_files.specs.Numbered.{numbered};
 

@@ -1,3 +1,4 @@
+//! The words of a program that tries rows.
 use std::rt::Env;
 use std::{env, io};
 

@@ -1,2 +1,3 @@
+-- The definitions that the contracts of rule_eval cite.
 pub mod Hits
 pub mod Picking

@@ -1,3 +1,4 @@
+-- Laws of the definitions of rule_parser, and lemmas that its proofs share.
 pub mod Quoting
 pub mod Settling
 pub mod Lettering

@@ -1,3 +1,4 @@
+-- The definitions that the contracts of rule_parser cite.
 pub mod Drafts
 pub mod Names
 pub mod Quotes

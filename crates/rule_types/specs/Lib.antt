@@ -1,1 +1,2 @@
+-- The definitions that the contracts of rule_types cite.
 pub mod Sound

@@ -1,3 +1,4 @@
+-- Laws of the definitions of snort_engine, and lemmas that its proofs share.
 pub mod Prefixes
 pub mod Limits
 pub mod LinesLaws

@@ -1,3 +1,4 @@
+//! What the watching of a capture goes by.
 use crate::plan::Plan;
 use std::alloc::Global;
 

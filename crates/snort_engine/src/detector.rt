@@ -1,3 +1,4 @@
+//! The public call: a run from its words to its status.
 ghost use Rattle.std.specs.Prelude.{◌≡◌, Option, map, string_bytes};
 ghost use Rattle.edge_io.specs.Files.{Files, MaySee};
 ghost use Rattle.option_eval.specs.RuleSet.{SameMeaning};

@@ -1,3 +1,4 @@
+//! Why a capture isn't read, in either format.
 ghost use Rattle.std.specs.Prelude.{◌≡◌};
 ghost use Rattle.alert_fast.specs.Pieces.{pieces_text};
 ghost use Rattle.snort_engine.specs.Answer.{fault_status, fault_text};

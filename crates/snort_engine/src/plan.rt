@@ -1,3 +1,4 @@
+//! What a run is to do, once its words and files are read.
 ghost use Rattle.std.specs.Prelude.{◌≡◌};
 ghost use Rattle.record_jobs.specs.Way as ways;
 ghost use Rattle.snort_engine.specs.Trace.{jobs_way_by};

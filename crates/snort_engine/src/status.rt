@@ -1,3 +1,4 @@
+//! How a run ended.
 ghost use Rattle.std.specs.Prelude.{◌≡◌};
 ghost use Rattle.snort_engine.specs.Status.{status_code};
 

@@ -1,3 +1,4 @@
+//! Why a run ends early, with its status and message.
 ghost use Rattle.std.specs.Prelude.{◌≡◌, ◌++◌, codes, decimal};
 ghost use Rattle.snort_engine.specs.Steps.Stop.{is_whole, stop_status, stop_text};
 ghost use Rattle.snort_engine.specs.Messages.{cannot_read_text};

@@ -1,3 +1,4 @@
+-- Laws of the definitions of snort_eve, and lemmas that its proofs share.
 pub mod Joining
 pub mod FrontSteps
 pub mod Pieces

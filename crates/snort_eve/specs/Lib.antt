@@ -1,3 +1,4 @@
+-- The definitions that the contracts of snort_eve cite.
 pub mod Joins
 pub mod Events
 pub mod Streams

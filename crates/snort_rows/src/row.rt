@@ -1,3 +1,4 @@
+//! A row: a run, and what it must leave.
 use row_files::Files;
 use std::alloc::{AllocError, Global};
 

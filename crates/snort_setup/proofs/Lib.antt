@@ -1,3 +1,4 @@
+-- Laws of the definitions of snort_setup, and lemmas that its proofs share.
 pub mod Told
 pub mod Numbered
 pub mod Judging

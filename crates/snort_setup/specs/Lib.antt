@@ -1,3 +1,4 @@
+-- The definitions that the contracts of snort_setup cite.
 pub mod Words
 pub mod Texts
 pub mod Rules

@@ -1,3 +1,4 @@
+-- The definitions that the contracts of stream5_reassembly cite.
 pub mod Sequence
 pub mod Segments
 pub mod Extents

@@ -1,3 +1,4 @@
+//! One side of a session: its segments, and what is given of them.
 ghost use Rattle.std.specs.Prelude.{◌≡◌, ℕ, ◌+◌, ◌-◌, ◌^◌, ◌<◌, ◌≤◌, false, true, length, Ok, IfOk, IsTrue, OnOk, OnErr};
 ghost use Rattle.stream5_reassembly.specs.Segments.{ack_flushes, ack_place, after_fate, AppendsFlushed, AreLimits, fate_at, Flushes, idle, IsWithinLimits, passed, place_in, segment_fate, started_at, Stays, top};
 

@@ -1,3 +1,4 @@
+//! How far the data of one side reach.
 ghost use Rattle.std.specs.Prelude.{◌≡◌, ◌+◌, ◌^◌, ◌<◌, ◌≤◌, None};
 ghost use Rattle.stream5_reassembly.specs.Extents.{extent_after, extent_from, unknown};
 

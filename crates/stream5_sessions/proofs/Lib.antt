@@ -1,3 +1,4 @@
+-- Laws of the definitions of stream5_sessions, and lemmas that its proofs share.
 pub mod KeyLaws
 pub mod TreeLaws
 pub mod StepLaws

@@ -1,3 +1,4 @@
+-- The definitions that the contracts of stream5_sessions cite.
 pub mod Keys
 pub mod Liveness
 pub mod Caches

@@ -1,3 +1,4 @@
+//! The table of flows: touching one, and the flows whose lives end.
 ghost use Rattle.std.specs.Prelude.{◌≡◌, ◌≤◌, ◌<◌, ◌+◌, ◌-◌, ◌^◌, ◌++◌, [], List, IfOk, IsOk, IsSome, OnOk, OnErr, Some, None};
 ghost use Rattle.std.specs.Map.{lookup, values_of};
 ghost use Rattle.stream5_sessions.specs.Indexed.{lives_with};

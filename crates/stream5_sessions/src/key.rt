@@ -1,3 +1,4 @@
+//! The key of a flow: its two ends and its protocol.
 ghost use Rattle.std.specs.Prelude.{◌≡◌};
 ghost use Rattle.stream5_sessions.specs.Keys.{same_end, key_of};
 

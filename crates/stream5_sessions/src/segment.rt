@@ -1,3 +1,4 @@
+//! What the table of phases reads of a packet.
 ghost use Rattle.std.specs.Prelude.{◌≡◌, ℕ};
 ghost use Rattle.edge_io.specs.declared.moment.Moment.{Moment};
 ghost use Rattle.packet_decode.specs.declared.packet.IpHead.{IpHead};

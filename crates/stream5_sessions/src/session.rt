@@ -1,3 +1,4 @@
+//! The session of a flow, moved on by its packets.
 ghost use Rattle.std.specs.Prelude.{◌≡◌, ℕ, true, false, if◌then◌else◌};
 ghost use Rattle.stream5_sessions.specs.Phases.{IsBodyOf, segment_of, no_session, base_after, step_of, state_after};
 ghost use Rattle.stream5_sessions.specs.Phases.{taken, by_row, is_timed_out, at_hand, session_step};

@@ -1,3 +1,4 @@
+//! The phases of a session and what its sides have said.
 ghost use Rattle.std.specs.Prelude.{◌≡◌};
 ghost use Rattle.stream5_sessions.specs.Phases.{is_timed_out};
 
