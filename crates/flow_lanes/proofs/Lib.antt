@@ -4,4 +4,6 @@ pub mod Open
 pub mod ItemHits
 pub mod Sessions
 pub mod Jobs
+pub mod Heads
 pub mod Fits
+pub mod Between
