@@ -25,3 +25,5 @@ pub mod SplitParts
 pub mod SplitFragments
 pub mod SplitRoom
 pub mod SplitItems
+pub mod SplitHeads
+pub mod SplitClosed

@@ -12,7 +12,7 @@ use Rattle.record_jobs.proofs.SplitParts.{filter-kept, plain-same}
 use Rattle.record_jobs.proofs.SplitRoom.{part-room}
 
 module _ (way : Way) (part : Part) (records : List LinkedRecord) (split : IsSplit way part records) where
-  same-packet : (before : List LinkedRecord) (r : LinkedRecord) (rest : List LinkedRecord) → before ++ r ∷ rest ≡ records → part r ≡ true
+  pub same-packet : (before : List LinkedRecord) (r : LinkedRecord) (rest : List LinkedRecord) → before ++ r ∷ rest ≡ records → part r ≡ true
       → packet_in way (filter part before) r ≡ packet_in way before r
   unfolding packet_in
   same-packet before r rest are of =

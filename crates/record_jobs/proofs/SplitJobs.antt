@@ -73,7 +73,7 @@ module _ (d : Detection) where
       by_work found number moment (work.Packet flow head payload to_dst to_src) = refl
       by_work found number moment (work.Finish flow) = refl
 
-  behind-nameless : (earlier : List Job) (job : Job) → behind (map nameless earlier) (nameless job) ≡ behind earlier job
+  pub behind-nameless : (earlier : List Job) (job : Job) → behind (map nameless earlier) (nameless job) ≡ behind earlier job
   unfolding hits
   behind-nameless earlier job = rw (flow_state-nameless earlier) (by_work job.work)
     where

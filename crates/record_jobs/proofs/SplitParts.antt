@@ -1,5 +1,5 @@
 -- The items of a record of a part are those that it has in the whole capture.
-use Rattle.std.proofs.Common.{◌≡◌, ℕ, Bool, true, false, cond, List, [], ◌∷◌, ◌++◌, Option, Some, None, Result, Ok, Err, unwrap_or, refl, sym, ap, subst, ◌∙◌, ◌⊎◌, inl, inr, append_assoc, append-nil}
+use Rattle.std.proofs.Common.{◌≡◌, Bool, true, false, cond, List, [], ◌∷◌, ◌++◌, Option, Some, None, unwrap_or, refl, sym, ap, subst, ◌∙◌, ◌⊎◌, inl, inr, append-nil}
 use Rattle.std.specs.List.{filter}
 use Rattle.std.proofs.lemmas.Bool.{false≢true}
 use Rattle.std.proofs.lemmas.List.Elements.{filter-append}
@@ -9,7 +9,6 @@ use Rattle.edge_io.specs.declared.moment.Moment.{Moment}
 use Rattle.packet_decode.specs.declared.packet.Body.{Body}
 use Rattle.packet_decode.specs.declared.packet.Body.TheVariants as body
 use Rattle.packet_decode.specs.declared.packet.IpHead.{IpHead}
-use Rattle.packet_decode.specs.Decoding.{Fields}
 use Rattle.conf_types.specs.declared.config.StreamConfig.{StreamConfig}
 use Rattle.stream5_sessions.specs.declared.key.End.{End}
 use Rattle.stream5_sessions.specs.declared.key.Key.{Key}
@@ -20,13 +19,13 @@ use Rattle.flow_lanes.specs.declared.job.Job.{Job}
 use Rattle.flow_lanes.specs.Flows.{Detection}
 use Rattle.record_jobs.specs.declared.item.Item.{Item}
 use Rattle.record_jobs.specs.declared.time.Time.{Time}
-use Rattle.record_jobs.specs.Jobs.{begin_of, time_by, time_of}
-use Rattle.record_jobs.specs.Packets.{fragment_item, packet_in, said_by}
+use Rattle.record_jobs.specs.Jobs.{begin_of, time_of}
+use Rattle.record_jobs.specs.Packets.{fragment_item, packet_in}
 use Rattle.record_jobs.specs.Touches.{item_key, tracked_key}
 use Rattle.record_jobs.specs.Way.{LinkedRecord, Way}
 use Rattle.record_jobs.proofs.Growth.{trail-push}
 use Rattle.record_jobs.specs.Splitting.{AreOfOnePair, IsByPair, Part}
-use Rattle.record_jobs.proofs.SplitEnds.{GoesBetween, packet-between}
+use Rattle.record_jobs.proofs.SplitEnds.{packet-between}
 use Rattle.record_jobs.proofs.SplitJobs.{along_all, behind, of_key, own_packet, own_tracked, packet_job, plain_fragment, plain_items, plain_packet, plain_tracked}
 
 -- ---- keys and pairs of addresses
@@ -46,7 +45,7 @@ key-between tcp a b = by_order (is_end_before b a)
     by_order true = inr (refl, refl)
     by_order false = inl (refl, refl)
 
-tracked-between : (stream : StreamConfig) (ip : IpHead) (carried : Body) (key : Key) → tracked_key stream ip carried ≡ Some key → IsBetween key ip.src ip.dst
+pub tracked-between : (stream : StreamConfig) (ip : IpHead) (carried : Body) (key : Key) → tracked_key stream ip carried ≡ Some key → IsBetween key ip.src ip.dst
 unfolding tracked_key
 tracked-between stream ip (body.Tcp head) key is = by_tcp stream.tcp is
   where
@@ -118,8 +117,8 @@ module _ (way : Way) (part : Part) (records : List LinkedRecord) (by_pair : IsBy
       by_pair r s ends.fields ends_too.fields ends.is ends_too.is
       (same-pair item.head.ip more.head.ip ends.fields.ip ends_too.fields.ip pair (ends.src, ends.dst) (ends_too.src, ends_too.dst))
 
-  module _ (before : List LinkedRecord) (r : LinkedRecord) (rest : List LinkedRecord) (are : before ++ r ∷ rest ≡ records) (of : part r ≡ true)
-      (item : Item) (key : Key) (found : packet_in way before r ≡ Some item) (tracked : item_key way item ≡ Some key) where
+  -- where each record that has a packet of a key is of the part
+  module _ (key : Key) (owns : (earlier : List LinkedRecord) (s : LinkedRecord) (item : Item) → packet_in way earlier s ≡ Some item → item_key way item ≡ Some key → part s ≡ true) where
     -- a record of another part has no packet of the key
     apart : (earlier : List LinkedRecord) (s : LinkedRecord) → part s ≡ false → of_key way key earlier s ≡ []
     apart earlier s isnt = by_packet (packet_in way earlier s) refl
@@ -130,7 +129,7 @@ module _ (way : Way) (part : Part) (records : List LinkedRecord) (by_pair : IsBy
         by_same : (more : Item) (other : Key) → packet_in way earlier s ≡ Some more → item_key way more ≡ Some other → (b : Bool) → same_key key other ≡ b
             → own_tracked way (time_of earlier s) s.captured.moment key more (Some other) ≡ []
         by_same more other there at true same =
-            absurd (false≢true (sym isnt ∙ sym (one-part key before earlier r s item more found there tracked (at ∙ ap Some (sym (same_key-is key other same)))) ∙ of))
+            absurd (false≢true (sym isnt ∙ owns earlier s more there (at ∙ ap Some (sym (same_key-is key other same)))))
         by_same more other there at false differs = rw differs refl
 
         by_key : (more : Item) (at : Option Key) → packet_in way earlier s ≡ Some more → item_key way more ≡ at → own_tracked way (time_of earlier s) s.captured.moment key more at ≡ []
@@ -141,9 +140,9 @@ module _ (way : Way) (part : Part) (records : List LinkedRecord) (by_pair : IsBy
         by_packet None there = subst (λ (o : Option Item). own_packet way (time_of earlier s) s.captured.moment key o ≡ []) (sym there) refl
         by_packet (Some more) there = subst (λ (o : Option Item). own_packet way (time_of earlier s) s.captured.moment key o ≡ []) (sym there) (by_key more (item_key way more) there refl)
 
-    -- so the part has all earlier packets of the key
-    same-key_packets : trail (of_key way key) (filter part before) ≡ trail (of_key way key) before
-    same-key_packets = along_all Same records refl step before (r ∷ rest) are
+    -- so the part has all packets of the key
+    pub same-key_packets : (before rest : List LinkedRecord) → before ++ rest ≡ records → trail (of_key way key) (filter part before) ≡ trail (of_key way key) before
+    same-key_packets = along_all Same records refl step
       where
         Same : List LinkedRecord → Type 0
         Same earlier = trail (of_key way key) (filter part earlier) ≡ trail (of_key way key) earlier
@@ -178,7 +177,9 @@ module _ (way : Way) (part : Part) (records : List LinkedRecord) (by_pair : IsBy
       by_key : (item : Item) (at : Option Key) → packet_in way before r ≡ Some item → item_key way item ≡ at → plain_tracked d way (filter part before) r item at ≡ plain_tracked d way before r item at
       by_key item None found tracked = refl
       by_key item (Some key) found tracked =
-          ap (λ (own : List Job). behind d own (packet_job d way (time_of (filter part before) r) r.captured.moment item)) (same-key_packets before r rest are of item key found tracked)
+          let owns : (earlier : List LinkedRecord) (s : LinkedRecord) (more : Item) → packet_in way earlier s ≡ Some more → item_key way more ≡ Some key → part s ≡ true =
+          λ earlier s more there at. sym (one-part key before earlier r s item more found there tracked at) ∙ of in
+          ap (λ (own : List Job). behind d own (packet_job d way (time_of (filter part before) r) r.captured.moment item)) (same-key_packets key owns before (r ∷ rest) are)
           ∙ ap (λ (t : Time). behind d (trail (of_key way key) before) (packet_job d way t r.captured.moment item)) (same-time part records before r rest start are of)
 
       by_packet : (packet : Option Item) → packet_in way before r ≡ packet → plain_packet d way (filter part before) r packet ≡ plain_packet d way before r packet

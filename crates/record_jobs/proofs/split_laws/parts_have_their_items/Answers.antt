@@ -1,5 +1,9 @@
+use Rattle.record_jobs.proofs.SplitClosed.{part-items}
 use Rattle.record_jobs.proofs.SplitItems.{same-items}
 use Rattle.record_jobs.proofs.split_laws.parts_have_their_items.Goals as goal
 
-pub returns : goal.returns
-returns c = λ d way part records before r rest split are of. same-items way part records split d before r rest are of
+pub returns-clause-each : goal.returns-clause-each
+returns-clause-each c = λ d way part records before r rest split are of. same-items way part records split d before r rest are of
+
+pub returns-clause-closed : goal.returns-clause-closed
+returns-clause-closed c = part-items
