@@ -37,3 +37,4 @@ pub mod SomeSetups
 pub mod SomeCourses
 pub mod SplitFilters
 pub mod SplitCaptures
+pub mod SplitClosed

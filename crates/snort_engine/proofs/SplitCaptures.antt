@@ -1,5 +1,5 @@
 -- A part of a capture that is split by pairs of addresses shows what the whole shows of it.
-use Rattle.std.proofs.Common.{◌≡◌, ℕ, zero, suc, Bool, true, false, cond, List, [], ◌∷◌, ◌++◌, Option, Some, map, refl, sym, ap, subst, ◌∙◌, append_assoc, append-nil, arith}
+use Rattle.std.proofs.Common.{◌≡◌, zero, suc, Bool, true, false, cond, List, [], ◌∷◌, ◌++◌, Option, Some, map, refl, sym, ap, subst, ◌∙◌, append_assoc, append-nil, arith}
 use Rattle.std.specs.Prelude.{Contains}
 use Rattle.std.specs.List.{filter}
 use Rattle.std.proofs.lemmas.List.Elements.{Contains-append_left, Contains-append_right, filter-append}
@@ -15,11 +15,11 @@ use Rattle.record_jobs.specs.Way.{LinkedRecord}
 use Rattle.record_jobs.proofs.SplitItems.{same-items}
 use Rattle.alert_lines.specs.Beside.{Beside, beside, own, whats}
 use Rattle.snort_engine.specs.Course.{Plan}
-use Rattle.snort_engine.specs.SplitCaptures.{IsCountedApart, IsShownApart, alerts_of, items_beside}
+use Rattle.snort_engine.specs.SplitCaptures.{AreCountedApart, IsCountedApart, IsShownApart, alerts_of, items_beside}
 use Rattle.alert_lines.specs.Events.{Event, item_events}
 use Rattle.snort_engine.specs.Trace.{Open, detection_of, job_items, jobs_way, record_events, trace}
 use Rattle.alert_lines.proofs.Beside.{whats-own}
-use Rattle.snort_engine.proofs.SplitFilters.{Apart, Each, OfHits, events-own, list-own, mine, mine-beside}
+use Rattle.snort_engine.proofs.SplitFilters.{Apart, Each, IsOwn, OfHits, events-own, list-own, mine, mine-beside}
 
 -- ---- answers beside their inputs
 
@@ -67,25 +67,37 @@ in-map f (y ∷ xs) x (suc k, below, is) =
     let rest = in-map f xs x (k, omega (arith, below), is) in
     Contains-append_right (f y ∷ []) (map f xs) (f x) rest
 
-module _ (plan : Plan) (part : Part) (records : List LinkedRecord) (shown : IsShownApart plan part records) where
-  abbrev items : List LinkedRecord → LinkedRecord → List Hits
-  items = record_items (detection_of plan) (jobs_way plan)
+-- the events of an item are the part's own, where no key counts items of the part and others
+module _ {S : Type 0} (part : S → Bool) (all : List (Beside S Hits)) where
+  -- an item of this source has this head
+  abbrev pub Has : S → ItemHead → Type 0
+  Has s head = (hits : Hits) × Contains all (beside s hits) × (hits.head ≡ head)
 
-  -- an item of a record has this head
-  abbrev Has : LinkedRecord → ItemHead → Type 0
-  Has r head = (hits : Hits) × Contains (items_beside plan records) (beside r hits) × (hits.head ≡ head)
-
-  apart-heads : (key_of : Counted → Option Key) → IsCountedApart plan part records key_of → Apart part Has key_of
+  apart-heads : (key_of : Counted → Option Key) → IsCountedApart part all key_of → Apart part Has key_of
   apart-heads key_of apart s t one other key more (hits, among, is) (hits_too, among_too, is_too) of isnt here there =
       apart (beside s hits) (beside t hits_too) one.rule other.rule key more among among_too of isnt
       (subst (λ (head : ItemHead). key_of (event_of head one.rule) ≡ Some key) (sym is) here)
       (subst (λ (head : ItemHead). key_of (event_of head other.rule) ≡ Some more) (sym is_too) there)
 
+  pub item-events-own : (plan : Plan) → AreCountedApart plan part all → IsOwn part (OfHits part Has) (item_events plan.config plan.rules)
+  item-events-own plan apart =
+      events-own part Has plan.rules plan.config (apart-heads (match_key plan.rules) apart.matches)
+      (apart-heads (event_key (own_place plan.config.filters) plan.config.filters plan.rules) apart.own)
+      (apart-heads (event_key (global_place plan.config.filters) plan.config.filters plan.rules) apart.global)
+
+module _ (plan : Plan) (part : Part) (records : List LinkedRecord) (shown : IsShownApart plan part records) where
+  abbrev items : List LinkedRecord → LinkedRecord → List Hits
+  items = record_items (detection_of plan) (jobs_way plan)
+
+  -- an item of a record has this head
+  abbrev OfRecord : LinkedRecord → Hits → Type 0
+  OfRecord = OfHits part (Has part (items_beside plan records))
+
   module _ (before : List LinkedRecord) (r : LinkedRecord) (rest : List LinkedRecord) (are : before ++ r ∷ rest ≡ records) (of : part r ≡ true) where
     whole : items_beside plan records ≡ trail (own items) before ++ (own items before r ++ trail_from (own items) (before ++ r ∷ []) rest)
     whole = ap (items_beside plan) (sym are) ∙ trail-append (own items) before (r ∷ rest)
 
-    each : Each part (OfHits part Has) (trail (own items) before)
+    each : Each part OfRecord (trail (own items) before)
     each b among = (
       b.what,
       subst (λ (all : List (Beside LinkedRecord Hits)). Contains all b) (sym whole)
@@ -93,7 +105,7 @@ module _ (plan : Plan) (part : Part) (records : List LinkedRecord) (shown : IsSh
       refl,
     )
 
-    holds : (hits : Hits) → Contains (items before r) hits → OfHits part Has r hits
+    holds : (hits : Hits) → Contains (items before r) hits → OfRecord r hits
     holds hits among = (
       hits,
       subst (λ (all : List (Beside LinkedRecord Hits)). Contains all (beside r hits)) (sym whole)
@@ -116,10 +128,7 @@ module _ (plan : Plan) (part : Part) (records : List LinkedRecord) (shown : IsSh
         let events : List Hits → List Hits → List Event = trail_from (item_events plan.config plan.rules) in
         ap (events (trail items (filter part before))) (same-items (jobs_way plan) part records shown.split (detection_of plan) before r rest are of)
         ∙ ap (λ (xs : List Hits). events xs (items before r)) (sym own-earlier)
-        ∙ list-own part (OfHits part Has) (item_events plan.config plan.rules)
-        (events-own part Has plan.rules plan.config (apart-heads (match_key plan.rules) shown.apart.matches)
-        (apart-heads (event_key (own_place plan.config.filters) plan.config.filters plan.rules) shown.apart.own)
-        (apart-heads (event_key (global_place plan.config.filters) plan.config.filters plan.rules) shown.apart.global))
+        ∙ list-own part OfRecord (item_events plan.config plan.rules) (item-events-own part (items_beside plan records) plan shown.apart)
         (trail (own items) before) r (items before r) each of holds
         ∙ ap (λ (xs : List Hits). events xs (items before r)) (whats-own items [] before)
 

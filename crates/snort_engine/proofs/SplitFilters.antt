@@ -24,7 +24,7 @@ use Rattle.alert_lines.proofs.Beside.{whats-append, whats-beside, whats-carried}
 
 -- ---- elements
 
-none-in : {X : Type 0} (x : X) → Contains [] x → ⊥
+pub none-in : {X : Type 0} (x : X) → Contains [] x → ⊥
 none-in x (k, below, is) = omega (arith, below)
 
 -- an element of a list of one

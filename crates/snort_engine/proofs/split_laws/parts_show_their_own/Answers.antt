@@ -1,5 +1,9 @@
 use Rattle.snort_engine.proofs.SplitCaptures.{part-shows}
+use Rattle.snort_engine.proofs.SplitClosed.{part-shows-all}
 use Rattle.snort_engine.proofs.split_laws.parts_show_their_own.Goals as goal
 
-pub returns : goal.returns
-returns c = λ plan part records split. part-shows plan part records split
+pub returns-clause-going : goal.returns-clause-going
+returns-clause-going c = λ plan part records split. part-shows plan part records split
+
+pub returns-clause-closed : goal.returns-clause-closed
+returns-clause-closed c = part-shows-all
