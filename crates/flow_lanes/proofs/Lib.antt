@@ -7,3 +7,6 @@ pub mod Jobs
 pub mod Heads
 pub mod Fits
 pub mod Between
+pub mod HeldSides
+pub mod HeldSessions
+pub mod HeldLanes

@@ -15,6 +15,7 @@ pub mod Detecting
 pub mod Sound
 pub mod Standing
 pub mod Open
+pub mod Holding
 pub mod Batching
 pub mod Course
 pub mod Kept

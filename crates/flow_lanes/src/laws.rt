@@ -1,6 +1,6 @@
 //! Laws about the answers to jobs, for callers.
 
-ghost use Rattle.std.specs.Prelude.{◌≡◌, ℕ, ◌<◌, ◌==◌, ◌&&◌, All, List, Option, Some, filter, length, slice_get};
+ghost use Rattle.std.specs.Prelude.{◌≡◌, ℕ, ◌*◌, ◌<◌, ◌≤◌, ◌==◌, ◌&&◌, All, List, Option, Some, filter, length, slice_get, if◌then◌else◌};
 ghost use Rattle.std.specs.List.{flat_map};
 ghost use Rattle.std.specs.List.Sorted.{IsPermutation};
 ghost use Rattle.std.specs.Option.{is_some};
@@ -9,6 +9,7 @@ ghost use Rattle.flow_lanes.specs.declared.answer.JobHits.{JobHits};
 ghost use Rattle.flow_lanes.specs.declared.job.Job.{Job};
 ghost use Rattle.flow_lanes.specs.Fits.{FitsHits, FitsJob};
 ghost use Rattle.flow_lanes.specs.Flows.{Detection, answer, items, same_flow};
+ghost use Rattle.flow_lanes.specs.Holding.{IsLimitedJob, held_bytes, held_segments, is_seen};
 ghost use Rattle.flow_lanes.specs.Open.{is_open};
 ghost use Rattle.flow_lanes.specs.Sound.{FlowFacts, IsSoundFor};
 ghost use Rattle.flow_lanes.specs.Standing.{AreLaneAnswers, AreShort, LaneState, LanesStand, LanesState, answers_of_flow, is_of_flow, kept_of, lane_of};
@@ -40,6 +41,17 @@ pub fn lanes_keep_open_flows()
     ensures { (d : Detection) (lanes : LanesState) (before : List Job) (place flow : ℕ) (lane : LaneState)
         → LanesStand d lanes before → slice_get lanes.lanes place ≡ Some lane
         → is_some (kept_of lane flow) ≡ ((lane_of (length lanes.lanes) (Some flow) == place) && is_open flow before) }
+{}
+
+/// All lanes together hold of one flow no more than its two sides may, by the limits of the engines that its packets go
+/// by; and nothing, unless a packet of TCP was seen of it since it began.
+pub fn flows_hold_few_bytes()
+    ensures bytes { (d : Detection) (lanes : LanesState) (before : List Job) (flow bytes segs : ℕ) → LanesStand d lanes before
+        → All (IsLimitedJob d.making bytes segs) before
+        → held_bytes lanes flow ≤ (if is_seen flow before then 2 * bytes else 0) }
+    ensures segments { (d : Detection) (lanes : LanesState) (before : List Job) (flow bytes segs : ℕ) → LanesStand d lanes before
+        → All (IsLimitedJob d.making bytes segs) before
+        → held_segments lanes flow ≤ (if is_seen flow before then 2 * segs else 0) }
 {}
 
 /// The items of jobs go between addresses of one version, and their numbers have no more bytes than packets give

@@ -39,8 +39,8 @@ pub use facts::{EndWay, FlowEnds, FlowFacts};
 pub use job::{Job, Toward, Work};
 pub use lane::Lane;
 pub use laws::{
-    items_fit, lanes_change_nothing, lanes_keep_open_flows, other_flows_change_nothing,
-    stream_items_are_short,
+    flows_hold_few_bytes, items_fit, lanes_change_nothing, lanes_keep_open_flows,
+    other_flows_change_nothing, stream_items_are_short,
 };
 pub use payload::Payload;
 pub use rule_eval::{

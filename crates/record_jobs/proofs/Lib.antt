@@ -27,3 +27,5 @@ pub mod SplitRoom
 pub mod SplitItems
 pub mod SplitHeads
 pub mod SplitClosed
+pub mod HeldFlows
+pub mod HeldTotals

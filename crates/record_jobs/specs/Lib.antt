@@ -12,3 +12,4 @@ pub mod Steps
 pub mod Inside
 pub mod Fitting
 pub mod Splitting
+pub mod Holding

@@ -1,16 +1,20 @@
 //! Laws about the jobs of a capture, for callers.
 
-ghost use Rattle.std.specs.Prelude.{◌≡◌, ℕ, ◌<◌, All, Bool, true, Contains, List, [], ◌++◌, length};
+ghost use Rattle.std.specs.Prelude.{◌≡◌, ℕ, ◌<◌, ◌≤◌, All, Bool, true, Contains, List, [], ◌++◌, length, nat_eq, sum_by};
+ghost use Rattle.std.specs.List.{IsDistinct};
 ghost use Rattle.edge_io.specs.Along.{trail};
 ghost use Rattle.stream5_sessions.specs.Liveness.{live_flows};
 ghost use Rattle.flow_lanes.specs.declared.job.Job.{Job};
 ghost use Rattle.flow_lanes.specs.Fits.{FitsJob};
+ghost use Rattle.flow_lanes.specs.Flows.{Detection};
+ghost use Rattle.flow_lanes.specs.Holding.{held_bytes, held_segments};
 ghost use Rattle.flow_lanes.specs.Open.{is_open};
 ghost use Rattle.flow_lanes.specs.Standing.{AreNew, LanesState, LearnsBatch};
 ghost use Rattle.record_jobs.specs.Addresses.{KeepEnds};
 ghost use Rattle.record_jobs.specs.Counts.{counts, none_counted};
 ghost use Rattle.record_jobs.specs.Fitting.{HoldsBytes};
 ghost use Rattle.record_jobs.specs.Fronts.{FrontState, StandsFor};
+ghost use Rattle.record_jobs.specs.Holding.{KeepStreams, most_held};
 ghost use Rattle.record_jobs.specs.Jobs.{finishes, jobs};
 ghost use Rattle.record_jobs.specs.Ready.{AreInOrder, AreNumbered, AreReady, AreSound, HaveLearnt};
 ghost use Rattle.record_jobs.specs.Touches.{most_flows, touches};
@@ -57,6 +61,20 @@ pub fn open_flows_live()
     ensures { (way : Way) (records : List LinkedRecord) (flow : ℕ) → 0 < way.stream.max_tcp → 0 < way.stream.max_udp
         → is_open flow (trail (jobs way) records) ≡ true
         → Contains (live_flows (most_flows way.stream) (touches way records)) flow }
+{}
+
+/// All streams together hold few bytes, whatever records came and however many lanes there are. Of any flows, each named
+/// once, the bytes that wait of both sides are no more than max_tcp * 2 * max_queued_bytes (`bytes`), and the segments
+/// that were queued since a side's last flush no more than max_tcp * 2 * max_queued_segs (`segments`): each limit is the
+/// greatest of the lines, and of the defaults where no line is for all hosts (`most_held`). No side exceeds its limit,
+/// and a session of UDP holds nothing.
+pub fn streams_hold_few_bytes()
+    ensures bytes { (way : Way) (d : Detection) (records : List LinkedRecord) (lanes : LanesState) (flows : List ℕ)
+        → KeepStreams way d records lanes → IsDistinct nat_eq flows
+        → sum_by (held_bytes lanes) flows ≤ most_held (λ engine. engine.bytes_limit) way.stream }
+    ensures segments { (way : Way) (d : Detection) (records : List LinkedRecord) (lanes : LanesState) (flows : List ℕ)
+        → KeepStreams way d records lanes → IsDistinct nat_eq flows
+        → sum_by (held_segments lanes) flows ≤ most_held (λ engine. engine.segs_limit) way.stream }
 {}
 
 /// Where records hold bytes, the packets of their jobs go between addresses of one version, and their numbers have no

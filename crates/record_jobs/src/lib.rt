@@ -24,6 +24,6 @@ pub use counts::RecordCounts;
 pub use front::Front;
 pub use laws::{
     datagrams_keep_addresses, jobs_are_in_order, jobs_fit, lanes_may_run, no_records_no_jobs,
-    open_flows_live, records_are_counted,
+    open_flows_live, records_are_counted, streams_hold_few_bytes,
 };
 pub use split_laws::parts_have_their_items;

@@ -21,7 +21,7 @@ use Rattle.stream5_sessions.proofs.Numbers.{all_kept, flow_number-begun, found_a
 -- ---- as long as no touch tells otherwise
 
 -- a key that lives keeps its number at a touch
-number-stays : (max : MaxFlows) (touches : List Key) (key other : Key) → is_live max touches other ≡ true → flow_number max (key ∷ touches) other ≡ flow_number max touches other
+pub number-stays : (max : MaxFlows) (touches : List Key) (key other : Key) → is_live max touches other ≡ true → flow_number max (key ∷ touches) other ≡ flow_number max touches other
 number-stays max touches key other live = by_key (same_key other key) refl
   where
     by_key : (b : Bool) → same_key other key ≡ b → cond b (cond (is_live max touches key) (flow_number max touches key) (begun max touches)) (flow_number max touches other) ≡ flow_number max touches other
@@ -62,7 +62,7 @@ flow-stays max touches key flow some has told =
         let ends : ends_life max touches key other ≡ true = ap (λ (b : Bool). b && not (is_live max (key ∷ touches) other)) live ∙ ap not off in
         absurd (told (evicted-is max touches key other some ends ∙ ap Some is))
 
-touched-lives : (max : MaxFlows) (touches : List Key) (key : Key) → 0 < max_for max key.tcp → is_live max (key ∷ touches) key ≡ true
+pub touched-lives : (max : MaxFlows) (touches : List Key) (key : Key) → 0 < max_for max key.tcp → is_live max (key ∷ touches) key ≡ true
 unfolding is_live
 touched-lives max touches key some = rw (same_key-self key) (grind (arith, nat_tests, some))
 

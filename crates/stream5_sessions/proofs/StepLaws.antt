@@ -1,14 +1,16 @@
--- A session stays of its protocol.
-use Rattle.std.proofs.Common.{◌≡◌, Bool, true, false, not, ◌&&◌, cond, refl, ap, ◌∙◌}
+-- A session stays of its protocol, and of one that isn't of TCP nothing counts.
+use Rattle.std.proofs.Common.{◌≡◌, Bool, true, false, not, ◌&&◌, cond, Option, None, refl, sym, ap, subst, ◌∙◌}
 use Rattle.std.proofs.lemmas.Bool.{false≢true}
 use Rattle.stream5_sessions.specs.declared.segment.Segment.{Segment}
 use Rattle.stream5_sessions.specs.declared.state.State.{State}
 use Rattle.stream5_sessions.specs.declared.state.Change.{Change}
 use Rattle.stream5_sessions.specs.declared.state.Reading.{Reading}
 use Rattle.stream5_sessions.specs.declared.state.Reading.TheVariants.{Then, EndsBefore}
+use Rattle.stream5_sessions.specs.declared.state.Phase.TheVariants.{Syn, Est}
 use Rattle.stream5_sessions.specs.declared.step.SessionRules.{SessionRules}
+use Rattle.stream5_sessions.specs.declared.step.Step.{Step}
 use Rattle.stream5_sessions.specs.Phases.{no_session, state_after, taken, at_hand, is_timed_out, by_row, row_of, in_none}
-use Rattle.stream5_sessions.specs.Phases.{is_open, session_step}
+use Rattle.stream5_sessions.specs.Phases.{begins, in_udp, is_from_server, is_open, session_step, stays, tcp_row}
 
 either_tcp : (b : Bool) (one other : State) (tcp : Bool) → one.tcp ≡ tcp → other.tcp ≡ tcp
     → (cond b one other).tcp ≡ tcp
@@ -58,3 +60,43 @@ unfolding session_step
 session_step_fresh s p rules =
     fresh_row (is_timed_out s p.moment rules) (at_hand s p rules) (row_of (at_hand s p rules) p rules) p rules.needed_new
     (at_hand_fresh s p rules)
+
+-- ---- a session that isn't of TCP
+
+-- neither data nor acknowledgements count, and no base is set
+pub record IsQuiet (step : Step) : Type 0 where
+  pub carries : step.takes_data ≡ false
+  pub acks : step.counts_ack ≡ false
+  pub client : step.client_base ≡ None
+  pub server : step.server_base ≡ None
+
+record ChangesNothing (change : Change) : Type 0 where
+  pub counts : change.counts ≡ false
+  pub client : change.client_base ≡ None
+  pub server : change.server_base ≡ None
+
+udp-changes : (s : State) (p : Segment) → ChangesNothing (in_udp s p)
+unfolding in_udp
+udp-changes s p = by (not (is_open s.phase)) (is_from_server s p)
+  where
+    by : (a b : Bool) → ChangesNothing (cond a (begins Syn p.sender None None) (cond b (record (stays s) { phase = Est }) (stays s)))
+    by true b = record { counts = refl; client = refl; server = refl }
+    by false true = record { counts = refl; client = refl; server = refl }
+    by false false = record { counts = refl; client = refl; server = refl }
+
+quiet-taken : (ended : Bool) (s : State) (change : Change) (p : Segment) → ChangesNothing change → IsQuiet (taken ended s change p).step
+unfolding taken
+quiet-taken ended s change p none = record {
+  carries = none.counts;
+  acks = ap (λ (b : Bool). b && p.has_ack) none.counts;
+  client = none.client;
+  server = none.server;
+}
+
+pub session_step_quiet : (s : State) (p : Segment) (rules : SessionRules) → s.tcp ≡ false → IsQuiet (session_step s p rules).step
+unfolding session_step row_of
+session_step_quiet s p rules plain =
+    let now : State = at_hand s p rules in
+    let ended : Bool = is_timed_out s p.moment rules in
+    subst (λ (b : Bool). IsQuiet (by_row ended now (cond b (tcp_row now.phase now p rules) (Then (in_udp now p))) p rules.needed_new).step)
+    (sym (at_hand_tcp s p rules ∙ plain)) (quiet-taken ended now (in_udp now p) p (udp-changes now p))
