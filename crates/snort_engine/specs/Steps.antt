@@ -5,6 +5,8 @@ pub mod Preparing
 pub mod Sources
 -- a capture that is made, as a host
 pub mod MadeCapture
+-- what is seen of the host
+pub mod Seen
 -- what a reader stands for, and what reading knows
 pub mod Reader
 -- reading a batch of records
@@ -19,3 +21,5 @@ pub mod Sourcing
 pub mod Stop
 -- what is told on the error sink
 pub mod Reporting
+-- how an outcome ends the run of its course
+pub mod Ended

@@ -1,11 +1,11 @@
 //! Reading records, a batch at a time.
-ghost use Rattle.std.specs.Prelude.{◌≡◌, ◌≢◌, ◌+◌, ◌-◌, ◌<◌, ◌≤◌, [], Option, vec_len};
-ghost use Rattle.edge_io.specs.Files.{Files, MaySee, left_by};
-ghost use Rattle.edge_io.specs.Told.{Rose};
+ghost use Rattle.std.specs.Prelude.{◌≡◌, ◌≢◌, ◌+◌, ◌-◌, ◌<◌, ◌≤◌, [], vec_len};
 ghost use Rattle.pcap_input.specs.Savefile.{most_records};
 ghost use Rattle.snort_engine.specs.Steps.Reader.{HasGoneOn, IsFresh, IsNext, number_of};
-ghost use Rattle.snort_engine.specs.Steps.Batch.{IsFaultOf, IsFilled, ReadsOn, lacks_memory, more_of};
+ghost use Rattle.snort_engine.specs.Steps.Batch.{IsFaultOf, IsFilled, ReadsOn, lacks_memory, more_of, place};
 ghost use Rattle.edge_io.specs.Frames.{OnlyRead};
+ghost use Rattle.snort_engine.specs.Outside.{by};
+ghost use Rattle.snort_engine.specs.Steps.Seen.{HostRose, OfSeen};
 ghost use Rattle.snort_engine.specs.Steps.Watching.{most_at, room_behind};
 
 use crate::fault::ReadFault;
@@ -38,14 +38,14 @@ fn read_one<H: Host>(
     records: &mut Vec<LinkedRecord>,
 ) -> Reached
     requires { IsFresh reader.old }
-    ensures reads { (seen : Option Files) → MaySee (H.contents host.new) (H.agrees host.new) seen → ReadsOn
-        (record { reader = reader.old; records = records.old.items; left = left_by (H.left_of host.old) seen })
-        (record { reader = reader.new; records = records.new.items; left = left_by (H.left_of host.new) seen }) result }
+    ensures reads { OfSeen H.Host host.new (λ seen. ReadsOn
+        (place (by seen H.Host) reader.old records.old.items host.old)
+        (place (by seen H.Host) reader.new records.new.items host.new) result) }
     ensures one { result ≡ Reached.More → vec_len records.new ≡ vec_len records.old + 1 }
     ensures none { result ≢ Reached.More → vec_len records.new ≡ vec_len records.old }
     ensures next { result ≡ Reached.More → IsFresh reader.new × IsNext reader.old reader.new }
     ensures own { (why : ReadFault) → result ≡ Reached.Fault why → IsFaultOf reader.new why }
-    ensures failed { result ≡ Reached.Fault ReadFault.Failed → Rose (H.faults host.old) (H.faults host.new) }
+    ensures failed { result ≡ Reached.Fault ReadFault.Failed → HostRose H.Host host.old host.new }
     ensures quiet { result ≢ Reached.Fault ReadFault.Failed → H.faults host.new ≡ H.faults host.old }
     ensures host { OnlyRead H.Host host.old host.new }
 {
@@ -98,14 +98,14 @@ pub(crate) fn read_batch<H: Host>(
     requires fresh { IsFresh reader.old }
     requires some { 0 < most }
     requires empty { records.old.items ≡ [] }
-    ensures reads { (seen : Option Files) → MaySee (H.contents host.new) (H.agrees host.new) seen → ReadsOn
-        (record { reader = reader.old; records = []; left = left_by (H.left_of host.old) seen })
-        (record { reader = reader.new; records = records.new.items; left = left_by (H.left_of host.new) seen }) result }
+    ensures reads { OfSeen H.Host host.new (λ seen. ReadsOn
+        (place (by seen H.Host) reader.old [] host.old)
+        (place (by seen H.Host) reader.new records.new.items host.new) result) }
     ensures filled { IsFilled most (vec_len records.new) result }
     ensures goes_on { result ≡ Reached.More → HasGoneOn reader.old reader.new (vec_len records.new) }
     ensures within { 0 < vec_len records.new → number_of reader.old + vec_len records.new ≤ most_records }
     ensures own { (why : ReadFault) → result ≡ Reached.Fault why → IsFaultOf reader.new why }
-    ensures failed { result ≡ Reached.Fault ReadFault.Failed → Rose (H.faults host.old) (H.faults host.new) }
+    ensures failed { result ≡ Reached.Fault ReadFault.Failed → HostRose H.Host host.old host.new }
     ensures quiet { result ≢ Reached.Fault ReadFault.Failed → H.faults host.new ≡ H.faults host.old }
     ensures host { OnlyRead H.Host host.old host.new }
 {

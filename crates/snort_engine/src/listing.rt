@@ -6,6 +6,7 @@ ghost use Rattle.edge_io.specs.Frames.{OnlyLoaded};
 ghost use Rattle.alert_lines.specs.Written.{WritesPart};
 ghost use Rattle.snort_engine.specs.Messages.{too_large_text};
 ghost use Rattle.snort_engine.specs.Steps.Preparing.{HasCause, ListsBytes, ListsFile, StopsAtFile};
+ghost use Rattle.snort_engine.specs.Steps.Seen.{HostRose};
 ghost use Rattle.snort_engine.specs.Steps.Stop.{IsWriteStop, ReadsQuietly};
 
 use crate::stop::Stop;
@@ -68,8 +69,8 @@ fn too_large(alloc: Global, name: &[u8]) -> Result<Text, NoMemory>
 /// Reads the Unified2 file of this name, and gives the lines of its records.
 pub(crate) fn list_records<H: Host>(alloc: Global, name: &str, host: &mut H) -> Result<Text, Stop>
     ensures lists { (files : Files) → H.agrees host.new files
-        → ListsFile name.now files (Rose (H.faults host.old) (H.faults host.new)) result }
-    ensures cause { IfErr result (HasCause (Rose (H.faults host.old) (H.faults host.new)) (H.contents host.old)) }
+        → ListsFile name.now files (HostRose H.Host host.old host.new) result }
+    ensures cause { IfErr result (HasCause (HostRose H.Host host.old host.new) (H.contents host.old)) }
     ensures quiet { ReadsQuietly result (H.faults host.old) (H.faults host.new) }
     ensures host { OnlyLoaded H.Host host.old host.new }
 {

@@ -2,7 +2,6 @@
 ghost use Rattle.std.specs.Prelude.{◌≡◌, ◌≤◌, [], None, Some, Ok, length, map, string_bytes, All, IfOk, IfErr, IsSome};
 ghost use Rattle.std.specs.Option.{option_map_or};
 ghost use Rattle.edge_io.specs.Files.{Files};
-ghost use Rattle.edge_io.specs.Told.{Rose};
 ghost use Rattle.option_eval.specs.RuleSet.{FindWhatIsMeant, SameMeaning};
 ghost use Rattle.conf_types.specs.Sound as conf;
 ghost use Rattle.rule_types.specs.Sound.{IsSound};
@@ -17,6 +16,7 @@ ghost use Rattle.snort_setup.specs.Whole.{ready_of};
 ghost use Rattle.snort_engine.specs.Course.{IsFileless, IsForMade, setup_words, checks_of, way_of};
 ghost use Rattle.snort_engine.specs.Steps.Preparing.{IsPrepared, IsSetUp, KeepsSetup, HasCause, IsForFaultyWords, StopsFileless};
 ghost use Rattle.snort_engine.specs.Steps.Preparing.{OfWatch, task_way, way_for, told_of, way_by};
+ghost use Rattle.snort_engine.specs.Steps.Seen.{HostRose};
 ghost use Rattle.snort_engine.specs.Steps.Stop.{ReadsQuietly};
 ghost use Rattle.edge_io.specs.Frames.{OnlyLoaded};
 ghost use Rattle.snort_engine.specs.Steps.Sources.{IsMade, IsSourceFor};
@@ -123,9 +123,9 @@ fn set_up<H: Host, M: PatternMaker>(
 ) -> Result<Setup<M::Made>, SetupStop>
     requires { HasName (setup_words (run_of wanted.now)).definition }
     ensures set_up { (files : Files) → H.agrees host.new files
-        → IsSetUp ready_of (run_of wanted.now) files (Rose (H.faults host.old) (H.faults host.new))
+        → IsSetUp ready_of (run_of wanted.now) files (HostRose H.Host host.old host.new)
         (grown_by (M.refusals maker.old) (M.refusals maker.new)) result warnings.new }
-    ensures cause { IfErr result (setup_specs.HasCause (Rose (H.faults host.old) (H.faults host.new)) (H.contents host.old)) }
+    ensures cause { IfErr result (setup_specs.HasCause (HostRose H.Host host.old host.new) (H.contents host.old)) }
     ensures config { IfOk result (λ setup. conf.IsSound setup.config) }
     ensures rules { IfOk result (λ setup. All (IsSound setup.config.classes) setup.set.rules) }
     ensures few { IfOk result (λ setup. length setup.set.rules ≤ most_rules) }
@@ -195,10 +195,10 @@ fn prepare_run<'a, H: Host, M: PatternMaker>(
     requires named { HasName (setup_words (run_of wanted.now)).definition }
     requires ranged { IsRanged wanted.now.lanes wanted.now.flush_point }
     ensures prepared { (files : Files) → H.agrees host.new files
-        → IsPrepared way_for (Some (run (run_of wanted.now))) files (Rose (H.faults host.old) (H.faults host.new))
+        → IsPrepared way_for (Some (run (run_of wanted.now))) files (HostRose H.Host host.old host.new)
         (grown_by (M.refusals maker.old) (M.refusals maker.new)) result warnings.new }
     ensures made { IfOk result (λ ready. IsSome wanted.now.generate → IsMade ready.source) }
-    ensures cause { IfErr result (HasCause (Rose (H.faults host.old) (H.faults host.new)) (H.contents host.old)) }
+    ensures cause { IfErr result (HasCause (HostRose H.Host host.old host.new) (H.contents host.old)) }
     ensures config { IfOk result (λ ready. conf.IsSound ready.setup.config) }
     ensures rules { IfOk result (λ ready. All (IsSound ready.setup.config.classes) ready.setup.set.rules) }
     ensures few { IfOk result (λ ready. length ready.setup.set.rules ≤ most_rules) }
@@ -229,15 +229,15 @@ pub(crate) fn prepare<'a, H: Host, M: PatternMaker>(
     requires { warnings.old ≡ [] }
     ensures prepared { (files : Files) → H.agrees host.new files
         → IsPrepared task_way (command_line (map string_bytes words.entry.now)) files
-        (Rose (H.faults host.old) (H.faults host.new))
+        (HostRose H.Host host.old host.new)
         (grown_by (M.refusals maker.old) (M.refusals maker.new)) result warnings.new }
     ensures fileless { IsFileless (command_line (map string_bytes words.entry.now))
         → StopsFileless (command_line (map string_bytes words.entry.now))
-        (Rose (H.faults host.old) (H.faults host.new)) result warnings.new }
+        (HostRose H.Host host.old host.new) result warnings.new }
     ensures faulty_words { command_line (map string_bytes words.entry.now) ≡ None → IsForFaultyWords result }
     ensures made { IfOk result (λ task. IsForMade (command_line (map string_bytes words.entry.now))
         → OfWatch (λ ready. IsMade ready.source) task) }
-    ensures cause { IfErr result (HasCause (Rose (H.faults host.old) (H.faults host.new)) (H.contents host.old)) }
+    ensures cause { IfErr result (HasCause (HostRose H.Host host.old host.new) (H.contents host.old)) }
     ensures config { IfOk result (OfWatch (λ ready. conf.IsSound ready.setup.config)) }
     ensures rules { IfOk result (OfWatch (λ ready. All (IsSound ready.setup.config.classes) ready.setup.set.rules)) }
     ensures few { IfOk result (OfWatch (λ ready. length ready.setup.set.rules ≤ most_rules)) }

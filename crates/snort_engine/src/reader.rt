@@ -1,12 +1,12 @@
 //! The reader of a run's capture, in either format.
-ghost use Rattle.std.specs.Prelude.{◌≡◌, ◌≢◌, ◌≤◌, ◌⊎◌, true, false, Option, Some, None, IfOk, IfErr, IsErrOf};
+ghost use Rattle.std.specs.Prelude.{◌≡◌, ◌≢◌, ◌≤◌, ◌⊎◌, true, false, Some, None, IfOk, IfErr, IsErrOf};
 ghost use Rattle.std.specs.FinMap.{get};
-ghost use Rattle.edge_io.specs.Told.{Rose};
 ghost use Rattle.edge_io.specs.Files.{Files, Lacks, MaySee, left_by};
 ghost use Rattle.snort_engine.specs.declared.reader.RecordReader.TheVariants.{Savefile, Blocks};
 ghost use Rattle.edge_io.specs.Frames.{OnlyRead};
 ghost use Rattle.snort_engine.specs.Trace.{no_record};
 ghost use Rattle.snort_engine.specs.Steps.Reader.{IsFresh, number_of, refusal_of, Gives, Opens, OpensSo};
+ghost use Rattle.snort_engine.specs.Steps.Seen.{HostRose, OfSeen};
 
 use crate::fault::ReadFault;
 use alert_lines::LinkedRecord;
@@ -32,13 +32,13 @@ impl RecordReader {
             → Opens (get files name.now) result (H.left_of host.new files) }
         ensures fresh { IfOk result (λ reader. IsFresh reader × (number_of reader ≡ 0)) }
         ensures failed { IsErrOf result ReadFault.Failed
-            → Rose (H.faults host.old) (H.faults host.new) ⊎ Lacks (H.contents host.old) name.now }
+            → HostRose H.Host host.old host.new ⊎ Lacks (H.contents host.old) name.now }
         ensures quiet { (IsErrOf result ReadFault.Failed → ⊥) → H.faults host.new ≡ H.faults host.old }
-        ensures opened { (seen : Option Files) → MaySee (H.contents host.new) (H.agrees host.new) seen
-            → OpensSo seen name.now (Rose (H.faults host.old) (H.faults host.new)) (H.opens host.old) (H.opens host.new) }
+        ensures opened { OfSeen H.Host host.new (λ seen.
+            OpensSo seen name.now (HostRose H.Host host.old host.new) (H.opens host.old) (H.opens host.new)) }
         ensures same_contents { H.contents host.new ≡ H.contents host.old }
-        ensures earlier { (seen : Option Files) → MaySee (H.contents host.new) (H.agrees host.new) seen
-            → MaySee (H.contents host.old) (H.agrees host.old) seen }
+        ensures earlier { OfSeen H.Host host.new (λ seen.
+            MaySee (H.contents host.old) (H.agrees host.old) seen) }
         ensures later { H.faults host.old ≤ H.faults host.new }
     {
         let why = match CaptureReader::open(host, name) {
@@ -59,10 +59,10 @@ impl RecordReader {
         host: &mut H,
     ) -> Result<Option<LinkedRecord>, ReadFault>
         requires { IsFresh self.old }
-        ensures gives { (seen : Option Files) → MaySee (H.contents host.new) (H.agrees host.new) seen
-            → Gives self.old self.new result (left_by (H.left_of host.old) seen) (left_by (H.left_of host.new) seen) }
+        ensures gives { OfSeen H.Host host.new (λ seen.
+            Gives self.old self.new result (left_by (H.left_of host.old) seen) (left_by (H.left_of host.new) seen)) }
         ensures refused { IfErr result (λ why. refusal_of self.new ≡ Some why) }
-        ensures failed { IsErrOf result ReadFault.Failed → Rose (H.faults host.old) (H.faults host.new) }
+        ensures failed { IsErrOf result ReadFault.Failed → HostRose H.Host host.old host.new }
         ensures quiet { (IsErrOf result ReadFault.Failed → ⊥) → H.faults host.new ≡ H.faults host.old }
         ensures host { OnlyRead H.Host host.old host.new }
     {
@@ -123,11 +123,10 @@ fn next_of_savefile<H: Host>(
     reader: &mut CaptureReader,
 ) -> Result<Option<LinkedRecord>, ReadFault>
     requires { reader.old.refused ≡ None }
-    ensures gives { (seen : Option Files) → MaySee (H.contents host.new) (H.agrees host.new) seen
-        → Gives (Savefile reader.old) (Savefile reader.new) result
-        (left_by (H.left_of host.old) seen) (left_by (H.left_of host.new) seen) }
+    ensures gives { OfSeen H.Host host.new (λ seen. Gives (Savefile reader.old) (Savefile reader.new) result
+        (left_by (H.left_of host.old) seen) (left_by (H.left_of host.new) seen)) }
     ensures refused { IfErr result (λ why. refusal_of (Savefile reader.new) ≡ Some why) }
-    ensures failed { IsErrOf result ReadFault.Failed → Rose (H.faults host.old) (H.faults host.new) }
+    ensures failed { IsErrOf result ReadFault.Failed → HostRose H.Host host.old host.new }
     ensures quiet { (IsErrOf result ReadFault.Failed → ⊥) → H.faults host.new ≡ H.faults host.old }
     ensures host { OnlyRead H.Host host.old host.new }
 {
@@ -146,11 +145,10 @@ fn next_of_blocks<H: Host>(
     reader: &mut NgReader,
 ) -> Result<Option<LinkedRecord>, ReadFault>
     requires { reader.old.refused ≡ None }
-    ensures gives { (seen : Option Files) → MaySee (H.contents host.new) (H.agrees host.new) seen
-        → Gives (Blocks reader.old) (Blocks reader.new) result
-        (left_by (H.left_of host.old) seen) (left_by (H.left_of host.new) seen) }
+    ensures gives { OfSeen H.Host host.new (λ seen. Gives (Blocks reader.old) (Blocks reader.new) result
+        (left_by (H.left_of host.old) seen) (left_by (H.left_of host.new) seen)) }
     ensures refused { IfErr result (λ why. refusal_of (Blocks reader.new) ≡ Some why) }
-    ensures failed { IsErrOf result ReadFault.Failed → Rose (H.faults host.old) (H.faults host.new) }
+    ensures failed { IsErrOf result ReadFault.Failed → HostRose H.Host host.old host.new }
     ensures quiet { (IsErrOf result ReadFault.Failed → ⊥) → H.faults host.new ≡ H.faults host.old }
     ensures host { OnlyRead H.Host host.old host.new }
 {

@@ -1,20 +1,19 @@
 //! Watching a capture: batches are read, searched, and their lines written.
-ghost use Rattle.std.specs.Prelude.{◌≡◌, ◌+◌, ◌^◌, ◌<◌, ◌≤◌, ◌⊎◌, ◌++◌, Option, Some, true, [], length, OnOk, IsErrOf};
-ghost use Rattle.std.specs.List.{concat};
-ghost use Rattle.edge_io.specs.Files.{Files, Lacks, MaySee};
+ghost use Rattle.std.specs.Prelude.{◌≡◌, ◌+◌, ◌^◌, ◌<◌, ◌≤◌, ◌⊎◌, true, [], length, OnOk, IsErrOf};
+ghost use Rattle.edge_io.specs.Files.{Lacks, MaySee};
 ghost use Rattle.edge_io.specs.Told.{Rose};
-ghost use Rattle.snort_engine.specs.Course.{Course, Goes};
+ghost use Rattle.snort_engine.specs.Course.{Goes};
 ghost use Rattle.snort_engine.specs.Steps.Reader.{IsReadable, number_of, OpensSo};
 ghost use Rattle.snort_engine.specs.Steps.Sources.{source_name};
 ghost use Rattle.edge_io.specs.Frames.{OnlyRead};
-ghost use Rattle.snort_engine.specs.Outside.{by, work};
-ghost use Rattle.snort_engine.specs.Ending.{Ends};
+ghost use Rattle.snort_engine.specs.Steps.Ended.{EndsOnWay, work_by};
+ghost use Rattle.snort_engine.specs.Steps.Seen.{HostRose, OfSeen};
 ghost use Rattle.snort_engine.specs.Steps.Stop.{outcome_status, is_uncut, is_written, ReadsQuietly, WritesQuietly};
 ghost use Rattle.snort_engine.specs.Steps.Reporting.{outcome_said};
 ghost use Rattle.alert_lines.specs.Gathering.{sending};
 ghost use Rattle.snort_engine.specs.Counts.{no_counts};
 ghost use Rattle.snort_engine.specs.Steps.Detecting.{IsSoundPlan, Knows, DetectorStands, ShowsRecordsPart};
-ghost use Rattle.snort_engine.specs.Steps.Watching.{standing, streams, OfTest, Watches, ComesOver, IsCloseBehind};
+ghost use Rattle.snort_engine.specs.Steps.Watching.{standing, OfStreams, OfTest, Watches, ComesOver, IsCloseBehind};
 ghost use Rattle.snort_engine.specs.Steps.Watching.{WatchesOn, MayGoOn, MayClose, ClosesWatched};
 
 use crate::Status;
@@ -63,17 +62,15 @@ fn watch_batch<H: Host, P: Pattern, G: Gate, A: Sink, R: Threads + Sync>(
     requires ready { MayGoOn context.now.plan.now reader.old detector.old }
     requires no_records { records.old.items ≡ [] }
     ensures goes_on { OfTest P.finds context.now.plan.now (λ plan.
-        (seen : Option Files) → MaySee (H.contents host.new) (H.agrees host.new) seen
-        → WatchesOn plan
-        (standing (by seen H.Host) A.Sink reader.old room.old detector.old host.old alerts.old)
-        (standing (by seen H.Host) A.Sink reader.new room.new detector.new host.new alerts.new)
-        (Rose (H.faults host.old) (H.faults host.new)) result) }
+        OfStreams H.Host A.Sink host.old host.new alerts.old alerts.new (λ before after. WatchesOn plan
+        (standing reader.old room.old detector.old before) (standing reader.new room.new detector.new after)
+        (HostRose H.Host host.old host.new) result)) }
     ensures further { result ≡ Ok true → number_of reader.old < number_of reader.new }
     ensures ready { result ≡ Ok true → MayGoOn context.now.plan.now reader.new detector.new }
     ensures shown { OnOk result (records.new.items ≡ []) }
     ensures closable { MayClose context.now.plan.now detector.new result }
     ensures write_fault { IsErrOf result Stop.CannotWrite → Rose (A.faults alerts.old) (A.faults alerts.new) }
-    ensures read_fault { outcome_status result ≡ Status.HostFault → Rose (H.faults host.old) (H.faults host.new) }
+    ensures read_fault { outcome_status result ≡ Status.HostFault → HostRose H.Host host.old host.new }
     ensures quiet { ReadsQuietly result (H.faults host.old) (H.faults host.new) }
     ensures quiet_alerts { WritesQuietly result (A.faults alerts.old) (A.faults alerts.new) }
     ensures host { OnlyRead H.Host host.old host.new }
@@ -108,13 +105,11 @@ fn watch_batches<H: Host, P: Pattern, G: Gate, A: Sink, R: Threads + Sync>(
     requires ready { MayGoOn context.now.plan.now reader.old detector.old }
     ensures comes { OfTest P.finds context.now.plan.now (λ plan.
         DetectorStands plan [] detector.old
-        → (seen : Option Files) → MaySee (H.contents host.new) (H.agrees host.new) seen
-        → ComesOver plan reader.old
-        (streams (by seen H.Host) A.Sink host.old alerts.old) (streams (by seen H.Host) A.Sink host.new alerts.new)
-        (Rose (H.faults host.old) (H.faults host.new)) detector.new result) }
+        → OfStreams H.Host A.Sink host.old host.new alerts.old alerts.new (λ before after.
+        ComesOver plan reader.old before after (HostRose H.Host host.old host.new) detector.new result)) }
     ensures closable { MayClose context.now.plan.now detector.new result }
     ensures write_fault { IsErrOf result Stop.CannotWrite → Rose (A.faults alerts.old) (A.faults alerts.new) }
-    ensures read_fault { outcome_status result ≡ Status.HostFault → Rose (H.faults host.old) (H.faults host.new) }
+    ensures read_fault { outcome_status result ≡ Status.HostFault → HostRose H.Host host.old host.new }
     ensures quiet { ReadsQuietly result (H.faults host.old) (H.faults host.new) }
     ensures quiet_alerts { WritesQuietly result (A.faults alerts.old) (A.faults alerts.new) }
     ensures host { OnlyRead H.Host host.old host.new }
@@ -175,17 +170,13 @@ pub(crate) fn watch_records<H: Host, P: Pattern, G: Gate, A: Sink, R: Threads + 
     requires plan { IsSoundPlan context.now.plan.now }
     requires readable { IsReadable reader.old }
     ensures watches { OfTest P.finds context.now.plan.now (λ plan.
-        (seen : Option Files) → MaySee (H.contents host.new) (H.agrees host.new) seen
-        → Watches plan reader.old
-        (streams (by seen H.Host) A.Sink host.old alerts.old) (streams (by seen H.Host) A.Sink host.new alerts.new)
-        counts.new result) }
+        OfStreams H.Host A.Sink host.old host.new alerts.old alerts.new (λ before after.
+        Watches plan reader.old before after counts.new result)) }
     ensures close { OfTest P.finds context.now.plan.now (λ plan.
-        (seen : Option Files) → MaySee (H.contents host.new) (H.agrees host.new) seen
-        → IsCloseBehind plan reader.old
-        (streams (by seen H.Host) A.Sink host.old alerts.old) (streams (by seen H.Host) A.Sink host.new alerts.new)
-        (Rose (H.faults host.old) (H.faults host.new)) result) }
+        OfStreams H.Host A.Sink host.old host.new alerts.old alerts.new (λ before after.
+        IsCloseBehind plan reader.old before after (HostRose H.Host host.old host.new) result)) }
     ensures write_fault { IsErrOf result Stop.CannotWrite → Rose (A.faults alerts.old) (A.faults alerts.new) }
-    ensures read_fault { outcome_status result ≡ Status.HostFault → Rose (H.faults host.old) (H.faults host.new) }
+    ensures read_fault { outcome_status result ≡ Status.HostFault → HostRose H.Host host.old host.new }
     ensures quiet { ReadsQuietly result (H.faults host.old) (H.faults host.new) }
     ensures quiet_alerts { WritesQuietly result (A.faults alerts.old) (A.faults alerts.new) }
     ensures host { OnlyRead H.Host host.old host.new }
@@ -209,21 +200,16 @@ pub(crate) fn watch_file<H: Host, P: Pattern, G: Gate, A: Sink, R: Threads + Syn
     requires plan { IsSoundPlan context.now.plan.now }
     requires named { source_name context.now.plan.now.source ≡ name.now }
     requires none { counts.old ≡ no_counts }
-    ensures ends { OfTest P.finds context.now.plan.now (λ plan.
-        (files : Files) (course : Course) → H.agrees host.new files
-        → course.way ≡ Goes plan
-        → Ends files course
-        (work (by (Some files) H.Host) A.Sink host.old alerts.old) (work (by (Some files) H.Host) A.Sink host.new alerts.new)
-        (outcome_status result)
-        (concat course.warnings ++ outcome_said name.now context.now.plan.now.counted result counts.new)) }
+    ensures ends { OfTest P.finds context.now.plan.now (λ plan. EndsOnWay (H.agrees host.new) (Goes plan)
+        (work_by H.Host A.Sink host.old alerts.old) (work_by H.Host A.Sink host.new alerts.new)
+        result (outcome_said name.now context.now.plan.now.counted result counts.new)) }
     ensures write_fault { outcome_status result ≡ Status.WriteFault → Rose (A.faults alerts.old) (A.faults alerts.new) }
     ensures read_fault { outcome_status result ≡ Status.HostFault
-        → Rose (H.faults host.old) (H.faults host.new) ⊎ Lacks (H.contents host.old) name.now }
-    ensures opened { (seen : Option Files) → MaySee (H.contents host.new) (H.agrees host.new) seen
-        → OpensSo seen name.now (Rose (H.faults host.old) (H.faults host.new)) (H.opens host.old) (H.opens host.new) }
+        → HostRose H.Host host.old host.new ⊎ Lacks (H.contents host.old) name.now }
+    ensures opened { OfSeen H.Host host.new (λ seen.
+        OpensSo seen name.now (HostRose H.Host host.old host.new) (H.opens host.old) (H.opens host.new)) }
     ensures same_contents { H.contents host.new ≡ H.contents host.old }
-    ensures earlier { (seen : Option Files) → MaySee (H.contents host.new) (H.agrees host.new) seen
-        → MaySee (H.contents host.old) (H.agrees host.old) seen }
+    ensures earlier { OfSeen H.Host host.new (λ seen. MaySee (H.contents host.old) (H.agrees host.old) seen) }
     ensures quiet { ReadsQuietly result (H.faults host.old) (H.faults host.new) }
     ensures quiet_alerts { WritesQuietly result (A.faults alerts.old) (A.faults alerts.new) }
     ensures later { H.faults host.old ≤ H.faults host.new }

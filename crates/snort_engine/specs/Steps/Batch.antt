@@ -6,6 +6,7 @@
 -- To try it on: of three records and 3 bytes of a fourth's header, reading reaches three places and then
 -- Truncated, and the three records are all that are whole within the bytes taken.
 use Rattle.std.specs.Prelude.{◌≡◌, ◌≢◌, ◌<◌, ◌≤◌, ◌⊎◌, ℕ, Bool, true, false, List, ◌++◌, Option, Some, Result, Ok, Err}
+use Rattle.edge_io.specs.declared.host.Host.{Ghosts as HostOf}
 use Rattle.record_jobs.specs.Way.{LinkedRecord}
 use Rattle.snort_engine.specs.declared.reader.RecordReader.{RecordReader}
 use Rattle.snort_engine.specs.declared.fault.ReadFault.{ReadFault}
@@ -22,6 +23,10 @@ pub record Place : Type 0 where
   pub reader : RecordReader
   pub records : List LinkedRecord
   pub left : Option (List ℕ)
+
+-- of a host
+abbrev pub place : {H : Type 0} → HostOf H → RecordReader → List LinkedRecord → H → Place
+place h reader records host = record { reader = reader; records = records; left = h.left host }
 
 -- reading stood at a reader behind these records, and went no record further
 pub record HasStopped (first : RecordReader) (given : List LinkedRecord) (left_first left : Option (List ℕ)) : Type 0 where

@@ -28,6 +28,8 @@ use Rattle.snort_engine.specs.Course.{Plan}
 use Rattle.snort_engine.specs.Steps.Sources.{source_name}
 use Rattle.pcap_input.specs.Cut.{AreWithin, Ending, Clean, Refused, first_records}
 use Rattle.snort_engine.specs.Records.{Recording}
+use Rattle.snort_engine.specs.Outside.{by}
+use Rattle.snort_engine.specs.Steps.Seen.{OfSeen}
 use Rattle.snort_engine.specs.Steps.Reader.{recording_for, number_of, HasRead, IsReadable}
 use Rattle.snort_engine.specs.Trace.{Open, Closed, CaptureState}
 use Rattle.snort_engine.specs.Lines.{lines}
@@ -71,6 +73,11 @@ pub record Streams : Type 0 where
 -- of a host and a sink of alerts
 abbrev pub streams : {H A : Type 0} → HostOf H → SinkOf A → H → A → Streams
 streams h a host alerts = record { left = h.left host; written = a.written alerts }
+
+-- this holds of both streams, before and after, by whatever may be seen of the host
+abbrev pub OfStreams : {H A : Type 0} → HostOf H → SinkOf A → H → H → A → A → (Streams → Streams → Type 0) → Type 0
+OfStreams h a host_old host_new alerts_old alerts_new Holds =
+    OfSeen h host_new (λ seen. Holds (streams (by seen h) a host_old alerts_old) (streams (by seen h) a host_new alerts_new))
 
 -- the lines of a capture's first records
 unfoldable pub lines_of : Plan → List LinkedRecord → CaptureState → List ℕ
@@ -181,9 +188,8 @@ pub record Standing : Type 0 where
   pub detector : Detector
   pub streams : Streams
 
-abbrev pub standing : {H A : Type 0} → HostOf H → SinkOf A → RecordReader → Option ℕ → Detector → H → A → Standing
-standing h a reader room detector host alerts =
-    record { reader = reader; room = room; detector = detector; streams = streams h a host alerts }
+abbrev pub standing : RecordReader → Option ℕ → Detector → Streams → Standing
+standing reader room detector told = record { reader = reader; room = room; detector = detector; streams = told }
 
 -- a batch may come: the reader may be asked for records, and the detector is known and was given no more than the
 -- reader gave
