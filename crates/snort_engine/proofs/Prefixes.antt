@@ -1,19 +1,10 @@
--- One stop of an answer, counts that rose, and a host that is only read from.
-use Rattle.std.proofs.Common.{◌≡◌, ℕ, ◌≤◌, Result, Err, refl, sym, subst, ◌∙◌, arith}
-use Rattle.std.specs.Prelude.{IfErr}
-use Rattle.std.proofs.lemmas.Result.{IfErr-at_err}
+-- Counts that rose, and what stays of a host that is opened and read from.
+use Rattle.std.proofs.Common.{ℕ, ◌≤◌, refl, ◌∙◌, arith}
 use Rattle.std.proofs.lemmas.Bool.Decides.{nat_tests}
 use Rattle.edge_io.specs.Told.{Rose}
 use Rattle.edge_io.specs.declared.host.Host.{Ghosts as HostOf}
 use Rattle.edge_io.specs.Frames.{OnlyRead}
-use Rattle.snort_engine.specs.declared.stop.Stop.{Stop}
-
--- an answer has one stop
-pub same_stop : {T : Type 0} (answer : Result T Stop) (this that : Stop) → answer ≡ Err this → answer ≡ Err that → this ≡ that
-same_stop {T} answer this that is is_too =
-    IfErr-at_err (λ (stop : Stop). stop ≡ that) is (subst (λ (r : Result T Stop). IfErr r (λ stop. stop ≡ that)) (sym is_too) refl)
-
--- ---- counts
+use Rattle.snort_engine.specs.Steps.Seen.{OnlyOpened}
 
 -- a count that rose from later on rose from earlier on
 pub rose_since : (old middle new : ℕ) → old ≤ middle → Rose middle new → Rose old new
@@ -41,6 +32,20 @@ read_on g old middle new one two = record {
 -- its count rose behind what was read
 pub read_rose : {H : Type 0} (g : HostOf H) (old middle new : H) → OnlyRead g old middle → Rose (g.faults middle) (g.faults new) → Rose (g.faults old) (g.faults new)
 read_rose g old middle new read rose = rose_since (g.faults old) (g.faults middle) (g.faults new) read.later rose
+
+-- ---- a host whose capture was opened
+
+-- or nothing was done with it
+pub opened_not : {H : Type 0} (g : HostOf H) (host : H) → OnlyOpened g host host
+opened_not g host = record { files = refl; earlier = λ seen may. may; later = omega arith }
+
+-- and then read from
+pub opened_read : {H : Type 0} (g : HostOf H) (old middle new : H) → OnlyOpened g old middle → OnlyRead g middle new → OnlyOpened g old new
+opened_read g old middle new one two = record {
+  files = two.files ∙ one.files;
+  earlier = λ seen may. one.earlier seen (two.earlier seen may);
+  later = let before = one.later in let after = two.later in omega (arith, before, after);
+}
 
 pub ruleset rising = (rose_since, rose_on)
 

@@ -10,6 +10,7 @@ use Rattle.std.specs.Option.{option_map, option_map_or}
 use Rattle.packet_decode.specs.declared.checks.Checks.{Checks}
 use Rattle.std.specs.FinMap.{get}
 use Rattle.edge_io.specs.Files.{Files}
+use Rattle.edge_io.specs.Told.{Rose}
 use Rattle.edge_io.specs.declared.pattern.Refusal.{Refusal}
 use Rattle.conf_parser.specs.Reading.{Ended, Whole, Refused as RefusedAt, Asks, told}
 use Rattle.command_words.specs.CommandLine.{Asked, help, version, records_of, run, Run}
@@ -34,8 +35,8 @@ use Rattle.snort_engine.specs.declared.plan.Source.TheVariants.{File, Made}
 use Rattle.snort_engine.specs.Steps.Sources.{IsMade, IsSourceFor, source_name, way_from}
 use Rattle.snort_engine.specs.Steps.Detecting.{IsRanged}
 use Rattle.snort_engine.specs.Messages.{usage_text, version_text, accepted_text, command_line_text, cannot_read_text}
-use Rattle.snort_engine.specs.Steps.Stop.{stop_text, setup_stop}
-use Rattle.snort_engine.specs.Steps.Preparing.{HasWay, stops, way_by, Prepares, StopsFileless, IsPrepared, IsSetUp, KeepsSetup, HasCause, ListsFile, task_way, way_for, told_of}
+use Rattle.snort_engine.specs.Steps.Stop.{is_uncut, setup_stop, stop_status, stop_text}
+use Rattle.snort_engine.specs.Steps.Preparing.{HasWay, stops, way_by, Prepares, StopsFileless, HasEarlyCauses, IsPrepared, IsReadyPlan, IsReadySetup, IsSetUp, KeepsSetup, HasCause, ListsFile, task_way, way_for, told_of}
 use Rattle.snort_engine.proofs.FileWays.{file_way-one}
 
 -- what maps to nothing is nothing
@@ -288,7 +289,7 @@ pub run_made : {P : Type 0} (asked : Option Asked) (wanted : Run) (answer : Resu
 run_made asked wanted (Ok prepared) is made = λ for_made. made (subst IsForMade is for_made)
 run_made asked wanted (Err why) is made = tt
 
--- ---- causes, and what stays of a setup
+-- ---- causes
 
 -- a setup that was stopped has its cause
 pub setup_cause : (rose : Type 0) (host : Option Files) (why : SetupStop) → HasSetupCause rose host why → HasCause rose host (setup_stop why)
@@ -297,33 +298,42 @@ setup_cause rose host (halted.CannotRead name) cause = cause
 setup_cause rose host halted.NoMemory cause = tt
 
 -- a detector that was set up is stopped without a fault
-pub kept_cause : {P : Type 0} (rose : Type 0) (host : Option Files) (setup : Setup P) (answer : Result (code.Plan P) Stop) → KeepsSetup setup answer → IfErr answer (HasCause rose host)
+kept_cause : {P : Type 0} (rose : Type 0) (host : Option Files) (setup : Setup P) (answer : Result (code.Plan P) Stop) → KeepsSetup setup answer → IfErr answer (HasCause rose host)
 kept_cause rose host setup (Ok prepared) kept = tt
 kept_cause rose host setup (Err (stop.Accepted rules)) kept = tt
 kept_cause rose host setup (Err stop.CommandLine) kept = tt
 kept_cause rose host setup (Err why) kept = absurd kept
 
--- its configuration stays sound
-pub kept_config : {P : Type 0} (setup : Setup P) (answer : Result (code.Plan P) Stop) → KeepsSetup setup answer → conf.IsSound setup.config → IfOk answer (λ ready. conf.IsSound ready.setup.config)
-kept_config {P} setup (Ok prepared) kept sound = subst (λ (s : Setup P). conf.IsSound s.config) (sym kept) sound
-kept_config setup (Err why) kept sound = tt
+-- the causes of what was stopped, and of what wasn't
+pub stopped_early : {A : Type 0} (host : Option Files) (old new : ℕ) (why : Stop) → HasCause (Rose old new) host why → (is_uncut (stop_status why) ≡ true → new ≡ old) → HasEarlyCauses {A = A} host old new (Err why)
+stopped_early host old new why cause quiet = record { cause = cause; quiet = quiet }
 
--- its numbers are those of the words
-pub kept_ranges : {P : Type 0} (answer : Result (code.Plan P) Stop) (lanes flush : ℕ) → IfOk answer (λ ready. (ready.lanes ≡ lanes) × (ready.flush ≡ flush)) → IsRanged lanes flush → IfOk answer (λ ready. IsRanged ready.lanes ready.flush)
-kept_ranges (Ok prepared) lanes flush (same, too) ranged = subst (λ (n : ℕ). IsRanged n prepared.flush) (sym same) (subst (λ (n : ℕ). IsRanged lanes n) (sym too) ranged)
-kept_ranges (Err why) lanes flush same ranged = tt
+pub ready_early : {A : Type 0} (host : Option Files) (old new : ℕ) (ready : A) → new ≡ old → HasEarlyCauses host old new (Ok ready)
+ready_early host old new ready same = record { cause = tt; quiet = λ uncut. same }
 
--- its rules stay sound
-pub kept_rules : {P : Type 0} (setup : Setup P) (answer : Result (code.Plan P) Stop) → KeepsSetup setup answer → All (IsSound setup.config.classes) setup.set.rules → IfOk answer (λ ready. All (IsSound ready.setup.config.classes) ready.setup.set.rules)
-kept_rules {P} setup (Ok prepared) kept sound = subst (λ (s : Setup P). All (IsSound s.config.classes) s.set.rules) (sym kept) sound
-kept_rules setup (Err why) kept sound = tt
+pub kept_early : {P : Type 0} (host : Option Files) (old new : ℕ) (setup : Setup P) (answer : Result (code.Plan P) Stop) → KeepsSetup setup answer → new ≡ old → HasEarlyCauses host old new answer
+kept_early host old new setup answer kept same = record { cause = kept_cause (Rose old new) host setup answer kept; quiet = λ uncut. same }
 
--- and few
-pub kept_few : {P : Type 0} (setup : Setup P) (answer : Result (code.Plan P) Stop) → KeepsSetup setup answer → length setup.set.rules ≤ most_rules → IfOk answer (λ ready. length ready.setup.set.rules ≤ most_rules)
-kept_few {P} setup (Ok prepared) kept few = subst (λ (s : Setup P). length s.set.rules ≤ most_rules) (sym kept) few
-kept_few setup (Err why) kept few = tt
+-- ---- a detector that is ready
 
--- and its patterns find what is meant
-pub kept_meant : {P : Type 0} (finds : P → List ℕ → Option Span) (means : Means) (setup : Setup P) (answer : Result (code.Plan P) Stop) → KeepsSetup setup answer → FindWhatIsMeant finds means setup.set → IfOk answer (λ ready. FindWhatIsMeant finds means ready.setup.set)
-kept_meant {P} finds means setup (Ok prepared) kept found = subst (λ (s : Setup P). FindWhatIsMeant finds means s.set) (sym kept) found
-kept_meant finds means setup (Err why) kept found = tt
+pub ready_setup : {P : Type 0} (finds : P → List ℕ → Option Span) (means : Means) (answer : Result (Setup P) SetupStop) → IfOk answer (λ setup. conf.IsSound setup.config)
+    → IfOk answer (λ setup. All (IsSound setup.config.classes) setup.set.rules) → IfOk answer (λ setup. length setup.set.rules ≤ most_rules) → IfOk answer (λ setup. FindWhatIsMeant finds means setup.set)
+    → IfOk answer (IsReadySetup finds means)
+ready_setup finds means (Ok setup) config rules few meant = record { config = config; rules = rules; few = few; meant = meant }
+ready_setup finds means (Err why) config rules few meant = tt
+
+-- the plan keeps its setup, and its numbers are those of the words
+pub kept_ready : {P : Type 0} (finds : P → List ℕ → Option Span) (means : Means) (setup : Setup P) (answer : Result (code.Plan P) Stop) (lanes flush : ℕ) → KeepsSetup setup answer
+    → IfOk answer (λ ready. (ready.lanes ≡ lanes) × (ready.flush ≡ flush)) → IsRanged lanes flush → IsReadySetup finds means setup → IfOk answer (IsReadyPlan finds means)
+kept_ready finds means setup (Err why) lanes flush kept same ranged sound = tt
+kept_ready {P} finds means setup (Ok prepared) lanes flush kept (same, too) ranged sound =
+    let still : IsReadySetup finds means prepared.setup = subst (λ (s : Setup P). IsReadySetup finds means s) (sym kept) sound in
+    record {
+      sound = record {
+        config = still.config;
+        rules = still.rules;
+        few = still.few;
+        ranges = subst (λ (n : ℕ). IsRanged n prepared.flush) (sym same) (subst (λ (n : ℕ). IsRanged lanes n) (sym too) ranged);
+      };
+      meant = still.meant;
+    }

@@ -11,11 +11,13 @@ use Rattle.option_eval.specs.Places.{Means}
 use Rattle.snort_engine.specs.declared.status.Status.{Status}
 use Rattle.snort_engine.specs.declared.stop.Stop.{Stop}
 use Rattle.snort_engine.specs.declared.stop.Stop.TheVariants as stop
-use Rattle.snort_engine.specs.Course.{Way, Stops, Goes, Makes, Lists, Course}
+use Rattle.snort_engine.specs.declared.plan.Source.{Source}
+use Rattle.snort_engine.specs.declared.plan.Source.TheVariants.{File, Made}
+use Rattle.snort_engine.specs.Course.{Course, Plan}
 use Rattle.snort_engine.specs.Outside.{by, outside, work}
 use Rattle.snort_engine.specs.Ending.{Ends}
 use Rattle.snort_engine.specs.Steps.Preparing.{HasCause}
-use Rattle.snort_engine.specs.Steps.Sources.{LacksCapture}
+use Rattle.snort_engine.specs.Steps.Sources.{LacksCapture, LacksSource, source_name, way_from}
 use Rattle.snort_engine.specs.Headline.{Headline}
 
 -- what it tells may be seen of it
@@ -47,17 +49,12 @@ stop_cause_by h old new rose (stop.CannotReadFile name) seen law same may cause 
 stop_cause_by h old new rose why seen law same may cause = cause
 
 -- a capture that a host told before to lack, what is seen lacks
-capture_lacks_by : {H : Type 0} (h : HostOf H) (old new : H) (way : Way) (seen : Option Files) → AsTold (h.contents new) (h.left new) (h.agrees new) (h.left_of new) → h.contents new ≡ h.contents old
-    → MaySee (h.contents new) (h.agrees new) seen → LacksCapture (h.contents old) way → LacksCapture seen way
-capture_lacks_by h old new (Goes plan) seen law same may lacks = lacks_by h old new plan.source seen law same may lacks
-capture_lacks_by h old new (Stops message ended) seen law same may lacks = lacks
-capture_lacks_by h old new (Makes plan seed count) seen law same may lacks = lacks
-capture_lacks_by h old new (Lists lines) seen law same may lacks = lacks
-
-pub capture_cause_by : {H : Type 0} (h : HostOf H) (old new : H) (way : Way) (rose : Type 0) (seen : Option Files) → AsTold (h.contents new) (h.left new) (h.agrees new) (h.left_of new) → h.contents new ≡ h.contents old
-    → MaySee (h.contents new) (h.agrees new) seen → rose ⊎ LacksCapture (h.contents old) way → rose ⊎ LacksCapture seen way
-capture_cause_by h old new way rose seen law same may (inl counted) = inl counted
-capture_cause_by h old new way rose seen law same may (inr lacks) = inr (capture_lacks_by h old new way seen law same may lacks)
+pub capture_cause_by : {H : Type 0} (h : HostOf H) (old new : H) (source : Source) (plan : Plan) (rose : Type 0) (seen : Option Files) → AsTold (h.contents new) (h.left new) (h.agrees new) (h.left_of new)
+    → h.contents new ≡ h.contents old → MaySee (h.contents new) (h.agrees new) seen → plan.source ≡ source_name source → rose ⊎ LacksSource (h.contents old) source → rose ⊎ LacksCapture seen (way_from source plan)
+capture_cause_by h old new source plan rose seen law same may named (inl counted) = inl counted
+capture_cause_by h old new (Made seed count) plan rose seen law same may named (inr lacks) = absurd lacks
+capture_cause_by h old new (File name) plan rose seen law same may named (inr lacks) =
+    inr (lacks_by h old new plan.source seen law same may (subst (λ (source : List ℕ). Lacks (h.contents old) source) (sym named) lacks))
 
 -- ---- a host whose files were loaded
 

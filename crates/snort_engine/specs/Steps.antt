@@ -21,5 +21,7 @@ pub mod Sourcing
 pub mod Stop
 -- what is told on the error sink
 pub mod Reporting
+-- what the counts of faults say of how work on a capture ended
+pub mod Causes
 -- how an outcome ends the run of its course
 pub mod Ended

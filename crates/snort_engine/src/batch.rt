@@ -2,10 +2,10 @@
 ghost use Rattle.std.specs.Prelude.{◌≡◌, ◌≢◌, ◌+◌, ◌-◌, ◌<◌, ◌≤◌, [], vec_len};
 ghost use Rattle.pcap_input.specs.Savefile.{most_records};
 ghost use Rattle.snort_engine.specs.Steps.Reader.{HasGoneOn, IsFresh, IsNext, number_of};
-ghost use Rattle.snort_engine.specs.Steps.Batch.{IsFaultOf, IsFilled, ReadsOn, lacks_memory, more_of, place};
+ghost use Rattle.snort_engine.specs.Steps.Batch.{HasReason, IsFilled, ReadsOn, lacks_memory, more_of, place};
 ghost use Rattle.edge_io.specs.Frames.{OnlyRead};
 ghost use Rattle.snort_engine.specs.Outside.{by};
-ghost use Rattle.snort_engine.specs.Steps.Seen.{HostRose, OfSeen};
+ghost use Rattle.snort_engine.specs.Steps.Seen.{OfSeen};
 ghost use Rattle.snort_engine.specs.Steps.Watching.{most_at, room_behind};
 
 use crate::fault::ReadFault;
@@ -44,9 +44,7 @@ fn read_one<H: Host>(
     ensures one { result ≡ Reached.More → vec_len records.new ≡ vec_len records.old + 1 }
     ensures none { result ≢ Reached.More → vec_len records.new ≡ vec_len records.old }
     ensures next { result ≡ Reached.More → IsFresh reader.new × IsNext reader.old reader.new }
-    ensures own { (why : ReadFault) → result ≡ Reached.Fault why → IsFaultOf reader.new why }
-    ensures failed { result ≡ Reached.Fault ReadFault.Failed → HostRose H.Host host.old host.new }
-    ensures quiet { result ≢ Reached.Fault ReadFault.Failed → H.faults host.new ≡ H.faults host.old }
+    ensures reason { HasReason reader.new (H.faults host.old) (H.faults host.new) result }
     ensures host { OnlyRead H.Host host.old host.new }
 {
     // Room comes first, so that no record is lost that was taken.
@@ -104,9 +102,7 @@ pub(crate) fn read_batch<H: Host>(
     ensures filled { IsFilled most (vec_len records.new) result }
     ensures goes_on { result ≡ Reached.More → HasGoneOn reader.old reader.new (vec_len records.new) }
     ensures within { 0 < vec_len records.new → number_of reader.old + vec_len records.new ≤ most_records }
-    ensures own { (why : ReadFault) → result ≡ Reached.Fault why → IsFaultOf reader.new why }
-    ensures failed { result ≡ Reached.Fault ReadFault.Failed → HostRose H.Host host.old host.new }
-    ensures quiet { result ≢ Reached.Fault ReadFault.Failed → H.faults host.new ≡ H.faults host.old }
+    ensures reason { HasReason reader.new (H.faults host.old) (H.faults host.new) result }
     ensures host { OnlyRead H.Host host.old host.new }
 {
     'batch: while records.len() < most {

@@ -1,19 +1,18 @@
 //! The capture of a run: that of a file, or one that is made of a seed.
-ghost use Rattle.std.specs.Prelude.{◌≡◌, ◌≤◌, ◌⊎◌};
-ghost use Rattle.edge_io.specs.Files.{Files, MaySee};
-ghost use Rattle.edge_io.specs.Told.{Rose};
+ghost use Rattle.std.specs.Prelude.{◌≡◌, ℕ, ◌⊎◌};
+ghost use Rattle.edge_io.specs.Files.{Files};
 ghost use Rattle.rule_eval.specs.Hits.{Test};
 ghost use Rattle.snort_engine.specs.Course.{Makes};
 ghost use Rattle.snort_engine.specs.Steps.Preparing.{way_for};
-ghost use Rattle.snort_engine.specs.Steps.Sources.{IsMade, LacksCapture, OpensOn, way_from};
+ghost use Rattle.snort_engine.specs.Steps.Sources.{IsMade, LacksSource, OpensOn, way_from};
 ghost use Rattle.snort_engine.specs.Steps.Ended.{EndsOnWay, EndsUnseen, said_of, work_by};
-ghost use Rattle.snort_engine.specs.Steps.Seen.{HostRose, OfSeen};
-ghost use Rattle.snort_engine.specs.Steps.Stop.{outcome_status, ReadsQuietly, WritesQuietly};
+ghost use Rattle.snort_engine.specs.Steps.Causes.{HasCauses, faults_of};
+ghost use Rattle.snort_engine.specs.Steps.Seen.{HostRose, OfSeen, OnlyOpened};
+ghost use Rattle.snort_engine.specs.Steps.Stop.{outcome_status};
 ghost use Rattle.snort_engine.specs.Counts.{no_counts};
 ghost use Rattle.snort_engine.specs.Steps.Detecting.{IsSoundPlan};
 ghost use Rattle.snort_engine.specs.Steps.Watching.{OfTest};
 
-use crate::Status;
 use crate::context::Context;
 use crate::counts::Counts;
 use crate::made::{MadeCapture, made_reader};
@@ -37,10 +36,9 @@ fn watch_made<P: Pattern, G: Gate, A: Sink, R: Threads + Sync>(
     requires { IsSoundPlan context.now.plan.now }
     ensures ends { OfTest P.finds context.now.plan.now (λ plan. EndsUnseen (Makes plan seed count)
         (A.written alerts.old) (A.written alerts.new) result (said_of context.now.plan.now result counts.new)) }
-    ensures write_fault { outcome_status result ≡ Status.WriteFault → Rose (A.faults alerts.old) (A.faults alerts.new) }
-    ensures no_read_fault { ¬ (outcome_status result ≡ Status.HostFault) }
-    ensures quiet_alerts { WritesQuietly result (A.faults alerts.old) (A.faults alerts.new) }
-    ensures later_alerts { A.faults alerts.old ≤ A.faults alerts.new }
+    // The host has no part in it, whatever its count is.
+    ensures causes { (host : ℕ) → HasCauses ⊥ (record { host = host; alerts = A.faults alerts.old })
+        (record { host = host; alerts = A.faults alerts.new }) (outcome_status result) }
 {
     let bytes = make_capture(context.alloc, seed, count)?;
     let mut made = MadeCapture::new(&bytes);
@@ -59,23 +57,18 @@ pub(crate) fn watch_capture<H: Host, P: Pattern, G: Gate, A: Sink, R: Threads + 
 ) -> Result<(), Stop>
     requires plan { IsSoundPlan context.now.plan.now }
     requires none { counts.old ≡ no_counts }
-    ensures ends { OfTest P.finds context.now.plan.now (λ plan. EndsOnWay (H.agrees host.new) (way_from context.now.plan.now.source plan)
+    ensures ends { OfTest P.finds context.now.plan.now (λ plan.
+        EndsOnWay (H.agrees host.new) (way_from context.now.plan.now.source plan)
         (work_by H.Host A.Sink host.old alerts.old) (work_by H.Host A.Sink host.new alerts.new)
         result (said_of context.now.plan.now result counts.new)) }
-    ensures write_fault { outcome_status result ≡ Status.WriteFault → Rose (A.faults alerts.old) (A.faults alerts.new) }
-    ensures read_fault { (matches : Test) → outcome_status result ≡ Status.HostFault
-        → HostRose H.Host host.old host.new
-        ⊎ LacksCapture (H.contents host.old) (way_for matches context.now.plan.now) }
+    ensures causes { HasCauses
+        (HostRose H.Host host.old host.new ⊎ LacksSource (H.contents host.old) context.now.plan.now.source)
+        (faults_of H.Host A.Sink host.old alerts.old) (faults_of H.Host A.Sink host.new alerts.new) (outcome_status result) }
     ensures opened { (matches : Test) → OfSeen H.Host host.new (λ seen. OpensOn seen (way_for matches context.now.plan.now)
         (HostRose H.Host host.old host.new) (H.opens host.old) (H.opens host.new)) }
     ensures made_unopened { IsMade context.now.plan.now.source
         → (files : Files) → H.left_of host.new files ≡ H.left_of host.old files }
-    ensures same_contents { H.contents host.new ≡ H.contents host.old }
-    ensures earlier { OfSeen H.Host host.new (λ seen. MaySee (H.contents host.old) (H.agrees host.old) seen) }
-    ensures quiet { ReadsQuietly result (H.faults host.old) (H.faults host.new) }
-    ensures quiet_alerts { WritesQuietly result (A.faults alerts.old) (A.faults alerts.new) }
-    ensures later { H.faults host.old ≤ H.faults host.new }
-    ensures later_alerts { A.faults alerts.old ≤ A.faults alerts.new }
+    ensures host { OnlyOpened H.Host host.old host.new }
 {
     match context.plan.source {
         Source::File(name) => watch_file(context, host, name, alerts, counts),

@@ -1,23 +1,18 @@
 //! What stands before a capture: the words, the configuration, the rules and the host table.
-ghost use Rattle.std.specs.Prelude.{◌≡◌, ◌≤◌, [], None, Some, Ok, length, map, string_bytes, All, IfOk, IfErr, IsSome};
+ghost use Rattle.std.specs.Prelude.{◌≡◌, [], None, Some, Ok, map, string_bytes, IfOk, IfErr, IsSome};
 ghost use Rattle.std.specs.Option.{option_map_or};
 ghost use Rattle.edge_io.specs.Files.{Files};
-ghost use Rattle.option_eval.specs.RuleSet.{FindWhatIsMeant, SameMeaning};
-ghost use Rattle.conf_types.specs.Sound as conf;
-ghost use Rattle.rule_types.specs.Sound.{IsSound};
 ghost use Rattle.command_words.specs.CommandLine.{command_line, run};
 ghost use Rattle.command_words.specs.Told.{run_of};
 ghost use Rattle.rule_eval.specs.Hits.{Test};
 ghost use Rattle.snort_setup.specs.Words.{words_of, HasName};
 ghost use Rattle.snort_setup.specs.Answers as setup_specs;
-ghost use Rattle.snort_setup.specs.Rules.{most_rules};
-ghost use Rattle.snort_setup.specs.Steps.{grown_by, Grows};
+ghost use Rattle.snort_setup.specs.Steps.{grown_by};
 ghost use Rattle.snort_setup.specs.Whole.{ready_of};
 ghost use Rattle.snort_engine.specs.Course.{IsFileless, IsForMade, setup_words, checks_of, way_of};
-ghost use Rattle.snort_engine.specs.Steps.Preparing.{IsPrepared, IsSetUp, KeepsSetup, HasCause, IsForFaultyWords, StopsFileless};
-ghost use Rattle.snort_engine.specs.Steps.Preparing.{OfWatch, task_way, way_for, told_of, way_by};
+ghost use Rattle.snort_engine.specs.Steps.Preparing.{IsPrepared, IsReadyPlan, IsReadySetup, IsSetUp, KeepsSetup, HasEarlyCauses};
+ghost use Rattle.snort_engine.specs.Steps.Preparing.{IsForFaultyWords, OfWatch, OnlyMade, StopsFileless, task_way, way_for, told_of, way_by};
 ghost use Rattle.snort_engine.specs.Steps.Seen.{HostRose};
-ghost use Rattle.snort_engine.specs.Steps.Stop.{ReadsQuietly};
 ghost use Rattle.edge_io.specs.Frames.{OnlyLoaded};
 ghost use Rattle.snort_engine.specs.Steps.Sources.{IsMade, IsSourceFor};
 ghost use Rattle.snort_engine.specs.Steps.Detecting.{IsRanged};
@@ -126,14 +121,10 @@ fn set_up<H: Host, M: PatternMaker>(
         → IsSetUp ready_of (run_of wanted.now) files (HostRose H.Host host.old host.new)
         (grown_by (M.refusals maker.old) (M.refusals maker.new)) result warnings.new }
     ensures cause { IfErr result (setup_specs.HasCause (HostRose H.Host host.old host.new) (H.contents host.old)) }
-    ensures config { IfOk result (λ setup. conf.IsSound setup.config) }
-    ensures rules { IfOk result (λ setup. All (IsSound setup.config.classes) setup.set.rules) }
-    ensures few { IfOk result (λ setup. length setup.set.rules ≤ most_rules) }
-    ensures meant { IfOk result (λ setup. FindWhatIsMeant M.Made.finds (M.means maker.old) setup.set) }
+    ensures ready { IfOk result (IsReadySetup M.Made.finds (M.means maker.old)) }
     ensures quiet { setup_specs.OnReadyOrRefused (H.faults host.new ≡ H.faults host.old) result }
     ensures host { OnlyLoaded H.Host host.old host.new }
-    ensures grows { Grows (M.refusals maker.old) (M.refusals maker.new) }
-    ensures same_meaning { SameMeaning (M.means maker.old) (M.means maker.new) }
+    ensures maker { OnlyMade (M.means maker.old) (M.means maker.new) (M.refusals maker.old) (M.refusals maker.new) }
 {
     let mut given = Items::new(alloc);
     let outcome = read_setup(alloc, &setup_words(wanted), host, maker, &mut given);
@@ -198,16 +189,10 @@ fn prepare_run<'a, H: Host, M: PatternMaker>(
         → IsPrepared way_for (Some (run (run_of wanted.now))) files (HostRose H.Host host.old host.new)
         (grown_by (M.refusals maker.old) (M.refusals maker.new)) result warnings.new }
     ensures made { IfOk result (λ ready. IsSome wanted.now.generate → IsMade ready.source) }
-    ensures cause { IfErr result (HasCause (HostRose H.Host host.old host.new) (H.contents host.old)) }
-    ensures config { IfOk result (λ ready. conf.IsSound ready.setup.config) }
-    ensures rules { IfOk result (λ ready. All (IsSound ready.setup.config.classes) ready.setup.set.rules) }
-    ensures few { IfOk result (λ ready. length ready.setup.set.rules ≤ most_rules) }
-    ensures ranges { IfOk result (λ ready. IsRanged ready.lanes ready.flush) }
-    ensures meant { IfOk result (λ ready. FindWhatIsMeant M.Made.finds (M.means maker.old) ready.setup.set) }
-    ensures quiet { ReadsQuietly result (H.faults host.old) (H.faults host.new) }
+    ensures ready { IfOk result (IsReadyPlan M.Made.finds (M.means maker.old)) }
+    ensures causes { HasEarlyCauses (H.contents host.old) (H.faults host.old) (H.faults host.new) result }
     ensures host { OnlyLoaded H.Host host.old host.new }
-    ensures grows { Grows (M.refusals maker.old) (M.refusals maker.new) }
-    ensures same_meaning { SameMeaning (M.means maker.old) (M.means maker.new) }
+    ensures maker { OnlyMade (M.means maker.old) (M.means maker.new) (M.refusals maker.old) (M.refusals maker.new) }
 {
     let setup = set_up(alloc, wanted, host, maker, warnings)?;
     ready(wanted, setup)
@@ -237,18 +222,12 @@ pub(crate) fn prepare<'a, H: Host, M: PatternMaker>(
     ensures faulty_words { command_line (map string_bytes words.entry.now) ≡ None → IsForFaultyWords result }
     ensures made { IfOk result (λ task. IsForMade (command_line (map string_bytes words.entry.now))
         → OfWatch (λ ready. IsMade ready.source) task) }
-    ensures cause { IfErr result (HasCause (HostRose H.Host host.old host.new) (H.contents host.old)) }
-    ensures config { IfOk result (OfWatch (λ ready. conf.IsSound ready.setup.config)) }
-    ensures rules { IfOk result (OfWatch (λ ready. All (IsSound ready.setup.config.classes) ready.setup.set.rules)) }
-    ensures few { IfOk result (OfWatch (λ ready. length ready.setup.set.rules ≤ most_rules)) }
-    ensures ranges { IfOk result (OfWatch (λ ready. IsRanged ready.lanes ready.flush)) }
-    ensures meant { IfOk result (OfWatch (λ ready. FindWhatIsMeant M.Made.finds (M.means maker.old) ready.setup.set)) }
+    ensures ready { IfOk result (OfWatch (IsReadyPlan M.Made.finds (M.means maker.old))) }
 
     // The host is as before, but for its count, where it failed at a file, and the maker but for what it refused.
-    ensures quiet { ReadsQuietly result (H.faults host.old) (H.faults host.new) }
+    ensures causes { HasEarlyCauses (H.contents host.old) (H.faults host.old) (H.faults host.new) result }
     ensures host { OnlyLoaded H.Host host.old host.new }
-    ensures grows { Grows (M.refusals maker.old) (M.refusals maker.new) }
-    ensures same_meaning { SameMeaning (M.means maker.old) (M.means maker.new) }
+    ensures maker { OnlyMade (M.means maker.old) (M.means maker.new) (M.refusals maker.old) (M.refusals maker.new) }
 {
     match read_words(alloc, words) {
         Ok(Command::Help) => Err(Stop::Usage),

@@ -1,12 +1,12 @@
 //! The reader of a run's capture, in either format.
-ghost use Rattle.std.specs.Prelude.{◌≡◌, ◌≢◌, ◌≤◌, ◌⊎◌, true, false, Some, None, IfOk, IfErr, IsErrOf};
+ghost use Rattle.std.specs.Prelude.{◌≡◌, ◌≢◌, ◌⊎◌, true, false, Some, None, IfOk, IfErr, IsErrOf};
 ghost use Rattle.std.specs.FinMap.{get};
-ghost use Rattle.edge_io.specs.Files.{Files, Lacks, MaySee, left_by};
+ghost use Rattle.edge_io.specs.Files.{Files, Lacks, left_by};
 ghost use Rattle.snort_engine.specs.declared.reader.RecordReader.TheVariants.{Savefile, Blocks};
 ghost use Rattle.edge_io.specs.Frames.{OnlyRead};
 ghost use Rattle.snort_engine.specs.Trace.{no_record};
 ghost use Rattle.snort_engine.specs.Steps.Reader.{IsFresh, number_of, refusal_of, Gives, Opens, OpensSo};
-ghost use Rattle.snort_engine.specs.Steps.Seen.{HostRose, OfSeen};
+ghost use Rattle.snort_engine.specs.Steps.Seen.{HostRose, OfSeen, OnlyOpened};
 
 use crate::fault::ReadFault;
 use alert_lines::LinkedRecord;
@@ -36,10 +36,7 @@ impl RecordReader {
         ensures quiet { (IsErrOf result ReadFault.Failed → ⊥) → H.faults host.new ≡ H.faults host.old }
         ensures opened { OfSeen H.Host host.new (λ seen.
             OpensSo seen name.now (HostRose H.Host host.old host.new) (H.opens host.old) (H.opens host.new)) }
-        ensures same_contents { H.contents host.new ≡ H.contents host.old }
-        ensures earlier { OfSeen H.Host host.new (λ seen.
-            MaySee (H.contents host.old) (H.agrees host.old) seen) }
-        ensures later { H.faults host.old ≤ H.faults host.new }
+        ensures host { OnlyOpened H.Host host.old host.new }
     {
         let why = match CaptureReader::open(host, name) {
             Ok(reader) => return Ok(RecordReader::Savefile(reader)),

@@ -1,22 +1,21 @@
 //! Watching a capture: batches are read, searched, and their lines written.
-ghost use Rattle.std.specs.Prelude.{◌≡◌, ◌+◌, ◌^◌, ◌<◌, ◌≤◌, ◌⊎◌, true, [], length, OnOk, IsErrOf};
-ghost use Rattle.edge_io.specs.Files.{Lacks, MaySee};
-ghost use Rattle.edge_io.specs.Told.{Rose};
+ghost use Rattle.std.specs.Prelude.{◌≡◌, ◌+◌, ◌^◌, ◌≤◌, ◌⊎◌, true, [], length, OnOk};
+ghost use Rattle.edge_io.specs.Files.{Lacks};
 ghost use Rattle.snort_engine.specs.Course.{Goes};
-ghost use Rattle.snort_engine.specs.Steps.Reader.{IsReadable, number_of, OpensSo};
+ghost use Rattle.snort_engine.specs.Steps.Reader.{IsReadable, OpensSo};
 ghost use Rattle.snort_engine.specs.Steps.Sources.{source_name};
 ghost use Rattle.edge_io.specs.Frames.{OnlyRead};
 ghost use Rattle.snort_engine.specs.Steps.Ended.{EndsOnWay, work_by};
-ghost use Rattle.snort_engine.specs.Steps.Seen.{HostRose, OfSeen};
-ghost use Rattle.snort_engine.specs.Steps.Stop.{outcome_status, is_uncut, is_written, ReadsQuietly, WritesQuietly};
+ghost use Rattle.snort_engine.specs.Steps.Causes.{ClosesWith, HasCauses, faults_of};
+ghost use Rattle.snort_engine.specs.Steps.Seen.{HostRose, OfSeen, OnlyOpened};
+ghost use Rattle.snort_engine.specs.Steps.Stop.{outcome_status};
 ghost use Rattle.snort_engine.specs.Steps.Reporting.{outcome_said};
 ghost use Rattle.alert_lines.specs.Gathering.{sending};
 ghost use Rattle.snort_engine.specs.Counts.{no_counts};
 ghost use Rattle.snort_engine.specs.Steps.Detecting.{IsSoundPlan, Knows, DetectorStands, ShowsRecordsPart};
 ghost use Rattle.snort_engine.specs.Steps.Watching.{standing, OfStreams, OfTest, Watches, ComesOver, IsCloseBehind};
-ghost use Rattle.snort_engine.specs.Steps.Watching.{WatchesOn, MayGoOn, MayClose, ClosesWatched};
+ghost use Rattle.snort_engine.specs.Steps.Watching.{WatchesOn, MayGoFurther, MayGoOn, MayClose, ClosesWatched};
 
-use crate::Status;
 use crate::batch::{give_back, lacks_memory, more, most_at, read_batch, room_behind};
 use crate::context::Context;
 use crate::counts::Counts;
@@ -65,16 +64,12 @@ fn watch_batch<H: Host, P: Pattern, G: Gate, A: Sink, R: Threads + Sync>(
         OfStreams H.Host A.Sink host.old host.new alerts.old alerts.new (λ before after. WatchesOn plan
         (standing reader.old room.old detector.old before) (standing reader.new room.new detector.new after)
         (HostRose H.Host host.old host.new) result)) }
-    ensures further { result ≡ Ok true → number_of reader.old < number_of reader.new }
-    ensures ready { result ≡ Ok true → MayGoOn context.now.plan.now reader.new detector.new }
+    ensures further { result ≡ Ok true → MayGoFurther context.now.plan.now reader.old reader.new detector.new }
     ensures shown { OnOk result (records.new.items ≡ []) }
     ensures closable { MayClose context.now.plan.now detector.new result }
-    ensures write_fault { IsErrOf result Stop.CannotWrite → Rose (A.faults alerts.old) (A.faults alerts.new) }
-    ensures read_fault { outcome_status result ≡ Status.HostFault → HostRose H.Host host.old host.new }
-    ensures quiet { ReadsQuietly result (H.faults host.old) (H.faults host.new) }
-    ensures quiet_alerts { WritesQuietly result (A.faults alerts.old) (A.faults alerts.new) }
+    ensures causes { HasCauses (HostRose H.Host host.old host.new) (faults_of H.Host A.Sink host.old alerts.old)
+        (faults_of H.Host A.Sink host.new alerts.new) (outcome_status result) }
     ensures host { OnlyRead H.Host host.old host.new }
-    ensures later_alerts { A.faults alerts.old ≤ A.faults alerts.new }
 {
     let most = most_at(*room);
     if most == 0 {
@@ -108,12 +103,9 @@ fn watch_batches<H: Host, P: Pattern, G: Gate, A: Sink, R: Threads + Sync>(
         → OfStreams H.Host A.Sink host.old host.new alerts.old alerts.new (λ before after.
         ComesOver plan reader.old before after (HostRose H.Host host.old host.new) detector.new result)) }
     ensures closable { MayClose context.now.plan.now detector.new result }
-    ensures write_fault { IsErrOf result Stop.CannotWrite → Rose (A.faults alerts.old) (A.faults alerts.new) }
-    ensures read_fault { outcome_status result ≡ Status.HostFault → HostRose H.Host host.old host.new }
-    ensures quiet { ReadsQuietly result (H.faults host.old) (H.faults host.new) }
-    ensures quiet_alerts { WritesQuietly result (A.faults alerts.old) (A.faults alerts.new) }
+    ensures causes { HasCauses (HostRose H.Host host.old host.new) (faults_of H.Host A.Sink host.old alerts.old)
+        (faults_of H.Host A.Sink host.new alerts.new) (outcome_status result) }
     ensures host { OnlyRead H.Host host.old host.new }
-    ensures later_alerts { A.faults alerts.old ≤ A.faults alerts.new }
 {
     let mut room = context.plan.limit;
     let mut records = Vec::new(context.alloc);
@@ -142,13 +134,8 @@ fn close_watched<P: Pattern, G: Gate, A: Sink, R: Threads + Sync>(
     requires closable { MayClose context.now.plan.now detector watched }
     ensures closes { OfTest P.finds context.now.plan.now (λ plan. ClosesWatched plan detector watched
         (sending A.Sink [] alerts.old) (sending A.Sink [] alerts.new) counts.new result) }
-    ensures write_fault { IsErrOf result Stop.CannotWrite
-        → IsErrOf watched Stop.CannotWrite ⊎ Rose (A.faults alerts.old) (A.faults alerts.new) }
-    ensures read_fault { outcome_status result ≡ Status.HostFault → outcome_status watched ≡ Status.HostFault }
-    ensures uncut_watched { is_uncut (outcome_status result) ≡ true → is_uncut (outcome_status watched) ≡ true }
-    ensures written_watched { is_written (outcome_status result) ≡ true → is_written (outcome_status watched) ≡ true }
-    ensures quiet_alerts { WritesQuietly result (A.faults alerts.old) (A.faults alerts.new) }
-    ensures later_alerts { A.faults alerts.old ≤ A.faults alerts.new }
+    ensures causes { ClosesWith (A.faults alerts.old) (A.faults alerts.new)
+        (outcome_status watched) (outcome_status result) }
 {
     if !is_whole(&watched) {
         return watched;
@@ -175,12 +162,9 @@ pub(crate) fn watch_records<H: Host, P: Pattern, G: Gate, A: Sink, R: Threads + 
     ensures close { OfTest P.finds context.now.plan.now (λ plan.
         OfStreams H.Host A.Sink host.old host.new alerts.old alerts.new (λ before after.
         IsCloseBehind plan reader.old before after (HostRose H.Host host.old host.new) result)) }
-    ensures write_fault { IsErrOf result Stop.CannotWrite → Rose (A.faults alerts.old) (A.faults alerts.new) }
-    ensures read_fault { outcome_status result ≡ Status.HostFault → HostRose H.Host host.old host.new }
-    ensures quiet { ReadsQuietly result (H.faults host.old) (H.faults host.new) }
-    ensures quiet_alerts { WritesQuietly result (A.faults alerts.old) (A.faults alerts.new) }
+    ensures causes { HasCauses (HostRose H.Host host.old host.new) (faults_of H.Host A.Sink host.old alerts.old)
+        (faults_of H.Host A.Sink host.new alerts.new) (outcome_status result) }
     ensures host { OnlyRead H.Host host.old host.new }
-    ensures later_alerts { A.faults alerts.old ≤ A.faults alerts.new }
 {
     let mut detector = Detector::new(context.alloc, context.plan)?;
     let watched = watch_batches(context, host, reader, &mut detector, alerts);
@@ -203,17 +187,11 @@ pub(crate) fn watch_file<H: Host, P: Pattern, G: Gate, A: Sink, R: Threads + Syn
     ensures ends { OfTest P.finds context.now.plan.now (λ plan. EndsOnWay (H.agrees host.new) (Goes plan)
         (work_by H.Host A.Sink host.old alerts.old) (work_by H.Host A.Sink host.new alerts.new)
         result (outcome_said name.now context.now.plan.now.counted result counts.new)) }
-    ensures write_fault { outcome_status result ≡ Status.WriteFault → Rose (A.faults alerts.old) (A.faults alerts.new) }
-    ensures read_fault { outcome_status result ≡ Status.HostFault
-        → HostRose H.Host host.old host.new ⊎ Lacks (H.contents host.old) name.now }
+    ensures causes { HasCauses (HostRose H.Host host.old host.new ⊎ Lacks (H.contents host.old) name.now)
+        (faults_of H.Host A.Sink host.old alerts.old) (faults_of H.Host A.Sink host.new alerts.new) (outcome_status result) }
     ensures opened { OfSeen H.Host host.new (λ seen.
         OpensSo seen name.now (HostRose H.Host host.old host.new) (H.opens host.old) (H.opens host.new)) }
-    ensures same_contents { H.contents host.new ≡ H.contents host.old }
-    ensures earlier { OfSeen H.Host host.new (λ seen. MaySee (H.contents host.old) (H.agrees host.old) seen) }
-    ensures quiet { ReadsQuietly result (H.faults host.old) (H.faults host.new) }
-    ensures quiet_alerts { WritesQuietly result (A.faults alerts.old) (A.faults alerts.new) }
-    ensures later { H.faults host.old ≤ H.faults host.new }
-    ensures later_alerts { A.faults alerts.old ≤ A.faults alerts.new }
+    ensures host { OnlyOpened H.Host host.old host.new }
 {
     let mut reader = RecordReader::open(context.alloc, host, name)?;
     watch_records(context, host, &mut reader, alerts, counts)

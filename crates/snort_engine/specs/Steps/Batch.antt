@@ -6,6 +6,7 @@
 -- To try it on: of three records and 3 bytes of a fourth's header, reading reaches three places and then
 -- Truncated, and the three records are all that are whole within the bytes taken.
 use Rattle.std.specs.Prelude.{◌≡◌, ◌≢◌, ◌<◌, ◌≤◌, ◌⊎◌, ℕ, Bool, true, false, List, ◌++◌, Option, Some, Result, Ok, Err}
+use Rattle.edge_io.specs.Told.{Rose}
 use Rattle.edge_io.specs.declared.host.Host.{Ghosts as HostOf}
 use Rattle.record_jobs.specs.Way.{LinkedRecord}
 use Rattle.snort_engine.specs.declared.reader.RecordReader.{RecordReader}
@@ -58,6 +59,13 @@ pub record IsFilled (most count : ℕ) (reached : Reached) : Type 0 where
 -- a fault is what the reader refused; or memory was lacking for a record that the reader wasn't asked for
 abbrev pub IsFaultOf : RecordReader → ReadFault → Type 0
 IsFaultOf reader why = (refusal_of reader ≡ Some why) ⊎ ((why ≡ fault.NoMemory) × IsFresh reader)
+
+-- what was reached has its reason: a fault is the reader's own, or want of memory; it is one of the host only where its
+-- count rose, and elsewhere the count stays
+pub record HasReason (reader : RecordReader) (old new : ℕ) (reached : Reached) : Type 0 where
+  pub own : (why : ReadFault) → reached ≡ Fault why → IsFaultOf reader why
+  pub failed : reached ≡ Fault fault.Failed → Rose old new
+  pub quiet : reached ≢ Fault fault.Failed → new ≡ old
 
 -- reading stopped for want of memory
 abbrev pub lacks_memory : Reached → Bool

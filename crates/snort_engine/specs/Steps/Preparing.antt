@@ -2,20 +2,28 @@
 --
 -- To try it on: where `r` has one rule, `snort -c r -r p` is prepared with the plan for `p` and that rule,
 -- and no warning; `snort -c r -T` stops as Accepted; `snort --read-unified2 u` is to tell the lines of `u`.
-use Rattle.std.specs.Prelude.{◌≡◌, ℕ, ⊤, List, [], Option, None, Result, Ok, Err, ◌⊎◌}
+use Rattle.std.specs.Prelude.{◌≡◌, ℕ, ◌≤◌, ⊤, List, [], length, All, Option, None, Result, Ok, Err, IfErr, ◌⊎◌}
 use Rattle.std.specs.FinMap.{get}
 use Rattle.edge_io.specs.Files.{Files, Lacks}
+use Rattle.edge_io.specs.Told.{Rose}
 use Rattle.edge_io.specs.declared.host.LoadFault.{LoadFault}
 use Rattle.edge_io.specs.declared.host.LoadFault.TheVariants as load
 use Rattle.unified2_out.specs.Reading.{IsBadAt}
 use Rattle.edge_io.specs.declared.pattern.Refusal.{Refusal}
+use Rattle.edge_io.specs.declared.pattern.Span.{Span}
+use Rattle.option_eval.specs.Places.{Means}
+use Rattle.option_eval.specs.RuleSet.{FindWhatIsMeant, SameMeaning}
+use Rattle.conf_types.specs.Sound as conf
+use Rattle.rule_types.specs.Sound.{IsSound}
 use Rattle.command_words.specs.CommandLine.{Asked, Run}
 use Rattle.rule_eval.specs.Hits.{Test}
 use Rattle.snort_setup.specs.declared.setup.Setup.{Setup}
 use Rattle.snort_setup.specs.declared.stop.SetupStop.{SetupStop}
 use Rattle.snort_setup.specs.declared.stop.SetupStop.TheVariants as halted
 use Rattle.snort_setup.specs.Answers.{SetsUp}
+use Rattle.snort_setup.specs.Rules.{most_rules}
 use Rattle.snort_setup.specs.Setup.{Ready}
+use Rattle.snort_setup.specs.Steps.{Grows}
 use Rattle.snort_engine.specs.declared.plan.Plan as code
 use Rattle.snort_engine.specs.declared.prepare.Task.{Task}
 use Rattle.snort_engine.specs.declared.prepare.Task.TheVariants.{Watch, Tell}
@@ -24,8 +32,9 @@ use Rattle.snort_engine.specs.declared.stop.Stop.TheVariants as stop
 use Rattle.snort_engine.specs.Course.{Way, Stops, Lists, Course, Given, given, IsCourse, AreListed, IsFileWay, Reads}
 use Rattle.snort_engine.specs.Course.{AreRefused, setup_words, told_warnings}
 use Rattle.snort_engine.specs.Messages.{too_large_text}
+use Rattle.snort_engine.specs.Steps.Detecting.{IsSoundPlan}
 use Rattle.snort_engine.specs.Steps.Sources.{way_from}
-use Rattle.snort_engine.specs.Steps.Stop.{stop_status, stop_text}
+use Rattle.snort_engine.specs.Steps.Stop.{ReadsQuietly, stop_status, stop_text}
 use Rattle.snort_engine.specs.Steps.Watching.{plan_of}
 
 -- the words have a course of this way, with these warnings
@@ -102,6 +111,25 @@ KeepsSetup setup (Err (stop.Accepted rules)) = ⊤
 KeepsSetup setup (Err stop.CommandLine) = ⊤
 KeepsSetup setup (Err why) = ⊥
 
+-- ---- a detector that is ready
+
+-- a setup is sound, has no more rules than it may have, and its patterns find what the maker means
+pub record IsReadySetup {P : Type 0} (finds : P → List ℕ → Option Span) (means : Means) (setup : Setup P) : Type 0 where
+  pub config : conf.IsSound setup.config
+  pub rules : All (IsSound setup.config.classes) setup.set.rules
+  pub few : length setup.set.rules ≤ most_rules
+  pub meant : FindWhatIsMeant finds means setup.set
+
+-- a plan is sound, and its patterns find what the maker means
+pub record IsReadyPlan {P : Type 0} (finds : P → List ℕ → Option Span) (means : Means) (plan : code.Plan P) : Type 0 where
+  pub sound : IsSoundPlan plan
+  pub meant : FindWhatIsMeant finds means plan.setup.set
+
+-- a maker made some patterns: it means what it meant, and keeps what it refused
+pub record OnlyMade (means_old means_new : Means) (refused_old refused_new : List Refusal) : Type 0 where
+  pub same_meaning : SameMeaning means_old means_new
+  pub grows : Grows refused_old refused_new
+
 -- ---- its causes
 
 -- what may stop a run before its capture is opened; a file that is not read has its cause: a fault was
@@ -116,6 +144,11 @@ HasCause rose host (stop.CannotReadFile name) = rose ⊎ Lacks host name
 HasCause rose host (stop.BadUnified2 place) = ⊤
 HasCause rose host stop.NoMemory = ⊤
 HasCause rose host why = ⊥
+
+-- a stop has its cause, and the host's count stays where nothing cut the run short
+pub record HasEarlyCauses {A : Type 0} (host : Option Files) (old new : ℕ) (outcome : Result A Stop) : Type 0 where
+  pub cause : IfErr outcome (HasCause (Rose old new) host)
+  pub quiet : ReadsQuietly outcome old new
 
 -- ---- a Unified2 file
 

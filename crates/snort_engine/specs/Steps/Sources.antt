@@ -37,6 +37,11 @@ abbrev pub LacksCapture : Option Files → Way → Type 0
 LacksCapture told (Goes plan) = Lacks told plan.source
 LacksCapture told way = ⊥
 
+-- the same of the file of this source
+abbrev pub LacksSource : Option Files → Source → Type 0
+LacksSource told (File name) = Lacks told name.now
+LacksSource told (Made seed count) = ⊥
+
 -- how often a capture was opened on this way
 abbrev pub OpensOn : Option Files → Way → Type 0 → ℕ → ℕ → Type 0
 OpensOn told (Goes plan) failed old new = OpensSo told plan.source failed old new

@@ -86,13 +86,11 @@ is_written status.WriteFault = false
 is_written status.NoMemory = false
 is_written ended = true
 
--- the host's count of faults stays where the work was not cut short. Behind a fault of reading, writing the lines of
--- what was read may fail, or lack memory, and then that is told
+-- the host's count of faults stays where the work was not cut short
 abbrev pub ReadsQuietly : {A : Type 0} → Result A Stop → ℕ → ℕ → Type 0
 ReadsQuietly outcome old new = is_uncut (outcome_status outcome) ≡ true → new ≡ old
 
--- the alert sink's count stays where all was written. Where memory is lacking for reading, a fault of writing the lines
--- of what was read isn't told
+-- the alert sink's count stays where all was written
 abbrev pub WritesQuietly : {A : Type 0} → Result A Stop → ℕ → ℕ → Type 0
 WritesQuietly outcome old new = is_written (outcome_status outcome) ≡ true → new ≡ old
 

@@ -3,7 +3,7 @@
 -- What is left for a reader are the records that it has yet to give. To try it on: where a write fails
 -- in the lines of the second batch, the lines of the first were written, a part of those of the second
 -- may be, and the bytes of two batches were taken.
-use Rattle.std.specs.Prelude.{◌≡◌, ℕ, ◌+◌, ◌-◌, ◌≤◌, min, ◌⊎◌, Bool, true, false, List, [], ◌++◌, length, Option}
+use Rattle.std.specs.Prelude.{◌≡◌, ℕ, ◌+◌, ◌-◌, ◌<◌, ◌≤◌, min, ◌⊎◌, Bool, true, false, List, [], ◌++◌, length, Option}
 use Rattle.std.specs.Prelude.{None, Some, Result, Ok, Err, ⊤}
 use Rattle.edge_io.specs.Told.{before, behind}
 use Rattle.edge_io.specs.declared.host.Host.{Ghosts as HostOf}
@@ -197,6 +197,11 @@ pub record MayGoOn {P : Type 0} (plan : code.Plan P) (reader : RecordReader) (de
   pub readable : IsReadable reader
   pub known : Knows plan detector
   pub behind : detector.front.counts.records ≤ number_of reader
+
+-- a batch came: the reader has given more records, and another batch may come
+pub record MayGoFurther {P : Type 0} (plan : code.Plan P) (old new : RecordReader) (detector : Detector) : Type 0 where
+  pub further : number_of old < number_of new
+  pub ready : MayGoOn plan new detector
 
 -- from the first reader on some records were given, in whole batches or all that may be, the detector stands for
 -- them, and their lines were written

@@ -1,8 +1,9 @@
 -- What was reached, by the answer of `next`.
-use Rattle.std.proofs.Common.{◌≡◌, [], ◌∷◌, ◌++◌, Some, refl, ap, ◌∙◌, inl, inr}
+use Rattle.std.proofs.Common.{◌≡◌, [], ◌∷◌, ◌++◌, Some, Err, refl, ap, ◌∙◌, inl, inr}
 use Rattle.edge_io.specs.Files.{left_by}
 use Rattle.snort_engine.specs.declared.fault.ReadFault.{ReadFault}
-use Rattle.snort_engine.specs.declared.fault.ReadFault.TheVariants.{NoMemory}
+use Rattle.snort_engine.specs.declared.fault.ReadFault.TheVariants.{Failed, NoMemory}
+use Rattle.snort_engine.specs.declared.batch.Reached.TheVariants.{Fault}
 use Rattle.snort_engine.specs.Steps.Batch.{Place}
 use Rattle.snort_engine.proofs.Batches.{reads_record, reads_end, reads_fault, reads_lacking}
 use Rattle.snort_engine.proofs.Seeing.{told_may}
@@ -40,12 +41,27 @@ returns-in-Err-next-clause-reads g c = λ seen may.
     let new : Place = record { reader = c.next.new.self; records = c.reserve.new.self.items; left = left_by (g.H.Host.left_of c.next.new.host) seen } in
     reads_fault old new c.in-Err-next.why c.reserve.ensures.items (c.in-Err-next.ensures.gives seen may).0 (c.in-Err-next.ensures.gives seen may).1
 
-pub returns-in-Err-clause-own : goal.returns-in-Err-clause-own
-returns-in-Err-clause-own g c = λ why is.
-    let lacking : why ≡ NoMemory = cc in
-    inr (lacking, c.requires)
+-- why reading stopped there, if it did
+pub returns-in-Err-clause-reason : goal.returns-in-Err-clause-reason
+returns-in-Err-clause-reason g c = record {
+  own = λ why is. let lacking : why ≡ NoMemory = cc in inr (lacking, c.requires);
+  failed = λ is. absurd cc;
+  quiet = λ other. refl;
+}
 
-pub returns-in-Err-next-clause-own : goal.returns-in-Err-next-clause-own
-returns-in-Err-next-clause-own g c = λ why is.
-    let same : c.in-Err-next.why ≡ why = cc in
-    inl (c.in-Err-next.ensures.refused ∙ ap (λ (f : ReadFault). Some f) same)
+pub returns-in-Ok-push-clause-reason : goal.returns-in-Ok-push-clause-reason
+returns-in-Ok-push-clause-reason g c = record { own = λ why is. absurd cc; failed = λ is. absurd cc; quiet = λ other. c.in-Ok-Some.ensures.quiet (λ failed. cc) }
+
+pub returns-in-Ok-None-clause-reason : goal.returns-in-Ok-None-clause-reason
+returns-in-Ok-None-clause-reason g c = record { own = λ why is. absurd cc; failed = λ is. absurd cc; quiet = λ other. c.in-Ok-None.ensures.quiet (λ failed. cc) }
+
+pub returns-in-Err-next-clause-reason : goal.returns-in-Err-next-clause-reason
+returns-in-Err-next-clause-reason g c = record {
+  own = λ why is.
+      let same : c.in-Err-next.why ≡ why = cc in
+      inl (c.in-Err-next.ensures.refused ∙ ap (λ (f : ReadFault). Some f) same);
+  failed = λ is.
+      let same : c.in-Err-next.why ≡ Failed = cc in
+      c.in-Err-next.ensures.failed (ap (λ (f : ReadFault). Err f) same);
+  quiet = λ other. c.in-Err-next.ensures.quiet (λ failed. let same : c.in-Err-next.why ≡ Failed = cc in other (ap (λ (f : ReadFault). Fault f) same));
+}

@@ -2,6 +2,8 @@ use Rattle.std.proofs.Common.{refl, ap, ◌∙◌}
 use Rattle.snort_engine.specs.declared.plan.Source.{Source}
 use Rattle.snort_engine.specs.Steps.Sources.{way_from}
 use Rattle.snort_engine.specs.Steps.Watching.{plan_of}
+use Rattle.snort_engine.proofs.Prefixes.{opened_not}
+use Rattle.snort_engine.proofs.Quiet.{caused_since}
 use Rattle.snort_engine.proofs.capture.watch_capture.Goals as goal
 
 pub returns-in-File-clause-ends : goal.returns-in-File-clause-ends
@@ -20,3 +22,12 @@ returns-in-Made-clause-ends g c = λ matches test files course agree goes.
       alerts = g.A.Sink.written c.args.alerts.now;
     })
     refl way
+
+pub returns-in-File-clause-causes : goal.returns-in-File-clause-causes
+returns-in-File-clause-causes g c = rw c.in-File.is c.watch_file.ensures.causes
+
+pub returns-in-Made-clause-causes : goal.returns-in-Made-clause-causes
+returns-in-Made-clause-causes g c = caused_since _ _ _ _ _ _ (c.watch_made.ensures.causes (g.H.Host.faults c.args.host.now)) (λ never. absurd never) refl refl
+
+pub returns-in-Made-clause-host : goal.returns-in-Made-clause-host
+returns-in-Made-clause-host g c = opened_not g.H.Host c.args.host.now

@@ -6,6 +6,7 @@ use Rattle.snort_engine.specs.Steps.Reader.{IsReadable}
 use Rattle.snort_engine.specs.Steps.Stop.{stop_text}
 use Rattle.snort_engine.specs.Steps.Watching.{plan_of}
 use Rattle.snort_engine.proofs.MadeCaptures.{generated_long, made_ends, unmade_ends, never_rose}
+use Rattle.snort_engine.proofs.Quiet.{caused_lacking, caused_unseen}
 use Rattle.snort_engine.proofs.capture.watch_made.Goals as goal
 
 pub new-made-requires : goal.new-made-requires
@@ -28,7 +29,12 @@ returns-clause-ends g c = λ matches test files course before same makes.
     makes same c.in_ok-bytes.ensures c.made_reader-reader.ensures
     (c.new-made.ensures ∙ ap (λ (xs : List ℕ). Some (drop 24 xs)) c.deref.ensures.value)
     (c.watch_records.ensures.watches matches test (Some none) refl)
-    (λ failed. never_rose (c.watch_records.ensures.read_fault failed))
+    (λ failed. never_rose (c.watch_records.ensures.causes.read_fault failed))
 
-pub returns-clause-no_read_fault : goal.returns-clause-no_read_fault
-returns-clause-no_read_fault g c = λ failed. never_rose (c.watch_records.ensures.read_fault failed)
+pub returns-in_err-bytes-clause-causes : goal.returns-in_err-bytes-clause-causes
+returns-in_err-bytes-clause-causes g c = λ host.
+    let p = err_from_is_err_and c.from_residual.result c.from_residual.ensures.1 in
+    rw (p.1, p.2) (caused_lacking _ _ _ (omega arith))
+
+pub returns-clause-causes : goal.returns-clause-causes
+returns-clause-causes g c = λ host. caused_unseen _ host _ _ _ c.watch_records.ensures.causes never_rose

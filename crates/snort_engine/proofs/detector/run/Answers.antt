@@ -3,6 +3,7 @@ use Rattle.edge_io.specs.Files.{left_by}
 use Rattle.edge_io.specs.Told.{Rose}
 use Rattle.edge_io.proofs.Seeing.{seen_left}
 use Rattle.snort_engine.specs.Steps.Preparing.{task_way}
+use Rattle.snort_engine.specs.Steps.Watching.{plan_of}
 use Rattle.snort_engine.specs.declared.prepare.Task.TheVariants.{Watch, Tell}
 use Rattle.snort_engine.proofs.FileWays.{listed_ends, no_host_stop, write_risen}
 use Rattle.snort_engine.proofs.Quiet.{written_quiet}
@@ -11,19 +12,18 @@ use Rattle.snort_engine.proofs.Seeing.{seen_agree, seen_ends, capture_cause_by, 
 use Rattle.snort_engine.proofs.detector.run.Goals as goal
 
 pub watch_capture-outcome-requires-clause-plan : goal.watch_capture-outcome-requires-clause-plan
-watch_capture-outcome-requires-clause-plan g c κs within = record {
-  config = rw c.in-Ok-Watch.field-0-is at c.in-Ok-Watch.ensures.config;
-  rules = rw c.in-Ok-Watch.field-0-is at c.in-Ok-Watch.ensures.rules;
-  few = rw c.in-Ok-Watch.field-0-is at c.in-Ok-Watch.ensures.few;
-  ranges = rw c.in-Ok-Watch.field-0-is at c.in-Ok-Watch.ensures.ranges;
-}
+watch_capture-outcome-requires-clause-plan g c κs within =
+    let ready = rw c.in-Ok-Watch.field-0-is at c.in-Ok-Watch.ensures.ready in
+    ready.sound
 
 pub returns-in-Ok-Watch-clause-headline : goal.returns-in-Ok-Watch-clause-headline
 returns-in-Ok-Watch-clause-headline g c = λ seen may.
     let first = c.prepare-prepared.new.host in
     let last = c.watch_capture-outcome.new.host in
     let law = g.met.H.Host.as_told last in
-    let before = c.watch_capture-outcome.ensures.earlier seen may in
+    let before = c.watch_capture-outcome.ensures.host.earlier seen may in
+    let ready = rw c.in-Ok-Watch.field-0-is at c.in-Ok-Watch.ensures.ready in
+    let causes = c.watch_capture-outcome.ensures.causes in
     let still = seen_left (g.H.Host.left_of c.args.host.now) (g.H.Host.left_of first) seen c.prepare-prepared.ensures.host.left_of in
     headline _ _ _ _ _
     (watched_run (task_way {P = g.row.M-Made.Denot}) _ _ _ _ (Watch c.in-Ok-Watch.plan) _ c.watch_capture-outcome.result c.prepare-prepared.new.warnings _ (c.matching_is_decided.ensures _)
@@ -41,14 +41,14 @@ returns-in-Ok-Watch-clause-headline g c = λ seen may.
       ends = λ matches tells files course is goes.
           seen_ends g.H.Host g.A.Sink first last c.args.alerts.now c.watch_capture-outcome.new.alerts files course _ _ seen is
           (c.watch_capture-outcome.ensures.ends matches
-          (record { means = g.M.PatternMaker.means c.args.maker.now; find = rw c.in-Ok-Watch.field-0-is at c.in-Ok-Watch.ensures.meant; tells = tells })
+          (record { means = g.M.PatternMaker.means c.args.maker.now; find = ready.meant; tells = tells })
           files course (seen_agree g.H.Host last seen files may is) goes);
-      write_fault = c.watch_capture-outcome.ensures.write_fault;
+      write_fault = causes.write_fault;
       read_fault = λ matches failed.
-          capture_cause_by g.H.Host first last (task_way {P = g.row.M-Made.Denot} matches (Watch c.in-Ok-Watch.plan)) (Rose (g.H.Host.faults first) (g.H.Host.faults last)) seen law
-          c.watch_capture-outcome.ensures.same_contents may (c.watch_capture-outcome.ensures.read_fault matches failed);
-      quiet = λ uncut. c.watch_capture-outcome.ensures.quiet uncut ∙ c.in-Ok-Watch.ensures.quiet refl;
-      quiet_alerts = c.watch_capture-outcome.ensures.quiet_alerts;
+          capture_cause_by g.H.Host first last c.in-Ok-Watch.plan.source (plan_of matches c.in-Ok-Watch.plan) (Rose (g.H.Host.faults first) (g.H.Host.faults last)) seen law
+          c.watch_capture-outcome.ensures.host.files may refl (causes.read_fault failed);
+      quiet = λ uncut. causes.quiet uncut ∙ c.in-Ok-Watch.ensures.causes.quiet refl;
+      quiet_alerts = causes.quiet_alerts;
       opened = λ matches.
           rw c.prepare-prepared.ensures.host.opens at (c.watch_capture-outcome.ensures.opened matches seen may);
       made_unopened = λ for_made.
@@ -58,8 +58,8 @@ returns-in-Ok-Watch-clause-headline g c = λ seen may.
           );
       same_files = refl;
       counts = record {
-        host = omega (arith, c.prepare-prepared.ensures.host.later, c.watch_capture-outcome.ensures.later);
-        alerts = c.watch_capture-outcome.ensures.later_alerts;
+        host = omega (arith, c.prepare-prepared.ensures.host.later, c.watch_capture-outcome.ensures.host.later);
+        alerts = causes.later_alerts;
         errors = omega (arith, c.tell_all-well.ensures.later, c.report.ensures.later);
       };
     })
@@ -95,7 +95,7 @@ returns-in-Ok-Tell-clause-headline g c = λ seen may.
           c.write_lines-outcome.ensures.whole c.write_lines-outcome.ensures.part c.write_lines-outcome.ensures.kind;
       write_fault = λ failed. write_risen c.write_lines-outcome.result c.write_lines-outcome.ensures.kind c.write_lines-outcome.ensures.write_fault failed;
       read_fault = λ matches failed. absurd (no_host_stop c.write_lines-outcome.result c.write_lines-outcome.ensures.kind failed);
-      quiet = λ uncut. c.in-Ok-Tell.ensures.quiet refl;
+      quiet = λ uncut. c.in-Ok-Tell.ensures.causes.quiet refl;
       quiet_alerts = written_quiet c.write_lines-outcome.result _ _ c.write_lines-outcome.ensures.kind c.write_lines-outcome.ensures.quiet;
       opened = λ matches. c.prepare-prepared.ensures.host.opens;
       made_unopened = λ for_made. (c.prepare-prepared.ensures.host.opens, still);
@@ -125,11 +125,11 @@ returns-clause-headline g c = λ seen may.
     (record {
       prepared = λ files is. c.in-Err.ensures.prepared files (seen_agree g.H.Host first seen files may is);
       cause = stop_cause_by g.H.Host c.args.host.now first (Rose (g.H.Host.faults c.args.host.now) (g.H.Host.faults first)) c.in-Err.stop seen (g.met.H.Host.as_told first)
-          c.prepare-prepared.ensures.host.files may c.in-Err.ensures.cause;
+          c.prepare-prepared.ensures.host.files may c.in-Err.ensures.causes.cause;
       faulty_words = λ none. c.in-Err.ensures.faulty_words none;
       fileless = c.in-Err.ensures.fileless;
       unopened = record { left = still; opens = c.prepare-prepared.ensures.host.opens; alerts = refl };
-      quiet = c.in-Err.ensures.quiet;
+      quiet = c.in-Err.ensures.causes.quiet;
       quiet_alerts = refl;
       same_files = refl;
       counts = record { host = c.prepare-prepared.ensures.host.later; alerts = omega arith; errors = omega (arith, c.tell_all-well.ensures.later, c.report-in-Err.ensures.later) };
@@ -147,7 +147,7 @@ returns-clause-headline g c = λ seen may.
 pub returns-in-Ok-Watch-clause-told : goal.returns-in-Ok-Watch-clause-told
 returns-in-Ok-Watch-clause-told g c =
     told_headline g.H.Host g.A.Sink g.E.Sink _ _ c.args.host.now c.watch_capture-outcome.new.host c.args.alerts.now c.watch_capture-outcome.new.alerts c.args.errors.now c.report.new.errors _ _ _ g.met.H.Host.as_told
-    (c.watch_capture-outcome.ensures.same_contents ∙ c.prepare-prepared.ensures.host.files) (returns-in-Ok-Watch-clause-headline g c)
+    (c.watch_capture-outcome.ensures.host.files ∙ c.prepare-prepared.ensures.host.files) (returns-in-Ok-Watch-clause-headline g c)
 
 pub returns-in-Ok-Tell-clause-told : goal.returns-in-Ok-Tell-clause-told
 returns-in-Ok-Tell-clause-told g c =
@@ -158,3 +158,22 @@ pub returns-clause-told : goal.returns-clause-told
 returns-clause-told g c =
     told_headline g.H.Host g.A.Sink g.E.Sink _ _ c.args.host.now c.prepare-prepared.new.host c.args.alerts.now c.args.alerts.now c.args.errors.now c.report-in-Err.new.errors _ _ _ g.met.H.Host.as_told
     c.prepare-prepared.ensures.host.files (returns-clause-headline g c)
+
+-- what stays of the maker
+pub returns-in-Ok-Watch-clause-same_meaning : goal.returns-in-Ok-Watch-clause-same_meaning
+returns-in-Ok-Watch-clause-same_meaning g c = c.prepare-prepared.ensures.maker.same_meaning
+
+pub returns-in-Ok-Watch-clause-grows : goal.returns-in-Ok-Watch-clause-grows
+returns-in-Ok-Watch-clause-grows g c = c.prepare-prepared.ensures.maker.grows
+
+pub returns-in-Ok-Tell-clause-same_meaning : goal.returns-in-Ok-Tell-clause-same_meaning
+returns-in-Ok-Tell-clause-same_meaning g c = c.prepare-prepared.ensures.maker.same_meaning
+
+pub returns-in-Ok-Tell-clause-grows : goal.returns-in-Ok-Tell-clause-grows
+returns-in-Ok-Tell-clause-grows g c = c.prepare-prepared.ensures.maker.grows
+
+pub returns-clause-same_meaning : goal.returns-clause-same_meaning
+returns-clause-same_meaning g c = c.prepare-prepared.ensures.maker.same_meaning
+
+pub returns-clause-grows : goal.returns-clause-grows
+returns-clause-grows g c = c.prepare-prepared.ensures.maker.grows

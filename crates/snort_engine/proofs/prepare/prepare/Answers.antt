@@ -6,7 +6,7 @@ use Rattle.command_words.specs.CommandLine.{command_line}
 use Rattle.command_words.specs.Told.{run_of}
 use Rattle.snort_engine.specs.Steps.Preparing.{task_way, way_for}
 use Rattle.snort_engine.proofs.Named.{command_named, command_ranged}
-use Rattle.snort_engine.proofs.Prepared.{prepared_faulty, prepared_listed, prepared_unlisted, prepared_help, prepared_version, prepared_lacking, task_ready, task_stopped, fileless_faulty, fileless_help, fileless_lacking, fileless_version, not_fileless_file, not_fileless_run}
+use Rattle.snort_engine.proofs.Prepared.{prepared_faulty, prepared_listed, prepared_unlisted, prepared_help, prepared_version, prepared_lacking, task_ready, task_stopped, fileless_faulty, fileless_help, fileless_lacking, fileless_version, not_fileless_file, not_fileless_run, ready_early, stopped_early}
 use Rattle.snort_engine.proofs.prepare.prepare.Goals as goal
 
 pub prepare_run-requires-clause-named : goal.prepare_run-requires-clause-named
@@ -81,18 +81,32 @@ returns-in_err-prepare_run-in-Ok-Run-clause-prepared g c = λ files agree.
     (c.in_err-prepare_run-in-Ok-Run.ensures.prepared files agree))
 
 -- the host didn't fail at a file, or that stopped it
-pub returns-in_ok-list_records-in-Ok-ReadUnified2-clause-quiet : goal.returns-in_ok-list_records-in-Ok-ReadUnified2-clause-quiet
-returns-in_ok-list_records-in-Ok-ReadUnified2-clause-quiet g c = λ uncut. c.in_ok-list_records-in-Ok-ReadUnified2.ensures.quiet refl
+pub returns-in-Ok-Help-clause-causes : goal.returns-in-Ok-Help-clause-causes
+returns-in-Ok-Help-clause-causes g c = stopped_early _ _ _ _ tt (λ uncut. refl)
 
-pub returns-in_err-list_records-in-Ok-ReadUnified2-clause-quiet : goal.returns-in_err-list_records-in-Ok-ReadUnified2-clause-quiet
-returns-in_err-list_records-in-Ok-ReadUnified2-clause-quiet g c =
+pub returns-in-Ok-Version-clause-causes : goal.returns-in-Ok-Version-clause-causes
+returns-in-Ok-Version-clause-causes g c = stopped_early _ _ _ _ tt (λ uncut. refl)
+
+pub returns-in-Err-CommandLine-clause-causes : goal.returns-in-Err-CommandLine-clause-causes
+returns-in-Err-CommandLine-clause-causes g c = stopped_early _ _ _ _ tt (λ uncut. refl)
+
+pub returns-in-Err-NoMemory-clause-causes : goal.returns-in-Err-NoMemory-clause-causes
+returns-in-Err-NoMemory-clause-causes g c = stopped_early _ _ _ _ tt (λ uncut. refl)
+
+pub returns-in_ok-list_records-in-Ok-ReadUnified2-clause-causes : goal.returns-in_ok-list_records-in-Ok-ReadUnified2-clause-causes
+returns-in_ok-list_records-in-Ok-ReadUnified2-clause-causes g c = ready_early _ _ _ _ (c.in_ok-list_records-in-Ok-ReadUnified2.ensures.quiet refl)
+
+pub returns-in_err-list_records-in-Ok-ReadUnified2-clause-causes : goal.returns-in_err-list_records-in-Ok-ReadUnified2-clause-causes
+returns-in_err-list_records-in-Ok-ReadUnified2-clause-causes g c =
     let p = err_from_is_err_and c.from_residual.result c.from_residual.ensures.1 in
-    rw (p.1, p.2) c.in_err-list_records-in-Ok-ReadUnified2.ensures.quiet
+    let listed = c.in_err-list_records-in-Ok-ReadUnified2.ensures in
+    rw (p.1, p.2) (stopped_early _ _ _ c.in_err-list_records-in-Ok-ReadUnified2.field-0.0 listed.cause listed.quiet)
 
-pub returns-in_ok-prepare_run-in-Ok-Run-clause-quiet : goal.returns-in_ok-prepare_run-in-Ok-Run-clause-quiet
-returns-in_ok-prepare_run-in-Ok-Run-clause-quiet g c = λ uncut. c.in_ok-prepare_run-in-Ok-Run.ensures.quiet refl
+pub returns-in_ok-prepare_run-in-Ok-Run-clause-causes : goal.returns-in_ok-prepare_run-in-Ok-Run-clause-causes
+returns-in_ok-prepare_run-in-Ok-Run-clause-causes g c = ready_early _ _ _ _ (c.in_ok-prepare_run-in-Ok-Run.ensures.causes.quiet refl)
 
-pub returns-in_err-prepare_run-in-Ok-Run-clause-quiet : goal.returns-in_err-prepare_run-in-Ok-Run-clause-quiet
-returns-in_err-prepare_run-in-Ok-Run-clause-quiet g c =
+pub returns-in_err-prepare_run-in-Ok-Run-clause-causes : goal.returns-in_err-prepare_run-in-Ok-Run-clause-causes
+returns-in_err-prepare_run-in-Ok-Run-clause-causes g c =
     let p = err_from_is_err_and c.from_residual-in_err-prepare_run-in-Ok-Run.result c.from_residual-in_err-prepare_run-in-Ok-Run.ensures.1 in
-    rw (p.1, p.2) c.in_err-prepare_run-in-Ok-Run.ensures.quiet
+    let causes = c.in_err-prepare_run-in-Ok-Run.ensures.causes in
+    rw (p.1, p.2) (stopped_early _ _ _ c.in_err-prepare_run-in-Ok-Run.field-0.0 causes.cause causes.quiet)

@@ -1,3 +1,4 @@
+use Rattle.snort_engine.proofs.Prepared.{ready_setup}
 use Rattle.snort_engine.proofs.prepare.set_up.Goals as goal
 
 pub returns-clause-set_up : goal.returns-clause-set_up
@@ -6,3 +7,11 @@ returns-clause-set_up g c = λ files agree. record {
   sets_up = rw c.setup_words.ensures at (c.read_setup-outcome.ensures.agreed files agree);
   told_are = c.told_of.ensures;
 }
+
+pub returns-clause-ready : goal.returns-clause-ready
+returns-clause-ready g c =
+    let read = c.read_setup-outcome.ensures in
+    ready_setup _ _ c.read_setup-outcome.result read.config read.rules read.few read.meant
+
+pub returns-clause-maker : goal.returns-clause-maker
+returns-clause-maker g c = record { same_meaning = c.read_setup-outcome.ensures.same_meaning; grows = c.read_setup-outcome.ensures.grows }

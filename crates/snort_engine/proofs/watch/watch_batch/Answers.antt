@@ -1,17 +1,14 @@
-use Rattle.std.proofs.Common.{◌≡◌, ◌≤◌, ℕ, Err, length, vec_len, sym, ap, subst, ◌∙◌, arith}
+use Rattle.std.proofs.Common.{◌≡◌, ◌≤◌, ℕ, Err, length, vec_len, refl, sym, ap, subst, ◌∙◌, arith}
 use Rattle.std.proofs.lemmas.Result.{err_from_is_err_and}
 use Rattle.edge_io.specs.Files.{left_by}
 use Rattle.edge_io.specs.Told.{Rose}
 use Rattle.pcap_input.specs.Savefile.{most_records}
 use Rattle.alert_lines.specs.declared.fault.WriteFault.{WriteFault}
 use Rattle.snort_engine.specs.declared.reader.RecordReader.{RecordReader}
-use Rattle.snort_engine.specs.declared.stop.Stop.TheVariants.{CannotWrite}
 use Rattle.snort_engine.specs.Steps.Reader.{number_of}
-use Rattle.snort_engine.specs.Steps.Watching.{plan_of, most_at, room_behind, MayGoOn, Standing}
+use Rattle.snort_engine.specs.Steps.Watching.{plan_of, most_at, room_behind, MayGoFurther, Standing}
 use Rattle.snort_engine.proofs.Batches.{more_reached, showing_cuts, within_batch}
-use Rattle.snort_engine.proofs.Prefixes.{same_stop}
-use Rattle.snort_engine.proofs.Quiet.{reached_uncut, showing_uncut, showing_written}
-use Rattle.snort_engine.proofs.Stops.{unwritten}
+use Rattle.snort_engine.proofs.Quiet.{caused_done, caused_lacking, caused_reached, caused_unwritten}
 use Rattle.snort_engine.proofs.Watched.{nothing_left, batch_lacks, batch_shown, batch_stops, part_shown}
 use Rattle.snort_engine.proofs.watch.watch_batch.Goals as goal
 
@@ -62,7 +59,7 @@ returns-in_err-show_records-clause-goes_on g c = λ matches test seen may.
     few
     (λ more. omega (arith, c.read_batch-reached.ensures.filled.full more, c.most_at-most.ensures, c.read_batch-reached.new.records.ok.0))
     (λ other. omega (arith, c.read_batch-reached.ensures.filled.fewer other, c.most_at-most.ensures, c.read_batch-reached.new.records.ok.0))
-    c.read_batch-reached.ensures.failed (sym c.lacks_memory.ensures ∙ c.if-lacks_memory.false)
+    c.read_batch-reached.ensures.reason.failed (sym c.lacks_memory.ensures ∙ c.if-lacks_memory.false)
     (c.read_batch-reached.ensures.reads seen may) stopped)
 
 pub returns-clause-goes_on : goal.returns-clause-goes_on
@@ -80,8 +77,8 @@ returns-clause-goes_on g c = λ matches test seen may.
     (c.read_batch-reached.ensures.reads seen may) shown)
 
 -- nothing was read: the detector may be closed
-pub returns-then-most-eq0-clause-ready : goal.returns-then-most-eq0-clause-ready
-returns-then-most-eq0-clause-ready g c = λ on. absurd cc
+pub returns-then-most-eq0-clause-further : goal.returns-then-most-eq0-clause-further
+returns-then-most-eq0-clause-further g c = λ on. absurd cc
 
 pub returns-then-most-eq0-clause-closable : goal.returns-then-most-eq0-clause-closable
 returns-then-most-eq0-clause-closable g c = λ whole.
@@ -91,14 +88,14 @@ returns-then-most-eq0-clause-closable g c = λ whole.
     record { known = ready.known; few = omega (arith, within, behind) }
 
 -- it was cut short
-pub returns-then-lacks_memory-clause-ready : goal.returns-then-lacks_memory-clause-ready
-returns-then-lacks_memory-clause-ready g c = λ on. absurd cc
+pub returns-then-lacks_memory-clause-further : goal.returns-then-lacks_memory-clause-further
+returns-then-lacks_memory-clause-further g c = λ on. absurd cc
 
 pub returns-then-lacks_memory-clause-closable : goal.returns-then-lacks_memory-clause-closable
 returns-then-lacks_memory-clause-closable g c = λ whole. absurd cc
 
-pub returns-in_err-show_records-clause-ready : goal.returns-in_err-show_records-clause-ready
-returns-in_err-show_records-clause-ready g c = λ on.
+pub returns-in_err-show_records-clause-further : goal.returns-in_err-show_records-clause-further
+returns-in_err-show_records-clause-further g c = λ on.
     let p = err_from_is_err_and c.from_residual.result c.from_residual.ensures.1 in
     absurd (cc (p.1, on))
 
@@ -111,21 +108,19 @@ returns-in_err-show_records-clause-closable g c =
 pub returns-clause-further : goal.returns-clause-further
 returns-clause-further g c = λ on.
     let reached = more_reached c.read_batch-reached.result (sym c.more.ensures ∙ on) in
-    let number = (c.read_batch-reached.ensures.goes_on reached).number in
-    let full = c.read_batch-reached.ensures.filled.full reached in
-    rw c.give_back.ensures.same (omega (arith, number, full, c.if-most-eq0.false))
-
-pub returns-clause-ready : goal.returns-clause-ready
-returns-clause-ready g c = λ on.
-    let gone = c.read_batch-reached.ensures.goes_on (more_reached c.read_batch-reached.result (sym c.more.ensures ∙ on)) in
+    let gone = c.read_batch-reached.ensures.goes_on reached in
     let number = gone.number in
+    let full = c.read_batch-reached.ensures.filled.full reached in
     let before = c.requires.ready.behind in
-    let ready : MayGoOn c.args.context.now.plan.now c.read_batch-reached.new.reader c.show_records.new.detector = record {
-      readable = gone.readable;
-      known = c.in_ok-show_records.ensures.known;
-      behind = omega (arith, number, before, c.in_ok-show_records.ensures.records, c.read_batch-reached.new.records.ok.0);
+    let further : MayGoFurther c.args.context.now.plan.now c.args.reader.now c.read_batch-reached.new.reader c.show_records.new.detector = record {
+      further = omega (arith, number, full, c.if-most-eq0.false);
+      ready = record {
+        readable = gone.readable;
+        known = c.in_ok-show_records.ensures.known;
+        behind = omega (arith, number, before, c.in_ok-show_records.ensures.records, c.read_batch-reached.new.records.ok.0);
+      };
     } in
-    subst (λ (reader : RecordReader). MayGoOn c.args.context.now.plan.now reader c.show_records.new.detector) (sym c.give_back.ensures.same) ready
+    subst (λ (reader : RecordReader). MayGoFurther c.args.context.now.plan.now c.args.reader.now reader c.show_records.new.detector) (sym c.give_back.ensures.same) further
 
 pub returns-clause-closable : goal.returns-clause-closable
 returns-clause-closable g c = λ whole.
@@ -137,32 +132,18 @@ returns-clause-closable g c = λ whole.
     }
 
 -- a fault is told, or one of writing, or want of memory in its place
-pub returns-in_err-show_records-clause-quiet : goal.returns-in_err-show_records-clause-quiet
-returns-in_err-show_records-clause-quiet g c =
+pub returns-then-most-eq0-clause-causes : goal.returns-then-most-eq0-clause-causes
+returns-then-most-eq0-clause-causes g c = caused_done _ _ _ refl refl
+
+pub returns-then-lacks_memory-clause-causes : goal.returns-then-lacks_memory-clause-causes
+returns-then-lacks_memory-clause-causes g c = caused_lacking _ _ _ c.show_some.ensures.later
+
+pub returns-in_err-show_records-clause-causes : goal.returns-in_err-show_records-clause-causes
+returns-in_err-show_records-clause-causes g c =
     let p = err_from_is_err_and c.from_residual.result c.from_residual.ensures.1 in
-    rw (p.1, p.2) (λ uncut. absurd (showing_uncut c.in_err-show_records.field-0.0 uncut))
+    rw (p.1, p.2) (caused_unwritten _ _ _ c.in_err-show_records.field-0.0
+    (λ is. c.in_err-show_records.ensures.ends.fault (ap (λ (why : WriteFault). Err why) is)) c.in_err-show_records.ensures.ends.later)
 
-pub returns-in_err-show_records-clause-quiet_alerts : goal.returns-in_err-show_records-clause-quiet_alerts
-returns-in_err-show_records-clause-quiet_alerts g c =
-    let p = err_from_is_err_and c.from_residual.result c.from_residual.ensures.1 in
-    rw (p.1, p.2) (λ written. absurd (showing_written c.in_err-show_records.field-0.0 written))
-
-pub returns-clause-quiet : goal.returns-clause-quiet
-returns-clause-quiet g c =
-    rw c.more.ensures (λ uncut. c.read_batch-reached.ensures.quiet (reached_uncut c.read_batch-reached.result uncut))
-
--- what is said of the alert sink is that of the showing
-pub returns-in_err-show_records-clause-write_fault : goal.returns-in_err-show_records-clause-write_fault
-returns-in_err-show_records-clause-write_fault g c = λ is.
-    let p = err_from_is_err_and c.from_residual.result c.from_residual.ensures.1 in
-    let stop = sym p.2 ∙ same_stop c.from_residual.result p.0 CannotWrite p.1 is in
-    c.in_err-show_records.ensures.ends.fault (ap (λ (why : WriteFault). Err why) (unwritten c.in_err-show_records.field-0.0 stop))
-
-pub returns-in_err-show_records-clause-later_alerts : goal.returns-in_err-show_records-clause-later_alerts
-returns-in_err-show_records-clause-later_alerts g c = c.in_err-show_records.ensures.ends.later
-
-pub returns-clause-quiet_alerts : goal.returns-clause-quiet_alerts
-returns-clause-quiet_alerts g c = λ written. c.in_ok-show_records.ensures.ends.quiet
-
-pub returns-clause-later_alerts : goal.returns-clause-later_alerts
-returns-clause-later_alerts g c = c.in_ok-show_records.ensures.ends.later
+pub returns-clause-causes : goal.returns-clause-causes
+returns-clause-causes g c =
+    rw c.more.ensures (caused_reached _ _ _ c.read_batch-reached.result c.read_batch-reached.ensures.reason.failed c.read_batch-reached.ensures.reason.quiet c.in_ok-show_records.ensures.ends.quiet)

@@ -3,6 +3,7 @@ use Rattle.std.proofs.lemmas.Result.{err_from_is_err_and}
 use Rattle.edge_io.specs.Told.{Rose}
 use Rattle.snort_engine.specs.Steps.Watching.{plan_of}
 use Rattle.snort_engine.proofs.Prefixes.{read_not, read_on, read_rose}
+use Rattle.snort_engine.proofs.Quiet.{caused_done, caused_since}
 use Rattle.snort_engine.proofs.Watched.{under_way-start, comes_since}
 use Rattle.snort_engine.proofs.watch.watch_batches.Goals as goal
 
@@ -14,7 +15,6 @@ batches-init g c = record {
   quiet = refl;
   quiet_alerts = refl;
   host = read_not g.H.Host c.args.host.now;
-  later_alerts = omega arith;
 }
 
 pub returns-in_err-watch_batch-clause-comes : goal.returns-in_err-watch_batch-clause-comes
@@ -37,32 +37,27 @@ batches-preserved g c =
       going = λ matches test stands seen may.
           let on = rw c.if-branch.true at (c.in_ok-watch_batch.ensures.goes_on matches test seen may) in
           on _ _ (c.batches.invariant.going matches test stands seen (c.in_ok-watch_batch.ensures.host.earlier seen may));
-      ready = c.in_ok-watch_batch.ensures.ready (ap Ok c.if-branch.true);
+      ready = (c.in_ok-watch_batch.ensures.further (ap Ok c.if-branch.true)).ready;
       shown = c.in_ok-watch_batch.ensures.shown;
-      quiet = c.in_ok-watch_batch.ensures.quiet refl ∙ c.batches.invariant.quiet;
-      quiet_alerts = c.in_ok-watch_batch.ensures.quiet_alerts refl ∙ c.batches.invariant.quiet_alerts;
+      quiet = c.in_ok-watch_batch.ensures.causes.quiet refl ∙ c.batches.invariant.quiet;
+      quiet_alerts = c.in_ok-watch_batch.ensures.causes.quiet_alerts refl ∙ c.batches.invariant.quiet_alerts;
       host = read_on g.H.Host _ _ _ c.batches.invariant.host c.in_ok-watch_batch.ensures.host;
-      later_alerts = omega (arith, c.in_ok-watch_batch.ensures.later_alerts, c.batches.invariant.later_alerts);
     }
 
 pub batches-smaller : goal.batches-smaller
 batches-smaller g c =
-    let further = c.in_ok-watch_batch.ensures.further (ap Ok c.if-branch.true) in
-    let within = (c.in_ok-watch_batch.ensures.ready (ap Ok c.if-branch.true)).readable.within in
+    let went = c.in_ok-watch_batch.ensures.further (ap Ok c.if-branch.true) in
+    let further = went.further in
+    let within = went.ready.readable.within in
     omega (arith, further, within)
 
-pub returns-in_err-watch_batch-clause-quiet : goal.returns-in_err-watch_batch-clause-quiet
-returns-in_err-watch_batch-clause-quiet g c =
+pub returns-in_err-watch_batch-clause-causes : goal.returns-in_err-watch_batch-clause-causes
+returns-in_err-watch_batch-clause-causes g c =
     let p = err_from_is_err_and c.from_residual.result c.from_residual.ensures.1 in
-    rw (p.1, p.2) (λ uncut. c.in_err-watch_batch.ensures.quiet uncut ∙ c.batches.invariant.quiet)
+    rw (p.1, p.2) (caused_since _ _ _ _ _ _ c.in_err-watch_batch.ensures.causes
+    (λ (rose : Rose (g.H.Host.faults c.batches.host) (g.H.Host.faults c.watch_batch.new.host)). read_rose g.H.Host c.args.host.now c.batches.host c.watch_batch.new.host c.batches.invariant.host rose)
+    c.batches.invariant.quiet c.batches.invariant.quiet_alerts)
 
-pub returns-in_err-watch_batch-clause-quiet_alerts : goal.returns-in_err-watch_batch-clause-quiet_alerts
-returns-in_err-watch_batch-clause-quiet_alerts g c =
-    let p = err_from_is_err_and c.from_residual.result c.from_residual.ensures.1 in
-    rw (p.1, p.2) (λ written. c.in_err-watch_batch.ensures.quiet_alerts written ∙ c.batches.invariant.quiet_alerts)
-
-pub returns-clause-quiet : goal.returns-clause-quiet
-returns-clause-quiet g c = λ uncut. c.in_ok-watch_batch.ensures.quiet refl ∙ c.batches.invariant.quiet
-
-pub returns-clause-quiet_alerts : goal.returns-clause-quiet_alerts
-returns-clause-quiet_alerts g c = λ written. c.in_ok-watch_batch.ensures.quiet_alerts refl ∙ c.batches.invariant.quiet_alerts
+pub returns-clause-causes : goal.returns-clause-causes
+returns-clause-causes g c =
+    caused_done _ _ _ (c.in_ok-watch_batch.ensures.causes.quiet refl ∙ c.batches.invariant.quiet) (c.in_ok-watch_batch.ensures.causes.quiet_alerts refl ∙ c.batches.invariant.quiet_alerts)

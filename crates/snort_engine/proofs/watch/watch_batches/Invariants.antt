@@ -1,5 +1,5 @@
--- The work is under way, a batch may come, no record waits, and no count rose or fell.
-use Rattle.std.proofs.Common.{◌≡◌, ◌≤◌, ◌-◌, [], Option}
+-- The work is under way, a batch may come, no record waits, and the counts are as before.
+use Rattle.std.proofs.Common.{◌≡◌, ◌-◌, [], Option}
 use Rattle.edge_io.specs.Files.{Files, MaySee, left_by}
 use Rattle.rule_eval.specs.Hits.{Test}
 use Rattle.edge_io.specs.Frames.{OnlyRead}
@@ -19,7 +19,6 @@ invariant-batches g l = record {
   quiet : g.H.Host.faults l.host ≡ g.H.Host.faults l.fn.host;
   quiet_alerts : g.A.Sink.faults l.alerts ≡ g.A.Sink.faults l.fn.alerts;
   host : OnlyRead g.H.Host l.fn.host l.host;
-  later_alerts : g.A.Sink.faults l.fn.alerts ≤ g.A.Sink.faults l.alerts;
 }
 
 abbrev pub decreases-batches : goal.decreases-batches

@@ -1,11 +1,12 @@
-use Rattle.std.proofs.Common.{Some, Err, refl, sym, ap, ◌∙◌, arith}
+use Rattle.std.proofs.Common.{Some, Err, refl, sym, ap, inl, arith}
 use Rattle.std.proofs.lemmas.Result.{err_from_is_err_and}
 use Rattle.edge_io.specs.Told.{Rose}
+use Rattle.snort_engine.specs.declared.reader.RecordReader.{RecordReader}
 use Rattle.snort_engine.specs.Steps.Watching.{plan_of}
-use Rattle.snort_engine.proofs.Prefixes.{rose_since}
+use Rattle.snort_engine.proofs.Prefixes.{opened_read, rose_since}
 use Rattle.snort_engine.proofs.Captures.{open_stops, capture_ends}
 use Rattle.snort_engine.proofs.Opening.{opens_later}
-use Rattle.snort_engine.proofs.Quiet.{capture_uncut}
+use Rattle.snort_engine.proofs.Quiet.{caused_fault, caused_since}
 use Rattle.snort_engine.proofs.Seeing.{cause_by}
 use Rattle.snort_engine.proofs.watch.watch_file.Goals as goal
 
@@ -23,7 +24,7 @@ returns-in_err-reader-clause-ends g c = λ matches test files course agree goes.
     let law = g.met.H.Host.as_told host in
     let rose = Rose (g.H.Host.faults c.args.host.now) (g.H.Host.faults host) in
     rw named (open_stops (plan_of matches c.args.context.now.plan.now) files course c.in_err-reader.field-0.0 _ _ _ c.from_residual.result p.0 c.requires.none p.1 p.2
-    goes refl opens (λ is. rw named at (cause_by g.H.Host c.args.host.now host c.args.name.now rose (Some files) law c.in_err-reader.ensures.same_contents agree (c.in_err-reader.ensures.failed (ap Err is)))))
+    goes refl opens (λ is. rw named at (cause_by g.H.Host c.args.host.now host c.args.name.now rose (Some files) law c.in_err-reader.ensures.host.files agree (c.in_err-reader.ensures.failed (ap Err is)))))
 
 pub returns-clause-ends : goal.returns-clause-ends
 returns-clause-ends g c = λ matches test files course agree goes.
@@ -32,24 +33,23 @@ returns-clause-ends g c = λ matches test files course agree goes.
     let watches = c.watch_records.ensures.watches matches test (Some files) agree in
     rw named (capture_ends (plan_of matches c.args.context.now.plan.now) files course c.in_ok-reader.reader _ _ _ _ _ c.watch_records.result
     goes opens watches (c.watch_records.ensures.close matches test (Some files) agree)
-    (λ rose. rose_since _ _ _ c.in_ok-reader.ensures.later rose)
-    (λ is. rose_since _ _ _ c.in_ok-reader.ensures.later (c.watch_records.ensures.read_fault is)))
+    (λ rose. rose_since _ _ _ c.in_ok-reader.ensures.host.later rose)
+    (λ is. rose_since _ _ _ c.in_ok-reader.ensures.host.later (c.watch_records.ensures.causes.read_fault is)))
 
 pub returns-clause-opened : goal.returns-clause-opened
 returns-clause-opened g c = λ seen may.
     rw c.watch_records.ensures.host.opens (opens_later seen c.args.name.now (g.H.Host.faults c.args.host.now) _ _ (g.H.Host.opens c.args.host.now) _
     c.watch_records.ensures.host.later (c.in_ok-reader.ensures.opened seen (c.watch_records.ensures.host.earlier seen may)))
 
-pub returns-clause-same_contents : goal.returns-clause-same_contents
-returns-clause-same_contents g c = c.watch_records.ensures.host.files ∙ c.in_ok-reader.ensures.same_contents
+pub returns-clause-host : goal.returns-clause-host
+returns-clause-host g c = opened_read g.H.Host _ _ _ c.in_ok-reader.ensures.host c.watch_records.ensures.host
 
-pub returns-clause-later : goal.returns-clause-later
-returns-clause-later g c = let more = c.watch_records.ensures.host.later in omega (arith, c.in_ok-reader.ensures.later, more)
-
-pub returns-in_err-reader-clause-quiet : goal.returns-in_err-reader-clause-quiet
-returns-in_err-reader-clause-quiet g c =
+pub returns-in_err-reader-clause-causes : goal.returns-in_err-reader-clause-causes
+returns-in_err-reader-clause-causes g c =
     let p = err_from_is_err_and c.from_residual.result c.from_residual.ensures.1 in
-    rw (p.1, p.2) (λ uncut. c.in_err-reader.ensures.quiet (capture_uncut _ c.in_err-reader.field-0.0 uncut))
+    rw (p.1, p.2) (caused_fault RecordReader _ _ _ c.in_err-reader.field-0.0 c.in_err-reader.ensures.failed c.in_err-reader.ensures.quiet refl)
 
-pub returns-clause-quiet : goal.returns-clause-quiet
-returns-clause-quiet g c = λ uncut. c.watch_records.ensures.quiet uncut ∙ c.in_ok-reader.ensures.quiet (λ failed. cc)
+pub returns-clause-causes : goal.returns-clause-causes
+returns-clause-causes g c =
+    caused_since _ _ _ _ _ _ c.watch_records.ensures.causes
+    (λ rose. inl (rose_since _ _ _ c.in_ok-reader.ensures.host.later rose)) (c.in_ok-reader.ensures.quiet (λ failed. cc)) refl

@@ -1,7 +1,9 @@
-use Rattle.std.proofs.Common.{◌∙◌, arith}
+use Rattle.std.proofs.Common.{refl, arith}
 use Rattle.std.proofs.lemmas.Result.{err_from_is_err_and}
 use Rattle.alert_lines.proofs.Prefixes.{WritesPart-none}
+use Rattle.snort_engine.specs.Steps.Stop.{outcome_status}
 use Rattle.snort_engine.specs.Steps.Watching.{plan_of}
+use Rattle.snort_engine.proofs.Quiet.{caused_closed, caused_lacking}
 use Rattle.snort_engine.proofs.Watched.{close-start, closed_watch, closed_behind}
 use Rattle.snort_engine.proofs.watch.watch_records.Goals as goal
 
@@ -32,9 +34,11 @@ returns-clause-close g c = λ matches test seen may.
     closed_behind (plan_of matches c.args.context.now.plan.now) c.args.reader.now _ _ c.watch_batches-watched.new.detector _ _ _ _ _ c.watch_batches-watched.result c.close_watched.result
     (c.watch_batches-watched.ensures.comes matches test (c.in_ok-detector.ensures.stands matches) seen may) (c.close_watched.ensures.closes matches test)
 
-pub returns-clause-quiet : goal.returns-clause-quiet
-returns-clause-quiet g c = λ uncut. c.watch_batches-watched.ensures.quiet (c.close_watched.ensures.uncut_watched uncut)
+pub returns-in_err-detector-clause-causes : goal.returns-in_err-detector-clause-causes
+returns-in_err-detector-clause-causes g c =
+    let p = err_from_is_err_and c.from_residual.result c.from_residual.ensures.1 in
+    rw (p.1, p.2) (caused_lacking _ _ _ (omega arith))
 
-pub returns-clause-quiet_alerts : goal.returns-clause-quiet_alerts
-returns-clause-quiet_alerts g c = λ written.
-    c.close_watched.ensures.quiet_alerts written ∙ c.watch_batches-watched.ensures.quiet_alerts (c.close_watched.ensures.written_watched written)
+pub returns-clause-causes : goal.returns-clause-causes
+returns-clause-causes g c =
+    caused_closed _ _ _ _ _ (outcome_status c.close_watched.result) c.watch_batches-watched.ensures.causes c.close_watched.ensures.causes refl
