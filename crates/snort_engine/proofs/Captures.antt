@@ -1,4 +1,4 @@
--- How the watching of a capture follows its answer.
+-- How the showing of a capture follows its answer.
 use Rattle.std.proofs.Common.{◌≡◌, ℕ, ◌≤◌, List, [], ◌++◌, Option, Some, None, Result, Ok, Err, length, take, drop, refl, sym, ap, subst, append_assoc, ◌∙◌, arith, inl, inr, ◌⊎◌, ⊎_elim}
 use Rattle.std.specs.FinMap.{get}
 use Rattle.std.specs.List.{concat}
@@ -33,7 +33,7 @@ use Rattle.snort_engine.specs.ReadAhead.{batch, before_last_batch, earlier_batch
 use Rattle.snort_engine.specs.Ending.{IsAnswered, IsTakenOf, lines_within, IsCutShort, Ends}
 use Rattle.snort_engine.specs.Steps.Stop.{stop_status, stop_text, outcome_status, outcome_text}
 use Rattle.snort_engine.specs.Steps.Reporting.{counts_due}
-use Rattle.snort_engine.specs.Steps.Watching.{recording_by, lines_of, IsReadOut, HasReadTo, IsReadCutShort, IsCloseBehind, WatchesTo, WritesSome, Watches}
+use Rattle.snort_engine.specs.Steps.Showing.{recording_by, lines_of, IsReadOut, HasReadTo, IsReadCutShort, IsCloseBehind, ShowsTo, WritesSome, ShowsCapture}
 use Rattle.snort_engine.proofs.LinesLaws.{lines_join, lines-nil, lines-none, no_counts-are}
 use Rattle.snort_engine.proofs.Limits.{batches_none, before_last}
 use Rattle.snort_engine.proofs.Opening.{few_hold_none}
@@ -192,7 +192,7 @@ open_ends plan files course fault.Failed before after counts goes same counted o
     (inr (open_cut plan files course fault.Failed before after goes same opens.1))
     (open_ahead plan files course fault.Failed before after status.HostFault goes same (inl refl) opens.1)
 
--- ---- a capture that was opened and watched
+-- ---- a capture that was opened and shown
 
 -- the records before the last one's batch are the first of those given, if these are whole batches and at most one more
 -- stands behind them, or none: so their lines come first
@@ -300,69 +300,69 @@ unfolding capture_answer
 answer_open plan files course left_first bytes reader o =
     o.answers ∙ ap (λ (x : List ℕ). capture_answer plan (warned course) (Some x)) o.joined ∙ ap (recording_answer plan (warned course)) (o.begins plan.limit o.rest)
 
--- watched to an ending
-watched_ends : (plan : Plan) (files : Files) (course : Course) (left_first left_last : Option (List ℕ)) (bytes : List ℕ) (reader : RecordReader) (ending : Ending ReadFault) (before after : Work) (counts : Counts) → IsOpenCapture plan files course left_first bytes reader
+-- shown to an ending
+shown_ends : (plan : Plan) (files : Files) (course : Course) (left_first left_last : Option (List ℕ)) (bytes : List ℕ) (reader : RecordReader) (ending : Ending ReadFault) (before after : Work) (counts : Counts) → IsOpenCapture plan files course left_first bytes reader
     → IsPlain (ending_status ending)
-    → WatchesTo plan reader ending (record { left = left_first; written = before.alerts }) (record { left = left_last; written = after.alerts }) counts
+    → ShowsTo plan reader ending (record { left = left_first; written = before.alerts }) (record { left = left_last; written = after.alerts }) counts
     → ReadsAhead files course before after (ending_status ending)
     → Ends files course before after (ending_status ending) (warned course ++ with_counts (ending_text plan.source ending) (told_counts plan.counted counts))
 unfolding lines_of
-watched_ends plan files course left_first left_last bytes reader ending before after counts o plain watches ahead =
-    let watched = watches o.rest o.told in
+shown_ends plan files course left_first left_last bytes reader ending before after counts o plain shows ahead =
+    let shown = shows o.rest o.told in
     let records = (recording_by plan reader o.rest).records in
     let meant : answer_of files course ≡ recording_answer plan (warned course) (record { records = records; ending = ending }) =
     answer_open plan files course left_first bytes reader o
-    ∙ ap (λ (e : Ending ReadFault). recording_answer plan (warned course) (record { records = records; ending = e })) watched.ends in
+    ∙ ap (λ (e : Ending ReadFault). recording_answer plan (warned course) (record { records = records; ending = e })) shown.ends in
     let text : Counts → List ℕ = λ (c : Counts). warned course ++ with_counts (ending_text plan.source ending) (told_counts plan.counted c) in
-    ends_met files course before after (ending_status ending) (lines plan [] records Closed) (text counts) plain watched.wrote
-    (subst (λ (m : List ℕ). IsAnswered (answer_of files course) (ending_status ending) (lines plan [] records Closed) m) (ap text (sym watched.counted)) (answered (answer_of files course) _ meant)) ahead
+    ends_met files course before after (ending_status ending) (lines plan [] records Closed) (text counts) plain shown.wrote
+    (subst (λ (m : List ℕ). IsAnswered (answer_of files course) (ending_status ending) (lines plan [] records Closed) m) (ap text (sym shown.counted)) (answered (answer_of files course) _ meant)) ahead
 
 -- a part of its lines
-part_of_watch : (plan : Plan) (files : Files) (course : Course) (left_first left_last : Option (List ℕ)) (bytes : List ℕ) (reader : RecordReader) (before after : Work) → IsOpenCapture plan files course left_first bytes reader
+part_of_show : (plan : Plan) (files : Files) (course : Course) (left_first left_last : Option (List ℕ)) (bytes : List ℕ) (reader : RecordReader) (before after : Work) → IsOpenCapture plan files course left_first bytes reader
     → WritesSome plan reader (record { left = left_first; written = before.alerts }) (record { left = left_last; written = after.alerts })
     → WritesPart before.alerts (answer_of files course).alerts after.alerts
 unfolding lines_of
-part_of_watch plan files course left_first left_last bytes reader before after o some =
+part_of_show plan files course left_first left_last bytes reader before after o some =
     subst (λ (a : Answer). WritesPart before.alerts a.alerts after.alerts) (sym (answer_open plan files course left_first bytes reader o)) (some o.rest o.told)
 
--- the watching of a capture, where this is what a fault of the host leaves, and how far was read ahead
-pub watched_by : (plan : Plan) (files : Files) (course : Course) (left_first left_last : Option (List ℕ)) (bytes : List ℕ) (reader : RecordReader) (before after : Work) (counts : Counts) (outcome : Result (Unit {0}) Stop)
+-- the showing of a capture, where this is what a fault of the host leaves, and how far was read ahead
+pub shown_by : (plan : Plan) (files : Files) (course : Course) (left_first left_last : Option (List ℕ)) (bytes : List ℕ) (reader : RecordReader) (before after : Work) (counts : Counts) (outcome : Result (Unit {0}) Stop)
     → IsOpenCapture plan files course left_first bytes reader
-    → Watches plan reader (record { left = left_first; written = before.alerts }) (record { left = left_last; written = after.alerts }) counts outcome
+    → ShowsCapture plan reader (record { left = left_first; written = before.alerts }) (record { left = left_last; written = after.alerts }) counts outcome
     → (outcome_status outcome ≡ status.HostFault → IsReadCutShort plan reader (record { left = left_first; written = before.alerts }) (record { left = left_last; written = after.alerts })
     → IsCutShort files course before after (warned course ++ cannot_read_text plan.source))
     → (outcome_status outcome ≡ status.HostFault → Rose before.host_faults after.host_faults)
     → ((ended : Status) → outcome_status outcome ≡ ended → ReadsAhead files course before after ended)
     → Ends files course before after (outcome_status outcome) (warned course ++ said plan outcome counts)
 unfolding WritesPart stop_text
-watched_by plan files course left_first left_last bytes reader before after counts (Ok done) o watches short risen ahead =
-    watched_ends plan files course left_first left_last bytes reader Clean before after counts o tt watches (ahead status.Done refl)
-watched_by plan files course left_first left_last bytes reader before after counts (Err (stop.Capture fault.Failed)) o (cut, some) short risen ahead =
-    let part = part_of_watch plan files course left_first left_last bytes reader before after o some in
+shown_by plan files course left_first left_last bytes reader before after counts (Ok done) o shows short risen ahead =
+    shown_ends plan files course left_first left_last bytes reader Clean before after counts o tt shows (ahead status.Done refl)
+shown_by plan files course left_first left_last bytes reader before after counts (Err (stop.Capture fault.Failed)) o (cut, some) short risen ahead =
+    let part = part_of_show plan files course left_first left_last bytes reader before after o some in
     ends_unread files course before after part.0 (warned course ++ cannot_read_text plan.source) part.2 part.1
     (λ still. absurd (still (risen refl)))
     (inr (short refl cut))
     (ahead status.HostFault refl)
-watched_by plan files course left_first left_last bytes reader before after counts (Err stop.CannotWrite) o some short risen ahead =
-    ends_unwritten files course before after (part_of_watch plan files course left_first left_last bytes reader before after o some) (ahead status.WriteFault refl)
-watched_by plan files course left_first left_last bytes reader before after counts (Err stop.NoMemory) o some short risen ahead =
-    ends_lacking files course before after (part_of_watch plan files course left_first left_last bytes reader before after o some) (ahead status.NoMemory refl)
-watched_by plan files course left_first left_last bytes reader before after counts (Err (stop.Capture fault.NoMemory)) o some short risen ahead =
-    ends_lacking files course before after (part_of_watch plan files course left_first left_last bytes reader before after o some) (ahead status.NoMemory refl)
-watched_by plan files course left_first left_last bytes reader before after counts (Err (stop.Capture why)) o seen short risen ahead =
-    watched_ends plan files course left_first left_last bytes reader (Refused why) before after counts o tt seen (ahead status.BadCapture refl)
-watched_by plan files course left_first left_last bytes reader before after counts (Err why) o seen short risen ahead = absurd seen
+shown_by plan files course left_first left_last bytes reader before after counts (Err stop.CannotWrite) o some short risen ahead =
+    ends_unwritten files course before after (part_of_show plan files course left_first left_last bytes reader before after o some) (ahead status.WriteFault refl)
+shown_by plan files course left_first left_last bytes reader before after counts (Err stop.NoMemory) o some short risen ahead =
+    ends_lacking files course before after (part_of_show plan files course left_first left_last bytes reader before after o some) (ahead status.NoMemory refl)
+shown_by plan files course left_first left_last bytes reader before after counts (Err (stop.Capture fault.NoMemory)) o some short risen ahead =
+    ends_lacking files course before after (part_of_show plan files course left_first left_last bytes reader before after o some) (ahead status.NoMemory refl)
+shown_by plan files course left_first left_last bytes reader before after counts (Err (stop.Capture why)) o seen short risen ahead =
+    shown_ends plan files course left_first left_last bytes reader (Refused why) before after counts o tt seen (ahead status.BadCapture refl)
+shown_by plan files course left_first left_last bytes reader before after counts (Err why) o seen short risen ahead = absurd seen
 
--- a capture that was opened and watched
+-- a capture that was opened and shown
 pub capture_ends : (plan : Plan) (files : Files) (course : Course) (reader : RecordReader) (left_first : Option (List ℕ)) (before after : Work) (counts : Counts) (failed : Type 0) (outcome : Result (Unit {0}) Stop)
     → course.way ≡ Goes plan
     → Opens (get files plan.source) (Ok reader) left_first
-    → Watches plan reader (record { left = left_first; written = before.alerts }) (record { left = after.left; written = after.alerts }) counts outcome
+    → ShowsCapture plan reader (record { left = left_first; written = before.alerts }) (record { left = after.left; written = after.alerts }) counts outcome
     → IsCloseBehind plan reader (record { left = left_first; written = before.alerts }) (record { left = after.left; written = after.alerts }) failed outcome
     → (failed → Rose before.host_faults after.host_faults)
     → (outcome_status outcome ≡ status.HostFault → Rose before.host_faults after.host_faults)
     → Ends files course before after (outcome_status outcome) (warned course ++ said plan outcome counts)
-capture_ends plan files course reader left_first before after counts failed outcome goes opens watches close rises risen =
+capture_ends plan files course reader left_first before after counts failed outcome goes opens shows close rises risen =
     let bytes = opens.front ++ opens.rest in
     let o : IsOpenCapture plan files course left_first bytes reader =
     record {
@@ -374,7 +374,7 @@ capture_ends plan files course reader left_first before after counts failed outc
       begins = opens.begins;
     } in
     let ahead : IsReadAhead plan (get files plan.source) before after (outcome_status outcome) = ahead_behind plan files course (get files plan.source) bytes reader left_first before after failed outcome opens.of o close rises in
-    watched_by plan files course left_first after.left bytes reader before after counts outcome o watches
+    shown_by plan files course left_first after.left bytes reader before after counts outcome o shows
     (λ failed cut. cut_behind plan files course bytes reader left_first before after goes opens.of o cut)
     risen
     (λ ended is. subst (λ (s : Status). ReadsAhead files course before after s) is (ahead_goes files course plan before after (outcome_status outcome) goes ahead))

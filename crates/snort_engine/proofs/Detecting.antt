@@ -47,7 +47,7 @@ use Rattle.snort_engine.specs.Lines.{lines}
 use Rattle.snort_engine.specs.Counts.{counts_of, try_count}
 use Rattle.snort_engine.specs.Steps.Sourcing.{PlacesJobs, Sourced, last_behind}
 use Rattle.snort_engine.specs.Steps.Detecting.{AreTaken, Closes, Detecting, EarlierJobs, EarlierRecords, InspectionStands, IsKnown, IsNewInspection, IsSoundPlan, MakesJobs, Running, Runs, ShowsRecords, closing_lines, counted, jobs_lines, settled, waiting}
-use Rattle.snort_engine.specs.Steps.Watching.{IsTest, plan_of}
+use Rattle.snort_engine.specs.Steps.Showing.{IsTest, plan_of}
 use Rattle.snort_engine.proofs.LinesLaws.{alerts-counted, jobs_lines-closing, jobs_lines-records}
 use Rattle.snort_engine.proofs.Sourcing.{last_of-more, sources_last, sources_made, told_found}
 use Rattle.snort_engine.proofs.Learning.{stand-new}

@@ -14,7 +14,7 @@ pub mod Learning
 pub mod Sourcing
 pub mod Detecting
 pub mod Batches
-pub mod Watched
+pub mod Shown
 pub mod Finishing
 pub mod FileWays
 pub mod FitSavefiles

@@ -8,7 +8,7 @@ use Rattle.pcap_input.specs.Cut.{AreWithin, Ending, Clean, no_more, first_record
 use Rattle.pcap_input.proofs.Cuts.{first_records-none, first_records-zero, first_records-no_more, first_records-front, front_of_none}
 use Rattle.snort_engine.specs.Records.{Recording}
 use Rattle.snort_engine.specs.ReadAhead.{batch, AreBatches, before_last_batch}
-use Rattle.snort_engine.specs.Steps.Watching.{IsRoom, most_at, room_behind}
+use Rattle.snort_engine.specs.Steps.Showing.{IsRoom, most_at, room_behind}
 
 -- the records that were given come first, and then those that may still be read
 pub limit-front : (limit room : Option ℕ) (given : List LinkedRecord) (recording : Recording) → IsRoom limit (length given) room → first_records limit (with_front given recording) ≡ with_front given (first_records room recording)

@@ -18,7 +18,7 @@ use Rattle.snort_engine.specs.Trace.{CaptureState, Open, Closed, closing_alerts,
 use Rattle.snort_engine.specs.Lines.{alert_count, lines, LinesJoin, PrefixLaw}
 use Rattle.snort_engine.specs.Counts.{counts_of, no_counts}
 use Rattle.snort_engine.specs.Steps.Detecting.{closing_lines, jobs_lines}
-use Rattle.snort_engine.specs.Steps.Watching.{lines_of}
+use Rattle.snort_engine.specs.Steps.Showing.{lines_of}
 
 -- what is shown of joined records, whatever follows
 trace-join : (plan : Plan) (before first others : List LinkedRecord) (state : CaptureState)

@@ -1,4 +1,4 @@
--- How the watching of a capture that is made follows its answer.
+-- How the showing of a capture that is made follows its answer.
 use Rattle.std.proofs.Common.{◌≡◌, ℕ, ◌≤◌, List, ◌++◌, Option, Some, Result, Ok, length, take, drop, refl, sym, ap, subst, ◌∙◌, arith}
 use Rattle.std.proofs.lemmas.List.{length-take-le, take-append-drop}
 use Rattle.pcap_input.specs.Savefile.{head_of}
@@ -23,10 +23,10 @@ use Rattle.snort_engine.specs.Outside.{Work}
 use Rattle.snort_engine.specs.ReadAhead.{IsApart}
 use Rattle.snort_engine.specs.Ending.{Ends}
 use Rattle.snort_engine.specs.Steps.Stop.{outcome_status}
-use Rattle.snort_engine.specs.Steps.Watching.{Watches}
+use Rattle.snort_engine.specs.Steps.Showing.{ShowsCapture}
 use Rattle.snort_engine.proofs.Finishing.{ahead_made, ends_lacking}
 use Rattle.snort_engine.proofs.Opening.{long_enough, savefile_begins}
-use Rattle.snort_engine.proofs.Captures.{said, warned, watched_by}
+use Rattle.snort_engine.proofs.Captures.{said, warned, shown_by}
 
 -- it has a file header
 pub generated_long : (seed count : ℕ) → 24 ≤ length (generated seed count)
@@ -46,16 +46,16 @@ with_alerts before alerts = record before { alerts = alerts }
 apart : (before : Work) (alerts : Option (List ℕ)) (ended : Status) → (ended ≡ status.HostFault → ⊥) → IsApart before (with_alerts before alerts) ended
 apart before alerts ended never = record { left = refl; opens = refl; no_host_fault = never }
 
--- it was made and watched, by a reader that had given no record
+-- it was made and shown, by a reader that had given no record
 pub made_ends : (plan : Plan) (files : Files) (course : Course) (seed count : ℕ) (bytes : List ℕ) (reader : RecordReader) (left_first left_last old new : Option (List ℕ)) (before : Work) (counts : Counts) (outcome : Result (Unit {0}) Stop)
     → course.way ≡ Makes plan seed count → before.alerts ≡ old → bytes ≡ generated seed count → reader ≡ Savefile (new_reader made_head) → left_first ≡ Some (drop 24 bytes)
-    → Watches plan reader (record { left = left_first; written = old }) (record { left = left_last; written = new }) counts outcome
+    → ShowsCapture plan reader (record { left = left_first; written = old }) (record { left = left_last; written = new }) counts outcome
     → (outcome_status outcome ≡ status.HostFault → ⊥)
     → Ends files course before (with_alerts before new) (outcome_status outcome) (warned course ++ said plan outcome counts)
-made_ends plan files course seed count bytes reader left_first left_last old new before counts outcome makes same are by told watches never =
+made_ends plan files course seed count bytes reader left_first left_last old new before counts outcome makes same are by told shows never =
     let made = generated seed count in
     let whole = length-take-le 24 made (generated_long seed count) in
-    watched_by plan files course left_first left_last bytes (Savefile (new_reader made_head)) before (with_alerts before new) counts outcome
+    shown_by plan files course left_first left_last bytes (Savefile (new_reader made_head)) before (with_alerts before new) counts outcome
     (record {
       answers = ap (way_answer files (warned course)) makes ∙ ap (λ (x : List ℕ). capture_answer plan (warned course) (Some x)) (sym are);
       front = take 24 made;
@@ -64,8 +64,8 @@ made_ends plan files course seed count bytes reader left_first left_last old new
       told = told ∙ ap (λ (x : List ℕ). Some (drop 24 x)) are;
       begins = savefile_begins (take 24 made) made_head (header_head seed count) (omega (arith, whole));
     })
-    (subst (λ (r : RecordReader). Watches plan r (record { left = left_first; written = before.alerts }) (record { left = left_last; written = new }) counts outcome) by
-    (subst (λ (w : Option (List ℕ)). Watches plan reader (record { left = left_first; written = w }) (record { left = left_last; written = new }) counts outcome) (sym same) watches))
+    (subst (λ (r : RecordReader). ShowsCapture plan r (record { left = left_first; written = before.alerts }) (record { left = left_last; written = new }) counts outcome) by
+    (subst (λ (w : Option (List ℕ)). ShowsCapture plan reader (record { left = left_first; written = w }) (record { left = left_last; written = new }) counts outcome) (sym same) shows))
     (λ failed cut. absurd (never failed))
     (λ failed. absurd (never failed))
     (λ ended is. ahead_made files course plan seed count before (with_alerts before new) ended makes (apart before new ended (λ failed. never (is ∙ failed))))

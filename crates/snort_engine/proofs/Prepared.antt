@@ -25,7 +25,7 @@ use Rattle.snort_setup.specs.Answers.{AreRefusedBy, Gives, HasCause as HasSetupC
 use Rattle.snort_setup.specs.Whole.{ready_of}
 use Rattle.snort_setup.proofs.One.{setup-one}
 use Rattle.snort_engine.specs.declared.plan.Plan as code
-use Rattle.snort_engine.specs.declared.prepare.Task.TheVariants.{Watch, Tell}
+use Rattle.snort_engine.specs.declared.prepare.Task.TheVariants.{Show, Tell}
 use Rattle.snort_engine.specs.declared.status.Status.TheVariants as status
 use Rattle.snort_engine.specs.declared.stop.Stop.{Stop}
 use Rattle.snort_engine.specs.declared.stop.Stop.TheVariants as stop
@@ -206,7 +206,7 @@ setup_stopped {A} {B} view ways wanted files rose grown why warnings set = recor
 
 -- a detector that is ready is a task, and so a stop is a stop
 pub task_ready : {P : Type 0} (asked : Option Asked) (files : Files) (rose : Type 0) (grown : List Refusal) (prepared : code.Plan P) (warnings : List (List ℕ)) → IsPrepared way_for asked files rose grown (Ok prepared) warnings
-    → IsPrepared task_way asked files rose grown (Ok (Watch prepared)) warnings
+    → IsPrepared task_way asked files rose grown (Ok (Show prepared)) warnings
 task_ready asked files rose grown prepared warnings is = record { refused = is.refused; are_refused = is.are_refused; prepares = is.prepares }
 
 stopped_as : {A B : Type 0} (view : A → Way) (other : B → Way) (asked : Option Asked) (here : Given) (rose : Type 0) (why : Stop) (warnings : List (List ℕ)) → Prepares view asked here rose (Err why) warnings → Prepares other asked here rose (Err why) warnings

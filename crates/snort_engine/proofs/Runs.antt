@@ -424,7 +424,7 @@ pub opens_made : (told : Option Files) (source : Source) (plan : Plan) (failed :
 opens_made told (File name) plan failed old new made opens = absurd made
 opens_made told (Made seed count) plan failed old new made opens = opens
 
--- how often a capture was opened that was watched, by its way
+-- how often a capture was opened that was shown, by its way
 opens_by : (asked : Option Asked) (here : Given) (warnings : List (List ℕ)) (before after : Outside) (ended : Status) (failed : Type 0) (way : Way) → (failed → Rose before.host_faults after.host_faults) → HasWay asked here warnings way
     → OpensOn (Some here.files) way failed before.opens after.opens → OpensBy asked here before after ended
 opens_by asked here warnings before after ended failed (Stops message status_then) rises has opens = inl (omega (arith, opens), λ other. absurd (same_other asked here warnings (Stops message status_then) has other))
@@ -439,8 +439,8 @@ opens_by asked here warnings before after ended failed (Goes plan) rises has ope
     inr (twice.0, record { course = has.course; is = has.is; other = subst (BeginsOtherwise (Some here.files)) (sym has.way_is) twice.1 }))
     opens
 
--- what is known of a run that watched its capture
-pub record IsWatching {A : Type 0} (ways : Test → A → Way) (asked : Option Asked) (means : Means) (before after : Outside) (ready : A) (text : List ℕ) (outcome : Result (Unit {0}) Stop) (warnings : List (List ℕ)) : Type 0 where
+-- what is known of a run that shown its capture
+pub record IsShowing {A : Type 0} (ways : Test → A → Way) (asked : Option Asked) (means : Means) (before after : Outside) (ready : A) (text : List ℕ) (outcome : Result (Unit {0}) Stop) (warnings : List (List ℕ)) : Type 0 where
   pub middle : Work
   pub prepared : (files : Files) → before.files ≡ Some files → IsPrepared ways asked files (Rose before.host_faults middle.host_faults) (refused_since before after) (Ok ready) warnings
   pub faulty_words : asked ≡ None → ⊥
@@ -458,10 +458,10 @@ pub record IsWatching {A : Type 0} (ways : Test → A → Way) (asked : Option A
   pub counts : NoCountFell before after
 
 -- the run on its course
-watching_on : {A : Type 0} (ways : Test → A → Way) (asked : Option Asked) (means : Means) (before after : Outside) (ready : A) (text : List ℕ) (outcome : Result (Unit {0}) Stop) (warnings : List (List ℕ)) (matches : Test) (files : Files) (here : Given)
-    → here.files ≡ files → IsWatching ways asked means before after ready text outcome warnings → Tells means matches → before.files ≡ Some files → HasWay asked here warnings (ways matches ready)
+showing_on : {A : Type 0} (ways : Test → A → Way) (asked : Option Asked) (means : Means) (before after : Outside) (ready : A) (text : List ℕ) (outcome : Result (Unit {0}) Stop) (warnings : List (List ℕ)) (matches : Test) (files : Files) (here : Given)
+    → here.files ≡ files → IsShowing ways asked means before after ready text outcome warnings → Tells means matches → before.files ≡ Some files → HasWay asked here warnings (ways matches ready)
     → (course : Course) × IsCourse asked here course × (course.warnings ≡ warnings) × (course.way ≡ ways matches ready) × Ends files course (work_of before) (work_of after) (outcome_status outcome) (concat warnings ++ text)
-watching_on ways asked means before after ready text outcome warnings matches files here over run tells is has = (
+showing_on ways asked means before after ready text outcome warnings matches files here over run tells is has = (
   has.course,
   has.is,
   has.warnings_are,
@@ -490,16 +490,16 @@ none_lacking (Makes plan seed count) lacks = lacks
 none_lacking (Lists lines) lacks = lacks
 none_lacking (Goes plan) lacks = lacks
 
-pub watched_run : {A : Type 0} (ways : Test → A → Way) (asked : Option Asked) (means : Means) (before after : Outside) (ready : A) (text : List ℕ) (outcome : Result (Unit {0}) Stop) (warnings : List (List ℕ)) (ended : Status) → (test : Test) × Tells means test
-    → IsWatching ways asked means before after ready text outcome warnings → IsTold warnings text outcome before after ended → IsRun asked means before after ended
-watched_run ways asked means before after ready text outcome warnings ended decided run told = record {
+pub shown_run : {A : Type 0} (ways : Test → A → Way) (asked : Option Asked) (means : Means) (before after : Outside) (ready : A) (text : List ℕ) (outcome : Result (Unit {0}) Stop) (warnings : List (List ℕ)) (ended : Status) → (test : Test) × Tells means test
+    → IsShowing ways asked means before after ready text outcome warnings → IsTold warnings text outcome before after ended → IsRun asked means before after ended
+shown_run ways asked means before after ready text outcome warnings ended decided run told = record {
   matches = decided.0;
   tells = decided.1;
   told = λ files is.
       let p = run.prepared files is in
       let here = given files decided.0 p.refused in
       let has = p.prepares decided.0 in
-      let on = watching_on ways asked means before after ready text outcome warnings decided.0 files here refl run decided.1 is has in
+      let on = showing_on ways asked means before after ready text outcome warnings decided.0 files here refl run decided.1 is has in
       let on_untold : Ends files on.0 (work_of before) (work_of after) status.NoMemory (concat warnings ++ no_memory_text) =
       subst (λ (w : List (List ℕ)). Ends files on.0 (work_of before) (work_of after) status.NoMemory (concat w ++ no_memory_text)) on.2
       (ends_untold files on.0 (work_of before) (work_of after) (outcome_status outcome) (concat warnings ++ text) on.4) in (

@@ -11,8 +11,8 @@ pub mod Seen
 pub mod Reader
 -- reading a batch of records
 pub mod Batch
--- the watching of a capture, batch by batch
-pub mod Watching
+-- the showing of a capture, batch by batch
+pub mod Showing
 -- records on their way to lines
 pub mod Detecting
 -- which record each job was made of

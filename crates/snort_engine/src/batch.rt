@@ -6,7 +6,7 @@ ghost use Rattle.snort_engine.specs.Steps.Batch.{HasReason, IsFilled, ReadsOn, l
 ghost use Rattle.edge_io.specs.Frames.{OnlyRead};
 ghost use Rattle.snort_engine.specs.Outside.{by};
 ghost use Rattle.snort_engine.specs.Steps.Seen.{OfSeen};
-ghost use Rattle.snort_engine.specs.Steps.Watching.{most_at, room_behind};
+ghost use Rattle.snort_engine.specs.Steps.Showing.{most_at, room_behind};
 
 use crate::fault::ReadFault;
 use crate::reader::RecordReader;

@@ -11,14 +11,14 @@ ghost use Rattle.snort_engine.specs.Steps.Seen.{HostRose, OfSeen, OnlyOpened};
 ghost use Rattle.snort_engine.specs.Steps.Stop.{outcome_status};
 ghost use Rattle.snort_engine.specs.Counts.{no_counts};
 ghost use Rattle.snort_engine.specs.Steps.Detecting.{IsSoundPlan};
-ghost use Rattle.snort_engine.specs.Steps.Watching.{OfTest};
+ghost use Rattle.snort_engine.specs.Steps.Showing.{OfTest};
 
 use crate::context::Context;
 use crate::counts::Counts;
 use crate::made::{MadeCapture, made_reader};
 use crate::plan::Source;
 use crate::stop::Stop;
-use crate::watch::{watch_file, watch_records};
+use crate::show::{show_file, show_opened};
 use edge_io::{Gate, Host, Pattern, Sink};
 use pcap_input::make_capture;
 use std::thread::Threads;
@@ -26,7 +26,7 @@ use std::thread::Threads;
 /// Makes a capture of a seed, with so many packets, and writes the lines of its records; `counts` is then
 /// what was counted, where it was read to its end. The host isn't asked for anything.
 #[tactic(auto, using(crate::proofs::Prefixes::rising))]
-fn watch_made<P: Pattern, G: Gate, A: Sink, R: Threads + Sync>(
+fn show_made<P: Pattern, G: Gate, A: Sink, R: Threads + Sync>(
     context: &Context<'_, P, G, R>,
     seed: u32,
     count: u32,
@@ -43,13 +43,13 @@ fn watch_made<P: Pattern, G: Gate, A: Sink, R: Threads + Sync>(
     let bytes = make_capture(context.alloc, seed, count)?;
     let mut made = MadeCapture::new(&bytes);
     let mut reader = made_reader();
-    watch_records(context, &mut made, &mut reader, alerts, counts)
+    show_opened(context, &mut made, &mut reader, alerts, counts)
 }
 
 /// Writes the lines of the records of the plan's capture; `counts` is then what was counted, where it was
 /// read to its end, or is refused.
 #[tactic(auto, using(crate::proofs::Prefixes::rising))]
-pub(crate) fn watch_capture<H: Host, P: Pattern, G: Gate, A: Sink, R: Threads + Sync>(
+pub(crate) fn show_capture<H: Host, P: Pattern, G: Gate, A: Sink, R: Threads + Sync>(
     context: &Context<'_, P, G, R>,
     host: &mut H,
     alerts: &mut A,
@@ -71,7 +71,7 @@ pub(crate) fn watch_capture<H: Host, P: Pattern, G: Gate, A: Sink, R: Threads + 
     ensures host { OnlyOpened H.Host host.old host.new }
 {
     match context.plan.source {
-        Source::File(name) => watch_file(context, host, name, alerts, counts),
-        Source::Made { seed, count } => watch_made(context, seed, count, alerts, counts),
+        Source::File(name) => show_file(context, host, name, alerts, counts),
+        Source::Made { seed, count } => show_made(context, seed, count, alerts, counts),
     }
 }

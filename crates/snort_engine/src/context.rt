@@ -1,8 +1,8 @@
-//! What the watching of a capture goes by.
+//! What the showing of a capture goes by.
 use crate::plan::Plan;
 use std::alloc::Global;
 
-/// What the watching of a capture goes by, from its opening to its last line.
+/// What the showing of a capture goes by, from its opening to its last line.
 #[derive(Drop)]
 pub(crate) struct Context<'a, P, G, R> {
     /// What threads start from.

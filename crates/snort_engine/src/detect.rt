@@ -10,7 +10,7 @@ ghost use Rattle.record_jobs.specs.Fronts.{GivesFinishes};
 ghost use Rattle.alert_lines.specs.Beside.{by_place, source_in};
 ghost use Rattle.snort_engine.specs.Steps.Sourcing.{PlacesJobs};
 ghost use Rattle.alert_lines.specs.Gathering.{EmitsAny, sending};
-ghost use Rattle.snort_engine.specs.Steps.Watching.{plan_of, OfTest};
+ghost use Rattle.snort_engine.specs.Steps.Showing.{plan_of, OfTest};
 ghost use Rattle.snort_engine.specs.Steps.Detecting.{IsSoundPlan, IsNewInspection, counted, MakesJobs, Runs, running};
 ghost use Rattle.snort_engine.specs.Steps.Detecting.{Knows, DetectorStands, ShowsRecords, detecting, Closes};
 

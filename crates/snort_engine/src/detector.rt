@@ -7,7 +7,7 @@ ghost use Rattle.snort_engine.specs.Outside.{by, outside};
 ghost use Rattle.snort_engine.specs.Headline.{Headline};
 
 use crate::Status;
-use crate::capture::watch_capture;
+use crate::capture::show_capture;
 use crate::context::Context;
 use crate::counts::Counts;
 use crate::listing::write_lines;
@@ -59,7 +59,7 @@ pub fn run<H: Host, M: PatternMaker, A: Sink, E: Sink, G: Gate, R: Threads + Syn
     let prepared = prepare(alloc, words, host, maker, &mut warnings);
     let well = tell_all(errors, warnings.as_slice());
     match prepared {
-        Ok(Task::Watch(plan)) => {
+        Ok(Task::Show(plan)) => {
             let context = Context {
                 rt,
                 alloc,
@@ -67,7 +67,7 @@ pub fn run<H: Host, M: PatternMaker, A: Sink, E: Sink, G: Gate, R: Threads + Syn
                 gate,
             };
             let mut counts = Counts::NONE;
-            let outcome = watch_capture(&context, host, alerts, &mut counts);
+            let outcome = show_capture(&context, host, alerts, &mut counts);
             let told = counts_due(plan.counted, &outcome, counts);
             report(alloc, errors, well, plan.source.name(), &outcome, told)
         }

@@ -30,11 +30,11 @@ mod prepare;
 mod reader;
 mod report;
 mod run_laws;
+mod show;
 mod sources;
 mod split_laws;
 mod status;
 mod stop;
-mod watch;
 
 pub use course_laws::words_have_a_course;
 pub use detector::run;

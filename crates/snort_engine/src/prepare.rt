@@ -11,7 +11,7 @@ ghost use Rattle.snort_setup.specs.Steps.{grown_by};
 ghost use Rattle.snort_setup.specs.Whole.{ready_of};
 ghost use Rattle.snort_engine.specs.Course.{IsFileless, IsForMade, setup_words, checks_of, way_of};
 ghost use Rattle.snort_engine.specs.Steps.Preparing.{IsPrepared, IsReadyPlan, IsReadySetup, IsSetUp, KeepsSetup, HasEarlyCauses};
-ghost use Rattle.snort_engine.specs.Steps.Preparing.{IsForFaultyWords, OfWatch, OnlyMade, StopsFileless, task_way, way_for, told_of, way_by};
+ghost use Rattle.snort_engine.specs.Steps.Preparing.{IsForFaultyWords, OfShow, OnlyMade, StopsFileless, task_way, way_for, told_of, way_by};
 ghost use Rattle.snort_engine.specs.Steps.Seen.{HostRose};
 ghost use Rattle.edge_io.specs.Frames.{OnlyLoaded};
 ghost use Rattle.snort_engine.specs.Steps.Sources.{IsMade, IsSourceFor};
@@ -29,8 +29,8 @@ use std::alloc::Global;
 /// What a run is to do.
 #[derive(Drop)]
 pub(crate) enum Task<'a, P> {
-    /// To watch a capture.
-    Watch(Plan<'a, P>),
+    /// To show a capture.
+    Show(Plan<'a, P>),
     /// To tell the records of a Unified2 file, by these lines.
     Tell(Text),
 }
@@ -221,8 +221,8 @@ pub(crate) fn prepare<'a, H: Host, M: PatternMaker>(
         (HostRose H.Host host.old host.new) result warnings.new }
     ensures faulty_words { command_line (map string_bytes words.entry.now) ≡ None → IsForFaultyWords result }
     ensures made { IfOk result (λ task. IsForMade (command_line (map string_bytes words.entry.now))
-        → OfWatch (λ ready. IsMade ready.source) task) }
-    ensures ready { IfOk result (OfWatch (IsReadyPlan M.Made.finds (M.means maker.old))) }
+        → OfShow (λ ready. IsMade ready.source) task) }
+    ensures ready { IfOk result (OfShow (IsReadyPlan M.Made.finds (M.means maker.old))) }
 
     // The host is as before, but for its count, where it failed at a file, and the maker but for what it refused.
     ensures causes { HasEarlyCauses (H.contents host.old) (H.faults host.old) (H.faults host.new) result }
@@ -233,7 +233,7 @@ pub(crate) fn prepare<'a, H: Host, M: PatternMaker>(
         Ok(Command::Help) => Err(Stop::Usage),
         Ok(Command::Version) => Err(Stop::Version),
         Ok(Command::ReadUnified2(file)) => Ok(Task::Tell(list_records(alloc, file, host)?)),
-        Ok(Command::Run(wanted)) => Ok(Task::Watch(prepare_run(
+        Ok(Command::Run(wanted)) => Ok(Task::Show(prepare_run(
             alloc, &wanted, host, maker, warnings,
         )?)),
         Err(WordsFault::CommandLine) => Err(Stop::CommandLine),

@@ -26,7 +26,7 @@ use Rattle.snort_setup.specs.Setup.{Ready}
 use Rattle.snort_setup.specs.Steps.{Grows}
 use Rattle.snort_engine.specs.declared.plan.Plan as code
 use Rattle.snort_engine.specs.declared.prepare.Task.{Task}
-use Rattle.snort_engine.specs.declared.prepare.Task.TheVariants.{Watch, Tell}
+use Rattle.snort_engine.specs.declared.prepare.Task.TheVariants.{Show, Tell}
 use Rattle.snort_engine.specs.declared.stop.Stop.{Stop}
 use Rattle.snort_engine.specs.declared.stop.Stop.TheVariants as stop
 use Rattle.snort_engine.specs.Course.{Way, Stops, Lists, Course, Given, given, IsCourse, AreListed, IsFileWay, Reads}
@@ -35,7 +35,7 @@ use Rattle.snort_engine.specs.Messages.{too_large_text}
 use Rattle.snort_engine.specs.Steps.Detecting.{IsSoundPlan}
 use Rattle.snort_engine.specs.Steps.Sources.{way_from}
 use Rattle.snort_engine.specs.Steps.Stop.{ReadsQuietly, stop_status, stop_text}
-use Rattle.snort_engine.specs.Steps.Watching.{plan_of}
+use Rattle.snort_engine.specs.Steps.Showing.{plan_of}
 
 -- the words have a course of this way, with these warnings
 pub record HasWay (asked : Option Asked) (given : Given) (warnings : List (List ℕ)) (way : Way) : Type 0 where
@@ -50,13 +50,13 @@ way_for matches plan = way_from plan.source (plan_of matches plan)
 
 -- the way of a task
 abbrev pub task_way : {P : Type 0} → Test → Task P → Way
-task_way matches (Watch plan) = way_for matches plan
+task_way matches (Show plan) = way_for matches plan
 task_way matches (Tell lines) = Lists lines
 
 -- this holds of the detector, if the task has one
-abbrev pub OfWatch : {P : Type 0} → (code.Plan P → Type 0) → Task P → Type 0
-OfWatch Holds (Watch plan) = Holds plan
-OfWatch Holds (Tell lines) = ⊤
+abbrev pub OfShow : {P : Type 0} → (code.Plan P → Type 0) → Task P → Type 0
+OfShow Holds (Show plan) = Holds plan
+OfShow Holds (Tell lines) = ⊤
 
 -- the way of a stop; no stop before a capture is opened tells its name
 abbrev pub stops : Stop → Way

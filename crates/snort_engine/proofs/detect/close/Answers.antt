@@ -3,7 +3,7 @@ use Rattle.std.proofs.lemmas.Result.{err_from_is_err_and}
 use Rattle.alert_lines.proofs.Emitting.{any_then, emits_any, emits_nothing, emits_stopped, emits_told}
 use Rattle.snort_engine.specs.declared.detect.Inspection.{Inspection}
 use Rattle.snort_engine.specs.Trace.{jobs_way_by}
-use Rattle.snort_engine.specs.Steps.Watching.{plan_of}
+use Rattle.snort_engine.specs.Steps.Showing.{plan_of}
 use Rattle.snort_engine.proofs.Detecting.{closed_nothing, closed_part, closed_stopped, closed_whole, ready_closing, stands_on}
 use Rattle.snort_engine.proofs.detect.close.Goals as goal
 

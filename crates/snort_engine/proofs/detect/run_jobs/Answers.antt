@@ -3,7 +3,7 @@ use Rattle.std.proofs.lemmas.Result.{err_from_is_err_and}
 use Rattle.alert_lines.specs.Beside.{by_place, source_in}
 use Rattle.alert_lines.proofs.Emitting.{emits_nothing, emits_any}
 use Rattle.snort_engine.specs.Trace.{detection_of}
-use Rattle.snort_engine.specs.Steps.Watching.{plan_of}
+use Rattle.snort_engine.specs.Steps.Showing.{plan_of}
 use Rattle.snort_engine.proofs.Detecting.{detects_by, runs_by, runs_nothing}
 use Rattle.snort_engine.proofs.detect.run_jobs.Goals as goal
 

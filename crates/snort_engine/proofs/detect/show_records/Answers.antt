@@ -2,7 +2,7 @@ use Rattle.std.proofs.Common.{refl, arith}
 use Rattle.std.proofs.lemmas.Result.{err_from_is_err_and}
 use Rattle.alert_lines.proofs.Emitting.{any_then, emits_any, emits_nothing}
 use Rattle.snort_engine.specs.Trace.{jobs_way_by}
-use Rattle.snort_engine.specs.Steps.Watching.{plan_of}
+use Rattle.snort_engine.specs.Steps.Showing.{plan_of}
 use Rattle.snort_engine.proofs.Detecting.{known_records, ready_records, records_nothing, records_part, records_shown, records_stopped, stands_on}
 use Rattle.snort_engine.proofs.detect.show_records.Goals as goal
 

@@ -3,30 +3,30 @@ use Rattle.edge_io.specs.Files.{left_by}
 use Rattle.edge_io.specs.Told.{Rose}
 use Rattle.edge_io.proofs.Seeing.{seen_left}
 use Rattle.snort_engine.specs.Steps.Preparing.{task_way}
-use Rattle.snort_engine.specs.Steps.Watching.{plan_of}
-use Rattle.snort_engine.specs.declared.prepare.Task.TheVariants.{Watch, Tell}
+use Rattle.snort_engine.specs.Steps.Showing.{plan_of}
+use Rattle.snort_engine.specs.declared.prepare.Task.TheVariants.{Show, Tell}
 use Rattle.snort_engine.proofs.FileWays.{listed_ends, no_host_stop, write_risen}
 use Rattle.snort_engine.proofs.Quiet.{written_quiet}
-use Rattle.snort_engine.proofs.Runs.{headline, stopped_run, watched_run, opens_made}
+use Rattle.snort_engine.proofs.Runs.{headline, stopped_run, shown_run, opens_made}
 use Rattle.snort_engine.proofs.Seeing.{seen_agree, seen_ends, capture_cause_by, stop_cause_by, told_headline}
 use Rattle.snort_engine.proofs.detector.run.Goals as goal
 
-pub watch_capture-outcome-requires-clause-plan : goal.watch_capture-outcome-requires-clause-plan
-watch_capture-outcome-requires-clause-plan g c κs within =
-    let ready = rw c.in-Ok-Watch.field-0-is at c.in-Ok-Watch.ensures.ready in
+pub show_capture-outcome-requires-clause-plan : goal.show_capture-outcome-requires-clause-plan
+show_capture-outcome-requires-clause-plan g c κs within =
+    let ready = rw c.in-Ok-Show.field-0-is at c.in-Ok-Show.ensures.ready in
     ready.sound
 
-pub returns-in-Ok-Watch-clause-headline : goal.returns-in-Ok-Watch-clause-headline
-returns-in-Ok-Watch-clause-headline g c = λ seen may.
+pub returns-in-Ok-Show-clause-headline : goal.returns-in-Ok-Show-clause-headline
+returns-in-Ok-Show-clause-headline g c = λ seen may.
     let first = c.prepare-prepared.new.host in
-    let last = c.watch_capture-outcome.new.host in
+    let last = c.show_capture-outcome.new.host in
     let law = g.met.H.Host.as_told last in
-    let before = c.watch_capture-outcome.ensures.host.earlier seen may in
-    let ready = rw c.in-Ok-Watch.field-0-is at c.in-Ok-Watch.ensures.ready in
-    let causes = c.watch_capture-outcome.ensures.causes in
+    let before = c.show_capture-outcome.ensures.host.earlier seen may in
+    let ready = rw c.in-Ok-Show.field-0-is at c.in-Ok-Show.ensures.ready in
+    let causes = c.show_capture-outcome.ensures.causes in
     let still = seen_left (g.H.Host.left_of c.args.host.now) (g.H.Host.left_of first) seen c.prepare-prepared.ensures.host.left_of in
     headline _ _ _ _ _
-    (watched_run (task_way {P = g.row.M-Made.Denot}) _ _ _ _ (Watch c.in-Ok-Watch.plan) _ c.watch_capture-outcome.result c.prepare-prepared.new.warnings _ (c.matching_is_decided.ensures _)
+    (shown_run (task_way {P = g.row.M-Made.Denot}) _ _ _ _ (Show c.in-Ok-Show.plan) _ c.show_capture-outcome.result c.prepare-prepared.new.warnings _ (c.matching_is_decided.ensures _)
     (record {
       middle = record {
         left = left_by (g.H.Host.left_of first) seen;
@@ -34,31 +34,31 @@ returns-in-Ok-Watch-clause-headline g c = λ seen may.
         host_faults = g.H.Host.faults c.prepare-prepared.new.host;
         alerts = g.A.Sink.written c.args.alerts.now;
       };
-      prepared = λ files is. (rw c.in-Ok-Watch.field-0-is at c.in-Ok-Watch.ensures.prepared) files (seen_agree g.H.Host first seen files before is);
-      faulty_words = λ none. c.in-Ok-Watch.ensures.faulty_words none;
-      fileless = c.in-Ok-Watch.ensures.fileless;
+      prepared = λ files is. (rw c.in-Ok-Show.field-0-is at c.in-Ok-Show.ensures.prepared) files (seen_agree g.H.Host first seen files before is);
+      faulty_words = λ none. c.in-Ok-Show.ensures.faulty_words none;
+      fileless = c.in-Ok-Show.ensures.fileless;
       since = record { left = still; opens = c.prepare-prepared.ensures.host.opens; alerts = refl; later = c.prepare-prepared.ensures.host.later };
       ends = λ matches tells files course is goes.
-          seen_ends g.H.Host g.A.Sink first last c.args.alerts.now c.watch_capture-outcome.new.alerts files course _ _ seen is
-          (c.watch_capture-outcome.ensures.ends matches
+          seen_ends g.H.Host g.A.Sink first last c.args.alerts.now c.show_capture-outcome.new.alerts files course _ _ seen is
+          (c.show_capture-outcome.ensures.ends matches
           (record { means = g.M.PatternMaker.means c.args.maker.now; find = ready.meant; tells = tells })
           files course (seen_agree g.H.Host last seen files may is) goes);
       write_fault = causes.write_fault;
       read_fault = λ matches failed.
-          capture_cause_by g.H.Host first last c.in-Ok-Watch.plan.source (plan_of matches c.in-Ok-Watch.plan) (Rose (g.H.Host.faults first) (g.H.Host.faults last)) seen law
-          c.watch_capture-outcome.ensures.host.files may refl (causes.read_fault failed);
-      quiet = λ uncut. causes.quiet uncut ∙ c.in-Ok-Watch.ensures.causes.quiet refl;
+          capture_cause_by g.H.Host first last c.in-Ok-Show.plan.source (plan_of matches c.in-Ok-Show.plan) (Rose (g.H.Host.faults first) (g.H.Host.faults last)) seen law
+          c.show_capture-outcome.ensures.host.files may refl (causes.read_fault failed);
+      quiet = λ uncut. causes.quiet uncut ∙ c.in-Ok-Show.ensures.causes.quiet refl;
       quiet_alerts = causes.quiet_alerts;
       opened = λ matches.
-          rw c.prepare-prepared.ensures.host.opens at (c.watch_capture-outcome.ensures.opened matches seen may);
+          rw c.prepare-prepared.ensures.host.opens at (c.show_capture-outcome.ensures.opened matches seen may);
       made_unopened = λ for_made.
-          let made = (rw c.in-Ok-Watch.field-0-is at c.in-Ok-Watch.ensures.made) for_made in (
-            opens_made _ c.in-Ok-Watch.plan.source _ _ _ _ made (c.watch_capture-outcome.ensures.opened (c.matching_is_decided.ensures (g.M.PatternMaker.means c.args.maker.now)).0 seen may) ∙ c.prepare-prepared.ensures.host.opens,
-            seen_left (g.H.Host.left_of first) (g.H.Host.left_of last) seen (c.watch_capture-outcome.ensures.made_unopened made) ∙ still,
+          let made = (rw c.in-Ok-Show.field-0-is at c.in-Ok-Show.ensures.made) for_made in (
+            opens_made _ c.in-Ok-Show.plan.source _ _ _ _ made (c.show_capture-outcome.ensures.opened (c.matching_is_decided.ensures (g.M.PatternMaker.means c.args.maker.now)).0 seen may) ∙ c.prepare-prepared.ensures.host.opens,
+            seen_left (g.H.Host.left_of first) (g.H.Host.left_of last) seen (c.show_capture-outcome.ensures.made_unopened made) ∙ still,
           );
       same_files = refl;
       counts = record {
-        host = omega (arith, c.prepare-prepared.ensures.host.later, c.watch_capture-outcome.ensures.host.later);
+        host = omega (arith, c.prepare-prepared.ensures.host.later, c.show_capture-outcome.ensures.host.later);
         alerts = causes.later_alerts;
         errors = omega (arith, c.tell_all-well.ensures.later, c.report.ensures.later);
       };
@@ -78,7 +78,7 @@ returns-in-Ok-Tell-clause-headline g c = λ seen may.
     let first = c.prepare-prepared.new.host in
     let still = seen_left (g.H.Host.left_of c.args.host.now) (g.H.Host.left_of first) seen c.prepare-prepared.ensures.host.left_of in
     headline _ _ _ _ _
-    (watched_run (task_way {P = g.row.M-Made.Denot}) _ _ _ _ (Tell c.in-Ok-Tell.lines) _ c.write_lines-outcome.result c.prepare-prepared.new.warnings _ (c.matching_is_decided.ensures _)
+    (shown_run (task_way {P = g.row.M-Made.Denot}) _ _ _ _ (Tell c.in-Ok-Tell.lines) _ c.write_lines-outcome.result c.prepare-prepared.new.warnings _ (c.matching_is_decided.ensures _)
     (record {
       middle = record {
         left = left_by (g.H.Host.left_of first) seen;
@@ -144,10 +144,10 @@ returns-clause-headline g c = λ seen may.
       reports = c.report-in-Err.ensures.reports;
     }))
 
-pub returns-in-Ok-Watch-clause-told : goal.returns-in-Ok-Watch-clause-told
-returns-in-Ok-Watch-clause-told g c =
-    told_headline g.H.Host g.A.Sink g.E.Sink _ _ c.args.host.now c.watch_capture-outcome.new.host c.args.alerts.now c.watch_capture-outcome.new.alerts c.args.errors.now c.report.new.errors _ _ _ g.met.H.Host.as_told
-    (c.watch_capture-outcome.ensures.host.files ∙ c.prepare-prepared.ensures.host.files) (returns-in-Ok-Watch-clause-headline g c)
+pub returns-in-Ok-Show-clause-told : goal.returns-in-Ok-Show-clause-told
+returns-in-Ok-Show-clause-told g c =
+    told_headline g.H.Host g.A.Sink g.E.Sink _ _ c.args.host.now c.show_capture-outcome.new.host c.args.alerts.now c.show_capture-outcome.new.alerts c.args.errors.now c.report.new.errors _ _ _ g.met.H.Host.as_told
+    (c.show_capture-outcome.ensures.host.files ∙ c.prepare-prepared.ensures.host.files) (returns-in-Ok-Show-clause-headline g c)
 
 pub returns-in-Ok-Tell-clause-told : goal.returns-in-Ok-Tell-clause-told
 returns-in-Ok-Tell-clause-told g c =
@@ -160,11 +160,11 @@ returns-clause-told g c =
     c.prepare-prepared.ensures.host.files (returns-clause-headline g c)
 
 -- what stays of the maker
-pub returns-in-Ok-Watch-clause-same_meaning : goal.returns-in-Ok-Watch-clause-same_meaning
-returns-in-Ok-Watch-clause-same_meaning g c = c.prepare-prepared.ensures.maker.same_meaning
+pub returns-in-Ok-Show-clause-same_meaning : goal.returns-in-Ok-Show-clause-same_meaning
+returns-in-Ok-Show-clause-same_meaning g c = c.prepare-prepared.ensures.maker.same_meaning
 
-pub returns-in-Ok-Watch-clause-grows : goal.returns-in-Ok-Watch-clause-grows
-returns-in-Ok-Watch-clause-grows g c = c.prepare-prepared.ensures.maker.grows
+pub returns-in-Ok-Show-clause-grows : goal.returns-in-Ok-Show-clause-grows
+returns-in-Ok-Show-clause-grows g c = c.prepare-prepared.ensures.maker.grows
 
 pub returns-in-Ok-Tell-clause-same_meaning : goal.returns-in-Ok-Tell-clause-same_meaning
 returns-in-Ok-Tell-clause-same_meaning g c = c.prepare-prepared.ensures.maker.same_meaning

@@ -2,16 +2,16 @@ use Rattle.std.proofs.Common.{Some, Err, refl, sym, ap, inl, arith}
 use Rattle.std.proofs.lemmas.Result.{err_from_is_err_and}
 use Rattle.edge_io.specs.Told.{Rose}
 use Rattle.snort_engine.specs.declared.reader.RecordReader.{RecordReader}
-use Rattle.snort_engine.specs.Steps.Watching.{plan_of}
+use Rattle.snort_engine.specs.Steps.Showing.{plan_of}
 use Rattle.snort_engine.proofs.Prefixes.{opened_read, rose_since}
 use Rattle.snort_engine.proofs.Captures.{open_stops, capture_ends}
 use Rattle.snort_engine.proofs.Opening.{opens_later}
 use Rattle.snort_engine.proofs.Quiet.{caused_fault, caused_since}
 use Rattle.snort_engine.proofs.Seeing.{cause_by}
-use Rattle.snort_engine.proofs.watch.watch_file.Goals as goal
+use Rattle.snort_engine.proofs.show.show_file.Goals as goal
 
-pub watch_records-requires-clause-readable : goal.watch_records-requires-clause-readable
-watch_records-requires-clause-readable g c κs within =
+pub show_opened-requires-clause-readable : goal.show_opened-requires-clause-readable
+show_opened-requires-clause-readable g c κs within =
     let none = c.in_ok-reader.ensures.fresh.1 in
     record { fresh = c.in_ok-reader.ensures.fresh.0; within = omega (arith, none) }
 
@@ -29,20 +29,20 @@ returns-in_err-reader-clause-ends g c = λ matches test files course agree goes.
 pub returns-clause-ends : goal.returns-clause-ends
 returns-clause-ends g c = λ matches test files course agree goes.
     let named = sym c.requires.named in
-    let opens = rw named at (c.in_ok-reader.ensures.opens files (c.watch_records.ensures.host.earlier (Some files) agree)) in
-    let watches = c.watch_records.ensures.watches matches test (Some files) agree in
-    rw named (capture_ends (plan_of matches c.args.context.now.plan.now) files course c.in_ok-reader.reader _ _ _ _ _ c.watch_records.result
-    goes opens watches (c.watch_records.ensures.close matches test (Some files) agree)
+    let opens = rw named at (c.in_ok-reader.ensures.opens files (c.show_opened.ensures.host.earlier (Some files) agree)) in
+    let shows = c.show_opened.ensures.shows matches test (Some files) agree in
+    rw named (capture_ends (plan_of matches c.args.context.now.plan.now) files course c.in_ok-reader.reader _ _ _ _ _ c.show_opened.result
+    goes opens shows (c.show_opened.ensures.close matches test (Some files) agree)
     (λ rose. rose_since _ _ _ c.in_ok-reader.ensures.host.later rose)
-    (λ is. rose_since _ _ _ c.in_ok-reader.ensures.host.later (c.watch_records.ensures.causes.read_fault is)))
+    (λ is. rose_since _ _ _ c.in_ok-reader.ensures.host.later (c.show_opened.ensures.causes.read_fault is)))
 
 pub returns-clause-opened : goal.returns-clause-opened
 returns-clause-opened g c = λ seen may.
-    rw c.watch_records.ensures.host.opens (opens_later seen c.args.name.now (g.H.Host.faults c.args.host.now) _ _ (g.H.Host.opens c.args.host.now) _
-    c.watch_records.ensures.host.later (c.in_ok-reader.ensures.opened seen (c.watch_records.ensures.host.earlier seen may)))
+    rw c.show_opened.ensures.host.opens (opens_later seen c.args.name.now (g.H.Host.faults c.args.host.now) _ _ (g.H.Host.opens c.args.host.now) _
+    c.show_opened.ensures.host.later (c.in_ok-reader.ensures.opened seen (c.show_opened.ensures.host.earlier seen may)))
 
 pub returns-clause-host : goal.returns-clause-host
-returns-clause-host g c = opened_read g.H.Host _ _ _ c.in_ok-reader.ensures.host c.watch_records.ensures.host
+returns-clause-host g c = opened_read g.H.Host _ _ _ c.in_ok-reader.ensures.host c.show_opened.ensures.host
 
 pub returns-in_err-reader-clause-causes : goal.returns-in_err-reader-clause-causes
 returns-in_err-reader-clause-causes g c =
@@ -51,5 +51,5 @@ returns-in_err-reader-clause-causes g c =
 
 pub returns-clause-causes : goal.returns-clause-causes
 returns-clause-causes g c =
-    caused_since _ _ _ _ _ _ c.watch_records.ensures.causes
+    caused_since _ _ _ _ _ _ c.show_opened.ensures.causes
     (λ rose. inl (rose_since _ _ _ c.in_ok-reader.ensures.host.later rose)) (c.in_ok-reader.ensures.quiet (λ failed. cc)) refl

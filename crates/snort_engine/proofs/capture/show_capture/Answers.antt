@@ -1,20 +1,20 @@
 use Rattle.std.proofs.Common.{refl, ap, ◌∙◌}
 use Rattle.snort_engine.specs.declared.plan.Source.{Source}
 use Rattle.snort_engine.specs.Steps.Sources.{way_from}
-use Rattle.snort_engine.specs.Steps.Watching.{plan_of}
+use Rattle.snort_engine.specs.Steps.Showing.{plan_of}
 use Rattle.snort_engine.proofs.Prefixes.{opened_not}
 use Rattle.snort_engine.proofs.Quiet.{caused_since}
-use Rattle.snort_engine.proofs.capture.watch_capture.Goals as goal
+use Rattle.snort_engine.proofs.capture.show_capture.Goals as goal
 
 pub returns-in-File-clause-ends : goal.returns-in-File-clause-ends
 returns-in-File-clause-ends g c = λ matches test files course agree goes.
     let way = goes ∙ ap (λ (s : Source). way_from s (plan_of matches c.args.context.now.plan.now)) c.in-File.is in
-    rw c.in-File.is (c.watch_file.ensures.ends matches test files course agree way)
+    rw c.in-File.is (c.show_file.ensures.ends matches test files course agree way)
 
 pub returns-in-Made-clause-ends : goal.returns-in-Made-clause-ends
 returns-in-Made-clause-ends g c = λ matches test files course agree goes.
     let way = goes ∙ ap (λ (s : Source). way_from s (plan_of matches c.args.context.now.plan.now)) c.in-Made.is in
-    c.watch_made.ensures.ends matches test files course
+    c.show_made.ensures.ends matches test files course
     (record {
       left = g.H.Host.left_of c.args.host.now files;
       opens = g.H.Host.opens c.args.host.now;
@@ -24,10 +24,10 @@ returns-in-Made-clause-ends g c = λ matches test files course agree goes.
     refl way
 
 pub returns-in-File-clause-causes : goal.returns-in-File-clause-causes
-returns-in-File-clause-causes g c = rw c.in-File.is c.watch_file.ensures.causes
+returns-in-File-clause-causes g c = rw c.in-File.is c.show_file.ensures.causes
 
 pub returns-in-Made-clause-causes : goal.returns-in-Made-clause-causes
-returns-in-Made-clause-causes g c = caused_since _ _ _ _ _ _ (c.watch_made.ensures.causes (g.H.Host.faults c.args.host.now)) (λ never. absurd never) refl refl
+returns-in-Made-clause-causes g c = caused_since _ _ _ _ _ _ (c.show_made.ensures.causes (g.H.Host.faults c.args.host.now)) (λ never. absurd never) refl refl
 
 pub returns-in-Made-clause-host : goal.returns-in-Made-clause-host
 returns-in-Made-clause-host g c = opened_not g.H.Host c.args.host.now

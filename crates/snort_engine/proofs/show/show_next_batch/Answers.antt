@@ -6,11 +6,11 @@ use Rattle.pcap_input.specs.Savefile.{most_records}
 use Rattle.alert_lines.specs.declared.fault.WriteFault.{WriteFault}
 use Rattle.snort_engine.specs.declared.reader.RecordReader.{RecordReader}
 use Rattle.snort_engine.specs.Steps.Reader.{number_of}
-use Rattle.snort_engine.specs.Steps.Watching.{plan_of, most_at, room_behind, MayGoFurther, Standing}
+use Rattle.snort_engine.specs.Steps.Showing.{plan_of, most_at, room_behind, MayGoFurther, Standing}
 use Rattle.snort_engine.proofs.Batches.{more_reached, showing_cuts, within_batch}
 use Rattle.snort_engine.proofs.Quiet.{caused_done, caused_lacking, caused_reached, caused_unwritten}
-use Rattle.snort_engine.proofs.Watched.{nothing_left, batch_lacks, batch_shown, batch_stops, part_shown}
-use Rattle.snort_engine.proofs.watch.watch_batch.Goals as goal
+use Rattle.snort_engine.proofs.Shown.{nothing_left, batch_lacks, batch_shown, batch_stops, part_shown}
+use Rattle.snort_engine.proofs.show.show_next_batch.Goals as goal
 
 pub read_batch-reached-requires-clause-fresh : goal.read_batch-reached-requires-clause-fresh
 read_batch-reached-requires-clause-fresh g c = c.requires.ready.readable.fresh

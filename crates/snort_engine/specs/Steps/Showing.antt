@@ -1,4 +1,4 @@
--- How the watching of a capture ends, from the reader that was opened to the last line.
+-- How the showing of a capture ends, from the reader that was opened to the last line.
 --
 -- What is left for a reader are the records that it has yet to give. To try it on: where a write fails
 -- in the lines of the second batch, the lines of the first were written, a part of those of the second
@@ -63,7 +63,7 @@ plan_of matches plan = record {
 abbrev pub OfTest : {P : Type 0} → (P → List ℕ → Option Span) → code.Plan P → (Plan → Type 0) → Type 0
 OfTest finds plan Holds = (matches : Test) → IsTest finds plan.setup.set matches → Holds (plan_of matches plan)
 
--- ---- the watching
+-- ---- the showing
 
 -- what is left of the capture and what was written, where they are told
 pub record Streams : Type 0 where
@@ -96,7 +96,7 @@ abbrev pub counts_left : Plan → RecordReader → List ℕ → Counts
 counts_left plan reader rest = counts_of plan (recording_by plan reader rest).records
 
 -- all lines of the bytes that were left were written, they end so, and all was counted
-pub record IsWatched (plan : Plan) (reader : RecordReader) (rest : List ℕ) (ending : Ending ReadFault) (old new : Streams)
+pub record IsShownWhole (plan : Plan) (reader : RecordReader) (rest : List ℕ) (ending : Ending ReadFault) (old new : Streams)
     (counts : Counts) : Type 0 where
   pub ends : (recording_by plan reader rest).ending ≡ ending
   pub wrote : new.written ≡ behind old.written (lines_left plan reader rest Closed)
@@ -113,7 +113,7 @@ abbrev pub IsReadOut : Plan → RecordReader → List ℕ → Option (List ℕ) 
 IsReadOut plan reader taken left =
     (rest : List ℕ) → left ≡ Some rest → (recording_by plan reader rest).records ≡ (recording_by plan reader taken).records
 
--- how far was read where the watching ends so: to the end, if nothing cut it short; at a write fault in whole batches,
+-- how far was read where the showing ends so: to the end, if nothing cut it short; at a write fault in whole batches,
 -- or to the end, or to where the host failed
 abbrev pub HasReadTo : Plan → RecordReader → List ℕ → Option (List ℕ) → Type 0 → Result (Unit {0}) Stop → Type 0
 HasReadTo plan reader taken left failed (Ok done) = IsReadOut plan reader taken left
@@ -126,7 +126,7 @@ HasReadTo plan reader taken left failed (Err why) = IsReadOut plan reader taken 
 
 -- of the records that are whole within the bytes taken, the lines of those given were written, and maybe more: of whole
 -- batches, behind which at most one more was read, or of all; without the limit there are no more of them than it lets;
--- where the watching ends so, and the host failed or did not, no more was read than may be
+-- where the showing ends so, and the host failed or did not, no more was read than may be
 pub record IsCloseBehind (plan : Plan) (reader : RecordReader) (old new : Streams) (failed : Type 0)
     (outcome : Result (Unit {0}) Stop) : Type 0 where
   pub taken : List ℕ
@@ -146,22 +146,22 @@ abbrev pub WritesSome : Plan → RecordReader → Streams → Streams → Type 0
 WritesSome plan reader old new =
     (rest : List ℕ) → old.left ≡ Some rest → WritesPart old.written (lines_left plan reader rest Closed) new.written
 
--- the capture was watched to an ending
-abbrev pub WatchesTo : Plan → RecordReader → Ending ReadFault → Streams → Streams → Counts → Type 0
-WatchesTo plan reader ending old new counts =
-    (rest : List ℕ) → old.left ≡ Some rest → IsWatched plan reader rest ending old new counts
+-- the capture was shown to an ending
+abbrev pub ShowsTo : Plan → RecordReader → Ending ReadFault → Streams → Streams → Counts → Type 0
+ShowsTo plan reader ending old new counts =
+    (rest : List ℕ) → old.left ≡ Some rest → IsShownWhole plan reader rest ending old new counts
 
--- how the watching ends: at the end of the capture; cut off by the host; stopped by the sink or for
+-- how the showing ends: at the end of the capture; cut off by the host; stopped by the sink or for
 -- want of memory; or at what can't be read
-abbrev pub Watches : Plan → RecordReader → Streams → Streams → Counts → Result (Unit {0}) Stop → Type 0
-Watches plan reader old new counts (Ok done) = WatchesTo plan reader Clean old new counts
-Watches plan reader old new counts (Err (stop.Capture fault.Failed)) =
+abbrev pub ShowsCapture : Plan → RecordReader → Streams → Streams → Counts → Result (Unit {0}) Stop → Type 0
+ShowsCapture plan reader old new counts (Ok done) = ShowsTo plan reader Clean old new counts
+ShowsCapture plan reader old new counts (Err (stop.Capture fault.Failed)) =
     IsReadCutShort plan reader old new × WritesSome plan reader old new
-Watches plan reader old new counts (Err (stop.Capture fault.NoMemory)) = WritesSome plan reader old new
-Watches plan reader old new counts (Err (stop.Capture why)) = WatchesTo plan reader (Refused why) old new counts
-Watches plan reader old new counts (Err stop.CannotWrite) = WritesSome plan reader old new
-Watches plan reader old new counts (Err stop.NoMemory) = WritesSome plan reader old new
-Watches plan reader old new counts (Err why) = ⊥
+ShowsCapture plan reader old new counts (Err (stop.Capture fault.NoMemory)) = WritesSome plan reader old new
+ShowsCapture plan reader old new counts (Err (stop.Capture why)) = ShowsTo plan reader (Refused why) old new counts
+ShowsCapture plan reader old new counts (Err stop.CannotWrite) = WritesSome plan reader old new
+ShowsCapture plan reader old new counts (Err stop.NoMemory) = WritesSome plan reader old new
+ShowsCapture plan reader old new counts (Err why) = ⊥
 
 -- ---- batch by batch
 
@@ -181,7 +181,7 @@ abbrev pub room_behind : Option ℕ → ℕ → Option ℕ
 room_behind None count = None
 room_behind (Some room) count = Some (room - count)
 
--- where a watching stands: the reader, how many records may still be read, the detector, and what is told
+-- where a showing stands: the reader, how many records may still be read, the detector, and what is told
 pub record Standing : Type 0 where
   pub reader : RecordReader
   pub room : Option ℕ
@@ -238,14 +238,14 @@ abbrev pub ComesOver : Plan → RecordReader → Streams → Streams → Type 0 
 ComesOver plan first start now failed detector outcome =
     Comes plan first start now detector outcome × IsCloseBehind plan first start now failed outcome
 
--- a watching that was under way is so still, behind one more batch, or all batches are read
-abbrev pub WatchesOn : Plan → Standing → Standing → Type 0 → Result Bool Stop → Type 0
-WatchesOn plan old new failed (Ok true) =
+-- a showing that was under way is so still, behind one more batch, or all batches are read
+abbrev pub ShowsOn : Plan → Standing → Standing → Type 0 → Result Bool Stop → Type 0
+ShowsOn plan old new failed (Ok true) =
     (first : RecordReader) (start : Streams) → IsUnderWay plan first start old → IsUnderWay plan first start new
-WatchesOn plan old new failed (Ok false) =
+ShowsOn plan old new failed (Ok false) =
     (first : RecordReader) (start : Streams) → IsUnderWay plan first start old
     → ComesOver plan first start new.streams failed new.detector (Ok tt)
-WatchesOn plan old new failed (Err why) =
+ShowsOn plan old new failed (Err why) =
     (first : RecordReader) (start : Streams) → IsUnderWay plan first start old
     → ComesOver plan first start new.streams failed new.detector (Err why)
 
@@ -257,7 +257,7 @@ MayClose plan detector outcome = is_whole outcome ≡ true → IsClosable plan d
 
 -- what was cut short is left as it was
 abbrev pub IsLeft : Result (Unit {0}) Stop → Result (Unit {0}) Stop → Sending → Sending → Type 0
-IsLeft watched result old new = (is_whole watched ≡ false) × (result ≡ watched) × (new.written ≡ old.written)
+IsLeft shown result old new = (is_whole shown ≡ false) × (result ≡ shown) × (new.written ≡ old.written)
 
 -- a detector whose sink stands so
 abbrev pub closing : Detector → Sending → Detecting
@@ -266,19 +266,19 @@ closing detector now = record { detector = detector; written = now.written; faul
 -- what came to its end is closed
 abbrev pub IsClosedWhole : Plan → Detector → Result (Unit {0}) Stop → Result (Unit {0}) Stop
     → Sending → Sending → Counts → Type 0
-IsClosedWhole plan detector watched result old new counts =
-    (is_whole watched ≡ true) × (result ≡ watched) × Closes plan (closing detector old) new (Ok counts)
+IsClosedWhole plan detector shown result old new counts =
+    (is_whole shown ≡ true) × (result ≡ shown) × Closes plan (closing detector old) new (Ok counts)
 
 -- or its closing was stopped
 abbrev pub IsClosedInPart : Plan → Detector → Result (Unit {0}) Stop → Result (Unit {0}) Stop
     → Sending → Sending → Type 0
-IsClosedInPart plan detector watched result old new =
-    (is_whole watched ≡ true)
+IsClosedInPart plan detector shown result old new =
+    (is_whole shown ≡ true)
     × ((why : WriteFault) × (result ≡ Err (write_stop why)) × Closes plan (closing detector old) new (Err why))
 
 -- how a capture whose batches ended so is closed
-unfoldable pub ClosesWatched : Plan → Detector → Result (Unit {0}) Stop
+unfoldable pub ClosesShown : Plan → Detector → Result (Unit {0}) Stop
     → Sending → Sending → Counts → Result (Unit {0}) Stop → Type 0
-ClosesWatched plan detector watched old new counts result =
-    IsLeft watched result old new
-    ⊎ (IsClosedWhole plan detector watched result old new counts ⊎ IsClosedInPart plan detector watched result old new)
+ClosesShown plan detector shown old new counts result =
+    IsLeft shown result old new
+    ⊎ (IsClosedWhole plan detector shown result old new counts ⊎ IsClosedInPart plan detector shown result old new)

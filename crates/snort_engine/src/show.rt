@@ -1,4 +1,4 @@
-//! Watching a capture: batches are read, searched, and their lines written.
+//! Showing a capture: batches are read, searched, and their lines written.
 ghost use Rattle.std.specs.Prelude.{◌≡◌, ◌+◌, ◌^◌, ◌≤◌, ◌⊎◌, true, [], length, OnOk};
 ghost use Rattle.edge_io.specs.Files.{Lacks};
 ghost use Rattle.snort_engine.specs.Course.{Goes};
@@ -13,8 +13,8 @@ ghost use Rattle.snort_engine.specs.Steps.Reporting.{outcome_said};
 ghost use Rattle.alert_lines.specs.Gathering.{sending};
 ghost use Rattle.snort_engine.specs.Counts.{no_counts};
 ghost use Rattle.snort_engine.specs.Steps.Detecting.{IsSoundPlan, Knows, DetectorStands, ShowsRecordsPart};
-ghost use Rattle.snort_engine.specs.Steps.Watching.{standing, OfStreams, OfTest, Watches, ComesOver, IsCloseBehind};
-ghost use Rattle.snort_engine.specs.Steps.Watching.{WatchesOn, MayGoFurther, MayGoOn, MayClose, ClosesWatched};
+ghost use Rattle.snort_engine.specs.Steps.Showing.{standing, OfStreams, OfTest, ShowsCapture, ComesOver, IsCloseBehind};
+ghost use Rattle.snort_engine.specs.Steps.Showing.{ShowsOn, MayGoFurther, MayGoOn, MayClose, ClosesShown};
 
 use crate::batch::{give_back, lacks_memory, more, most_at, read_batch, room_behind};
 use crate::context::Context;
@@ -48,7 +48,7 @@ fn show_some<P: Pattern, G: Gate, A: Sink, R: Threads + Sync>(
 /// at the capture's end, and where no record may be read any more. `room` is how many may be. Want of memory for
 /// reading goes before a fault of the sink.
 #[tactic(auto, using(crate::proofs::Prefixes::reading))]
-fn watch_batch<H: Host, P: Pattern, G: Gate, A: Sink, R: Threads + Sync>(
+fn show_next_batch<H: Host, P: Pattern, G: Gate, A: Sink, R: Threads + Sync>(
     context: &Context<'_, P, G, R>,
     host: &mut H,
     reader: &mut RecordReader,
@@ -61,7 +61,7 @@ fn watch_batch<H: Host, P: Pattern, G: Gate, A: Sink, R: Threads + Sync>(
     requires ready { MayGoOn context.now.plan.now reader.old detector.old }
     requires no_records { records.old.items ≡ [] }
     ensures goes_on { OfTest P.finds context.now.plan.now (λ plan.
-        OfStreams H.Host A.Sink host.old host.new alerts.old alerts.new (λ before after. WatchesOn plan
+        OfStreams H.Host A.Sink host.old host.new alerts.old alerts.new (λ before after. ShowsOn plan
         (standing reader.old room.old detector.old before) (standing reader.new room.new detector.new after)
         (HostRose H.Host host.old host.new) result)) }
     ensures further { result ≡ Ok true → MayGoFurther context.now.plan.now reader.old reader.new detector.new }
@@ -89,7 +89,7 @@ fn watch_batch<H: Host, P: Pattern, G: Gate, A: Sink, R: Threads + Sync>(
 /// Reads one batch of records after another, and writes the lines of each before the next is read. What
 /// it ends with is not closed yet.
 #[tactic(auto, using(crate::proofs::Prefixes::reading))]
-fn watch_batches<H: Host, P: Pattern, G: Gate, A: Sink, R: Threads + Sync>(
+fn show_batches<H: Host, P: Pattern, G: Gate, A: Sink, R: Threads + Sync>(
     context: &Context<'_, P, G, R>,
     host: &mut H,
     reader: &mut RecordReader,
@@ -109,7 +109,7 @@ fn watch_batches<H: Host, P: Pattern, G: Gate, A: Sink, R: Threads + Sync>(
 {
     let mut room = context.plan.limit;
     let mut records = Vec::new(context.alloc);
-    'batches: while watch_batch(
+    'batches: while show_next_batch(
         context,
         host,
         reader,
@@ -123,31 +123,31 @@ fn watch_batches<H: Host, P: Pattern, G: Gate, A: Sink, R: Threads + Sync>(
 
 /// Closes a capture whose batches ended so, where it is to be closed.
 #[tactic(auto, using(crate::proofs::Prefixes::rising))]
-fn close_watched<P: Pattern, G: Gate, A: Sink, R: Threads + Sync>(
+fn close_shown<P: Pattern, G: Gate, A: Sink, R: Threads + Sync>(
     context: &Context<'_, P, G, R>,
     detector: Detector,
-    watched: Result<(), Stop>,
+    shown: Result<(), Stop>,
     alerts: &mut A,
     counts: &mut Counts,
 ) -> Result<(), Stop>
     requires plan { IsSoundPlan context.now.plan.now }
-    requires closable { MayClose context.now.plan.now detector watched }
-    ensures closes { OfTest P.finds context.now.plan.now (λ plan. ClosesWatched plan detector watched
+    requires closable { MayClose context.now.plan.now detector shown }
+    ensures closes { OfTest P.finds context.now.plan.now (λ plan. ClosesShown plan detector shown
         (sending A.Sink [] alerts.old) (sending A.Sink [] alerts.new) counts.new result) }
     ensures causes { ClosesWith (A.faults alerts.old) (A.faults alerts.new)
-        (outcome_status watched) (outcome_status result) }
+        (outcome_status shown) (outcome_status result) }
 {
-    if !is_whole(&watched) {
-        return watched;
+    if !is_whole(&shown) {
+        return shown;
     }
     *counts = close(context, detector, alerts)?;
-    watched
+    shown
 }
 
 /// Reads all records of a capture that was opened, batch by batch, and writes their lines and those of the
 /// flows that end with it; `counts` is then what was counted, where it was read to its end.
 #[tactic(auto, using(crate::proofs::Prefixes::rising))]
-pub(crate) fn watch_records<H: Host, P: Pattern, G: Gate, A: Sink, R: Threads + Sync>(
+pub(crate) fn show_opened<H: Host, P: Pattern, G: Gate, A: Sink, R: Threads + Sync>(
     context: &Context<'_, P, G, R>,
     host: &mut H,
     reader: &mut RecordReader,
@@ -156,9 +156,9 @@ pub(crate) fn watch_records<H: Host, P: Pattern, G: Gate, A: Sink, R: Threads + 
 ) -> Result<(), Stop>
     requires plan { IsSoundPlan context.now.plan.now }
     requires readable { IsReadable reader.old }
-    ensures watches { OfTest P.finds context.now.plan.now (λ plan.
+    ensures shows { OfTest P.finds context.now.plan.now (λ plan.
         OfStreams H.Host A.Sink host.old host.new alerts.old alerts.new (λ before after.
-        Watches plan reader.old before after counts.new result)) }
+        ShowsCapture plan reader.old before after counts.new result)) }
     ensures close { OfTest P.finds context.now.plan.now (λ plan.
         OfStreams H.Host A.Sink host.old host.new alerts.old alerts.new (λ before after.
         IsCloseBehind plan reader.old before after (HostRose H.Host host.old host.new) result)) }
@@ -167,14 +167,14 @@ pub(crate) fn watch_records<H: Host, P: Pattern, G: Gate, A: Sink, R: Threads + 
     ensures host { OnlyRead H.Host host.old host.new }
 {
     let mut detector = Detector::new(context.alloc, context.plan)?;
-    let watched = watch_batches(context, host, reader, &mut detector, alerts);
-    close_watched(context, detector, watched, alerts, counts)
+    let shown = show_batches(context, host, reader, &mut detector, alerts);
+    close_shown(context, detector, shown, alerts, counts)
 }
 
 /// Opens the file of this name as the capture and writes the lines of its records; `counts` is then what
 /// was counted, where it was read to its end, or is refused.
 #[tactic(auto, using(crate::proofs::Prefixes::reading))]
-pub(crate) fn watch_file<H: Host, P: Pattern, G: Gate, A: Sink, R: Threads + Sync>(
+pub(crate) fn show_file<H: Host, P: Pattern, G: Gate, A: Sink, R: Threads + Sync>(
     context: &Context<'_, P, G, R>,
     host: &mut H,
     name: &str,
@@ -194,5 +194,5 @@ pub(crate) fn watch_file<H: Host, P: Pattern, G: Gate, A: Sink, R: Threads + Syn
     ensures host { OnlyOpened H.Host host.old host.new }
 {
     let mut reader = RecordReader::open(context.alloc, host, name)?;
-    watch_records(context, host, &mut reader, alerts, counts)
+    show_opened(context, host, &mut reader, alerts, counts)
 }

@@ -4,16 +4,16 @@ use Rattle.std.specs.FinMap.{empty}
 use Rattle.edge_io.specs.Files.{Files}
 use Rattle.snort_engine.specs.Steps.Reader.{IsReadable}
 use Rattle.snort_engine.specs.Steps.Stop.{stop_text}
-use Rattle.snort_engine.specs.Steps.Watching.{plan_of}
+use Rattle.snort_engine.specs.Steps.Showing.{plan_of}
 use Rattle.snort_engine.proofs.MadeCaptures.{generated_long, made_ends, unmade_ends, never_rose}
 use Rattle.snort_engine.proofs.Quiet.{caused_lacking, caused_unseen}
-use Rattle.snort_engine.proofs.capture.watch_made.Goals as goal
+use Rattle.snort_engine.proofs.capture.show_made.Goals as goal
 
 pub new-made-requires : goal.new-made-requires
 new-made-requires g c = subst (λ (xs : List ℕ). 24 ≤ length xs) (sym (c.deref.ensures.value ∙ c.in_ok-bytes.ensures)) (generated_long c.args.seed c.args.count)
 
-pub watch_records-requires-clause-readable : goal.watch_records-requires-clause-readable
-watch_records-requires-clause-readable g c κs within =
+pub show_opened-requires-clause-readable : goal.show_opened-requires-clause-readable
+show_opened-requires-clause-readable g c κs within =
     subst IsReadable (sym c.made_reader-reader.ensures) (record { fresh = refl; within = omega arith })
 
 pub returns-in_err-bytes-clause-ends : goal.returns-in_err-bytes-clause-ends
@@ -25,11 +25,11 @@ returns-in_err-bytes-clause-ends g c = λ matches test files course before same 
 pub returns-clause-ends : goal.returns-clause-ends
 returns-clause-ends g c = λ matches test files course before same makes.
     let none : Files = empty in
-    made_ends (plan_of matches c.args.context.now.plan.now) files course c.args.seed c.args.count c.in_ok-bytes.bytes.items c.made_reader-reader.result _ _ _ _ before _ c.watch_records.result
+    made_ends (plan_of matches c.args.context.now.plan.now) files course c.args.seed c.args.count c.in_ok-bytes.bytes.items c.made_reader-reader.result _ _ _ _ before _ c.show_opened.result
     makes same c.in_ok-bytes.ensures c.made_reader-reader.ensures
     (c.new-made.ensures ∙ ap (λ (xs : List ℕ). Some (drop 24 xs)) c.deref.ensures.value)
-    (c.watch_records.ensures.watches matches test (Some none) refl)
-    (λ failed. never_rose (c.watch_records.ensures.causes.read_fault failed))
+    (c.show_opened.ensures.shows matches test (Some none) refl)
+    (λ failed. never_rose (c.show_opened.ensures.causes.read_fault failed))
 
 pub returns-in_err-bytes-clause-causes : goal.returns-in_err-bytes-clause-causes
 returns-in_err-bytes-clause-causes g c = λ host.
@@ -37,4 +37,4 @@ returns-in_err-bytes-clause-causes g c = λ host.
     rw (p.1, p.2) (caused_lacking _ _ _ (omega arith))
 
 pub returns-clause-causes : goal.returns-clause-causes
-returns-clause-causes g c = λ host. caused_unseen _ host _ _ _ c.watch_records.ensures.causes never_rose
+returns-clause-causes g c = λ host. caused_unseen _ host _ _ _ c.show_opened.ensures.causes never_rose

@@ -5,8 +5,8 @@ use Rattle.rule_eval.specs.Hits.{Test}
 use Rattle.edge_io.specs.Frames.{OnlyRead}
 use Rattle.snort_engine.specs.Steps.Reader.{number_of}
 use Rattle.snort_engine.specs.Steps.Detecting.{DetectorStands}
-use Rattle.snort_engine.specs.Steps.Watching.{plan_of, IsTest, IsUnderWay, MayGoOn}
-use Rattle.snort_engine.proofs.watch.watch_batches.Given as goal
+use Rattle.snort_engine.specs.Steps.Showing.{plan_of, IsTest, IsUnderWay, MayGoOn}
+use Rattle.snort_engine.proofs.show.show_batches.Given as goal
 
 abbrev pub invariant-batches : goal.invariant-batches
 invariant-batches g l = record {

@@ -1,4 +1,4 @@
--- The steps of watching a capture.
+-- The steps of showing a capture.
 use Rattle.std.proofs.Common.{◌≡◌, ℕ, ◌<◌, ◌≤◌, Bool, true, false, List, [], ◌++◌, length, Option, Some, None, Result, Ok, Err, refl, sym, ap, subst, ◌∙◌, append_assoc, arith, inl, inr, ◌⊎◌, ⊎_elim}
 use Rattle.std.proofs.lemmas.List.{append-nil}
 use Rattle.edge_io.specs.Told.{behind}
@@ -30,7 +30,7 @@ use Rattle.snort_engine.specs.declared.batch.Reached.{Reached}
 use Rattle.snort_engine.specs.declared.batch.Reached.TheVariants.{More, End, Fault}
 use Rattle.snort_engine.specs.ReadAhead.{batch, AreBatches}
 use Rattle.snort_engine.specs.Steps.Detecting.{Closes, Detecting, DetectorStands, ShowsRecords, ShowsRecordsPart, closing_lines}
-use Rattle.snort_engine.specs.Steps.Watching.{Streams, Standing, lines_of, lines_left, recording_by, IsRoom, most_at, room_behind, IsReadOut, HasReadTo, IsUnderWay, IsAtEnd, IsReadCutShort, IsCloseBehind, WritesSome, WatchesTo, Watches, Comes, ComesOver, WatchesOn, IsLeft, IsClosedWhole, IsClosedInPart, ClosesWatched, closing}
+use Rattle.snort_engine.specs.Steps.Showing.{Streams, Standing, lines_of, lines_left, recording_by, IsRoom, most_at, room_behind, IsReadOut, HasReadTo, IsUnderWay, IsAtEnd, IsReadCutShort, IsCloseBehind, WritesSome, ShowsTo, ShowsCapture, Comes, ComesOver, ShowsOn, IsLeft, IsClosedWhole, IsClosedInPart, ClosesShown, closing}
 use Rattle.snort_engine.proofs.Limits.{limit-front, below_limit, at_limit, within_limit, room_first, room_further, room_left, room_within, batches_none, batches_further, batches_last}
 use Rattle.snort_engine.proofs.Reading.{reading-start, reading-told, reading-whole}
 use Rattle.snort_engine.proofs.LinesLaws.{lines_of-nil, lines_of-closed, lines_of-append}
@@ -228,7 +228,7 @@ showing_stops plan first old after detector write.NoMemory some = some
 -- ---- a batch
 
 -- no record may be read any more
-pub nothing_left : (plan : Plan) (old : Standing) (failed : Type 0) → most_at old.room ≡ 0 → WatchesOn plan old old failed (Ok false)
+pub nothing_left : (plan : Plan) (old : Standing) (failed : Type 0) → most_at old.room ≡ 0 → ShowsOn plan old old failed (Ok false)
 nothing_left plan old failed none = λ first start going.
     let stopped = reading-whole first old.reader going.given start.left old.streams.left going.read in
     let ends : (whole : List ℕ) → start.left ≡ Some whole → recording_by plan first whole ≡ record { records = going.given; ending = Clean } =
@@ -256,7 +256,7 @@ pub batch_shown : (plan : Plan) (records : List LinkedRecord) (old new : Standin
     → (reached ≡ More → length records ≡ most_at old.room) → ((reached ≡ More → ⊥) → length records < most_at old.room)
     → ReadsOn (record { reader = old.reader; records = []; left = old.streams.left }) (record { reader = new.reader; records = records; left = new.streams.left }) reached
     → ShowsRecords plan records (record { detector = old.detector; written = old.streams.written; faults = faults }) (record { detector = new.detector; written = new.streams.written; faults = after }) (Ok done)
-    → WatchesOn plan old new failed (more_of reached)
+    → ShowsOn plan old new failed (more_of reached)
 batch_shown plan records old new failed reached faults after done few room_is full fewer reads shows = by_case reached full fewer reads
   where
     room_now : (first : RecordReader) (start : Streams) (going : IsUnderWay plan first start old) → IsRoom plan.limit (length (going.given ++ records)) new.room
@@ -267,7 +267,7 @@ batch_shown plan records old new failed reached faults after done few room_is fu
     some_left short = subst (λ (r : Option ℕ). 0 < most_at r) (sym room_is) (room_left old.room (length records) short)
 
     by_case : (r : Reached) → (r ≡ More → length records ≡ most_at old.room) → ((r ≡ More → ⊥) → length records < most_at old.room)
-        → ReadsOn (record { reader = old.reader; records = []; left = old.streams.left }) (record { reader = new.reader; records = records; left = new.streams.left }) r → WatchesOn plan old new failed (more_of r)
+        → ReadsOn (record { reader = old.reader; records = []; left = old.streams.left }) (record { reader = new.reader; records = records; left = new.streams.left }) r → ShowsOn plan old new failed (more_of r)
     by_case More all short on = λ first start going.
         let own = batch_is plan records old new first start going faults after done shows in record {
           given = going.given ++ records;
@@ -311,7 +311,7 @@ batch_part : (plan : Plan) (records : List LinkedRecord) (old new : Standing) (f
     → length records ≤ most_at old.room → ReadsTo plan records old failed (write_stop why)
     → ReadsOn (record { reader = old.reader; records = []; left = old.streams.left }) (record { reader = new.reader; records = records; left = new.streams.left }) reached
     → ShowsRecordsPart plan records old.detector old.streams.written new.streams.written
-    → WatchesOn plan old new failed (Err (write_stop why))
+    → ShowsOn plan old new failed (Err (write_stop why))
 unfolding WritesPart ShowsRecordsPart
 batch_part plan records old new failed reached why few to reads shown = λ first start going.
     let given = going.given ++ records in
@@ -347,7 +347,7 @@ pub batch_stops : (plan : Plan) (records : List LinkedRecord) (old new : Standin
     → (reached ≡ Fault fault.Failed → failed) → lacks_memory reached ≡ false
     → ReadsOn (record { reader = old.reader; records = []; left = old.streams.left }) (record { reader = new.reader; records = records; left = new.streams.left }) reached
     → ShowsRecordsPart plan records old.detector old.streams.written new.streams.written
-    → WatchesOn plan old new failed (Err (write_stop why))
+    → ShowsOn plan old new failed (Err (write_stop why))
 batch_stops plan records old new failed reached why few full fewer rose enough reads shown =
     batch_part plan records old new failed reached why few (by_fault why) reads shown
   where
@@ -366,7 +366,7 @@ pub batch_lacks : (plan : Plan) (records : List LinkedRecord) (old new : Standin
     → length records ≤ most_at old.room
     → ReadsOn (record { reader = old.reader; records = []; left = old.streams.left }) (record { reader = new.reader; records = records; left = new.streams.left }) reached
     → ShowsRecordsPart plan records old.detector old.streams.written new.streams.written
-    → WatchesOn plan old new failed (Err stop.NoMemory)
+    → ShowsOn plan old new failed (Err stop.NoMemory)
 batch_lacks plan records old new failed reached few reads shown =
     batch_part plan records old new failed reached write.NoMemory few (λ first start going taken are. tt) reads shown
 
@@ -420,7 +420,7 @@ close-start plan reader old failed fresh =
 -- a capture at its end was closed
 closed_to : (plan : Plan) (first : RecordReader) (start now : Streams) (detector : Detector) (ending : Ending ReadFault) (written : Option (List ℕ)) (faults after : ℕ) (counts : Counts) → IsAtEnd plan first start now detector ending
     → Closes plan (record { detector = detector; written = now.written; faults = faults }) (record { written = written; block = []; faults = after }) (Ok counts)
-    → (left : Option (List ℕ)) → WatchesTo plan first ending start (record { left = left; written = written }) counts
+    → (left : Option (List ℕ)) → ShowsTo plan first ending start (record { left = left; written = written }) counts
 closed_to plan first start now detector ending written faults after counts came closes left = λ whole told.
     let cut = came.ends whole told in record {
       ends = ap (λ (c : Recording). c.ending) cut;
@@ -441,11 +441,11 @@ closed_some plan first start now detector ending written faults after why came p
     (WritesPart-behind start.written now.written written (lines_of plan came.given Open) (closing_lines plan came.given) came.wrote (part.emits.part (record { records = came.given; stand = came.stands })))
 
 -- a part of lines stopped the showing of them
-stopped_some : (plan : Plan) (first : RecordReader) (start after : Streams) (counts : Counts) (why : WriteFault) → WritesSome plan first start after → Watches plan first start after counts (Err (write_stop why))
+stopped_some : (plan : Plan) (first : RecordReader) (start after : Streams) (counts : Counts) (why : WriteFault) → WritesSome plan first start after → ShowsCapture plan first start after counts (Err (write_stop why))
 stopped_some plan first start after counts write.Unwritten some = some
 stopped_some plan first start after counts write.NoMemory some = some
 
--- how the watching ends, by how the batches ended and how it was closed
+-- how the showing ends, by how the batches ended and how it was closed
 module _ (plan : Plan) (first : RecordReader) (start now : Streams) (detector : Detector) (written : Option (List ℕ)) (faults after : ℕ) (counts : Counts) where
   abbrev after_it : Streams
   after_it = record { left = now.left; written = written }
@@ -458,7 +458,7 @@ module _ (plan : Plan) (first : RecordReader) (start now : Streams) (detector : 
   sink_now = record { written = written; block = []; faults = after }
 
   -- cut short before it was closed
-  left_so : (watched : Result (Unit {0}) Stop) → is_whole watched ≡ false → Comes plan first start now detector watched → written ≡ now.written → Watches plan first start after_it counts watched
+  left_so : (shown : Result (Unit {0}) Stop) → is_whole shown ≡ false → Comes plan first start now detector shown → written ≡ now.written → ShowsCapture plan first start after_it counts shown
   left_so (Ok done) cut came same = absurd cc
   left_so (Err (stop.Capture fault.Failed)) cut came same = (
     record { taken = came.0.taken; took = came.0.took; wrote = same ∙ came.0.wrote },
@@ -470,7 +470,7 @@ module _ (plan : Plan) (first : RecordReader) (start now : Streams) (detector : 
   left_so (Err why) cut came same = absurd cc
 
   -- closed
-  closed_so : (watched : Result (Unit {0}) Stop) → is_whole watched ≡ true → Comes plan first start now detector watched → Closes plan (closing detector sink_then) sink_now (Ok counts) → Watches plan first start after_it counts watched
+  closed_so : (shown : Result (Unit {0}) Stop) → is_whole shown ≡ true → Comes plan first start now detector shown → Closes plan (closing detector sink_then) sink_now (Ok counts) → ShowsCapture plan first start after_it counts shown
   closed_so (Ok done) whole came closes = closed_to plan first start now detector Clean written faults after counts came closes now.left
   closed_so (Err (stop.Capture fault.Failed)) whole came closes = absurd cc
   closed_so (Err (stop.Capture fault.NoMemory)) whole came closes = absurd cc
@@ -480,8 +480,8 @@ module _ (plan : Plan) (first : RecordReader) (start now : Streams) (detector : 
   closed_so (Err why) whole came closes = absurd came
 
   -- closed in part
-  closed_part_so : (watched : Result (Unit {0}) Stop) (why : WriteFault) → is_whole watched ≡ true → Comes plan first start now detector watched → Closes plan (closing detector sink_then) sink_now (Err why)
-      → Watches plan first start after_it counts (Err (write_stop why))
+  closed_part_so : (shown : Result (Unit {0}) Stop) (why : WriteFault) → is_whole shown ≡ true → Comes plan first start now detector shown → Closes plan (closing detector sink_then) sink_now (Err why)
+      → ShowsCapture plan first start after_it counts (Err (write_stop why))
   closed_part_so (Ok done) why whole came part = stopped_some plan first start after_it counts why (closed_some plan first start now detector Clean written faults after why came part now.left)
   closed_part_so (Err (stop.Capture fault.Failed)) why whole came part = absurd cc
   closed_part_so (Err (stop.Capture fault.NoMemory)) why whole came part = absurd cc
@@ -490,23 +490,23 @@ module _ (plan : Plan) (first : RecordReader) (start now : Streams) (detector : 
   closed_part_so (Err (stop.Capture other)) why whole came part = stopped_some plan first start after_it counts why (closed_some plan first start now detector (Refused other) written faults after why came part now.left)
   closed_part_so (Err other) why whole came part = absurd came
 
-  pub closed_watch : (watched result_then : Result (Unit {0}) Stop) → Comes plan first start now detector watched → ClosesWatched plan detector watched sink_then sink_now counts result_then
-      → Watches plan first start (record { left = now.left; written = written }) counts result_then
-  unfolding ClosesWatched
-  closed_watch watched result_then came how =
+  pub closed_show : (shown result_then : Result (Unit {0}) Stop) → Comes plan first start now detector shown → ClosesShown plan detector shown sink_then sink_now counts result_then
+      → ShowsCapture plan first start (record { left = now.left; written = written }) counts result_then
+  unfolding ClosesShown
+  closed_show shown result_then came how =
       ⊎_elim
-      (λ (left : IsLeft watched result_then sink_then sink_now).
-      subst (λ (r : Result (Unit {0}) Stop). Watches plan first start after_it counts r) (sym left.1) (left_so watched left.0 came left.2))
+      (λ (left : IsLeft shown result_then sink_then sink_now).
+      subst (λ (r : Result (Unit {0}) Stop). ShowsCapture plan first start after_it counts r) (sym left.1) (left_so shown left.0 came left.2))
       (λ shut. ⊎_elim
-      (λ (whole : IsClosedWhole plan detector watched result_then sink_then sink_now counts).
-      subst (λ (r : Result (Unit {0}) Stop). Watches plan first start after_it counts r) (sym whole.1) (closed_so watched whole.0 came whole.2))
-      (λ (part : IsClosedInPart plan detector watched result_then sink_then sink_now).
-      subst (λ (r : Result (Unit {0}) Stop). Watches plan first start after_it counts r) (sym part.1.1) (closed_part_so watched part.1.0 part.0 came part.1.2))
+      (λ (whole : IsClosedWhole plan detector shown result_then sink_then sink_now counts).
+      subst (λ (r : Result (Unit {0}) Stop). ShowsCapture plan first start after_it counts r) (sym whole.1) (closed_so shown whole.0 came whole.2))
+      (λ (part : IsClosedInPart plan detector shown result_then sink_then sink_now).
+      subst (λ (r : Result (Unit {0}) Stop). ShowsCapture plan first start after_it counts r) (sym part.1.1) (closed_part_so shown part.1.0 part.0 came part.1.2))
       shut)
       how
 
   -- what was written in the closing comes behind
-  wrote_more : (watched : Result (Unit {0}) Stop) → is_whole watched ≡ true → Comes plan first start now detector watched → ((records : List LinkedRecord) → DetectorStands plan records detector → (more : List ℕ) × (written ≡ behind now.written more))
+  wrote_more : (shown : Result (Unit {0}) Stop) → is_whole shown ≡ true → Comes plan first start now detector shown → ((records : List LinkedRecord) → DetectorStands plan records detector → (more : List ℕ) × (written ≡ behind now.written more))
       → (more : List ℕ) × (written ≡ behind now.written more)
   wrote_more (Ok done) whole came more = more came.given came.stands
   wrote_more (Err (stop.Capture fault.Failed)) whole came more = absurd cc
@@ -521,7 +521,7 @@ module _ (plan : Plan) (first : RecordReader) (start now : Streams) (detector : 
   end_to failed taken write.Unwritten out = inr (inl out)
   end_to failed taken write.NoMemory out = tt
 
-  closing_to : (failed : Type 0) (taken : List ℕ) (watched : Result (Unit {0}) Stop) (why : WriteFault) → is_whole watched ≡ true → HasReadTo plan first taken start.left failed watched
+  closing_to : (failed : Type 0) (taken : List ℕ) (shown : Result (Unit {0}) Stop) (why : WriteFault) → is_whole shown ≡ true → HasReadTo plan first taken start.left failed shown
       → HasReadTo plan first taken start.left failed (Err (write_stop why))
   closing_to failed taken (Ok done) why whole to = end_to failed taken why to
   closing_to failed taken (Err (stop.Capture fault.Failed)) why whole to = absurd cc
@@ -530,9 +530,9 @@ module _ (plan : Plan) (first : RecordReader) (start now : Streams) (detector : 
   closing_to failed taken (Err stop.NoMemory) why whole to = absurd cc
   closing_to failed taken (Err other) why whole to = end_to failed taken why to
 
-  closer : (failed : Type 0) (watched result_then : Result (Unit {0}) Stop) → IsCloseBehind plan first start now failed watched → (more : List ℕ) → written ≡ behind now.written more
-      → ((taken : List ℕ) → HasReadTo plan first taken start.left failed watched → HasReadTo plan first taken start.left failed result_then) → IsCloseBehind plan first start after_it failed result_then
-  closer failed watched result_then close more wrote to = record {
+  closer : (failed : Type 0) (shown result_then : Result (Unit {0}) Stop) → IsCloseBehind plan first start now failed shown → (more : List ℕ) → written ≡ behind now.written more
+      → ((taken : List ℕ) → HasReadTo plan first taken start.left failed shown → HasReadTo plan first taken start.left failed result_then) → IsCloseBehind plan first start after_it failed result_then
+  closer failed shown result_then close more wrote to = record {
     taken = close.taken;
     took = close.took;
     given = close.given;
@@ -548,21 +548,21 @@ module _ (plan : Plan) (first : RecordReader) (start now : Streams) (detector : 
     to = to close.taken close.to;
   }
 
-  pub closed_behind : (failed : Type 0) (watched result_then : Result (Unit {0}) Stop) → ComesOver plan first start now failed detector watched → ClosesWatched plan detector watched sink_then sink_now counts result_then
+  pub closed_behind : (failed : Type 0) (shown result_then : Result (Unit {0}) Stop) → ComesOver plan first start now failed detector shown → ClosesShown plan detector shown sink_then sink_now counts result_then
       → IsCloseBehind plan first start (record { left = now.left; written = written }) failed result_then
-  unfolding ClosesWatched WritesPart
-  closed_behind failed watched result_then (came, close) how =
-      let same : result_then ≡ watched → (taken : List ℕ) → HasReadTo plan first taken start.left failed watched → HasReadTo plan first taken start.left failed result_then =
+  unfolding ClosesShown WritesPart
+  closed_behind failed shown result_then (came, close) how =
+      let same : result_then ≡ shown → (taken : List ℕ) → HasReadTo plan first taken start.left failed shown → HasReadTo plan first taken start.left failed result_then =
       λ is taken to. subst (λ (r : Result (Unit {0}) Stop). HasReadTo plan first taken start.left failed r) (sym is) to in
       ⊎_elim
-      (λ (left : IsLeft watched result_then sink_then sink_now). closer failed watched result_then close [] (left.2 ∙ sym (behind-nil now.written)) (same left.1))
+      (λ (left : IsLeft shown result_then sink_then sink_now). closer failed shown result_then close [] (left.2 ∙ sym (behind-nil now.written)) (same left.1))
       (λ shut. ⊎_elim
-      (λ (whole : IsClosedWhole plan detector watched result_then sink_then sink_now counts).
-      let more = wrote_more watched whole.0 came (λ records stands. (closing_lines plan records, gathers_settled _ _ _ refl refl (whole.2.emits.whole (record { records = records; stand = stands })))) in
-      closer failed watched result_then close more.0 more.1 (same whole.1))
-      (λ (part : IsClosedInPart plan detector watched result_then sink_then sink_now).
-      let more = wrote_more watched part.0 came (λ records stands. let own = part.1.2.emits.part (record { records = records; stand = stands }) in (own.0, own.2)) in
-      closer failed watched result_then close more.0 more.1
-      (λ taken to. subst (λ (r : Result (Unit {0}) Stop). HasReadTo plan first taken start.left failed r) (sym part.1.1) (closing_to failed taken watched part.1.0 part.0 to)))
+      (λ (whole : IsClosedWhole plan detector shown result_then sink_then sink_now counts).
+      let more = wrote_more shown whole.0 came (λ records stands. (closing_lines plan records, gathers_settled _ _ _ refl refl (whole.2.emits.whole (record { records = records; stand = stands })))) in
+      closer failed shown result_then close more.0 more.1 (same whole.1))
+      (λ (part : IsClosedInPart plan detector shown result_then sink_then sink_now).
+      let more = wrote_more shown part.0 came (λ records stands. let own = part.1.2.emits.part (record { records = records; stand = stands }) in (own.0, own.2)) in
+      closer failed shown result_then close more.0 more.1
+      (λ taken to. subst (λ (r : Result (Unit {0}) Stop). HasReadTo plan first taken start.left failed r) (sym part.1.1) (closing_to failed taken shown part.1.0 part.0 to)))
       shut)
       how

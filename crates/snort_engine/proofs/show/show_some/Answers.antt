@@ -1,6 +1,6 @@
-use Rattle.snort_engine.specs.Steps.Watching.{plan_of}
-use Rattle.snort_engine.proofs.Watched.{part_shown}
-use Rattle.snort_engine.proofs.watch.show_some.Goals as goal
+use Rattle.snort_engine.specs.Steps.Showing.{plan_of}
+use Rattle.snort_engine.proofs.Shown.{part_shown}
+use Rattle.snort_engine.proofs.show.show_some.Goals as goal
 
 pub returns-clause-part : goal.returns-clause-part
 returns-clause-part g c = λ matches test.
