@@ -95,35 +95,20 @@ uncut_unfailed A why uncut is =
 
 -- it went well, and no count rose
 pub caused_done : (cause : Type 0) (old new : Faults) → new.host ≡ old.host → new.alerts ≡ old.alerts → HasCauses cause old new status.Done
-caused_done cause old new same same_alerts = record {
-  write_fault = λ is. absurd cc;
-  read_fault = λ is. absurd cc;
-  quiet = λ uncut. same;
-  quiet_alerts = λ written. same_alerts;
-  later_alerts = omega (arith, same_alerts);
-}
+caused_done cause old new same same_alerts =
+    record { write_fault = λ is. absurd cc; read_fault = λ is. absurd cc; quiet = λ uncut. same; quiet_alerts = λ written. same_alerts; later_alerts = omega (arith, same_alerts) }
 
 -- memory was lacking
 pub caused_lacking : (cause : Type 0) (old new : Faults) → old.alerts ≤ new.alerts → HasCauses cause old new status.NoMemory
-caused_lacking cause old new later = record {
-  write_fault = λ is. absurd cc;
-  read_fault = λ is. absurd cc;
-  quiet = λ uncut. absurd cc;
-  quiet_alerts = λ written. absurd cc;
-  later_alerts = later;
-}
+caused_lacking cause old new later =
+    record { write_fault = λ is. absurd cc; read_fault = λ is. absurd cc; quiet = λ uncut. absurd cc; quiet_alerts = λ written. absurd cc; later_alerts = later }
 
 -- lines were not all written
 pub caused_unwritten : (cause : Type 0) (old new : Faults) (why : WriteFault) → (why ≡ write.Unwritten → Rose old.alerts new.alerts) → old.alerts ≤ new.alerts
     → HasCauses cause old new (stop_status (write_stop why))
 caused_unwritten cause old new write.NoMemory counted later = caused_lacking cause old new later
-caused_unwritten cause old new write.Unwritten counted later = record {
-  write_fault = λ is. counted refl;
-  read_fault = λ is. absurd cc;
-  quiet = λ uncut. absurd cc;
-  quiet_alerts = λ written. absurd cc;
-  later_alerts = later;
-}
+caused_unwritten cause old new write.Unwritten counted later =
+    record { write_fault = λ is. counted refl; read_fault = λ is. absurd cc; quiet = λ uncut. absurd cc; quiet_alerts = λ written. absurd cc; later_alerts = later }
 
 -- the capture is refused, or can't be read
 pub caused_fault : (A : Type 0) (cause : Type 0) (old new : Faults) (why : ReadFault) → (IsErrOf {T = A} (Err why) fault.Failed → cause)
@@ -171,14 +156,8 @@ caused_unseen cause host old new ended caused never = record {
 
 -- what wasn't to be closed ends as it did, and so does what was closed whole
 pub closes_same : (old new : ℕ) (ended : Status) → new ≡ old → ClosesWith old new ended ended
-closes_same old new ended same = record {
-  write_fault = λ is. inl is;
-  read_fault = λ is. is;
-  uncut = λ uncut. uncut;
-  written = λ written. written;
-  quiet_alerts = λ written. same;
-  later_alerts = omega (arith, same);
-}
+closes_same old new ended same =
+    record { write_fault = λ is. inl is; read_fault = λ is. is; uncut = λ uncut. uncut; written = λ written. written; quiet_alerts = λ written. same; later_alerts = omega (arith, same) }
 
 -- the lines of the last flows were not all written
 pub closes_unwritten : (old new : ℕ) (read : Status) (why : WriteFault) → (why ≡ write.Unwritten → Rose old new) → old ≤ new → ClosesWith old new read (stop_status (write_stop why))
