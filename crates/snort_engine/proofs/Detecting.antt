@@ -26,13 +26,13 @@ use Rattle.record_jobs.proofs.Learning.{learnt, new_learnt, ready}
 use Rattle.record_jobs.proofs.Running.{in_order}
 use Rattle.record_jobs.specs.Ready.{AreNumbered, AreReady, AreSound, HaveLearnt, all_jobs}
 use Rattle.alert_lines.specs.declared.tally.Tally.{Tally}
+use Rattle.alert_lines.specs.declared.writer.AlertWriter.{AlertWriter}
 use Rattle.alert_lines.specs.declared.fault.WriteFault.{WriteFault}
 use Rattle.alert_lines.specs.declared.fault.WriteFault.TheVariants as write
 use Rattle.alert_lines.specs.Beside.{beside, by_place, places_along, source_in, whats}
-use Rattle.alert_lines.specs.Events.{filtered_item}
 use Rattle.alert_lines.specs.Events.{hit_count}
-use Rattle.alert_lines.specs.Gathering.{Sending, Emits, EmitsBy}
-use Rattle.alert_lines.specs.Showing.{EventsStand, Showing, StandsFurther, items_lines, tally_in, tally_of, waiting_in}
+use Rattle.alert_lines.specs.Gathering.{Sending, Emits}
+use Rattle.alert_lines.specs.Showing.{EventsStand, Showing, StandsFurther, items_lines, sending_of, tally_in, tally_of, waiting_in}
 use Rattle.alert_lines.specs.Matching.{AreMatchesOf, Matched, ShowsMatches}
 use Rattle.alert_lines.specs.Sourcing.{sourced_items}
 use Rattle.alert_lines.proofs.Emitting.{emits_nothing, emits_same, emits_settled, emits_stopped, emits_then, emits_told, emptied}
@@ -45,12 +45,37 @@ use Rattle.snort_engine.specs.Course.{Plan}
 use Rattle.snort_engine.specs.Trace.{Closed, Open, closing_items, detection_of, items_of, job_items, jobs_of, last_of, trace, jobs_way_by, jobs_way}
 use Rattle.snort_engine.specs.Lines.{lines}
 use Rattle.snort_engine.specs.Counts.{counts_of, try_count}
-use Rattle.snort_engine.specs.Steps.Sourcing.{PlacesJobs, Sourced, last_behind}
-use Rattle.snort_engine.specs.Steps.Detecting.{AreTaken, Closes, Detecting, EarlierJobs, EarlierRecords, InspectionStands, IsKnown, IsNewInspection, IsSoundPlan, MakesJobs, Running, Runs, ShowsRecords, closing_lines, counted, jobs_lines, settled, waiting}
+use Rattle.snort_engine.specs.Steps.Sourcing.{PlacesJobs, last_behind}
+use Rattle.snort_engine.specs.Steps.Detecting.{Advances, AreTaken, Closes, Earlier, HasRun, InspectionStands, IsKnown, IsNewInspection, IsSoundPlan, MakesJobs, Stage, closing_lines, counted, jobs_lines, jobs_stage, records_stage}
 use Rattle.snort_engine.specs.Steps.Showing.{IsTest, plan_of}
 use Rattle.snort_engine.proofs.LinesLaws.{alerts-counted, jobs_lines-closing, jobs_lines-records}
 use Rattle.snort_engine.proofs.Sourcing.{last_of-more, sources_last, sources_made, told_found}
 use Rattle.snort_engine.proofs.Learning.{stand-new}
+
+-- ---- stages
+
+-- memory was lacking before
+pub advances_nothing : {S X Y : Type 0} (stage : Stage S X Y) (inputs : List Y) (old new : S) (first end : Sending) → end.written ≡ first.written → end.faults ≡ first.faults
+    → Advances {A = Unit {0}} stage inputs old new first end (Err write.NoMemory)
+advances_nothing stage inputs old new first end written faults = record { stands = tt; emits = emits_nothing _ first end written faults }
+
+-- it was stopped, where no text waited before
+advances_stopped : {S X Y : Type 0} (stage : Stage S X Y) (inputs : List Y) (old new : S) (first end : Sending) (why : WriteFault) → first.block ≡ []
+    → Advances {A = Unit {0}} stage inputs old new first end (Err why) → Advances {A = Unit {0}} stage inputs old new (emptied first) (emptied end) (Err why)
+advances_stopped stage inputs old new first end why empty one = record { stands = tt; emits = emits_settled (Err why) first end empty tt one.emits }
+
+-- or it went on, and what waits was offered
+advances_offered : {S X Y : Type 0} (stage : Stage S X Y) (inputs : List Y) (old middle new : S) (first between end : Sending) (done : Unit {0}) (outcome : Result (Unit {0}) WriteFault) → first.block ≡ []
+    → OnOk outcome (end.block ≡ []) → Advances stage inputs old middle first between (Ok done) → Emits [] between end outcome
+    → ((before : List X) → stage.stands before middle → stage.stands before new) → Advances stage inputs old new (emptied first) (emptied end) outcome
+advances_offered {S} {X} {Y} stage inputs old middle new first between end done outcome empty emptied_then one offered on = record {
+  stands = by_outcome outcome;
+  emits = emits_settled outcome first end empty emptied_then (emits_then one.emits offered (λ before. (before, tt, sym (append-nil _))));
+}
+  where
+    by_outcome : (so : Result (Unit {0}) WriteFault) → OnOk so ((before : List X) → stage.stands before old → stage.stands (before ++ stage.what inputs) new)
+    by_outcome (Ok told) = λ before stands. on (before ++ stage.what inputs) (one.stands before stands)
+    by_outcome (Err why) = tt
 
 -- ---- jobs
 
@@ -72,17 +97,13 @@ tries_found d before batch old new more so_far is found =
     is ∙ ap (λ (n : ℕ). n + more) so_far ∙ ap (λ (n : ℕ). try_count d before + n) found
     ∙ sym (ap sum (along-append (answer_tries d) before batch) ∙ sum_by-append (λ (x : ℕ). x) (along (answer_tries d) before) (along_from (answer_tries d) before batch))
 
--- how the events of a running inspection are shown
-abbrev pub showing_of : Running → Showing
-showing_of now = record { writer = now.inspection.writer; written = now.written; faults = now.faults }
-
 -- what is known of the events that go before those of a batch
-abbrev known_before : (plan : Plan) (batch : List Job) (inspection : Inspection) (out : Matches) (lanes : LanesState) (before : EarlierJobs plan inspection)
-    → IsBatchSearched (detection_of plan) before.jobs batch out lanes → Matched plan.config plan.rules out inspection.writer
+abbrev known_before : (plan : Plan) (batch : List Job) (inspection : Inspection) (out : Matches) (lanes : LanesState) (before : Earlier (jobs_stage plan) inspection)
+    → IsBatchSearched (detection_of plan) before.inputs batch out lanes → Matched plan.config plan.rules out inspection.writer
 known_before plan batch inspection out lanes before answered = record {
-  jobs = along_from (answer (detection_of plan)) before.jobs batch;
+  jobs = along_from (answer (detection_of plan)) before.inputs batch;
   are = record { hits = answered.hits; items = answered.items };
-  before = record { items = trail (job_items (detection_of plan)) before.jobs; stand = before.stand.writer };
+  before = record { items = trail (job_items (detection_of plan)) before.inputs; stand = before.stand.writer };
 }
 
 -- the lines of a batch are those of its items
@@ -100,40 +121,67 @@ stands_beside : (plan : Plan) (source : ℕ → LinkedRecord) (before batch : Li
 stands_beside plan source before batch inspection stands =
     subst (λ (x : List Job). InspectionStands plan (before ++ x) inspection) (sym (whats-by_place source 0 batch)) stands
 
--- the jobs of a batch were run, and the items that were found shown, or a part of their lines was written
-pub runs_by : (outcome : Result (Unit {0}) WriteFault) (plan : Plan) (source : ℕ → LinkedRecord) (batch : List Job) (old new : Running) (out : Matches)
-    → ((before : List Job) → LanesStand (detection_of plan) old.inspection.lanes before → IsBatchSearched (detection_of plan) before batch out new.inspection.lanes)
-    → new.inspection.tries ≡ old.inspection.tries + out.tries
-    → ShowsMatches plan.form plan.config plan.rules source out (showing_of old) (showing_of new) outcome
-    → Runs plan (by_place source 0 batch) old new outcome
-runs_by outcome plan source batch old new out answers tries shows = record {
+-- a writer, and a sink
+abbrev writing : AlertWriter → Option (List ℕ) → ℕ → Showing
+writing writer written faults = record { writer = writer; written = written; faults = faults }
+
+-- the jobs of a batch were run, and the texts of what was found wait, or were written, or a part of them was
+runs_by : (outcome : Result (Unit {0}) WriteFault) (plan : Plan) (source : ℕ → LinkedRecord) (batch : List Job) (old new : Inspection) (first end : Option (List ℕ)) (faults after : ℕ) (out : Matches)
+    → ((before : List Job) → LanesStand (detection_of plan) old.lanes before → IsBatchSearched (detection_of plan) before batch out new.lanes)
+    → new.tries ≡ old.tries + out.tries → ShowsMatches plan.form plan.config plan.rules source out (writing old.writer first faults) (writing new.writer end after) outcome
+    → Advances (jobs_stage plan) (by_place source 0 batch) old new (sending_of (writing old.writer first faults)) (sending_of (writing new.writer end after)) outcome
+runs_by outcome plan source batch old new first end faults after out answers tries shows = record {
   stands = by_outcome outcome shows.stands;
   emits = emits_same shows.emits (λ before. (
-    known_before plan batch old.inspection out new.inspection.lanes before (answers before.jobs before.stand.lanes),
-    found_lines plan source before.jobs batch,
+    known_before plan batch old out new.lanes before (answers before.inputs before.stand.lanes),
+    found_lines plan source before.inputs batch,
   ));
 }
   where
     by_outcome : (so : Result (Unit {0}) WriteFault)
-        → OnOk so ((entries : List JobHits) → AreMatchesOf entries out → (before : List Hits) → EventsStand plan.config plan.rules before old.inspection.writer
-        → EventsStand plan.config plan.rules (before ++ whats (sourced_items (by_place source 0 entries))) new.inspection.writer)
-        → OnOk so ((before : List Job) → InspectionStands plan before old.inspection → InspectionStands plan (before ++ whats (by_place source 0 batch)) new.inspection)
+        → OnOk so ((entries : List JobHits) → AreMatchesOf entries out → (before : List Hits) → EventsStand plan.config plan.rules before old.writer
+        → EventsStand plan.config plan.rules (before ++ whats (sourced_items (by_place source 0 entries))) new.writer)
+        → OnOk so ((before : List Job) → InspectionStands plan before old → InspectionStands plan (before ++ whats (by_place source 0 batch)) new)
     by_outcome (Ok done) on = λ before stands.
         let answered = answers before stands.lanes in
         let entries : List JobHits = along_from (answer (detection_of plan)) before batch in
         let items = items_found (detection_of plan) source before batch entries refl in
-        stands_beside plan source before batch new.inspection (record {
+        stands_beside plan source before batch new (record {
           lanes = answered.stands;
-          writer = subst (λ (x : List Hits). EventsStand plan.config plan.rules x new.inspection.writer)
+          writer = subst (λ (x : List Hits). EventsStand plan.config plan.rules x new.writer)
               (ap (λ (x : List Hits). trail (job_items (detection_of plan)) before ++ x) items ∙ pipe_more (job_items (detection_of plan)) before batch)
               (on entries (record { hits = answered.hits; items = answered.items }) (trail (job_items (detection_of plan)) before) stands.writer);
-          tries = tries_found (detection_of plan) before batch old.inspection.tries new.inspection.tries out.tries stands.tries tries answered.tries;
+          tries = tries_found (detection_of plan) before batch old.tries new.tries out.tries stands.tries tries answered.tries;
         })
     by_outcome (Err why) on = tt
 
--- or memory was lacking before
-pub runs_nothing : (plan : Plan) (batch : List Sourced) (old new : Running) → new.written ≡ old.written → new.faults ≡ old.faults → Runs {A = Unit {0}} plan batch old new (Err write.NoMemory)
-runs_nothing plan batch old new written faults = record { stands = tt; emits = emits_nothing _ (waiting old) (waiting new) written faults }
+-- their lines were not all made
+pub runs_stopped : (plan : Plan) (source : ℕ → LinkedRecord) (batch : List Job) (old new : Inspection) (first end : Option (List ℕ)) (faults after : ℕ) (out : Matches) (why : WriteFault)
+    → ((before : List Job) → LanesStand (detection_of plan) old.lanes before → IsBatchSearched (detection_of plan) before batch out new.lanes)
+    → new.tries ≡ old.tries + out.tries → ShowsMatches {A = Unit {0}} plan.form plan.config plan.rules source out (writing old.writer first faults) (writing new.writer end after) (Err why)
+    → waiting_in old.writer ≡ []
+    → Advances {A = Unit {0}} (jobs_stage plan) (by_place source 0 batch) old new (record { written = first; block = []; faults = faults }) (record { written = end; block = []; faults = after }) (Err why)
+runs_stopped plan source batch old new first end faults after out why answers tries shows none =
+    advances_stopped (jobs_stage plan) (by_place source 0 batch) old new _ _ why none (runs_by (Err why) plan source batch old new first end faults after out answers tries shows)
+
+-- or they were, and then offered
+pub runs_offered : (outcome : Result (Unit {0}) WriteFault) (plan : Plan) (source : ℕ → LinkedRecord) (batch : List Job) (old new : Inspection) (between : AlertWriter) (first second end : Option (List ℕ))
+    (faults later after : ℕ) (out : Matches) (done : Unit {0})
+    → ((before : List Job) → LanesStand (detection_of plan) old.lanes before → IsBatchSearched (detection_of plan) before batch out new.lanes)
+    → new.tries ≡ old.tries + out.tries → ShowsMatches plan.form plan.config plan.rules source out (writing old.writer first faults) (writing between second later) (Ok done)
+    → waiting_in old.writer ≡ [] → Emits [] (sending_of (writing between second later)) (sending_of (writing new.writer end after)) outcome → StandsFurther between new.writer
+    → OnOk outcome (waiting_in new.writer ≡ [])
+    → Advances (jobs_stage plan) (by_place source 0 batch) old new (record { written = first; block = []; faults = faults }) (record { written = end; block = []; faults = after }) outcome
+runs_offered outcome plan source batch old new between first second end faults later after out done answers tries shows none offered further emptied_then =
+    let middle : Inspection = record { lanes = new.lanes; groups = new.groups; writer = between; tries = new.tries; last = new.last } in
+    advances_offered (jobs_stage plan) (by_place source 0 batch) old middle new _ _ _ done outcome none emptied_then
+    (runs_by (Ok done) plan source batch old middle first second faults later out answers tries shows) offered
+    (λ before stands. record { lanes = stands.lanes; writer = further plan.config plan.rules (trail (job_items (detection_of plan)) before) stands.writer; tries = stands.tries })
+
+pub has_run : (outcome : Result (Unit {0}) WriteFault) (old new : Inspection) (batch : List Job) → LearnsBatch old.lanes batch new.lanes → new.groups ≡ old.groups → new.last ≡ old.last
+    → OnOk outcome (waiting_in new.writer ≡ []) → OnOk outcome (HasRun old batch new)
+has_run (Ok done) old new batch learns groups last none = record { learns = learns; groups = groups; last = last; none = none }
+has_run (Err why) old new batch learns groups last none = tt
 
 -- ---- the jobs of records
 
@@ -163,15 +211,6 @@ makes_step way records i own old middle new made next lt is so_far more =
 
 -- ---- records
 
--- the same inspection, whatever waits in its writer
-pub stands_on : (plan : Plan) (before : List Job) (old new : Inspection) → new.lanes ≡ old.lanes → StandsFurther old.writer new.writer → new.tries ≡ old.tries
-    → InspectionStands plan before old → InspectionStands plan before new
-stands_on plan before old new lanes further tries stands = record {
-  lanes = subst (λ (x : LanesState). LanesStand (detection_of plan) x before) (sym lanes) stands.lanes;
-  writer = further plan.config plan.rules (trail (job_items (detection_of plan)) before) stands.writer;
-  tries = tries ∙ stands.tries;
-}
-
 -- the lines of the jobs of records that were taken are those of the records
 pub lines_made : (plan : Plan) (records : List LinkedRecord) (last : LinkedRecord) (before : List LinkedRecord) (new : FrontState) (made : List Job) (places : List ℕ)
     → AreTaken (jobs_way plan) before records new made → places ≡ places_along (jobs (jobs_way plan)) before 0 records
@@ -187,76 +226,42 @@ stands_made plan source before records new made inspection taken stands =
     subst (λ (x : List Job). InspectionStands plan x inspection)
     (ap (λ (x : List Job). jobs_of plan before ++ x) (whats-by_place source 0 made ∙ taken.jobs_are) ∙ pipe_more (jobs (jobs_way plan)) before records) stands
 
--- how the inspection of a detector runs
-abbrev pub running_of : Detecting → Running
-running_of now = record { inspection = now.detector.inspection; written = now.written; faults = now.faults }
-
 -- what is known of the jobs before, of which the lines of records are
-taken_lines : (plan : Plan) (records : List LinkedRecord) (old : Detecting) (front : FrontState) (made : List Job) (places : List ℕ)
-    → MakesJobs (jobs_way plan) records old.detector.front front made → PlacesJobs (jobs_way plan) records old.detector.front places
-    → (before : EarlierRecords plan old.detector)
-    → (jobs : EarlierJobs plan old.detector.inspection)
-    × (lines plan before.records records Open ≡ jobs_lines plan jobs.jobs (by_place (source_in records old.detector.inspection.last places) 0 made))
+taken_lines : (plan : Plan) (records : List LinkedRecord) (old : Detector) (front : FrontState) (made : List Job) (places : List ℕ)
+    → MakesJobs (jobs_way plan) records old.front front made → PlacesJobs (jobs_way plan) records old.front places
+    → (before : Earlier (records_stage plan) old)
+    → (jobs : Earlier (jobs_stage plan) old.inspection)
+    × (lines plan before.inputs records Open ≡ jobs_lines plan jobs.inputs (by_place (source_in records old.inspection.last places) 0 made))
 taken_lines plan records old front made places makes placed before = (
-  record { jobs = jobs_of plan before.records; stand = before.stand.inspection },
-  sym (lines_made plan records old.detector.inspection.last before.records front made places (makes before.records before.stand.front) (placed before.records before.stand.front)),
+  record { inputs = jobs_of plan before.inputs; stand = before.stand.inspection },
+  sym (lines_made plan records old.inspection.last before.inputs front made places (makes before.inputs before.stand.front) (placed before.inputs before.stand.front)),
 )
 
 -- a batch of records was taken, and the running of its jobs was stopped
-pub records_stopped : (plan : Plan) (records : List LinkedRecord) (old : Detecting) (front : FrontState) (made : List Job) (places : List ℕ) (middle : Running) (detector : Detector) (why : WriteFault)
-    → MakesJobs (jobs_way plan) records old.detector.front front made → PlacesJobs (jobs_way plan) records old.detector.front places
-    → waiting_in old.detector.inspection.writer ≡ []
-    → Runs {A = Unit {0}} plan (by_place (source_in records old.detector.inspection.last places) 0 made) (running_of old) middle (Err why)
-    → ShowsRecords {A = Unit {0}} plan records old (record { detector = detector; written = middle.written; faults = middle.faults }) (Err why)
-records_stopped plan records old front made places middle detector why makes placed empty run = record {
-  stands = tt;
-  emits = emits_settled (Err why) (waiting (running_of old)) (waiting middle) empty tt (emits_stopped run.emits (taken_lines plan records old front made places makes placed));
-}
+pub records_stopped : (plan : Plan) (records : List LinkedRecord) (old new : Detector) (front : FrontState) (made : List Job) (places : List ℕ) (last : Inspection) (first end : Sending) (why : WriteFault)
+    → MakesJobs (jobs_way plan) records old.front front made → PlacesJobs (jobs_way plan) records old.front places
+    → Advances {A = Unit {0}} (jobs_stage plan) (by_place (source_in records old.inspection.last places) 0 made) old.inspection last first end (Err why)
+    → Advances {A = Unit {0}} (records_stage plan) records old new first end (Err why)
+records_stopped plan records old new front made places last first end why makes placed run =
+    record { stands = tt; emits = emits_stopped run.emits (taken_lines plan records old front made places makes placed) }
 
--- it was run, and what waited was offered
-records_offered : (plan : Plan) (records : List LinkedRecord) (old : Detecting) (front : FrontState) (made : List Job) (places : List ℕ) (middle : Running) (end : Sending) (done : Unit {0}) (outcome : Result (Unit {0}) WriteFault)
-    → MakesJobs (jobs_way plan) records old.detector.front front made → PlacesJobs (jobs_way plan) records old.detector.front places
-    → waiting_in old.detector.inspection.writer ≡ [] → OnOk outcome (end.block ≡ [])
-    → Runs plan (by_place (source_in records old.detector.inspection.last places) 0 made) (running_of old) middle (Ok done) → Emits [] (waiting middle) end outcome
-    → EmitsBy (λ (before : EarlierRecords plan old.detector). lines plan before.records records Open) (settled old) (emptied end) outcome
-records_offered plan records old front made places middle end done outcome makes placed empty emptied_then run offered =
-    emits_settled outcome (waiting (running_of old)) end empty emptied_then
-    (emits_then run.emits offered (λ before. let own = taken_lines plan records old front made places makes placed before in (own.0, tt, own.1 ∙ sym (append-nil _))))
-
--- its lines written whole, and its last record kept
-pub records_shown : (plan : Plan) (records : List LinkedRecord) (old : Detecting) (new : Detector) (made : List Job) (places : List ℕ) (middle : Running) (end : Sending) (done told : Unit {0})
-    → MakesJobs (jobs_way plan) records old.detector.front new.front made → PlacesJobs (jobs_way plan) records old.detector.front places
-    → waiting_in old.detector.inspection.writer ≡ [] → end.block ≡ []
-    → Runs plan (by_place (source_in records old.detector.inspection.last places) 0 made) (running_of old) middle (Ok done) → Emits [] (waiting middle) end (Ok told)
-    → ((before : List Job) → InspectionStands plan before middle.inspection → InspectionStands plan before new.inspection)
-    → new.inspection.last ≡ last_behind old.detector.inspection.last records
-    → ShowsRecords {A = Unit {0}} plan records old (record { detector = new; written = end.written; faults = end.faults }) (Ok tt)
-records_shown plan records old new made places middle end done told makes placed empty emptied_then run offered on kept = record {
+-- or they were run, and its last record kept
+pub records_shown : (plan : Plan) (records : List LinkedRecord) (old new : Detector) (made : List Job) (places : List ℕ) (first end : Sending) (ran : Inspection) (done : Unit {0})
+    → MakesJobs (jobs_way plan) records old.front new.front made → PlacesJobs (jobs_way plan) records old.front places
+    → Advances (jobs_stage plan) (by_place (source_in records old.inspection.last places) 0 made) old.inspection ran first end (Ok done)
+    → ((before : List Job) → InspectionStands plan before ran → InspectionStands plan before new.inspection) → new.inspection.last ≡ last_behind old.inspection.last records
+    → Advances {A = Unit {0}} (records_stage plan) records old new first end (Ok tt)
+records_shown plan records old new made places first end ran done makes placed run on kept = record {
   stands = λ before stands.
-      let last = old.detector.inspection.last in
+      let last = old.inspection.last in
       let source = source_in records last places in
       let taken = makes before stands.front in record {
         front = taken.stands;
         inspection = stands_made plan source before records new.front made new.inspection taken (on (jobs_of plan before ++ whats (by_place source 0 made)) (run.stands (jobs_of plan before) stands.inspection));
         last = kept ∙ last_of-more before last records stands.last;
       };
-  emits = emits_told (records_offered plan records old new.front made places middle end done (Ok told) makes placed empty emptied_then run offered) (λ before. (before, refl));
+  emits = emits_told run.emits (taken_lines plan records old new.front made places makes placed);
 }
-
--- or the writing of them was stopped
-pub records_part : (plan : Plan) (records : List LinkedRecord) (old : Detecting) (front : FrontState) (made : List Job) (places : List ℕ) (middle : Running) (end : Sending) (detector : Detector) (done : Unit {0}) (why : WriteFault)
-    → MakesJobs (jobs_way plan) records old.detector.front front made → PlacesJobs (jobs_way plan) records old.detector.front places
-    → waiting_in old.detector.inspection.writer ≡ []
-    → Runs plan (by_place (source_in records old.detector.inspection.last places) 0 made) (running_of old) middle (Ok done) → Emits {A = Unit {0}} [] (waiting middle) end (Err why)
-    → ShowsRecords {A = Unit {0}} plan records old (record { detector = detector; written = end.written; faults = end.faults }) (Err why)
-records_part plan records old front made places middle end detector done why makes placed empty run offered = record {
-  stands = tt;
-  emits = records_offered plan records old front made places middle end done (Err why) makes placed empty tt run offered;
-}
-
--- or memory was lacking before
-pub records_nothing : (plan : Plan) (records : List LinkedRecord) (old new : Detecting) → new.written ≡ old.written → new.faults ≡ old.faults → ShowsRecords {A = Unit {0}} plan records old new (Err write.NoMemory)
-records_nothing plan records old new written faults = record { stands = tt; emits = emits_nothing _ (settled old) (settled new) written faults }
 
 -- ---- what is known, whatever the host tells
 
@@ -360,60 +365,35 @@ lines_closing plan records last made are is =
     ∙ jobs_lines-closing plan records
 
 -- what is known of the jobs before, of which the lines of the flows that end are
-ended_lines : (plan : Plan) (old : Detecting) (made : List Job) → GivesFinishes old.detector.front [] made → (before : EarlierRecords plan old.detector)
-    → (jobs : EarlierJobs plan old.detector.inspection)
-    × (closing_lines plan before.records ≡ jobs_lines plan jobs.jobs (by_place (source_in [] old.detector.inspection.last []) 0 made))
+ended_lines : (plan : Plan) (old : Detector) (made : List Job) → GivesFinishes old.front [] made → (before : Earlier (records_stage plan) old)
+    → (jobs : Earlier (jobs_stage plan) old.inspection)
+    × (closing_lines plan before.inputs ≡ jobs_lines plan jobs.inputs (by_place (source_in [] old.inspection.last []) 0 made))
 ended_lines plan old made gives before = (
-  record { jobs = jobs_of plan before.records; stand = before.stand.inspection },
-  sym (lines_closing plan before.records old.detector.inspection.last made (gives (jobs_way plan) before.records before.stand.front) before.stand.last),
+  record { inputs = jobs_of plan before.inputs; stand = before.stand.inspection },
+  sym (lines_closing plan before.inputs old.inspection.last made (gives (jobs_way plan) before.inputs before.stand.front) before.stand.last),
 )
 
--- the running of the jobs behind all records was stopped
-pub closed_stopped : (plan : Plan) (old : Detecting) (made : List Job) (middle : Running) (why : WriteFault)
-    → GivesFinishes old.detector.front [] made → waiting_in old.detector.inspection.writer ≡ []
-    → Runs {A = Unit {0}} plan (by_place (source_in [] old.detector.inspection.last []) 0 made) (running_of old) middle (Err why)
-    → Closes plan old (emptied (waiting middle)) (Err why)
-closed_stopped plan old made middle why gives empty run = record {
-  counted = tt;
-  emits = emits_stopped (emits_settled (Err why) (waiting (running_of old)) (waiting middle) empty tt run.emits) (ended_lines plan old made gives);
-}
+-- the running of the jobs after all records was stopped
+pub closed_stopped : (plan : Plan) (old : Detector) (made : List Job) (ran : Inspection) (first end : Sending) (why : WriteFault) → GivesFinishes old.front [] made
+    → Advances {A = Unit {0}} (jobs_stage plan) (by_place (source_in [] old.inspection.last []) 0 made) old.inspection ran first end (Err why)
+    → Closes plan old first end (Err why)
+closed_stopped plan old made ran first end why gives run = record { counted = tt; emits = emits_stopped run.emits (ended_lines plan old made gives) }
 
--- they were run, and what waited was offered
-closed_offered : (plan : Plan) (old : Detecting) (made : List Job) (middle : Running) (end : Sending) (done : Unit {0}) (outcome : Result (Unit {0}) WriteFault)
-    → GivesFinishes old.detector.front [] made → waiting_in old.detector.inspection.writer ≡ [] → OnOk outcome (end.block ≡ [])
-    → Runs plan (by_place (source_in [] old.detector.inspection.last []) 0 made) (running_of old) middle (Ok done) → Emits [] (waiting middle) end outcome
-    → EmitsBy (λ (before : EarlierRecords plan old.detector). closing_lines plan before.records) (settled old) (emptied end) outcome
-closed_offered plan old made middle end done outcome gives empty emptied_then run offered =
-    emits_settled outcome (waiting (running_of old)) end empty emptied_then
-    (emits_then run.emits offered (λ before. let own = ended_lines plan old made gives before in (own.0, tt, own.1 ∙ sym (append-nil _))))
-
--- their lines written whole
-pub closed_whole : (plan : Plan) (old : Detecting) (made : List Job) (middle : Running) (end : Sending) (last : Inspection) (done told : Unit {0}) (seen : RecordCounts)
-    → GivesFinishes old.detector.front [] made → TellsCounts old.detector.front seen → waiting_in old.detector.inspection.writer ≡ [] → end.block ≡ []
-    → Runs plan (by_place (source_in [] old.detector.inspection.last []) 0 made) (running_of old) middle (Ok done) → Emits [] (waiting middle) end (Ok told)
-    → ((before : List Job) → InspectionStands plan before middle.inspection → InspectionStands plan before last)
-    → Closes plan old (emptied end) (Ok (counted seen last))
-closed_whole plan old made middle end last done told seen gives tells empty emptied_then run offered on = record {
+-- or they were run
+pub closed_whole : (plan : Plan) (old : Detector) (made : List Job) (ran : Inspection) (first end : Sending) (done : Unit {0}) (seen : RecordCounts)
+    → GivesFinishes old.front [] made → TellsCounts old.front seen
+    → Advances (jobs_stage plan) (by_place (source_in [] old.inspection.last []) 0 made) old.inspection ran first end (Ok done)
+    → Closes plan old first end (Ok (counted seen ran))
+closed_whole plan old made ran first end done seen gives tells run = record {
   counted = λ records stands.
       let way = jobs_way plan in
-      let source = source_in [] old.detector.inspection.last [] in
+      let source = source_in [] old.inspection.last [] in
       let are : made ≡ finishes way records = gives way records stands.front in
-      counted_all plan records seen last (tells way records stands.front)
-      (subst (λ (x : List Job). InspectionStands plan (jobs_of plan records ++ x) last) (whats-by_place source 0 made ∙ are)
-      (on (jobs_of plan records ++ whats (by_place source 0 made)) (run.stands (jobs_of plan records) stands.inspection)));
-  emits = emits_told (closed_offered plan old made middle end done (Ok told) gives empty emptied_then run offered) (λ before. (before, refl));
-}
-
--- or the writing of them was stopped
-pub closed_part : (plan : Plan) (old : Detecting) (made : List Job) (middle : Running) (end : Sending) (done : Unit {0}) (why : WriteFault)
-    → GivesFinishes old.detector.front [] made → waiting_in old.detector.inspection.writer ≡ []
-    → Runs plan (by_place (source_in [] old.detector.inspection.last []) 0 made) (running_of old) middle (Ok done) → Emits {A = Unit {0}} [] (waiting middle) end (Err why)
-    → Closes plan old (emptied end) (Err why)
-closed_part plan old made middle end done why gives empty run offered = record {
-  counted = tt;
-  emits = emits_stopped (closed_offered plan old made middle end done (Err why) gives empty tt run offered) (λ before. (before, refl));
+      counted_all plan records seen ran (tells way records stands.front)
+      (subst (λ (x : List Job). InspectionStands plan (jobs_of plan records ++ x) ran) (whats-by_place source 0 made ∙ are) (run.stands (jobs_of plan records) stands.inspection));
+  emits = emits_told run.emits (ended_lines plan old made gives);
 }
 
 -- or memory was lacking before
-pub closed_nothing : (plan : Plan) (old : Detecting) → Closes plan old (settled old) (Err write.NoMemory)
-closed_nothing plan old = record { counted = tt; emits = emits_nothing _ (settled old) (settled old) refl refl }
+pub closed_nothing : (plan : Plan) (old : Detector) (now : Sending) → Closes plan old now now (Err write.NoMemory)
+closed_nothing plan old now = record { counted = tt; emits = emits_nothing _ now now refl refl }

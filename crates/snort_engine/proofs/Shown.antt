@@ -29,8 +29,8 @@ use Rattle.snort_engine.specs.Steps.Batch.{Place, HasStopped, Reaches, ReadsOn, 
 use Rattle.snort_engine.specs.declared.batch.Reached.{Reached}
 use Rattle.snort_engine.specs.declared.batch.Reached.TheVariants.{More, End, Fault}
 use Rattle.snort_engine.specs.ReadAhead.{batch, AreBatches}
-use Rattle.snort_engine.specs.Steps.Detecting.{Closes, Detecting, DetectorStands, ShowsRecords, ShowsRecordsPart, closing_lines}
-use Rattle.snort_engine.specs.Steps.Showing.{Streams, Standing, lines_of, lines_left, recording_by, IsRoom, most_at, room_behind, IsReadOut, HasReadTo, IsUnderWay, IsAtEnd, IsReadCutShort, IsCloseBehind, WritesSome, ShowsTo, ShowsCapture, Comes, ComesOver, ShowsOn, IsLeft, IsClosedWhole, IsClosedInPart, ClosesShown, closing}
+use Rattle.snort_engine.specs.Steps.Detecting.{Advances, Closes, DetectorStands, ShowsRecordsPart, closing_lines, records_stage}
+use Rattle.snort_engine.specs.Steps.Showing.{Streams, Standing, lines_of, lines_left, recording_by, IsRoom, most_at, room_behind, IsReadOut, HasReadTo, IsUnderWay, IsAtEnd, IsReadCutShort, IsCloseBehind, WritesSome, ShowsTo, ShowsCapture, Comes, ComesOver, ShowsOn, IsLeft, IsClosedWhole, IsClosedInPart, ClosesShown}
 use Rattle.snort_engine.proofs.Limits.{limit-front, below_limit, at_limit, within_limit, room_first, room_further, room_left, room_within, batches_none, batches_further, batches_last}
 use Rattle.snort_engine.proofs.Reading.{reading-start, reading-told, reading-whole}
 use Rattle.snort_engine.proofs.LinesLaws.{lines_of-nil, lines_of-closed, lines_of-append}
@@ -237,12 +237,16 @@ nothing_left plan old failed none = λ first start going.
       close_by plan first old.room going.given start old.streams failed (Ok tt) going.room_is going.wrote stopped (λ taken are. out_by plan first going.given Clean taken start.left ends are),
     )
 
+-- a sink, and no text that waits
+abbrev pub at_sink : Option (List ℕ) → ℕ → Sending
+at_sink written faults = record { written = written; block = []; faults = faults }
+
 -- a batch was shown behind the records that were given
 batch_is : (plan : Plan) (records : List LinkedRecord) (old new : Standing) (first : RecordReader) (start : Streams) (going : IsUnderWay plan first start old) (faults after : ℕ) (done : Unit {0})
-    → ShowsRecords plan records (record { detector = old.detector; written = old.streams.written; faults = faults }) (record { detector = new.detector; written = new.streams.written; faults = after }) (Ok done)
+    → Advances (records_stage plan) records old.detector new.detector (at_sink old.streams.written faults) (at_sink new.streams.written after) (Ok done)
     → DetectorStands plan (going.given ++ records) new.detector × (new.streams.written ≡ behind start.written (lines_of plan (going.given ++ records) Open))
 batch_is plan records old new first start going faults after done shows =
-    let came = shows.emits.whole (record { records = going.given; stand = going.stands }) in (
+    let came = shows.emits.whole (record { inputs = going.given; stand = going.stands }) in (
       shows.stands going.given going.stands,
       gathers_settled (lines plan going.given records Open) _ _ refl refl came
           ∙ ap (λ (x : Option (List ℕ)). behind x (lines plan going.given records Open)) going.wrote
@@ -255,7 +259,7 @@ pub batch_shown : (plan : Plan) (records : List LinkedRecord) (old new : Standin
     → length records ≤ most_at old.room → new.room ≡ room_behind old.room (length records)
     → (reached ≡ More → length records ≡ most_at old.room) → ((reached ≡ More → ⊥) → length records < most_at old.room)
     → ReadsOn (record { reader = old.reader; records = []; left = old.streams.left }) (record { reader = new.reader; records = records; left = new.streams.left }) reached
-    → ShowsRecords plan records (record { detector = old.detector; written = old.streams.written; faults = faults }) (record { detector = new.detector; written = new.streams.written; faults = after }) (Ok done)
+    → Advances (records_stage plan) records old.detector new.detector (at_sink old.streams.written faults) (at_sink new.streams.written after) (Ok done)
     → ShowsOn plan old new failed (more_of reached)
 batch_shown plan records old new failed reached faults after done few room_is full fewer reads shows = by_case reached full fewer reads
   where
@@ -371,12 +375,12 @@ batch_lacks plan records old new failed reached few reads shown =
     batch_part plan records old new failed reached write.NoMemory few (λ first start going taken are. tt) reads shown
 
 -- lines that were shown, or a part of them
-pub part_shown : (plan : Plan) (records : List LinkedRecord) (old new : Detecting) (answer : Result (Unit {0}) WriteFault) → ShowsRecords plan records old new answer
-    → ShowsRecordsPart plan records old.detector old.written new.written
+pub part_shown : (plan : Plan) (records : List LinkedRecord) (old new : Detector) (first last : Option (List ℕ)) (faults after : ℕ) (answer : Result (Unit {0}) WriteFault)
+    → Advances (records_stage plan) records old new (at_sink first faults) (at_sink last after) answer → ShowsRecordsPart plan records old first last
 unfolding ShowsRecordsPart
-part_shown plan records old new (Ok done) shows = λ before stands.
-    WritesPart-all old.written new.written _ (gathers_settled _ _ _ refl refl (shows.emits.whole (record { records = before; stand = stands })))
-part_shown plan records old new (Err why) shows = λ before stands. shows.emits.part (record { records = before; stand = stands })
+part_shown plan records old new first last faults after (Ok done) shows = λ before stands.
+    WritesPart-all first last _ (gathers_settled _ _ _ refl refl (shows.emits.whole (record { inputs = before; stand = stands })))
+part_shown plan records old new first last faults after (Err why) shows = λ before stands. shows.emits.part (record { inputs = before; stand = stands })
 
 -- how far was read from the start, where the host may have failed before
 to_since : (plan : Plan) (first : RecordReader) (taken : List ℕ) (left : Option (List ℕ)) (later since : Type 0) (outcome : Result (Unit {0}) Stop) → (later → since) → HasReadTo plan first taken left later outcome → HasReadTo plan first taken left since outcome
@@ -419,12 +423,12 @@ close-start plan reader old failed fresh =
 
 -- a capture at its end was closed
 closed_to : (plan : Plan) (first : RecordReader) (start now : Streams) (detector : Detector) (ending : Ending ReadFault) (written : Option (List ℕ)) (faults after : ℕ) (counts : Counts) → IsAtEnd plan first start now detector ending
-    → Closes plan (record { detector = detector; written = now.written; faults = faults }) (record { written = written; block = []; faults = after }) (Ok counts)
+    → Closes plan detector (at_sink now.written faults) (at_sink written after) (Ok counts)
     → (left : Option (List ℕ)) → ShowsTo plan first ending start (record { left = left; written = written }) counts
 closed_to plan first start now detector ending written faults after counts came closes left = λ whole told.
     let cut = came.ends whole told in record {
       ends = ap (λ (c : Recording). c.ending) cut;
-      wrote = gathers_settled (closing_lines plan came.given) _ _ refl refl (closes.emits.whole (record { records = came.given; stand = came.stands }))
+      wrote = gathers_settled (closing_lines plan came.given) _ _ refl refl (closes.emits.whole (record { inputs = came.given; stand = came.stands }))
           ∙ ap (λ (x : Option (List ℕ)). behind x (closing_lines plan came.given)) came.wrote
           ∙ behind-behind start.written (lines_of plan came.given Open) (closing_lines plan came.given)
           ∙ ap (behind start.written) (sym (ap (λ (c : Recording). lines_of plan c.records Closed) cut ∙ lines_of-closed plan came.given));
@@ -433,12 +437,12 @@ closed_to plan first start now detector ending written faults after counts came 
 
 -- or in part
 closed_some : (plan : Plan) (first : RecordReader) (start now : Streams) (detector : Detector) (ending : Ending ReadFault) (written : Option (List ℕ)) (faults after : ℕ) (why : WriteFault) → IsAtEnd plan first start now detector ending
-    → Closes plan (record { detector = detector; written = now.written; faults = faults }) (record { written = written; block = []; faults = after }) (Err why)
+    → Closes plan detector (at_sink now.written faults) (at_sink written after) (Err why)
     → (left : Option (List ℕ)) → WritesSome plan first start (record { left = left; written = written })
 closed_some plan first start now detector ending written faults after why came part left = λ whole told.
     subst (λ (x : List ℕ). WritesPart start.written x written)
     (sym (ap (λ (c : Recording). lines_of plan c.records Closed) (came.ends whole told) ∙ lines_of-closed plan came.given))
-    (WritesPart-behind start.written now.written written (lines_of plan came.given Open) (closing_lines plan came.given) came.wrote (part.emits.part (record { records = came.given; stand = came.stands })))
+    (WritesPart-behind start.written now.written written (lines_of plan came.given Open) (closing_lines plan came.given) came.wrote (part.emits.part (record { inputs = came.given; stand = came.stands })))
 
 -- a part of lines stopped the showing of them
 stopped_some : (plan : Plan) (first : RecordReader) (start after : Streams) (counts : Counts) (why : WriteFault) → WritesSome plan first start after → ShowsCapture plan first start after counts (Err (write_stop why))
@@ -470,7 +474,7 @@ module _ (plan : Plan) (first : RecordReader) (start now : Streams) (detector : 
   left_so (Err why) cut came same = absurd cc
 
   -- closed
-  closed_so : (shown : Result (Unit {0}) Stop) → is_whole shown ≡ true → Comes plan first start now detector shown → Closes plan (closing detector sink_then) sink_now (Ok counts) → ShowsCapture plan first start after_it counts shown
+  closed_so : (shown : Result (Unit {0}) Stop) → is_whole shown ≡ true → Comes plan first start now detector shown → Closes plan detector sink_then sink_now (Ok counts) → ShowsCapture plan first start after_it counts shown
   closed_so (Ok done) whole came closes = closed_to plan first start now detector Clean written faults after counts came closes now.left
   closed_so (Err (stop.Capture fault.Failed)) whole came closes = absurd cc
   closed_so (Err (stop.Capture fault.NoMemory)) whole came closes = absurd cc
@@ -480,7 +484,7 @@ module _ (plan : Plan) (first : RecordReader) (start now : Streams) (detector : 
   closed_so (Err why) whole came closes = absurd came
 
   -- closed in part
-  closed_part_so : (shown : Result (Unit {0}) Stop) (why : WriteFault) → is_whole shown ≡ true → Comes plan first start now detector shown → Closes plan (closing detector sink_then) sink_now (Err why)
+  closed_part_so : (shown : Result (Unit {0}) Stop) (why : WriteFault) → is_whole shown ≡ true → Comes plan first start now detector shown → Closes plan detector sink_then sink_now (Err why)
       → ShowsCapture plan first start after_it counts (Err (write_stop why))
   closed_part_so (Ok done) why whole came part = stopped_some plan first start after_it counts why (closed_some plan first start now detector Clean written faults after why came part now.left)
   closed_part_so (Err (stop.Capture fault.Failed)) why whole came part = absurd cc
@@ -558,10 +562,10 @@ module _ (plan : Plan) (first : RecordReader) (start now : Streams) (detector : 
       (λ (left : IsLeft shown result_then sink_then sink_now). closer failed shown result_then close [] (left.2 ∙ sym (behind-nil now.written)) (same left.1))
       (λ shut. ⊎_elim
       (λ (whole : IsClosedWhole plan detector shown result_then sink_then sink_now counts).
-      let more = wrote_more shown whole.0 came (λ records stands. (closing_lines plan records, gathers_settled _ _ _ refl refl (whole.2.emits.whole (record { records = records; stand = stands })))) in
+      let more = wrote_more shown whole.0 came (λ records stands. (closing_lines plan records, gathers_settled _ _ _ refl refl (whole.2.emits.whole (record { inputs = records; stand = stands })))) in
       closer failed shown result_then close more.0 more.1 (same whole.1))
       (λ (part : IsClosedInPart plan detector shown result_then sink_then sink_now).
-      let more = wrote_more shown part.0 came (λ records stands. let own = part.1.2.emits.part (record { records = records; stand = stands }) in (own.0, own.2)) in
+      let more = wrote_more shown part.0 came (λ records stands. let own = part.1.2.emits.part (record { inputs = records; stand = stands }) in (own.0, own.2)) in
       closer failed shown result_then close more.0 more.1
       (λ taken to. subst (λ (r : Result (Unit {0}) Stop). HasReadTo plan first taken start.left failed r) (sym part.1.1) (closing_to failed taken shown part.1.0 part.0 to)))
       shut)

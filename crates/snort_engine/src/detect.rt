@@ -3,16 +3,16 @@ ghost use Rattle.std.specs.Prelude.{◌≡◌, ◌+◌, ◌≤◌, ◌^◌, [], 
 ghost use Rattle.conf_types.specs.Sound as conf;
 ghost use Rattle.fast_pattern.specs.Grouping.{StandFor};
 ghost use Rattle.rule_eval.specs.Hits.{Test};
-ghost use Rattle.flow_lanes.specs.Standing.{LearnsBatch};
 ghost use Rattle.record_jobs.specs.Way as ways;
 ghost use Rattle.record_jobs.specs.Ready.{AreReady};
 ghost use Rattle.record_jobs.specs.Fronts.{GivesFinishes};
 ghost use Rattle.alert_lines.specs.Beside.{by_place, source_in};
 ghost use Rattle.snort_engine.specs.Steps.Sourcing.{PlacesJobs};
 ghost use Rattle.alert_lines.specs.Gathering.{EmitsAny, sending};
+ghost use Rattle.alert_lines.specs.Showing.{waiting_in};
 ghost use Rattle.snort_engine.specs.Steps.Showing.{plan_of, OfTest};
-ghost use Rattle.snort_engine.specs.Steps.Detecting.{IsSoundPlan, IsNewInspection, counted, MakesJobs, Runs, running};
-ghost use Rattle.snort_engine.specs.Steps.Detecting.{Knows, DetectorStands, ShowsRecords, detecting, Closes};
+ghost use Rattle.snort_engine.specs.Steps.Detecting.{IsSoundPlan, IsNewInspection, counted, MakesJobs, HasRun, jobs_stage};
+ghost use Rattle.snort_engine.specs.Steps.Detecting.{Advances, Closes, DetectorStands, Knows, records_stage};
 
 use crate::context::Context;
 use crate::counts::Counts;
@@ -117,8 +117,7 @@ pub(crate) fn make_jobs<'a>(
     Ok(Made { jobs, places })
 }
 
-/// Runs a batch of jobs, which were made of these records, and makes the lines of what it finds, behind those
-/// that wait.
+/// Runs a batch of jobs, which were made of these records, and writes the lines of what it finds, whole.
 #[tactic(auto, using(crate::proofs::Prefixes::rising))]
 fn run_jobs<P: Pattern, G: Gate, A: Sink, R: Threads + Sync>(
     context: &Context<'_, P, G, R>,
@@ -131,12 +130,11 @@ fn run_jobs<P: Pattern, G: Gate, A: Sink, R: Threads + Sync>(
     requires plan { IsSoundPlan context.now.plan.now }
     requires ready { AreReady (length context.now.plan.now.setup.config.stream.engines) inspection.old.lanes jobs.now }
     requires groups { StandFor inspection.old.groups context.now.plan.now.setup.set.rules }
-    ensures shown { OfTest P.finds context.now.plan.now (λ plan. Runs plan
+    requires none { waiting_in inspection.old.writer ≡ [] }
+    ensures shown { OfTest P.finds context.now.plan.now (λ plan. Advances (jobs_stage plan)
         (by_place (source_in records.now inspection.old.last places.now) 0 jobs.now)
-        (running A.Sink inspection.old alerts.old) (running A.Sink inspection.new alerts.new) result) }
-    ensures learns { OnOk result (LearnsBatch inspection.old.lanes jobs.now inspection.new.lanes) }
-    ensures groups_stay { OnOk result (inspection.new.groups ≡ inspection.old.groups) }
-    ensures last_stays { OnOk result (inspection.new.last ≡ inspection.old.last) }
+        inspection.old inspection.new (sending A.Sink [] alerts.old) (sending A.Sink [] alerts.new) result) }
+    ensures ran { OnOk result (HasRun inspection.old jobs.now inspection.new) }
     ensures ends { EmitsAny (sending A.Sink [] alerts.old) (sending A.Sink [] alerts.new) result }
 {
     let plan = context.plan;
@@ -162,7 +160,8 @@ fn run_jobs<P: Pattern, G: Gate, A: Sink, R: Threads + Sync>(
         places,
         last: &inspection.last,
     };
-    inspection.writer.show(&by, sources, &found, alerts)
+    inspection.writer.show(&by, sources, &found, alerts)?;
+    inspection.writer.write_out(alerts)
 }
 
 /// Writes the lines of a batch of records, whole, and keeps its last record: what was kept before stands
@@ -177,8 +176,8 @@ pub(crate) fn show_records<P: Pattern, G: Gate, A: Sink, R: Threads + Sync>(
     requires plan { IsSoundPlan context.now.plan.now }
     requires known { Knows context.now.plan.now detector.old }
     requires few { detector.old.front.counts.records + length records.old.items ≤ 2 ^ 32 }
-    ensures shown { OfTest P.finds context.now.plan.now (λ plan. ShowsRecords plan records.old.items
-        (detecting A.Sink detector.old alerts.old) (detecting A.Sink detector.new alerts.new) result) }
+    ensures shown { OfTest P.finds context.now.plan.now (λ plan. Advances (records_stage plan) records.old.items
+        detector.old detector.new (sending A.Sink [] alerts.old) (sending A.Sink [] alerts.new) result) }
     ensures known { OnOk result (Knows context.now.plan.now detector.new) }
     ensures records { OnOk result (detector.new.front.counts.records
         ≡ detector.old.front.counts.records + length records.old.items) }
@@ -195,7 +194,6 @@ pub(crate) fn show_records<P: Pattern, G: Gate, A: Sink, R: Threads + Sync>(
         inspection,
         alerts,
     )?;
-    inspection.writer.write_out(alerts)?;
     drop(made);
     keep_last(records, &mut inspection.last);
     Ok(())
@@ -221,8 +219,8 @@ pub(crate) fn close<P: Pattern, G: Gate, A: Sink, R: Threads + Sync>(
     requires plan { IsSoundPlan context.now.plan.now }
     requires known { Knows context.now.plan.now detector }
     requires few { detector.front.counts.records ≤ 2 ^ 32 }
-    ensures closed { OfTest P.finds context.now.plan.now (λ plan. Closes plan
-        (detecting A.Sink detector alerts.old) (sending A.Sink [] alerts.new) result) }
+    ensures closed { OfTest P.finds context.now.plan.now (λ plan. Closes plan detector
+        (sending A.Sink [] alerts.old) (sending A.Sink [] alerts.new) result) }
     ensures ends { EmitsAny (sending A.Sink [] alerts.old) (sending A.Sink [] alerts.new) result }
 {
     let Detector {
@@ -233,6 +231,5 @@ pub(crate) fn close<P: Pattern, G: Gate, A: Sink, R: Threads + Sync>(
     let jobs = last_jobs(context.alloc, front)?;
     // All of them are of the last record.
     run_jobs(context, &jobs, &[], &[], &mut inspection, alerts)?;
-    inspection.writer.write_out(alerts)?;
     Ok(inspection.counts(seen))
 }

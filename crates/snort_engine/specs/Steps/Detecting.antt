@@ -6,7 +6,6 @@
 -- what it would show if both stood in one.
 use Rattle.std.specs.Prelude.{◌≡◌, ℕ, ◌≤◌, List, [], ◌++◌, length, Option, Result, OnOk, IfOk, All}
 use Rattle.edge_io.specs.Along.{trail, trail_from}
-use Rattle.edge_io.specs.declared.sink.Sink.{Ghosts as SinkOf}
 use Rattle.conf_types.specs.Sound as conf
 use Rattle.rule_types.specs.Sound.{IsSound}
 use Rattle.rule_types.specs.declared.rule.Rule.{Rule}
@@ -14,7 +13,7 @@ use Rattle.fast_pattern.specs.Grouping.{StandFor}
 use Rattle.snort_setup.specs.Rules.{most_rules}
 use Rattle.pcap_input.specs.Savefile.{most_records}
 use Rattle.flow_lanes.specs.declared.job.Job.{Job}
-use Rattle.flow_lanes.specs.Standing.{AreNew, LanesStand}
+use Rattle.flow_lanes.specs.Standing.{AreNew, LanesStand, LearnsBatch}
 use Rattle.record_jobs.specs.declared.counts.RecordCounts.{RecordCounts}
 use Rattle.record_jobs.specs.Way.{LinkedRecord, Way as JobsWay}
 use Rattle.record_jobs.specs.Jobs.{jobs}
@@ -35,6 +34,26 @@ use Rattle.snort_engine.specs.Trace.{Open, closing_alerts, detection_of, job_ite
 use Rattle.snort_engine.specs.Lines.{alert_count, lines}
 use Rattle.snort_engine.specs.Counts.{counts_of, try_count}
 use Rattle.snort_engine.specs.Steps.Sourcing.{Sourced}
+
+-- ---- stages
+
+-- a stage from records to lines: what it is in where it was given these inputs, what inputs are that come with more, and
+-- the text of these
+pub record Stage (S X Y : Type 0) : Type 1 where
+  pub stands : List X → S → Type 0
+  pub what : List Y → List X
+  pub text : List X → List Y → List ℕ
+
+-- inputs that came before
+pub record Earlier {S X Y : Type 0} (stage : Stage S X Y) (state : S) : Type 0 where
+  pub inputs : List X
+  pub stand : stage.stands inputs state
+
+-- whatever inputs came before: it was given these too, and their text is on its way, or a part of it
+pub record Advances {S X Y A : Type 0} (stage : Stage S X Y) (inputs : List Y) (old new : S) (first end : Sending)
+    (outcome : Result A WriteFault) : Type 0 where
+  pub stands : OnOk outcome ((before : List X) → stage.stands before old → stage.stands (before ++ stage.what inputs) new)
+  pub emits : EmitsBy (λ (before : Earlier stage old). stage.text before.inputs inputs) first end outcome
 
 -- ---- plans
 
@@ -76,30 +95,16 @@ jobs_lines plan before batch =
     items_lines plan.form plan.config plan.rules (trail (job_items (detection_of plan)) before)
     (carried (job_items (detection_of plan)) before batch)
 
--- the inspection, and the sink
-pub record Running : Type 0 where
-  pub inspection : Inspection
-  pub written : Option (List ℕ)
-  pub faults : ℕ
+-- jobs beside their records, as they go through an inspection
+abbrev pub jobs_stage : Plan → Stage Inspection Job Sourced
+jobs_stage plan = record { stands = InspectionStands plan; what = whats; text = jobs_lines plan }
 
-abbrev pub running : {A : Type 0} → SinkOf A → Inspection → A → Running
-running a inspection alerts = record { inspection = inspection; written = a.written alerts; faults = a.faults alerts }
-
--- jobs that came before
-pub record EarlierJobs (plan : Plan) (inspection : Inspection) : Type 0 where
-  pub jobs : List Job
-  pub stand : InspectionStands plan jobs inspection
-
-abbrev pub waiting : Running → Sending
-waiting now = record { written = now.written; block = waiting_in now.inspection.writer; faults = now.faults }
-
--- whatever jobs came before: the inspection was given these too, and their lines are on their way
-pub record Runs {A : Type 0} (plan : Plan) (batch : List Sourced) (old new : Running) (outcome : Result A WriteFault) :
-    Type 0 where
-  pub stands : OnOk outcome ((before : List Job) → InspectionStands plan before old.inspection
-      → InspectionStands plan (before ++ whats batch) new.inspection)
-  pub emits : EmitsBy (λ (before : EarlierJobs plan old.inspection). jobs_lines plan before.jobs batch)
-      (waiting old) (waiting new) outcome
+-- an inspection ran jobs, and all their lines were written: the lanes have learnt of them, and what else it knows stays
+pub record HasRun (old : Inspection) (batch : List Job) (new : Inspection) : Type 0 where
+  pub learns : LearnsBatch old.lanes batch new.lanes
+  pub groups : new.groups ≡ old.groups
+  pub last : new.last ≡ old.last
+  pub none : waiting_in new.writer ≡ []
 
 -- ---- records
 
@@ -135,30 +140,10 @@ pub record IsClosable {P : Type 0} (plan : code.Plan P) (detector : Detector) : 
   pub known : Knows plan detector
   pub few : detector.front.counts.records ≤ most_records
 
--- the detector, and the sink: no line waits
-pub record Detecting : Type 0 where
-  pub detector : Detector
-  pub written : Option (List ℕ)
-  pub faults : ℕ
-
-abbrev pub detecting : {A : Type 0} → SinkOf A → Detector → A → Detecting
-detecting a detector alerts = record { detector = detector; written = a.written alerts; faults = a.faults alerts }
-
-abbrev pub settled : Detecting → Sending
-settled now = record { written = now.written; block = []; faults = now.faults }
-
--- records that came before
-pub record EarlierRecords (plan : Plan) (detector : Detector) : Type 0 where
-  pub records : List LinkedRecord
-  pub stand : DetectorStands plan records detector
-
--- whatever records came before: the detector was given these too, and their lines were written, or a part of them
-pub record ShowsRecords {A : Type 0} (plan : Plan) (batch : List LinkedRecord) (old new : Detecting)
-    (outcome : Result A WriteFault) : Type 0 where
-  pub stands : OnOk outcome ((before : List LinkedRecord) → DetectorStands plan before old.detector
-      → DetectorStands plan (before ++ batch) new.detector)
-  pub emits : EmitsBy (λ (before : EarlierRecords plan old.detector). lines plan before.records batch Open)
-      (settled old) (settled new) outcome
+-- records, as they go through a detector
+abbrev pub records_stage : Plan → Stage Detector LinkedRecord LinkedRecord
+records_stage plan =
+    record { stands = DetectorStands plan; what = λ records. records; text = λ before records. lines plan before records Open }
 
 -- no more than a part of their lines was written
 unfoldable pub ShowsRecordsPart : Plan → List LinkedRecord → Detector → Option (List ℕ) → Option (List ℕ) → Type 0
@@ -182,8 +167,8 @@ unfoldable pub closing_lines : Plan → List LinkedRecord → List ℕ
 closing_lines plan records =
     texts_from (text_of plan.form plan.config.classes) (alert_count plan records) (closing_alerts plan records)
 
--- whatever records came before: they were written, or a part of them, and all was counted
-pub record Closes (plan : Plan) (old : Detecting) (new : Sending) (outcome : Result Counts WriteFault) : Type 0 where
+-- whatever records came before: these lines were written, or a part of them, and all was counted
+pub record Closes (plan : Plan) (detector : Detector) (old new : Sending) (outcome : Result Counts WriteFault) : Type 0 where
   pub counted : IfOk outcome (λ counts.
-      (records : List LinkedRecord) → DetectorStands plan records old.detector → counts ≡ counts_of plan records)
-  pub emits : EmitsBy (λ (before : EarlierRecords plan old.detector). closing_lines plan before.records) (settled old) new outcome
+      (records : List LinkedRecord) → DetectorStands plan records detector → counts ≡ counts_of plan records)
+  pub emits : EmitsBy (λ (before : Earlier (records_stage plan) detector). closing_lines plan before.inputs) old new outcome

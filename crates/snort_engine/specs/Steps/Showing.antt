@@ -36,7 +36,7 @@ use Rattle.snort_engine.specs.Lines.{lines}
 use Rattle.snort_engine.specs.Counts.{counts_of}
 use Rattle.snort_engine.specs.ReadAhead.{batch, AreBatches}
 use Rattle.snort_engine.specs.Steps.Stop.{is_whole, write_stop}
-use Rattle.snort_engine.specs.Steps.Detecting.{Detecting, DetectorStands, IsClosable, Knows, Closes}
+use Rattle.snort_engine.specs.Steps.Detecting.{DetectorStands, IsClosable, Knows, Closes}
 
 -- the test says which rules of a set match, by what its patterns find
 pub record IsTest {P : Type 0} (finds : P → List ℕ → Option Span) (set : Rules P) (test : Test) : Type 0 where
@@ -259,22 +259,18 @@ MayClose plan detector outcome = is_whole outcome ≡ true → IsClosable plan d
 abbrev pub IsLeft : Result (Unit {0}) Stop → Result (Unit {0}) Stop → Sending → Sending → Type 0
 IsLeft shown result old new = (is_whole shown ≡ false) × (result ≡ shown) × (new.written ≡ old.written)
 
--- a detector whose sink stands so
-abbrev pub closing : Detector → Sending → Detecting
-closing detector now = record { detector = detector; written = now.written; faults = now.faults }
-
 -- what came to its end is closed
 abbrev pub IsClosedWhole : Plan → Detector → Result (Unit {0}) Stop → Result (Unit {0}) Stop
     → Sending → Sending → Counts → Type 0
 IsClosedWhole plan detector shown result old new counts =
-    (is_whole shown ≡ true) × (result ≡ shown) × Closes plan (closing detector old) new (Ok counts)
+    (is_whole shown ≡ true) × (result ≡ shown) × Closes plan detector old new (Ok counts)
 
 -- or its closing was stopped
 abbrev pub IsClosedInPart : Plan → Detector → Result (Unit {0}) Stop → Result (Unit {0}) Stop
     → Sending → Sending → Type 0
 IsClosedInPart plan detector shown result old new =
     (is_whole shown ≡ true)
-    × ((why : WriteFault) × (result ≡ Err (write_stop why)) × Closes plan (closing detector old) new (Err why))
+    × ((why : WriteFault) × (result ≡ Err (write_stop why)) × Closes plan detector old new (Err why))
 
 -- how a capture whose batches ended so is closed
 unfoldable pub ClosesShown : Plan → Detector → Result (Unit {0}) Stop

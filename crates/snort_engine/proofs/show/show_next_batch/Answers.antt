@@ -52,7 +52,7 @@ pub returns-in_err-show_records-clause-goes_on : goal.returns-in_err-show_record
 returns-in_err-show_records-clause-goes_on g c = λ matches test seen may.
     let p = err_from_is_err_and c.from_residual.result c.from_residual.ensures.1 in
     let few : length c.read_batch-reached.new.records.items ≤ most_at c.args.room.now = omega (arith, c.read_batch-reached.ensures.filled.few, c.most_at-most.ensures, c.read_batch-reached.new.records.ok.0) in
-    let stopped = part_shown (plan_of matches c.args.context.now.plan.now) c.read_batch-reached.new.records.items _ _ (Err c.in_err-show_records.field-0.0) (c.in_err-show_records.ensures.shown matches test) in
+    let stopped = part_shown (plan_of matches c.args.context.now.plan.now) c.read_batch-reached.new.records.items _ _ _ _ _ _ (Err c.in_err-show_records.field-0.0) (c.in_err-show_records.ensures.shown matches test) in
     let old : Standing = record { reader = c.args.reader.now; room = c.args.room.now; detector = c.args.detector.now; streams = record { left = left_by (g.H.Host.left_of c.args.host.now) seen; written = g.A.Sink.written c.args.alerts.now } } in
     let new : Standing = record { reader = c.read_batch-reached.new.reader; room = c.room_behind.result; detector = c.show_records.new.detector; streams = record { left = left_by (g.H.Host.left_of c.read_batch-reached.new.host) seen; written = g.A.Sink.written c.show_records.new.alerts } } in
     rw (p.1, p.2) (batch_stops (plan_of matches c.args.context.now.plan.now) c.read_batch-reached.new.records.items old new (Rose (g.H.Host.faults c.args.host.now) (g.H.Host.faults c.read_batch-reached.new.host)) c.read_batch-reached.result c.in_err-show_records.field-0.0
