@@ -4,8 +4,8 @@ use crate::page::Page;
 use crate::row::Row;
 use crate::trial::Answer;
 use crate::{
-    captures, commands, configurations, fields, flows, hosts, lists, outside, packets, payloads,
-    rules, sessions, setups,
+    captures, commands, configurations, fields, flows, hosts, lists, outside, packets, rules,
+    sessions, setups,
 };
 use std::thread::Threads;
 
@@ -35,7 +35,6 @@ impl Answer for Calls {
                     || lists::call(page, call, given)
                     || configurations::call(page, row, call, given)
                     || rules::call(page, row, call, given)
-                    || payloads::call(page, row, call, given)
                     || captures::call(page, row, call, given)
                     || packets::call(page, row, call, given)
                     || fields::call(page, row, call, given);

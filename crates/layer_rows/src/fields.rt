@@ -39,11 +39,15 @@ const COMPARISONS: [(&str, Cmp); 8] = [
 fn compared(text: &mut Parts<'_>) -> Option<Opt> {
     let field = named(&FIELDS, text.word())?;
     let cmp = named(&COMPARISONS, text.word())?;
+    let (low, high) = (text.number(), text.number());
+    if !text.is_read() {
+        return None;
+    }
     Some(Opt::Compare {
         field,
         cmp,
-        low: text.number(),
-        high: text.number(),
+        low,
+        high,
     })
 }
 
@@ -52,8 +56,8 @@ fn field(page: &mut Page, item: &ItemHead, text: &str) {
     let mut text = Parts::of(text, ' ');
     let length = text.number();
     match compared(&mut text) {
-        Some(opt) if text.is_read() => page.show(field_matches(&opt, item, length as usize)),
-        _ => page.put("not a comparison"),
+        Some(opt) => page.show(field_matches(&opt, item, length as usize)),
+        None => page.put("not a comparison"),
     }
 }
 

@@ -38,25 +38,40 @@ mod trial;
 
 use crate::calls::Calls;
 use crate::trial::try_rows;
-use row_files::{Count, words_of};
+use row_files::{Count, Words, words_of};
 use std::process::ExitCode;
+use std::rt::Files;
+use std::thread::Threads;
 use std::{fs, io};
+
+/// Tries the rows of a file.
+fn try_file<R: Files + AllocGlobal + Print + Threads + Sync>(
+    rt: &R,
+    name: &str,
+    only: &str,
+    count: &mut Count,
+) -> io::Result<()> {
+    let text = fs::read_to_string(rt, name)?;
+    try_rows(rt, &Calls, rt.alloc(), &text, only, count)
+}
+
+/// Tries the rows of all files.
+fn try_files<R: Files + AllocGlobal + Print + Threads + Sync>(
+    rt: &R,
+    words: &Words,
+    count: &mut Count,
+) -> io::Result<()> {
+    for name in &words.files {
+        try_file(rt, name.as_str(), words.only.as_str(), count)?;
+    }
+    Ok(())
+}
 
 fn main(rt: HostRuntime) -> io::Result<ExitCode> {
     crossing::types_cross_threads();
     let words = words_of(&rt)?;
     let mut count = Count::new();
-    for name in &words.files {
-        let text = fs::read_to_string(&rt, name.as_str())?;
-        try_rows(
-            &rt,
-            &Calls,
-            rt.alloc(),
-            &text,
-            words.only.as_str(),
-            &mut count,
-        )?;
-    }
+    try_files(&rt, &words, &mut count)?;
     println!(&rt;
         "{} calls passed, {} differed",
         count.passed, count.differed

@@ -76,6 +76,13 @@ impl Page {
         }
     }
 
+    /// A text behind another.
+    pub fn joined(&mut self, front: &str, behind: &str) -> String {
+        let mut text = self.copied(front);
+        self.note(text.push_str(behind));
+        text
+    }
+
     /// A copy of a text.
     pub fn copied(&mut self, text: &str) -> String {
         match String::from_str(self.alloc, text) {

@@ -98,36 +98,24 @@ fn try_payload<M: PatternMaker>(
     show_set(page, &set, payload);
 }
 
-/// Whether the payload that is written so matches the rule of a line.
-fn try_written<M: PatternMaker>(
-    page: &mut Page,
-    row: &Row,
-    maker: &mut M,
-    line: &str,
-    written: &str,
-) {
-    let payload = bytes_of(page, written);
-    let mut given = Given::of(page, row);
-    try_payload(page, &mut given, maker, line, &payload);
-}
-
 /// `payload OPTIONS~PAYLOAD`: whether it matches them.
-fn payload<M: PatternMaker>(page: &mut Page, row: &Row, maker: &mut M, text: &str) {
+fn payload<M: PatternMaker>(page: &mut Page, given: &mut Given, maker: &mut M, text: &str) {
     let (options, written) = cut(text, '~');
     let line = page.rule_line(ANY, options, " sid:1;");
-    try_written(page, row, maker, &line, written);
+    let payload = bytes_of(page, written);
+    try_payload(page, given, maker, &line, &payload);
 }
 
 /// `searches OPTIONS~PAYLOAD`: whether it matches them, and how often their patterns were searched.
-fn searches(page: &mut Page, row: &Row, text: &str) {
+fn searches(page: &mut Page, given: &mut Given, text: &str) {
     let searches = AtomicU64::new(0);
     let mut maker = CountingMaker::new(page.alloc, &searches);
-    payload(page, row, &mut maker, text);
+    payload(page, given, &mut maker, text);
     page.show(format_args!(" {}", searches.load(Ordering::SeqCst)));
 }
 
-/// Adds the rules of lines to a set; after each how many it has, behind why one was not added.
-fn push_lines(page: &mut Page, row: &Row, given: &mut Given, maker: &mut LiteralMaker) {
+/// `rule-set`: how many rules a set has after each step's rule was added, behind why one was not.
+fn rule_set(page: &mut Page, row: &Row, given: &mut Given, maker: &mut LiteralMaker) {
     let mut set = RuleSet::new(page.alloc);
     for line in row.steps.as_str().lines() {
         push_line(page, given, &mut set, maker, line);
@@ -136,22 +124,20 @@ fn push_lines(page: &mut Page, row: &Row, given: &mut Given, maker: &mut Literal
     }
 }
 
-/// `rule-set`: how many rules a set has after each step's rule was added, behind why one was not.
-fn rule_set(page: &mut Page, row: &Row) {
+/// A call with the row's maker of patterns.
+fn call_with_maker(page: &mut Page, row: &Row, given: &mut Given, call: &str, text: &str) {
     let mut maker = row.maker(page);
-    let mut given = Given::of(page, row);
-    push_lines(page, row, &mut given, &mut maker);
+    match call {
+        "payload" => payload(page, given, &mut maker, text),
+        _ => rule_set(page, row, given, &mut maker),
+    }
 }
 
 /// The calls of payloads.
-pub(crate) fn call(page: &mut Page, row: &Row, call: &str, given: &str) -> bool {
+pub(crate) fn call(page: &mut Page, row: &Row, given: &mut Given, call: &str, text: &str) -> bool {
     match call {
-        "payload" => {
-            let mut maker = row.maker(page);
-            payload(page, row, &mut maker, given);
-        }
-        "searches" => searches(page, row, given),
-        "rule-set" => rule_set(page, row),
+        "payload" | "rule-set" => call_with_maker(page, row, given, call, text),
+        "searches" => searches(page, given, text),
         _ => return false,
     }
     true

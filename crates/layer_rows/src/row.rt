@@ -38,11 +38,15 @@ impl Row {
         }
     }
 
-    /// A row with a label and nothing else.
-    pub fn labelled(alloc: Global, label: &str) -> Result<Row, AllocError> {
-        let mut row = Row::new(alloc);
-        row.label = String::from_str(alloc, label)?;
-        Ok(row)
+    /// Becomes a row with a label and nothing else.
+    pub fn begin(&mut self, alloc: Global, label: &str) -> Result<(), AllocError> {
+        self.files = Files::new(alloc);
+        self.item.clear();
+        self.host.clear();
+        self.maker.clear();
+        self.close_call();
+        self.label.clear();
+        self.label.push_str(label)
     }
 
     /// Drops what was given to one call alone.

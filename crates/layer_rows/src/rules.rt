@@ -7,6 +7,7 @@ ghost use Rattle.rule_types.specs.Sound.{IsSound, IsTriable};
 use crate::configurations::load_file;
 use crate::notation::CONF;
 use crate::page::Page;
+use crate::payloads;
 use crate::row::Row;
 use crate::shown::show_rule;
 use conf_parser::{Classes, Loaded};
@@ -109,28 +110,44 @@ fn ask_of(page: &mut Page, row: &Row, given: &mut Given, call: &str, line: &str)
     }
 }
 
-/// A call on the rule of a line, behind the row's configuration.
-fn ask(page: &mut Page, row: &Row, call: &str, line: &str) {
-    let mut given = Given::of(page, row);
-    ask_of(page, row, &mut given, call, line);
+/// A call on a rule with this header and these options, and others after them.
+fn ask_with(
+    page: &mut Page,
+    row: &Row,
+    given: &mut Given,
+    call: &str,
+    header: &str,
+    options: &str,
+    more: &str,
+) {
+    let line = page.rule_line(header, options, more);
+    ask_of(page, row, given, call, &line);
 }
 
-/// A call on a rule with this header and these options.
-fn ask_with(page: &mut Page, row: &Row, call: &str, header: &str, options: &str, behind: &str) {
-    let line = page.rule_line(header, options, behind);
-    ask(page, row, call, &line);
-}
-
-/// The calls of rules: of whole lines, of headers, and of options with a `sid` behind them, but for `alert`.
-pub(crate) fn call(page: &mut Page, row: &Row, call: &str, given: &str) -> bool {
+/// A call on a rule: a whole line, a header, or options, with a `sid` after them but for `alert`.
+fn ask(page: &mut Page, row: &Row, given: &mut Given, call: &str, text: &str) {
     match call {
-        "rule" | "head" => ask(page, row, call, given),
-        "header" => ask_with(page, row, call, given, "", " sid:1;"),
-        "option" | "options" | "choice" | "meets" => {
-            ask_with(page, row, call, ANY, given, " sid:1;")
-        }
-        "alert" => ask_with(page, row, call, ANY, given, ""),
-        _ => return false,
+        "rule" | "head" => ask_of(page, row, given, call, text),
+        "header" => ask_with(page, row, given, call, text, "", " sid:1;"),
+        "alert" => ask_with(page, row, given, call, ANY, text, ""),
+        _ => ask_with(page, row, given, call, ANY, text, " sid:1;"),
+    }
+}
+
+/// The calls of rules and of payloads.
+const CALLS: [&str; 11] = [
+    "rule", "head", "header", "alert", "option", "options", "choice", "meets", "payload",
+    "searches", "rule-set",
+];
+
+/// The calls of rules and of payloads. One function owns what the row's configuration gives to them.
+pub(crate) fn call(page: &mut Page, row: &Row, call: &str, text: &str) -> bool {
+    if !CALLS.contains(&call) {
+        return false;
+    }
+    let mut given = Given::of(page, row);
+    if !payloads::call(page, row, &mut given, call, text) {
+        ask(page, row, &mut given, call, text);
     }
     true
 }

@@ -1,6 +1,6 @@
 //! Whole setups: the calls of snort_setup over the row's files, and those of what stands on one.
 
-ghost use Rattle.std.specs.Prelude.{All};
+ghost use Rattle.std.specs.Prelude.{All, IfOk};
 ghost use Rattle.std.specs.Option.{option_map};
 ghost use Rattle.conf_types.specs.Sound.{IsSound};
 ghost use Rattle.rule_types.specs.Sound.{IsTriable};
@@ -85,8 +85,24 @@ fn show_setup<R: Threads + Sync>(
     }
 }
 
-/// Shows what a call finds of the setup of these words, or why nothing is ready.
+/// The setup of these words over the row's files, or why nothing is ready.
 #[tactic(auto, using(crate::proofs::Triable::all_triable))]
+fn ready(
+    page: &mut Page,
+    row: &Row,
+    words: &SetupWords<'_>,
+    warnings: &mut Items<Text>,
+) -> Result<Setup<Literal>, SetupStop>
+    requires { HasName (option_map (λ pair. record { name = pair.0.now; value = pair.1.now }) words.now.defined) }
+    ensures config { IfOk result (λ setup. IsSound setup.config) }
+    ensures rules { IfOk result (λ setup. All IsTriable setup.set.rules) }
+{
+    let mut host = row.host(page);
+    let mut maker = row.maker(page);
+    read_setup(page.alloc, words, &mut host, &mut maker, warnings)
+}
+
+/// Shows what a call finds of the setup of these words, or why nothing is ready; for `setup` the warnings, too.
 fn set_up<R: Threads + Sync>(
     rt: &R,
     page: &mut Page,
@@ -97,10 +113,8 @@ fn set_up<R: Threads + Sync>(
 )
     requires { HasName (option_map (λ pair. record { name = pair.0.now; value = pair.1.now }) words.now.defined) }
 {
-    let mut host = row.host(page);
-    let mut maker = row.maker(page);
-    let mut warnings: Items<Text> = Items::new(page.alloc);
-    let answer = read_setup(page.alloc, words, &mut host, &mut maker, &mut warnings);
+    let mut warnings = Items::new(page.alloc);
+    let answer = ready(page, row, words, &mut warnings);
     if call == "setup" {
         show_warnings(page, &warnings);
     }

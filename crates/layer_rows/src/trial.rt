@@ -4,7 +4,7 @@ use crate::notation::{Applied, apply, written};
 use crate::page::Page;
 use crate::row::Row;
 use row_files::{Count, RowLine, cut};
-use std::alloc::{AllocError, Global};
+use std::alloc::Global;
 use std::io;
 use std::thread::Threads;
 
@@ -51,11 +51,17 @@ fn trimmed(text: &str) -> &str {
     text.strip_suffix('\n').unwrap_or(text)
 }
 
-/// What stands in front of what a call is given, and that.
-fn whole(alloc: Global, front: &str, given: &str) -> Result<String, AllocError> {
-    let mut text = String::from_str(alloc, front)?;
-    text.push_str(given)?;
-    Ok(text)
+/// Whether a call gives what it must; the page has what it gives.
+fn gives<R: Threads + Sync, A: Answer>(
+    rt: &R,
+    calls: &A,
+    row: &Row,
+    page: &mut Page,
+    call: Call<'_>,
+) -> bool {
+    let given = page.joined(row.front.as_str(), call.given);
+    let is_known = calls.answer(rt, page, row, call.name, given.as_str());
+    is_known && !page.lacks_memory && trimmed(page.text.as_str()) == trimmed(call.wanted)
 }
 
 /// Makes the call of a line, and prints what it gives where that is not what it must.
@@ -67,11 +73,14 @@ fn try_call<R: Print + Threads + Sync, A: Answer>(
     line: &str,
     count: &mut Count,
 ) -> io::Result<()> {
-    let call = call_of(line, row.wanted.as_str());
-    let given = whole(alloc, row.front.as_str(), call.given)?;
     let mut page = Page::new(alloc);
-    let is_known = calls.answer(rt, &mut page, row, call.name, given.as_str());
-    if is_known && !page.lacks_memory && trimmed(page.text.as_str()) == trimmed(call.wanted) {
+    if gives(
+        rt,
+        calls,
+        row,
+        &mut page,
+        call_of(line, row.wanted.as_str()),
+    ) {
         count.pass();
         return Ok(());
     }
@@ -95,6 +104,23 @@ fn try_calls<R: Print + Threads + Sync, A: Answer>(
     Ok(())
 }
 
+/// Makes the calls of a line that has a text in it or in its row's label.
+fn try_call_line<R: Print + Threads + Sync, A: Answer>(
+    rt: &R,
+    calls: &A,
+    alloc: Global,
+    row: &mut Row,
+    line: &str,
+    only: &str,
+    count: &mut Count,
+) -> io::Result<()> {
+    if row.label.contains(only) || line.contains(only) {
+        try_calls(rt, calls, alloc, row, RowLine::read(line), count)?;
+    }
+    row.close_call();
+    Ok(())
+}
+
 /// Applies a line to its row, or makes its calls.
 fn try_line<R: Print + Threads + Sync, A: Answer>(
     rt: &R,
@@ -105,19 +131,12 @@ fn try_line<R: Print + Threads + Sync, A: Answer>(
     only: &str,
     count: &mut Count,
 ) -> io::Result<()> {
-    let stands = RowLine::read(line);
-    match apply(alloc, row, stands)? {
+    match apply(alloc, row, RowLine::read(line))? {
         Applied::Taken => Ok(()),
+        Applied::Call => try_call_line(rt, calls, alloc, row, line, only, count),
         Applied::Wrong => {
             count.differ();
             println!(rt; "{}: not understood: {}", row.label, line)
-        }
-        Applied::Call => {
-            if row.label.contains(only) || line.contains(only) {
-                try_calls(rt, calls, alloc, row, stands, count)?;
-            }
-            row.close_call();
-            Ok(())
         }
     }
 }
@@ -134,7 +153,7 @@ pub(crate) fn try_rows<R: Print + Threads + Sync, A: Answer>(
     let mut row = Row::new(alloc);
     for line in text.lines() {
         if let Some(label) = line.strip_prefix("row ") {
-            row = Row::labelled(alloc, label)?;
+            row.begin(alloc, label)?;
         } else {
             let line = written(alloc, line)?;
             try_line(rt, calls, alloc, &mut row, line.as_str(), only, count)?;
