@@ -4,3 +4,6 @@ pub mod FrontSteps
 pub mod Pieces
 pub mod Copying
 pub mod Running
+pub mod Named
+pub mod Texting
+pub mod Configured

@@ -1,5 +1,5 @@
 -- How a run ends, by how the copying of each of its files ends.
-use Rattle.std.proofs.Common.{◌≡◌, ℕ, ◌+◌, ◌<◌, ◌≤◌, List, [], ◌∷◌, ◌++◌, Option, None, Some, refl, sym, subst, ◌∙◌, ap, append_assoc, append-nil, get_or, map, take, drop, length, arith}
+use Rattle.std.proofs.Common.{◌≡◌, ℕ, ◌+◌, ◌<◌, ◌≤◌, inl, List, [], ◌∷◌, ◌++◌, Option, None, Some, refl, sym, subst, ◌∙◌, ap, append_assoc, append-nil, get_or, map, take, drop, length, arith}
 use Rattle.std.specs.Prelude.{Result, Ok, Err, IfOk, OnErr, IsSome, IsErrOf}
 use Rattle.std.specs.Borrow.{Bor}
 use Rattle.edge_io.specs.Files.{Files, IsOpened}
@@ -14,7 +14,9 @@ use Rattle.snort_eve.specs.declared.outcome.Outcome.TheVariants as outcome
 use Rattle.snort_eve.specs.Joins.{Joined}
 use Rattle.snort_eve.specs.Copies.{Copies, Stops, IsEnding, IsLong}
 use Rattle.snort_eve.specs.Asking.{Asked, Wanted, help, lines}
-use Rattle.snort_eve.specs.Runs.{IsCut, IsFileRun, AreDone, EndsAt, AreRun, Writes, Runs, OnUnread, UnlessUnread, outcome_of}
+use Rattle.snort_setup.specs.Words.{Words}
+use Rattle.snort_eve.specs.Texts.{Texts}
+use Rattle.snort_eve.specs.Runs.{IsCut, IsLinesRun, line_of, IsFileRun, AreDone, EndsAt, AreRun, Writes, Runs, OnUnread, UnlessUnread, outcome_of}
 use Rattle.std.proofs.lemmas.List.{drop_more, map-append, take-append-drop, take_all, take_more}
 use Rattle.snort_eve.proofs.Copying.{nothing-begins}
 
@@ -98,6 +100,8 @@ pub on-weaker : (P Q : List ℕ → Type 0) (ended : Outcome) → ((name : List 
 on-weaker P Q outcome.Done weaker cause = tt
 on-weaker P Q outcome.Help weaker cause = tt
 on-weaker P Q outcome.CommandLine weaker cause = tt
+on-weaker P Q (outcome.Refused message) weaker cause = tt
+on-weaker P Q (outcome.NoConf name) weaker cause = weaker name cause
 on-weaker P Q (outcome.Bad name at) weaker cause = tt
 on-weaker P Q (outcome.Unread name) weaker cause = weaker name.now cause
 on-weaker P Q outcome.Unwritten weaker cause = tt
@@ -108,6 +112,8 @@ pub unless-weaker : (P Q : Type 0) (ended : Outcome) → (P → Q) → UnlessUnr
 unless-weaker P Q outcome.Done weaker holds = weaker holds
 unless-weaker P Q outcome.Help weaker holds = weaker holds
 unless-weaker P Q outcome.CommandLine weaker holds = weaker holds
+unless-weaker P Q (outcome.Refused message) weaker holds = weaker holds
+unless-weaker P Q (outcome.NoConf name) weaker holds = tt
 unless-weaker P Q (outcome.Bad name at) weaker holds = weaker holds
 unless-weaker P Q (outcome.Unread name) weaker holds = tt
 unless-weaker P Q outcome.Unwritten weaker holds = weaker holds
@@ -228,14 +234,15 @@ ends-unbegun : (line : Joined → List ℕ) (files : Files) (names : List (List 
 ends-unbegun line files [] = (refl, tt)
 ends-unbegun line files (name ∷ names) = ((λ same. absurd cc), λ bytes has entries rest split. nothing-begins _)
 
--- memory is lacking before the first file
-pub run-unbegun : (asked : Option Asked) (agrees : Files → Type 0) (old : Option (List ℕ)) → Runs asked agrees old old outcome.NoMemory
-run-unbegun None agrees old = record { wrote = []; told = sym (behind-nil old); holds = λ files a. (refl, tt) }
-run-unbegun (Some help) agrees old = record { wrote = []; told = sym (behind-nil old); holds = λ files a. (refl, tt) }
-run-unbegun (Some (lines wanted)) agrees old = record {
-  wrote = [];
-  told = sym (behind-nil old);
-  holds = λ files a. record {
+abbrev no_texts : Texts
+no_texts = record { message = λ mark. None; classes = [] }
+
+lines-unbegun : (conf : Option Words) (wanted : Wanted) (files : Files) → IsLinesRun conf wanted files [] outcome.NoMemory
+lines-unbegun (Some words) wanted files = inl (refl, tt)
+lines-unbegun None wanted files = record {
+  texts = no_texts;
+  are = record { messages = λ mark. refl; classes_are = refl };
+  run = record {
     done = [];
     left = wanted.files;
     names_are = refl;
@@ -243,9 +250,15 @@ run-unbegun (Some (lines wanted)) agrees old = record {
     now = [];
     split = refl;
     are = refl;
-    ends = ends-unbegun _ files wanted.files;
+    ends = ends-unbegun (line_of no_texts wanted.run) files wanted.files;
   };
 }
+
+-- memory is lacking before the first file
+pub run-unbegun : (asked : Option Asked) (agrees : Files → Type 0) (old : Option (List ℕ)) → Runs asked agrees old old outcome.NoMemory
+run-unbegun None agrees old = record { wrote = []; told = sym (behind-nil old); holds = λ files a. (refl, tt) }
+run-unbegun (Some help) agrees old = record { wrote = []; told = sym (behind-nil old); holds = λ files a. (refl, tt) }
+run-unbegun (Some (lines wanted)) agrees old = record { wrote = []; told = sym (behind-nil old); holds = λ files a. lines-unbegun wanted.conf wanted files }
 
 -- nothing is copied, by how the run ended
 pub run-refused : (agrees : Files → Type 0) (old : Option (List ℕ)) → Runs None agrees old old outcome.CommandLine

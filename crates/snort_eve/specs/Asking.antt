@@ -2,23 +2,30 @@
 --
 -- Words are read as clap reads them (specs/Command). Without a name of a file, and where it is `-`, standard input is read,
 -- by the name that the system has for it.
+-- A configuration is read with the variable that `-S` defines, and what `--skip-refused` would skip is skipped.
 -- To try it on: `--host a --community-id-seed 7 f -` asks for the files `f` and `/dev/stdin`, the host `a` and the seed 7;
--- `--community-id-seed 65536` asks for nothing, and is refused.
-use Rattle.std.specs.Prelude.{ℕ, Bool, if◌then◌else◌, List, [], ◌∷◌, map, Option, Some, None, bytes_eq, codes, find, is_some, option_map, option_and_then, slice_get}
+-- `--community-id-seed 65536` and `-S A` ask for nothing, and are refused.
+use Rattle.std.specs.Prelude.{ℕ, ⊤, Bool, true, if◌then◌else◌, List, [], ◌∷◌, map, Option, Some, None, bytes_eq, codes, find, is_some, option_map, option_and_then, slice_get}
 use Rattle.std.specs.Borrow.{Bor}
 use Rattle.clap.specs.Walk.{Row, Text, all_of}
 use Rattle.clap.specs.declared.parser.matches.ValueSource.{ValueSource}
 use Rattle.clap.specs.declared.parser.matches.ValueSource.TheVariants.{CommandLine, DefaultValue}
 use Rattle.net_lists.specs.Numbers.{number_in}
 use Rattle.alert_json.specs.Facts.{RunFacts, run_facts}
+use Rattle.command_words.specs.CommandLine.{Defined, definition, maybe}
+use Rattle.snort_setup.specs.Words.{Definition, HasName, Words}
 use Rattle.snort_eve.specs.Command.{clap_rows}
+use Rattle.snort_eve.specs.declared.words.Conf.{Conf as KeptConf}
+use Rattle.snort_eve.specs.declared.words.Variable.{Variable as KeptVariable}
 use Rattle.snort_eve.specs.declared.words.Asked.{Asked as Kept}
 use Rattle.snort_eve.specs.declared.words.Asked.TheVariants as kept
 use Rattle.snort_eve.specs.declared.words.Wanted.{Wanted as KeptWanted}
 
--- what all records have alike, and the names of the files, in their order
+-- what all records have alike, the configuration that has the texts, if there is one, and the names of the files, in their
+-- order
 pub record Wanted : Type 0 where
   pub run : RunFacts
+  pub conf : Option Words
   pub files : List (List ℕ)
 
 -- the usage, or lines
@@ -59,8 +66,17 @@ abbrev pub seed_of : Option (List ℕ) → Option ℕ
 seed_of None = Some 0
 seed_of (Some value) = number_in 0 65535 value
 
-abbrev pub with_seed : List Row → ℕ → Asked
-with_seed rows seed = lines (record {
+-- what is defined, as a configuration takes it
+abbrev pub definition_of : Defined → Definition
+definition_of defined = record { name = defined.name; value = defined.value }
+
+-- the configuration of this name, with this variable
+abbrev pub conf_with : Option Defined → List ℕ → Words
+conf_with defined name = record { conf = name; definition = option_map definition_of defined; host_table = None; skips = true }
+
+abbrev pub with_values : List Row → ℕ → Option Defined → Asked
+with_values rows seed defined = lines (record {
+  conf = option_map (conf_with defined) (given_in rows (codes "c"));
   run = record { seed = seed; host = given_in rows (codes "host"); pcap_filename = given_in rows (codes "pcap-filename") };
   files = files_of (all_of (codes "FILE") rows);
 })
@@ -69,7 +85,8 @@ with_seed rows seed = lines (record {
 abbrev pub asked_in : List Row → Option Asked
 asked_in rows =
     if is_some (given_in rows (codes "help")) then Some help
-    else option_map (with_seed rows) (seed_of (given_in rows (codes "community-id-seed")))
+    else option_and_then (λ seed. option_map (with_values rows seed) (maybe definition (given_in rows (codes "S"))))
+    (seed_of (given_in rows (codes "community-id-seed")))
 
 -- what the words ask for, the program's name among them; None where they are no command line
 abbrev pub asked_of : List (List ℕ) → Option Asked
@@ -77,9 +94,29 @@ asked_of words = option_and_then asked_in (clap_rows words)
 
 -- ---- the same of words that are lent
 
+abbrev pub defined_facts : KeptVariable → Defined
+defined_facts defined = record { name = defined.name.now; value = defined.value.now }
+
+abbrev pub conf_facts : KeptConf → Words
+conf_facts conf = conf_with (option_map defined_facts conf.defined) conf.name.now
+
 abbrev pub wanted_facts : KeptWanted → Wanted
-wanted_facts wanted = record { run = run_facts wanted.run; files = map (λ (name : Bor (List ℕ)). name.now) wanted.files.items }
+wanted_facts wanted = record {
+  run = run_facts wanted.run;
+  conf = option_map conf_facts wanted.conf;
+  files = map (λ (name : Bor (List ℕ)). name.now) wanted.files.items;
+}
 
 abbrev pub asked_facts : Kept → Asked
 asked_facts kept.Help = help
 asked_facts (kept.Lines wanted) = lines (wanted_facts wanted)
+
+-- the variable of a configuration that is asked for, if it defines one, has a name
+abbrev pub IsNamed : Option Words → Type 0
+IsNamed None = ⊤
+IsNamed (Some words) = HasName words.definition
+
+abbrev pub AskNamed : Option Asked → Type 0
+AskNamed None = ⊤
+AskNamed (Some help) = ⊤
+AskNamed (Some (lines wanted)) = IsNamed wanted.conf

@@ -12,7 +12,10 @@ use Rattle.clap.specs.declared.builder.action.ArgAction.TheVariants.{Append, Set
 use Rattle.snort_eve.specs.declared.syntax.Choice.{Choice}
 use Rattle.snort_eve.specs.declared.syntax.Choice.TheVariants as choice
 
--- an option with a name, a flag with a name, and the names of files
+-- an option with a letter, one with a name, a flag with a name, and the names of files
+abbrev pub letter_rule : Text → ℕ → Rule
+letter_rule id letter = record (new_rule id) { short = Some letter; action = Some Set }
+
 abbrev pub option_rule : Text → Rule
 option_rule name = record (new_rule name) { long = Some name; action = Some Set }
 
@@ -24,6 +27,7 @@ names_rule id = record (new_rule id) { action = Some Append }
 
 -- one of these as the code has it
 abbrev pub rule_as : Choice → Rule
+rule_as (choice.LetterOption id letter) = letter_rule id.now letter
 rule_as (choice.NameOption name) = option_rule name.now
 rule_as (choice.NameFlag name) = flag_rule name.now
 rule_as (choice.Names id) = names_rule id.now
@@ -38,7 +42,9 @@ plain_shape s = record s { disable_help_flag = true; disable_version_flag = true
 -- what words may use
 abbrev pub known : List Rule
 known =
-    option_rule (codes "host")
+    letter_rule (codes "c") 99
+    ∷ letter_rule (codes "S") 83
+    ∷ option_rule (codes "host")
     ∷ option_rule (codes "pcap-filename")
     ∷ option_rule (codes "community-id-seed")
     ∷ flag_rule (codes "help")

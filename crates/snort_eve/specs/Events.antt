@@ -3,7 +3,7 @@
 -- An event has two ports, or type and code of an ICMP message, and zeros in their place where it is of a fragment (Snort
 -- Users Manual 2.9, "Unified2 IDS Event"). Own: zeros are no ports where the packet is a fragment or isn't there. The packet
 -- is read as the detector reads a record (`record_decoded`), without a checksum verified. The texts of rules and classes
--- stand in no record of Unified2, so the message and the text of the class are empty.
+-- stand in no record of Unified2: they are those of a configuration, or empty.
 -- To try it on: of an event over UDP with the ports 0 and 0 and no packet neither port is told; with the packet, and it is
 -- no fragment, both are told as 0.
 use Rattle.std.specs.Prelude.{ℕ, ◌+◌, ◌*◌, ◌==◌, ◌||◌, Bool, true, false, not, if◌then◌else◌, List, [], Option, None, Some, option_map, option_and_then, Result, Ok, Err}
@@ -22,6 +22,7 @@ use Rattle.alert_json.specs.declared.event.Pair.{Pair}
 use Rattle.alert_json.specs.declared.event.Pair.TheVariants.{Unknown, Ports, Message}
 use Rattle.alert_json.specs.Facts.{AlertFacts, PacketFacts, EventFacts}
 use Rattle.snort_eve.specs.Joins.{Joined}
+use Rattle.snort_eve.specs.Texts.{Texts, class_text, message_of}
 
 -- the link type of this number, where packets are read over it
 unfoldable pub link_of : ℕ → Option Link
@@ -87,18 +88,18 @@ flow_of event whole = record {
 }
 
 -- the text of the class of this number; 0 stands for none
-unfoldable pub class_of : ℕ → Option (List ℕ)
-class_of number = if number == 0 then None else Some []
+unfoldable pub class_of : Texts → ℕ → Option (List ℕ)
+class_of texts number = if number == 0 then None else Some (class_text texts number)
 
 -- its rule
-abbrev pub rule_of : U2Event → AlertFacts
-rule_of event = record {
+abbrev pub rule_of : Texts → U2Event → AlertFacts
+rule_of texts event = record {
   blocked = event.blocked == 1;
   gid = event.gid;
   sid = event.sid;
   rev = event.rev;
-  msg = [];
-  class = class_of event.class;
+  msg = message_of texts event.gid event.sid;
+  class = class_of texts event.class;
   priority = event.priority;
 }
 
@@ -111,11 +112,11 @@ captured_of packet = record {
 }
 
 -- what is told of an event with its packet
-abbrev pub event_of : Joined → EventFacts
-event_of it = record {
+abbrev pub event_of : Texts → Joined → EventFacts
+event_of texts it = record {
   nanos = nanos_of it.event;
   flow = flow_of it.event (is_whole it.packet);
-  alert = rule_of it.event;
+  alert = rule_of texts it.event;
   packet = option_map captured_of it.packet;
   count = None;
 }

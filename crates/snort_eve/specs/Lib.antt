@@ -1,8 +1,10 @@
 -- The definitions that the contracts of snort_eve cite.
 pub mod Joins
+pub mod Texts
 pub mod Events
 pub mod Streams
 pub mod Copies
 pub mod Command
 pub mod Asking
+pub mod Confs
 pub mod Runs

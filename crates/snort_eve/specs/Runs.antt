@@ -6,16 +6,22 @@
 -- are done, and of this one the lines of what is whole, or a beginning of the lines, are written.
 -- To try it on: of a file with two events, and one with an event and a packet of which a byte is lacking, the lines of three
 -- events are written, and the status is 2.
-use Rattle.std.specs.Prelude.{◌≡◌, ⊤, ℕ, ◌^◌, ◌≤◌, length, List, [], ◌∷◌, ◌++◌, Option, Some, None, codes, decimal, Result, Ok, Err}
+use Rattle.std.specs.Prelude.{◌≡◌, ◌⊎◌, ⊤, ℕ, ◌^◌, ◌≤◌, length, List, [], ◌∷◌, ◌++◌, Option, Some, None, codes, decimal, Result, Ok, Err}
 use Rattle.std.specs.Borrow.{Bor}
 use Rattle.std.specs.FinMap.{get}
 use Rattle.edge_io.specs.Files.{Files}
 use Rattle.edge_io.specs.Told.{behind}
+use Rattle.conf_types.specs.declared.classes.Class.{Class}
+use Rattle.rule_types.specs.declared.rule.Rule.{Rule}
+use Rattle.snort_setup.specs.Words.{Words}
+use Rattle.snort_setup.specs.Setup.{Ready}
 use Rattle.alert_json.specs.Facts.{RunFacts}
 use Rattle.alert_json.specs.Value.{event_line}
 use Rattle.snort_eve.specs.Joins.{Joined}
 use Rattle.snort_eve.specs.Events.{event_of}
-use Rattle.snort_eve.specs.Asking.{Asked, help, lines}
+use Rattle.snort_eve.specs.Asking.{Asked, Wanted, help, lines}
+use Rattle.snort_eve.specs.Texts.{Texts, AreTexts}
+use Rattle.snort_eve.specs.Confs.{IsReady, IsRefusedBy, IsUnreadBy}
 use Rattle.snort_eve.specs.Copies.{IsDone, IsBad, IsBeginning}
 use Rattle.snort_eve.specs.declared.outcome.Outcome.{Outcome}
 use Rattle.snort_eve.specs.declared.outcome.Outcome.TheVariants as outcome
@@ -24,9 +30,9 @@ use Rattle.snort_eve.specs.declared.copy.Ending.TheVariants.{Done, Bad}
 use Rattle.snort_eve.specs.declared.copy.Stop.{Stop}
 use Rattle.snort_eve.specs.declared.copy.Stop.TheVariants.{Unread, Unwritten, TooLong, NoMemory}
 
--- the line of an event with its packet, in a run that asks for this
-abbrev pub line_of : RunFacts → Joined → List ℕ
-line_of run it = event_line (event_of it) run
+-- the line of an event with its packet, by these texts and in a run that asks for this
+abbrev pub line_of : Texts → RunFacts → Joined → List ℕ
+line_of texts run it = event_line (event_of texts it) run
 
 -- ---- a file
 
@@ -49,6 +55,8 @@ abbrev pub IsFileRun : (Joined → List ℕ) → Files → List ℕ → List ℕ
 IsFileRun line files name wrote outcome.Done = HasBytes name files (λ bytes. IsDone line bytes wrote)
 IsFileRun line files name wrote outcome.Help = ⊥
 IsFileRun line files name wrote outcome.CommandLine = ⊥
+IsFileRun line files name wrote (outcome.Refused message) = ⊥
+IsFileRun line files name wrote (outcome.NoConf told) = ⊥
 IsFileRun line files name wrote (outcome.Bad told at) =
     (told.now ≡ name) × HasBytes name files (λ bytes. IsBad line bytes wrote at)
 IsFileRun line files name wrote (outcome.Unread told) = (told.now ≡ name) × IsCut line files name wrote
@@ -101,11 +109,37 @@ IsHelp outcome.Help = ⊤
 IsHelp outcome.NoMemory = ⊤
 IsHelp other = ⊥
 
+-- files were copied by the texts of these rules and classes
+pub record CopiedBy (rules : List Rule) (classes : List Class) (wanted : Wanted) (files : Files) (wrote : List ℕ)
+    (ended : Outcome) : Type 0 where
+  pub texts : Texts
+  pub are : AreTexts texts rules classes
+  pub run : AreRun (line_of texts wanted.run) files wanted.files wrote ended
+
+-- how a run ends whose configuration isn't ready
+abbrev pub IsHalted : Words → Files → Outcome → Type 0
+IsHalted words files (outcome.Refused message) = IsRefusedBy words files message
+IsHalted words files (outcome.NoConf name) = IsUnreadBy words files name
+IsHalted words files outcome.NoMemory = ⊤
+IsHalted words files other = ⊥
+
+-- files were copied by the texts of a configuration that is ready
+pub record CopiedByReady (words : Words) (wanted : Wanted) (files : Files) (wrote : List ℕ) (ended : Outcome) : Type 0 where
+  pub ready : Ready
+  pub is : IsReady words files ready
+  pub copied : CopiedBy ready.rules ready.config.classes wanted files wrote ended
+
+-- files were copied without texts, or by those of a configuration; or that isn't ready, and nothing was written
+abbrev pub IsLinesRun : Option Words → Wanted → Files → List ℕ → Outcome → Type 0
+IsLinesRun None wanted files wrote ended = CopiedBy [] [] wanted files wrote ended
+IsLinesRun (Some words) wanted files wrote ended =
+    ((wrote ≡ []) × IsHalted words files ended) ⊎ CopiedByReady words wanted files wrote ended
+
 -- what a run has written at its end, by what its words ask for
 abbrev pub IsRun : Option Asked → Files → List ℕ → Outcome → Type 0
 IsRun None files wrote ended = (wrote ≡ []) × IsRefused ended
 IsRun (Some help) files wrote ended = (wrote ≡ []) × IsHelp ended
-IsRun (Some (lines wanted)) files wrote ended = AreRun (line_of wanted.run) files wanted.files wrote ended
+IsRun (Some (lines wanted)) files wrote ended = IsLinesRun wanted.conf wanted files wrote ended
 
 -- what was written between two states of a sink, by all files that agree
 pub record Writes (agrees : Files → Type 0) (old new : Option (List ℕ)) (Holds : Files → List ℕ → Type 0) : Type 0 where
@@ -128,13 +162,34 @@ outcome_of name (Err NoMemory) = outcome.NoMemory
 
 -- a file wasn't opened or read, and this holds of its name; else nothing is said
 abbrev pub OnUnread : Outcome → (List ℕ → Type 0) → Type 0
+OnUnread (outcome.NoConf name) Holds = Holds name
 OnUnread (outcome.Unread name) Holds = Holds name.now
 OnUnread other Holds = ⊤
 
 -- this holds, unless a file wasn't opened or read
 abbrev pub UnlessUnread : Outcome → Type 0 → Type 0
+UnlessUnread (outcome.NoConf name) Holds = ⊤
 UnlessUnread (outcome.Unread name) Holds = ⊤
 UnlessUnread other Holds = Holds
+
+-- the same, unless memory is lacking: that may come after a fault, while a configuration is read
+abbrev pub UnlessShort : Outcome → Type 0 → Type 0
+UnlessShort outcome.NoMemory Holds = ⊤
+UnlessShort other Holds = UnlessUnread other Holds
+
+-- the same of a run: it is so of one that names a configuration
+abbrev pub IfNone : Option Words → Type 0 → Type 0
+IfNone None Holds = Holds
+IfNone (Some words) Holds = ⊤
+
+abbrev pub WithoutConf : Option Asked → Type 0 → Type 0
+WithoutConf None Holds = Holds
+WithoutConf (Some help) Holds = Holds
+WithoutConf (Some (lines wanted)) Holds = IfNone wanted.conf Holds
+
+abbrev pub UnlessFault : Option Asked → Outcome → Type 0 → Type 0
+UnlessFault asked outcome.NoMemory Holds = WithoutConf asked Holds
+UnlessFault asked other Holds = UnlessUnread other Holds
 
 -- no whole record begins at this byte of this file
 abbrev pub bad_front : List ℕ → List ℕ
@@ -149,8 +204,11 @@ bad_text name at = bad_front name ++ place_text at
 -- the message of a run
 unfoldable pub message_text : Outcome → List ℕ
 message_text outcome.Done = []
-message_text outcome.Help = codes "usage: snort_eve [--host NAME] [--pcap-filename NAME] [--community-id-seed N] [FILE..]\n"
+message_text outcome.Help =
+    codes "usage: snort_eve [-c CONF] [-S NAME=VALUE] [--host NAME] [--pcap-filename NAME] [--community-id-seed N] [FILE..]\n"
 message_text outcome.CommandLine = codes "ERROR: command line\n"
+message_text (outcome.Refused message) = message
+message_text (outcome.NoConf name) = codes "ERROR: cannot read " ++ name ++ codes "\n"
 message_text (outcome.Bad name at) = bad_text name.now at
 message_text (outcome.Unread name) = codes "ERROR: cannot read " ++ name.now ++ codes "\n"
 message_text outcome.Unwritten = codes "ERROR: cannot write\n"

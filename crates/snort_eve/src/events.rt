@@ -5,9 +5,11 @@ ghost use Rattle.alert_json.specs.Value.{event_line};
 ghost use Rattle.packet_decode.specs.Decoding.{seen, fields_of};
 ghost use Rattle.ipv6_decode.specs.Versions.{record_decoded};
 ghost use Rattle.snort_eve.specs.Joins.{joined_of};
+ghost use Rattle.snort_eve.specs.Texts.{texts_of};
 ghost use Rattle.snort_eve.specs.Events.{link_of, unchecked, packet_of, packet_in, is_fragment, is_part, is_whole, has_pair, pair_by, pair_of, flow_of, class_of, rule_of, captured_of, event_of, nanos_of};
 
 use crate::joins::Teller;
+use crate::texts::Texts;
 use alert_json::{Alert, Captured, Event, Flow, Pair, Run, push_event};
 use edge_io::{Link, Moment, NoMemory};
 use ipv6_decode::decode6;
@@ -19,10 +21,11 @@ use unified2_out::{U2Event, U2Packet};
 #[derive(Clone, Copy)]
 pub(crate) struct Lines<'a> {
     pub(crate) run: Run<'a>,
+    pub(crate) texts: &'a Texts,
 }
 
 impl<'a> Teller for Lines<'a> {
-    ghost line = { λ lines it. event_line (event_of it) (run_facts lines.run) };
+    ghost line = { λ lines it. event_line (event_of (texts_of lines.texts.now) it) (run_facts lines.run) };
 
     fn push_line(
         &self,
@@ -31,7 +34,7 @@ impl<'a> Teller for Lines<'a> {
         packet: Option<&U2Packet>,
         out: &mut Vec<u8>,
     ) -> Result<(), NoMemory> {
-        push_event(alloc, &told(event, packet), &self.run, out)
+        push_event(alloc, &told(self.texts, event, packet), &self.run, out)
     }
 }
 
@@ -167,22 +170,26 @@ fn flow_of(event: &U2Event, whole: bool) -> Flow
 }
 
 #[tactic(auto, unfolding(crate::specs::Events::class_of))]
-fn class_of(number: u32) -> Option<&'static [u8]>
-    ensures { option_map (λ text. text.now) result ≡ class_of number }
+fn class_of(texts: &Texts, number: u32) -> Option<&[u8]>
+    ensures { option_map (λ text. text.now) result ≡ class_of (texts_of texts.now) number }
 {
-    if number == 0 { None } else { Some(b"") }
+    if number == 0 {
+        None
+    } else {
+        Some(texts.class_text(number))
+    }
 }
 
-fn rule_of(event: &U2Event) -> Alert<'static>
-    ensures { alert_facts result ≡ rule_of event.now }
+fn rule_of<'a>(texts: &'a Texts, event: &U2Event) -> Alert<'a>
+    ensures { alert_facts result ≡ rule_of (texts_of texts.entry.now) event.now }
 {
     Alert {
         blocked: event.blocked == 1,
         gid: event.gid,
         sid: event.sid,
         rev: event.rev,
-        msg: b"",
-        class: class_of(event.class),
+        msg: texts.message(event.gid, event.sid),
+        class: class_of(texts, event.class),
         priority: event.priority,
     }
 }
@@ -217,13 +224,14 @@ fn captured<'a>(packet: Option<&'a U2Packet>) -> Option<Captured<'a>>
 }
 
 /// What is told of an event with its packet.
-fn told<'a>(event: &U2Event, packet: Option<&'a U2Packet>) -> Event<'a>
-    ensures { event_facts result ≡ event_of (joined_of event.now (option_map (λ p. p.now) packet.entry)) }
+fn told<'a>(texts: &'a Texts, event: &U2Event, packet: Option<&'a U2Packet>) -> Event<'a>
+    ensures { event_facts result
+        ≡ event_of (texts_of texts.entry.now) (joined_of event.now (option_map (λ p. p.now) packet.entry)) }
 {
     Event {
         moment: moment_of(event),
         flow: flow_of(event, is_whole(packet)),
-        alert: rule_of(event),
+        alert: rule_of(texts, event),
         packet: captured(packet),
         count: None,
     }

@@ -8,17 +8,20 @@
 ghost use Rattle.std.specs.Prelude.{◌≡◌, Some, map, string_bytes};
 ghost use Rattle.edge_io.specs.Told.{Rose};
 ghost use Rattle.edge_io.specs.Answers.{Agree, taken_of};
-ghost use Rattle.snort_eve.specs.Runs.{OnUnread, Runs, UnlessUnread};
+ghost use Rattle.snort_eve.specs.Runs.{OnUnread, Runs, UnlessFault};
 ghost use Rattle.snort_eve.specs.Asking.{asked_of};
 
+mod conf;
 mod copy;
 mod events;
 mod joins;
+mod maker;
 mod outcome;
 mod records;
 mod run;
 mod stream;
 mod syntax;
+mod texts;
 mod words;
 
 use crate::outcome::{Outcome, tell};
@@ -43,7 +46,8 @@ fn copy_on_system<'a, R: Files>(
         (Some (taken_of alerts.old.heard.answers)) (Some (taken_of alerts.new.heard.answers)) result }
     ensures unread { OnUnread result (λ name. Rose host.old.host.faults host.new.host.faults) }
     ensures unwritten { result ≡ Outcome.Unwritten → Rose alerts.old.sink.faults alerts.new.sink.faults }
-    ensures quiet { UnlessUnread result (host.new.host.faults ≡ host.old.host.faults) }
+    ensures quiet { UnlessFault (asked_of (map string_bytes words.entry.now)) result
+        (host.new.host.faults ≡ host.old.host.faults) }
     ensures quiet_alerts { (result ≡ Outcome.Unwritten → ⊥) → alerts.new.sink.faults ≡ alerts.old.sink.faults }
 {
     copy_named(alloc, words, host, alerts)
@@ -64,10 +68,10 @@ fn main(rt: HostRuntime) -> ExitCode {
     let mut errors = StdSink::errors(rt.stderr());
     let (Ok(words), Ok(host)) = (command_words(&rt), FileHost::new(alloc, &rt)) else {
         // Memory is lacking before the run.
-        tell(alloc, Outcome::NoMemory, &mut errors);
+        tell(alloc, &Outcome::NoMemory, &mut errors);
         return ExitCode::from(Outcome::NoMemory.code());
     };
     let outcome = copy_on_system(alloc, &words, &mut HeardHost::over(host), &mut alerts);
-    tell(alloc, outcome, &mut errors);
+    tell(alloc, &outcome, &mut errors);
     ExitCode::from(outcome.code())
 }

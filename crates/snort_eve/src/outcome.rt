@@ -6,11 +6,11 @@ ghost use Rattle.snort_eve.specs.Runs.{bad_front, bad_text, message_text, outcom
 use crate::copy::{Ending, Stop};
 use alert_fast::Piece::{Bytes, Number};
 use alert_fast::push_pieces;
-use edge_io::{NoMemory, Sink, write_all};
+use edge_io::{NoMemory, Sink, Text, write_all};
 use std::alloc::Global;
 
 /// How a run ends, or the copying of one of its files.
-#[derive(Clone, Copy, Debug)]
+#[derive(Debug, Drop)]
 pub(crate) enum Outcome<'a> {
     /// All is told.
     Done,
@@ -18,6 +18,10 @@ pub(crate) enum Outcome<'a> {
     Help,
     /// The words are no command line.
     CommandLine,
+    /// A line of the configuration is refused, with this message.
+    Refused { message: Text },
+    /// The configuration, or a file that it includes, can't be read.
+    NoConf { name: Text },
     /// No whole record begins at this byte of this file.
     Bad { name: &'a str, at: u64 },
     /// This file can't be opened, or a read of it failed.
@@ -32,12 +36,12 @@ pub(crate) enum Outcome<'a> {
 
 impl<'a> Outcome<'a> {
     /// The exit status.
-    pub(crate) fn code(self) -> u8 {
+    pub(crate) fn code(&self) -> u8 {
         match self {
             Outcome::Done | Outcome::Help => 0,
-            Outcome::CommandLine => 1,
+            Outcome::CommandLine | Outcome::Refused { .. } => 1,
             Outcome::Bad { .. } => 2,
-            Outcome::Unread { .. } | Outcome::TooLong { .. } => 3,
+            Outcome::NoConf { .. } | Outcome::Unread { .. } | Outcome::TooLong { .. } => 3,
             Outcome::Unwritten => 4,
             Outcome::NoMemory => 5,
         }
@@ -45,14 +49,16 @@ impl<'a> Outcome<'a> {
 }
 
 /// Whether all is told.
-pub(crate) fn is_done(outcome: Outcome<'_>) -> bool
-    ensures done { result ≡ true → outcome.entry ≡ Outcome.Done }
-    ensures other { result ≡ false → outcome.entry ≡ Outcome.Done → ⊥ }
+pub(crate) fn is_done(outcome: &Outcome<'_>) -> bool
+    ensures done { result ≡ true → outcome.now ≡ Outcome.Done }
+    ensures other { result ≡ false → outcome.now ≡ Outcome.Done → ⊥ }
 {
     match outcome {
         Outcome::Done => true,
         Outcome::Help
         | Outcome::CommandLine
+        | Outcome::Refused { .. }
+        | Outcome::NoConf { .. }
         | Outcome::Bad { .. }
         | Outcome::Unread { .. }
         | Outcome::Unwritten
@@ -77,7 +83,7 @@ pub(crate) fn outcome_of<'a>(name: &'a str, copied: Result<Ending, Stop>) -> Out
 
 /// The usage.
 const USAGE: &[u8] =
-    b"usage: snort_eve [--host NAME] [--pcap-filename NAME] [--community-id-seed N] [FILE..]\n";
+    b"usage: snort_eve [-c CONF] [-S NAME=VALUE] [--host NAME] [--pcap-filename NAME] [--community-id-seed N] [FILE..]\n";
 
 fn push_bad_front(name: &[u8], out: &mut Vec<u8>) -> Result<(), NoMemory>
     ensures { OnOk result (out.new.items ≡ out.old.items ++ bad_front name.now) }
@@ -106,14 +112,23 @@ fn push_bad(name: &[u8], at: u64, out: &mut Vec<u8>) -> Result<(), NoMemory>
 }
 
 #[tactic(auto, unfolding(crate::specs::Runs::message_text))]
-fn push_message(outcome: Outcome<'_>, out: &mut Vec<u8>) -> Result<(), NoMemory>
-    ensures { OnOk result (out.new.items ≡ out.old.items ++ message_text outcome.entry) }
+fn push_message(outcome: &Outcome<'_>, out: &mut Vec<u8>) -> Result<(), NoMemory>
+    ensures { OnOk result (out.new.items ≡ out.old.items ++ message_text outcome.now) }
 {
     match outcome {
         Outcome::Done => Ok(()),
         Outcome::Help => push_pieces(out, &[Bytes(USAGE)]),
         Outcome::CommandLine => push_pieces(out, &[Bytes(b"ERROR: command line\n")]),
-        Outcome::Bad { name, at } => push_bad(name.as_bytes(), at, out),
+        Outcome::Refused { message } => push_pieces(out, &[Bytes(message.bytes())]),
+        Outcome::NoConf { name } => push_pieces(
+            out,
+            &[
+                Bytes(b"ERROR: cannot read "),
+                Bytes(name.bytes()),
+                Bytes(b"\n"),
+            ],
+        ),
+        Outcome::Bad { name, at } => push_bad(name.as_bytes(), *at, out),
         Outcome::Unread { name } => push_pieces(
             out,
             &[
@@ -135,8 +150,8 @@ fn push_message(outcome: Outcome<'_>, out: &mut Vec<u8>) -> Result<(), NoMemory>
     }
 }
 
-fn message(alloc: Global, outcome: Outcome<'_>) -> Result<Vec<u8>, NoMemory>
-    ensures { IfOk result (λ text. text.items ≡ message_text outcome.entry) }
+fn message(alloc: Global, outcome: &Outcome<'_>) -> Result<Vec<u8>, NoMemory>
+    ensures { IfOk result (λ text. text.items ≡ message_text outcome.now) }
 {
     let mut text = Vec::new(alloc);
     push_message(outcome, &mut text)?;
@@ -144,8 +159,8 @@ fn message(alloc: Global, outcome: Outcome<'_>) -> Result<Vec<u8>, NoMemory>
 }
 
 /// Tells how a run ended. A fault of the stream of errors changes nothing, nor does want of memory for the message.
-pub(crate) fn tell<E: Sink>(alloc: Global, outcome: Outcome<'_>, errors: &mut E) -> bool
-    ensures { result ≡ true → E.written errors.new ≡ behind (E.written errors.old) (message_text outcome.entry) }
+pub(crate) fn tell<E: Sink>(alloc: Global, outcome: &Outcome<'_>, errors: &mut E) -> bool
+    ensures { result ≡ true → E.written errors.new ≡ behind (E.written errors.old) (message_text outcome.now) }
 {
     match message(alloc, outcome) {
         Ok(text) => write_all(errors, &text).is_ok(),

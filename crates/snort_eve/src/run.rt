@@ -1,15 +1,19 @@
 //! A run: from the words to its end.
-ghost use Rattle.std.specs.Prelude.{◌≡◌, ◌⊎◌, ℕ, List, Some, map, string_bytes, option_map};
+ghost use Rattle.std.specs.Prelude.{◌≡◌, ◌⊎◌, None, Some, map, string_bytes, option_map};
 ghost use Rattle.edge_io.specs.Files.{Files, Lacks, IsOpened};
 ghost use Rattle.edge_io.specs.Told.{Rose};
-ghost use Rattle.snort_eve.specs.Runs.{AreRun, IsFileRun, OnUnread, Runs, UnlessUnread, Writes};
-ghost use Rattle.snort_eve.specs.Asking.{asked_facts, asked_of, lines, wanted_facts};
+ghost use Rattle.snort_setup.specs.Words.{HasName};
+ghost use Rattle.snort_eve.specs.Runs.{AreRun, IsFileRun, IsLinesRun, OnUnread, Runs, UnlessFault, UnlessShort, UnlessUnread, Writes, line_of};
+ghost use Rattle.snort_eve.specs.Asking.{AskNamed, IsNamed, asked_facts, asked_of, conf_facts, lines, wanted_facts};
+ghost use Rattle.snort_eve.specs.Texts.{texts_of};
 
+use crate::conf::{halted, read_texts};
 use crate::copy::copy_records;
 use crate::events::Lines;
 use crate::joins::Teller;
 use crate::outcome::{Outcome, is_done, outcome_of};
-use crate::words::{Asked, Wanted, asked_of};
+use crate::texts::Texts;
+use crate::words::{Asked, Conf, Wanted, asked_of};
 use edge_io::{Failed, Host, NoMemory, Sink};
 use std::alloc::Global;
 
@@ -67,6 +71,7 @@ fn copy_files<'a, H: Host, T: Teller, A: Sink>(
 ) -> Outcome<'a>
     ensures runs { Writes (H.agrees host.new) (A.written alerts.old) (A.written alerts.new)
         (λ files wrote. AreRun (T.line teller.now) files (map (λ name. name.now) names.now) wrote result) }
+    ensures earlier { (files : Files) → H.agrees host.new files → H.agrees host.old files }
     ensures unread { OnUnread result (λ name. Rose (H.faults host.old) (H.faults host.new) ⊎ Lacks (H.contents host.old) name) }
     ensures unwritten { result ≡ Outcome.Unwritten → Rose (A.faults alerts.old) (A.faults alerts.new) }
     ensures quiet { UnlessUnread result (H.faults host.new ≡ H.faults host.old) }
@@ -74,11 +79,74 @@ fn copy_files<'a, H: Host, T: Teller, A: Sink>(
 {
     for name in names {
         let outcome = copy_file(alloc, host, teller, *name, alerts);
-        if !is_done(outcome) {
+        if !is_done(&outcome) {
             return outcome;
         }
     }
     Outcome::Done
+}
+
+/// Writes the lines that are wanted, by these texts.
+fn copy_by<'a, H: Host, A: Sink>(
+    alloc: Global,
+    wanted: &Wanted<'a>,
+    texts: &Texts,
+    host: &mut H,
+    alerts: &mut A,
+) -> Outcome<'a>
+    ensures runs { Writes (H.agrees host.new) (A.written alerts.old) (A.written alerts.new)
+        (λ files wrote. AreRun (line_of (texts_of texts.now) (wanted_facts wanted.now).run) files
+        (wanted_facts wanted.now).files wrote result) }
+    ensures earlier { (files : Files) → H.agrees host.new files → H.agrees host.old files }
+    ensures unread { OnUnread result (λ name. Rose (H.faults host.old) (H.faults host.new) ⊎ Lacks (H.contents host.old) name) }
+    ensures unwritten { result ≡ Outcome.Unwritten → Rose (A.faults alerts.old) (A.faults alerts.new) }
+    ensures quiet { UnlessUnread result (H.faults host.new ≡ H.faults host.old) }
+    ensures quiet_alerts { (result ≡ Outcome.Unwritten → ⊥) → A.faults alerts.new ≡ A.faults alerts.old }
+{
+    let teller = Lines {
+        run: wanted.run,
+        texts,
+    };
+    copy_files(alloc, host, &teller, &wanted.files, alerts)
+}
+
+/// Writes the lines that are wanted, without texts.
+fn copy_bare<'a, H: Host, A: Sink>(
+    alloc: Global,
+    wanted: &Wanted<'a>,
+    host: &mut H,
+    alerts: &mut A,
+) -> Outcome<'a>
+    ensures runs { Writes (H.agrees host.new) (A.written alerts.old) (A.written alerts.new)
+        (λ files wrote. IsLinesRun None (wanted_facts wanted.now) files wrote result) }
+    ensures unread { OnUnread result (λ name. Rose (H.faults host.old) (H.faults host.new) ⊎ Lacks (H.contents host.old) name) }
+    ensures unwritten { result ≡ Outcome.Unwritten → Rose (A.faults alerts.old) (A.faults alerts.new) }
+    ensures quiet { UnlessUnread result (H.faults host.new ≡ H.faults host.old) }
+    ensures quiet_alerts { (result ≡ Outcome.Unwritten → ⊥) → A.faults alerts.new ≡ A.faults alerts.old }
+{
+    copy_by(alloc, wanted, &Texts::none(alloc), host, alerts)
+}
+
+/// Writes the lines that are wanted, by the texts of a configuration.
+fn copy_with<'a, H: Host, A: Sink>(
+    alloc: Global,
+    wanted: &Wanted<'a>,
+    conf: &Conf<'_>,
+    host: &mut H,
+    alerts: &mut A,
+) -> Outcome<'a>
+    requires { HasName (conf_facts conf.now).definition }
+    ensures runs { Writes (H.agrees host.new) (A.written alerts.old) (A.written alerts.new)
+        (λ files wrote. IsLinesRun (Some (conf_facts conf.now)) (wanted_facts wanted.now) files wrote result) }
+    ensures unread { OnUnread result (λ name. Rose (H.faults host.old) (H.faults host.new) ⊎ Lacks (H.contents host.old) name) }
+    ensures unwritten { result ≡ Outcome.Unwritten → Rose (A.faults alerts.old) (A.faults alerts.new) }
+    ensures quiet { UnlessShort result (H.faults host.new ≡ H.faults host.old) }
+    ensures quiet_alerts { (result ≡ Outcome.Unwritten → ⊥) → A.faults alerts.new ≡ A.faults alerts.old }
+{
+    match read_texts(alloc, conf, host) {
+        Ok(texts) => copy_by(alloc, wanted, &texts, host, alerts),
+        Err(stop) => halted(stop),
+    }
 }
 
 /// Writes the lines that are wanted.
@@ -88,20 +156,18 @@ fn copy_wanted<'a, H: Host, A: Sink>(
     host: &mut H,
     alerts: &mut A,
 ) -> Outcome<'a>
+    requires { IsNamed (wanted_facts wanted.now).conf }
     ensures runs { Runs (Some (lines (wanted_facts wanted.now))) (H.agrees host.new)
         (A.written alerts.old) (A.written alerts.new) result }
     ensures unread { OnUnread result (λ name. Rose (H.faults host.old) (H.faults host.new) ⊎ Lacks (H.contents host.old) name) }
     ensures unwritten { result ≡ Outcome.Unwritten → Rose (A.faults alerts.old) (A.faults alerts.new) }
-    ensures quiet { UnlessUnread result (H.faults host.new ≡ H.faults host.old) }
+    ensures quiet { UnlessFault (Some (lines (wanted_facts wanted.now))) result (H.faults host.new ≡ H.faults host.old) }
     ensures quiet_alerts { (result ≡ Outcome.Unwritten → ⊥) → A.faults alerts.new ≡ A.faults alerts.old }
 {
-    copy_files(
-        alloc,
-        host,
-        &Lines { run: wanted.run },
-        &wanted.files,
-        alerts,
-    )
+    match wanted.conf {
+        None => copy_bare(alloc, wanted, host, alerts),
+        Some(conf) => copy_with(alloc, wanted, &conf, host, alerts),
+    }
 }
 
 /// Writes the lines that are asked for, if any are.
@@ -111,11 +177,12 @@ fn copy_asked<'a, H: Host, A: Sink>(
     host: &mut H,
     alerts: &mut A,
 ) -> Outcome<'a>
+    requires { AskNamed (option_map asked_facts asked) }
     ensures runs { Runs (option_map asked_facts asked.entry) (H.agrees host.new)
         (A.written alerts.old) (A.written alerts.new) result }
     ensures unread { OnUnread result (λ name. Rose (H.faults host.old) (H.faults host.new) ⊎ Lacks (H.contents host.old) name) }
     ensures unwritten { result ≡ Outcome.Unwritten → Rose (A.faults alerts.old) (A.faults alerts.new) }
-    ensures quiet { UnlessUnread result (H.faults host.new ≡ H.faults host.old) }
+    ensures quiet { UnlessFault (option_map asked_facts asked.entry) result (H.faults host.new ≡ H.faults host.old) }
     ensures quiet_alerts { (result ≡ Outcome.Unwritten → ⊥) → A.faults alerts.new ≡ A.faults alerts.old }
 {
     match asked {
@@ -139,7 +206,7 @@ pub(crate) fn copy_named<'a, H: Host, A: Sink>(
         (A.written alerts.old) (A.written alerts.new) result }
     ensures unread { OnUnread result (λ name. Rose (H.faults host.old) (H.faults host.new) ⊎ Lacks (H.contents host.old) name) }
     ensures unwritten { result ≡ Outcome.Unwritten → Rose (A.faults alerts.old) (A.faults alerts.new) }
-    ensures quiet { UnlessUnread result (H.faults host.new ≡ H.faults host.old) }
+    ensures quiet { UnlessFault (asked_of (map string_bytes words.entry.now)) result (H.faults host.new ≡ H.faults host.old) }
     ensures quiet_alerts { (result ≡ Outcome.Unwritten → ⊥) → A.faults alerts.new ≡ A.faults alerts.old }
 {
     match asked_of(alloc, words) {

@@ -8,16 +8,19 @@ use clap::{Arg, ArgAction, ArgMatches, Command};
 use edge_io::NoMemory;
 use std::alloc::{AllocError, Global};
 
-/// What words may use: an option with a name, which takes a value, a flag with a name, or the names of files. The name is
-/// the id by which its matches are found.
+/// What words may use: an option with a letter or with a name, which takes a value, a flag with a name, or the names of
+/// files. Its matches are found by its id, or by its name.
 #[derive(Clone, Copy, Debug)]
 pub(crate) enum Choice {
+    LetterOption(&'static str, char),
     NameOption(&'static str),
     NameFlag(&'static str),
     Names(&'static str),
 }
 
-const CHOICES: [Choice; 5] = [
+const CHOICES: [Choice; 7] = [
+    Choice::LetterOption("c", 'c'),
+    Choice::LetterOption("S", 'S'),
     Choice::NameOption("host"),
     Choice::NameOption("pcap-filename"),
     Choice::NameOption("community-id-seed"),
@@ -30,6 +33,9 @@ fn argument<'a>(alloc: Global, choice: Choice) -> Arg<'a>
     ensures local { result.global ≡ false }
 {
     match choice {
+        Choice::LetterOption(id, letter) => {
+            Arg::new(alloc, id).short(letter).action(ArgAction::Set)
+        }
         Choice::NameOption(name) => Arg::new(alloc, name).long(name).action(ArgAction::Set),
         Choice::NameFlag(name) => Arg::new(alloc, name).long(name).action(ArgAction::SetTrue),
         Choice::Names(id) => Arg::new(alloc, id).action(ArgAction::Append),

@@ -3,20 +3,36 @@ ghost use Rattle.std.specs.Prelude.{◌≡◌, ◌++◌, codes, is_some, map, op
 ghost use Rattle.clap.specs.Words.{found_of, rows_of};
 ghost use Rattle.clap.specs.Walk.{all_of};
 ghost use Rattle.alert_json.specs.Facts.{bytes_of};
-ghost use Rattle.snort_eve.specs.Asking.{asked_facts, asked_in, asked_of, file_of, files_of, given_in, if_given, seed_of, with_seed};
+ghost use Rattle.snort_eve.specs.Asking.{asked_facts, asked_in, asked_of, conf_facts, conf_with, defined_facts, file_of, files_of, given_in, if_given, seed_of, with_values};
+ghost use Rattle.command_words.specs.CommandLine.{definition, maybe, named};
 
 use crate::syntax::matches;
 use alert_json::Run;
 use clap::ArgMatches;
 use clap::parser::ValueSource;
 use edge_io::NoMemory;
-use net_lists::number_in;
+use net_lists::{cut, is_name, number_in};
 use std::alloc::Global;
 
-/// What all records have alike, and the names of the files, in their order.
+/// A variable's name and its value.
+#[derive(Clone, Copy, Debug)]
+pub(crate) struct Variable<'a> {
+    pub(crate) name: &'a [u8],
+    pub(crate) value: &'a [u8],
+}
+
+/// The name of a configuration, and the variable that the words define.
+#[derive(Clone, Copy, Debug)]
+pub(crate) struct Conf<'a> {
+    pub(crate) name: &'a str,
+    pub(crate) defined: Option<Variable<'a>>,
+}
+
+/// What all records have alike, the configuration, if there is one, and the names of the files, in their order.
 #[derive(Drop)]
 pub(crate) struct Wanted<'a> {
     pub(crate) run: Run<'a>,
+    pub(crate) conf: Option<Conf<'a>>,
     pub(crate) files: Vec<&'a str>,
 }
 
@@ -68,6 +84,46 @@ fn seed_of(value: Option<&str>) -> Option<u16>
     }
 }
 
+/// A variable of this name and value.
+fn named<'a>(name: &'a [u8], value: &'a [u8]) -> Option<Variable<'a>>
+    ensures { option_map defined_facts result ≡ named name.entry.now value.entry.now }
+{
+    if is_name(name) && !value.is_empty() {
+        Some(Variable { name, value })
+    } else {
+        None
+    }
+}
+
+/// The variable that `name=value` defines.
+fn definition(text: &[u8]) -> Option<Variable<'_>>
+    ensures { option_map defined_facts result ≡ definition text.now }
+{
+    let (name, value) = cut(text, b'=')?;
+    named(name, value)
+}
+
+/// The variable that `-S` defines, if it is there.
+fn maybe_definition<'a>(text: Option<&'a str>) -> Option<Option<Variable<'a>>>
+    ensures { option_map (option_map defined_facts) result ≡ maybe definition (option_map (λ t. t.now) text.entry) }
+{
+    match text {
+        None => Some(None),
+        Some(text) => Some(Some(definition(text.as_bytes())?)),
+    }
+}
+
+/// The configuration of this name, if there is one, with this variable.
+fn conf_of<'a>(name: Option<&'a str>, defined: Option<Variable<'a>>) -> Option<Conf<'a>>
+    ensures { option_map conf_facts result
+        ≡ option_map (conf_with (option_map defined_facts defined.entry)) (option_map (λ t. t.now) name.entry) }
+{
+    match name {
+        None => None,
+        Some(name) => Some(Conf { name, defined }),
+    }
+}
+
 fn file_of<'a>(name: &'a str) -> &'a str
     ensures { result.now ≡ file_of name.entry.now }
 {
@@ -106,9 +162,15 @@ fn files_of<'a>(alloc: Global, matches: &ArgMatches<'a>) -> Result<Vec<&'a str>,
     Ok(files)
 }
 
-/// The lines that are asked for, with this seed.
-fn with_seed<'a>(alloc: Global, matches: &ArgMatches<'a>, seed: u16) -> Result<Asked<'a>, NoMemory>
-    ensures { IfOk result (λ asked. asked_facts asked ≡ with_seed (rows_of (found_of matches.now)) seed) }
+/// The lines that are asked for, with this seed and this variable.
+fn with_values<'a>(
+    alloc: Global,
+    matches: &ArgMatches<'a>,
+    seed: u16,
+    defined: Option<Variable<'a>>,
+) -> Result<Asked<'a>, NoMemory>
+    ensures { IfOk result (λ asked. asked_facts asked
+        ≡ with_values (rows_of (found_of matches.now)) seed (option_map defined_facts defined.entry)) }
 {
     let files = files_of(alloc, matches)?;
     Ok(Asked::Lines(Wanted {
@@ -117,8 +179,25 @@ fn with_seed<'a>(alloc: Global, matches: &ArgMatches<'a>, seed: u16) -> Result<A
             host: bytes_of(given(matches, "host")),
             pcap_filename: bytes_of(given(matches, "pcap-filename")),
         },
+        conf: conf_of(given(matches, "c"), defined),
         files,
     }))
+}
+
+/// What is asked for beside this seed.
+fn defined_in<'a>(
+    alloc: Global,
+    matches: &ArgMatches<'a>,
+    seed: u16,
+) -> Result<Option<Asked<'a>>, NoMemory>
+    ensures { IfOk result (λ asked. option_map asked_facts asked
+        ≡ option_map (with_values (rows_of (found_of matches.now)) seed)
+        (maybe definition (given_in (rows_of (found_of matches.now)) (codes "S")))) }
+{
+    match maybe_definition(given(matches, "S")) {
+        None => Ok(None),
+        Some(defined) => Ok(Some(with_values(alloc, matches, seed, defined)?)),
+    }
 }
 
 /// What the matches of the words ask for.
@@ -130,7 +209,7 @@ fn asked_in<'a>(alloc: Global, matches: &ArgMatches<'a>) -> Result<Option<Asked<
     }
     match seed_of(given(matches, "community-id-seed")) {
         None => Ok(None),
-        Some(seed) => Ok(Some(with_seed(alloc, matches, seed)?)),
+        Some(seed) => defined_in(alloc, matches, seed),
     }
 }
 

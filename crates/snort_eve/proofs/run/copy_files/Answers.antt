@@ -5,6 +5,7 @@ use Rattle.snort_eve.proofs.run.copy_files.Goals as goal
 pub loop-name-init : goal.loop-name-init
 loop-name-init g c = record {
   done = done-none (g.T.Teller.line c.args.teller.now) (g.H.Host.agrees c.args.host.now) (g.A.Sink.written c.args.alerts.now);
+  earlier = λ files a. a;
   same_contents = refl;
   quiet = refl;
   quiet_alerts = refl;
@@ -29,6 +30,7 @@ loop-name-preserved g c =
       done = done-more (g.T.Teller.line c.args.teller.now) (g.H.Host.agrees c.loop-name.host) (g.H.Host.agrees c.copy_file-outcome.new.host) c.args.names.now c.loop-name.name-index _ _
           (g.A.Sink.written c.args.alerts.now) (g.A.Sink.written c.loop-name.alerts) (g.A.Sink.written c.copy_file-outcome.new.alerts) c.copy_file-outcome.result
           c.loop-name-test.true refl so_far.done c.copy_file-outcome.ensures.earlier is_all c.copy_file-outcome.ensures.runs;
+      earlier = λ files a. so_far.earlier files (c.copy_file-outcome.ensures.earlier files a);
       same_contents = c.copy_file-outcome.ensures.same_contents ∙ so_far.same_contents;
       quiet = unless-done (g.H.Host.faults c.copy_file-outcome.new.host ≡ g.H.Host.faults c.loop-name.host) c.copy_file-outcome.result is_all c.copy_file-outcome.ensures.quiet ∙ so_far.quiet;
       quiet_alerts = c.copy_file-outcome.ensures.quiet_alerts (λ same. other-end c.copy_file-outcome.result is_all same) ∙ so_far.quiet_alerts;
