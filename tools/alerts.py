@@ -205,6 +205,10 @@ def is_record(kind, length, body):
         return length >= PACKET_HEAD.size and PACKET_HEAD.unpack_from(body)[6] == length - PACKET_HEAD.size
     return kind not in EVENTS or length == EVENTS[kind].size
 
+def no_record(at):
+    """What is told of the place at which no record begins."""
+    return f"no whole Unified2 record at byte {at}"
+
 def records_of(file):
     """The records of a file, each as its kind and body; Wrong, with its byte, at the first that isn't whole."""
     at = 0
@@ -212,7 +216,7 @@ def records_of(file):
         kind, length = struct.unpack(">II", head) if len(head) == 8 else (0, LONGEST_BODY + 1)
         body = file.read(length) if length <= LONGEST_BODY else b""
         if not is_record(kind, length, body):
-            raise Wrong(f"no whole Unified2 record at byte {at}")
+            raise Wrong(no_record(at))
         yield kind, body
         at += 8 + length
 
@@ -335,10 +339,12 @@ class Input:
             except OSError as fault:
                 sys.exit(f"cannot read {name}: {fault.strerror}")
 
-    def of_file(self, file, name):
+    def form_of(self, file):
         """By its first byte, where no word tells: that of a record is 0, since kinds are small numbers."""
-        form = self.words.form or ("unified2" if file.peek(1)[:1] == b"\0" else "lines")
-        if form == "unified2":
+        return self.words.form or ("unified2" if file.peek(1)[:1] == b"\0" else "lines")
+
+    def of_file(self, file, name):
+        if self.form_of(file) == "unified2":
             return of_unified2(file, name, self.rules, self.tell)
         def guessed(year):
             print(f"{name}: {year} is a guess, since lines have no year: --year N or --capture FILE tells it",

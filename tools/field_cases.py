@@ -19,10 +19,11 @@ EVE = (f'{{"timestamp":"1970-01-01T00:00:00.000000+0000","flow_id":{int(FLOW.hex
        f'"community_id":"1:{b64encode(FLOW).decode()}","alert":{{"action":"allowed","gid":1,"signature_id":1,"rev":0,'
        '"signature":"%s","category":"","severity":3}%s}\n')
 
-def tool(name, *words, given=b""):
-    """The status, the output and the messages of a script."""
+def tool(name, *words, given=b"", eve=""):
+    """The status, the output and the messages of a script, which leaves nothing to another snort_eve than the named one."""
     given = given.encode() if isinstance(given, str) else given
-    ran = subprocess.run([sys.executable, f"{TOOLS}/{name}", *words], input=given, capture_output=True, timeout=600)
+    ran = subprocess.run([sys.executable, f"{TOOLS}/{name}", *words], input=given, capture_output=True, timeout=600,
+                         env={**os.environ, "SNORT_EVE": eve})
     return ran.returncode, ran.stdout.decode(), ran.stderr.decode()
 
 def line_with(msg="t", classes="", protocol="UDP", ends="10.0.0.1:1000 -> 10.0.0.2:2000"):

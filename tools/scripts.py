@@ -1,5 +1,7 @@
-"""What scripts have in common: their help, how they end, and the program that they run."""
-import os, re, signal, sys
+"""What scripts have in common: their help, how they end, and the programs that they run."""
+import functools, os, re, signal, sys
+
+import built
 
 TOP = os.path.dirname(os.path.dirname(os.path.realpath(__file__)))
 
@@ -9,6 +11,31 @@ class Stop(Exception):
 def program():
     """The program: ./snort, or the one that SNORT names."""
     return os.path.abspath(os.environ.get("SNORT") or f"{TOP}/snort")
+
+@functools.cache
+def eve_program():
+    """The program snort_eve, or None where there is none.
+
+    It is the one that SNORT_EVE names, none if that is empty; else that of this checkout, if no source is newer; else the one
+    that stands beside the program.
+    """
+    named = os.environ.get("SNORT_EVE")
+    if named is not None:
+        return os.path.abspath(named) if named else None
+    try:
+        if built.is_current("snort_eve"):
+            return built.path_of("snort_eve")
+    except OSError:  # there are no sources here, or they change
+        pass
+    folder = os.path.dirname(program())
+    is_launcher = folder == TOP and os.path.exists(built.CRATES)
+    return f"{folder}/snort_eve" if os.access(f"{folder}/snort_eve", os.X_OK) and not is_launcher else None
+
+def built_eve():
+    """The program snort_eve for tests, examples and measurements: the one that SNORT_EVE names, else that of this checkout,
+    whatever its age; None where there is none."""
+    path = os.environ.get("SNORT_EVE", built.path_of("snort_eve"))
+    return os.path.abspath(path) if path and os.access(path, os.X_OK) else None
 
 def as_called(text):
     """A text with the names by which scripts are called: that of this one, and of the others that stand beside it.
