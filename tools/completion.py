@@ -1,7 +1,8 @@
-"""The command words of snort in one table, and what completes them in bash and zsh. Used by package.
+"""The command words of snort and of snort_eve, each in a table, and what completes them in bash and zsh. Used by package.
 
-A word is an option, which takes a value, or a flag, which takes none; each may stand once. What a word is about is said
-on the manual's page, docs/manual/command-words.md; the ranges and the order are those of the crate command_words.
+A word is an option, which takes a value, or a flag, which takes none; each may stand once. What a word is about is said on the
+manual's pages, command-words.md and snort_eve.md in docs/manual; the ranges and the order are those of the crates command_words
+and snort_eve.
 """
 from collections import namedtuple
 
@@ -36,6 +37,16 @@ WORDS = (
 ALONE = ("--read-unified2", "-V", "--help")
 APART = (("-r", "--generate"),)
 
+EVE_WORDS = (
+    Word("--host", "name that each line has", "NAME", "a text"),
+    Word("--pcap-filename", "capture that each line names", "NAME", FILES),
+    Word("--community-id-seed", "seed of community IDs", "N", "0 to 65535"),
+    Word("--help", "show the usage"),
+)
+# The words of a program; which stand alone, and which apart; and whether names of files may stand between them.
+Command = namedtuple("Command", "words alone apart has_files")
+COMMANDS = {"snort": Command(WORDS, ALONE, APART, False), "snort_eve": Command(EVE_WORDS, ("--help",), (), True)}
+
 def is_letter(word):
     return not word.startswith("--")
 
@@ -43,10 +54,10 @@ def is_told(option):
     """Whether a text says which values there are, so that none can be offered."""
     return isinstance(option.values, str) and option.values != FILES
 
-BASH = r"""# bash completion of snort's command words. It needs no other file.
+BASH = r"""# bash completion of @name@'s command words. It needs no other file.
 
 # Sets `waits` to the option that waits for its value behind a word, and adds the word's options and flags to `given`.
-_snort_read() {
+_@name@_read() {
     local letters=${1#-} letter
     waits=
     case $1 in
@@ -66,7 +77,7 @@ _snort_read() {
 }
 
 # The options and flags that may stand beside those that are given.
-_snort_offered() {
+_@name@_offered() {
     local word offered=" @words@ "
     [ ${#given[@]} -eq 0 ] || offered=" @beside@ "
     for word in "${given[@]}"; do
@@ -78,58 +89,62 @@ _snort_offered() {
     printf '%s' "$offered"
 }
 
-_snort() {
+_@name@() {
     local word=${COMP_WORDS[COMP_CWORD]} waits= given=() at
     COMPREPLY=()
     for ((at = 1; at < COMP_CWORD; at++)); do
         # Between an option and its value `=` may stand, a word of its own here.
         if [ "${COMP_WORDS[at]}" = = ]; then continue; fi
-        if [ -n "$waits" ]; then waits=; else _snort_read "${COMP_WORDS[at]}"; fi
+        if [ -n "$waits" ]; then waits=; else _@name@_read "${COMP_WORDS[at]}"; fi
     done
     if [ "$word" = = ]; then word=; fi
     case $waits in
 @values@
-        *) mapfile -t COMPREPLY < <(compgen -W "$(_snort_offered)" -- "$word") ;;
+        *)@unless_file@ mapfile -t COMPREPLY < <(compgen -W "$(_@name@_offered)" -- "$word") ;;
     esac
     # Only names of files are looked up where nothing is offered.
     compopt +o default
 }
-complete -o default -F _snort snort
+complete -o default -F _@name@ @name@
 """
 
-def bash():
-    """A script for bash that completes the words."""
+def bash(name="snort"):
+    """A script for bash that completes the words of a program."""
     def cases(indent, rows):
-        return "\n".join(f"{indent * ' '}{'|'.join(words)}) {what} ;;" for words, what in rows)
-    options = [it for it in WORDS if it.value]
-    excluded = [(ALONE, "offered=")]
-    excluded += [((one,), f"offered=${{offered/ {other} / }}") for pair in APART for one, other in (pair, pair[::-1])]
+        return "\n".join(f"{indent * ' '}{'|'.join(words)}) {what} ;;" for words, what in rows if words)
+    words, alone, apart, has_files = COMMANDS[name]
+    options = [it for it in words if it.value]
+    excluded = [(alone, "offered=")]
+    excluded += [((one,), f"offered=${{offered/ {other} / }}") for pair in apart for one, other in (pair, pair[::-1])]
     values = [([it.word for it in options if it.values == FILES], "return")]
     values += [((it.word,), f"mapfile -t COMPREPLY < <(compgen -W '{' '.join(it.values)}' -- \"$word\")")
                for it in options if isinstance(it.values, tuple)]
     values.append(([it.word for it in options if is_told(it)], ":"))
     return filled(BASH, {
+        "name": name, "unless_file": ' [[ $word = -* ]] || return;' if has_files else "",
         "names": "|".join(it.word for it in options if not is_letter(it.word)),
-        "letters": "|".join(it.word[1] for it in options if is_letter(it.word)),
-        "words": " ".join(it.word for it in WORDS), "beside": " ".join(it.word for it in WORDS if it.word not in ALONE),
+        "letters": "|".join(it.word[1] for it in options if is_letter(it.word)) or "''",
+        "words": " ".join(it.word for it in words), "beside": " ".join(it.word for it in words if it.word not in alone),
         "excluded": cases(12, excluded), "values": cases(8, values)})
 
-ZSH = r"""#compdef snort
-# zsh completion of snort's command words.
+ZSH = r"""#compdef @name@
+# zsh completion of @name@'s command words.
 _arguments -s : \
 @lines@
 """
 
-def zsh():
-    """A function for zsh that completes the words."""
+def zsh(name="snort"):
+    """A function for zsh that completes the words of a program."""
+    words, alone, pairs, has_files = COMMANDS[name]
     def line(it):
-        apart = [other for pair in APART for one, other in (pair, pair[::-1]) if one == it.word]
-        beside = "- *" if it.word in ALONE else " ".join((it.word, *ALONE, *apart))
+        apart = [other for pair in pairs for one, other in (pair, pair[::-1]) if one == it.word]
+        beside = "- *" if it.word in alone else " ".join((it.word, *alone, *apart))
         joined = "" if not it.value else "+" if is_letter(it.word) else "="
         values = "_files" if it.values == FILES else " " if is_told(it) else f"({' '.join(it.values or ())})"
         name = f"{it.value}, {it.values}" if is_told(it) else it.value
         return f"    '({beside}){it.word}{joined}[{it.about}]" + (f":{name}:{values}'" if it.value else "'")
-    return filled(ZSH, {"lines": " \\\n".join(map(line, WORDS))})
+    files = ["    '*:FILE:_files'"] if has_files else []
+    return filled(ZSH, {"name": name, "lines": " \\\n".join([*map(line, words), *files])})
 
 def filled(text, parts):
     for name, part in parts.items():

@@ -1,4 +1,4 @@
-"""The man page snort(8), made of pages of the manual, and those of the scripts, made of their help. Used by package.
+"""The man pages snort(8) and snort_eve(1), made of pages of the manual, and those of scripts, made of their help. Used by package.
 
 What the pages say stays as it is: headings, paragraphs, lists, tables and examples become their requests of man(7), and a
 link becomes its text, in italics. A table's first column becomes the tags of a list. ./snort is called snort here, and rows
@@ -8,20 +8,27 @@ A script's help says in its first sentence what it does. Its lines in front of w
 such block that begins with the script's name is how it is called. So do lists with columns. What else it says are paragraphs.
 """
 import re, textwrap
+from collections import namedtuple
 
-# The heads of the page, each with the sections below it: a page, and a heading there, "" for what stands in front of the
+# The heads of a page, each with the sections below it: a page, and a heading there, "" for what stands in front of the
 # first one. A section has all that is below it.
-WORDS, START = "docs/manual/command-words.md", "docs/manual/getting-started.md"
+WORDS, START, EVE = "docs/manual/command-words.md", "docs/manual/getting-started.md", "docs/manual/snort_eve.md"
 PARTS = (
     ("DESCRIPTION", (("README.md", ""), (WORDS, ""), (START, "2. First alerts"), (START, "3. A rule of your own"))),
     ("OPTIONS", ((WORDS, "What to read"), (WORDS, "How to work"), (WORDS, "What to write"), (WORDS, "How words are written"))),
     ("EXIT STATUS", (("docs/manual/messages.md", "Exit statuses"),)),
     ("NO ALERTS", ((START, "5. No line?"),)),
     ("EXAMPLES", ((WORDS, "Examples"), (WORDS, "A generated capture"))))
+EVE_PARTS = (
+    ("DESCRIPTION", ((EVE, ""),)), ("OPTIONS", ((EVE, "Words"),)), ("EXIT STATUS", ((EVE, "Exit statuses"),)),
+    ("EXAMPLES", ((EVE, "Examples"),)))
+# Of a program the section and what that is about, the page with its words, and the heads.
+Page = namedtuple("Page", "section kind words parts")
+PAGES = {"snort": Page(8, "System administration", WORDS, PARTS), "snort_eve": Page(1, "User Commands", EVE, EVE_PARTS)}
 NOT_HERE = ("the launcher `./snort`", "`tools/first_look`")
 
 HEADING = re.compile(r"(#+) (.*)")
-USAGE = re.compile(r"(snort(?: (?:-\S+|[A-Z]+|\[options\]))*)(?: +(.*))?")
+USAGE = re.compile(r"(\w+(?: (?:-\S+|[A-Z]+|\[options\]|\[[A-Z]+\.\.\]))*)(?: +(.*))?")
 INLINE = re.compile(r"`([^`]+)`|\*\*([^*]+)\*\*|\[((?:`[^`]*`|[^]])+)\]\([^)]*\)")
 WITH_VALUE = re.compile(r"(-\S+) ([A-Z][A-Z=]*)")
 
@@ -176,17 +183,23 @@ def joined(lines):
     return "\n".join(it for before, it in zip(["", *lines], lines)
                      if not (it == ".PP" and before.startswith((".SH", ".SS")))) + "\n"
 
-def page(top, about, version, date, behind):
-    """The man page of the manual below a folder: what the program is about, and heads with paragraphs behind the manual's."""
-    usage = next(lines for kind, lines in blocks(section(top, WORDS, "")) if kind == "example")
-    out = [rf'.TH SNORT 8 {date} "{plain(version)}" "System administration"', ".SH NAME", rf"snort \- {plain(about)}",
+def about(top, name):
+    """What a program is about, as the title of its page of the manual says it."""
+    with open(f"{top}/{PAGES[name].words}", encoding="utf-8") as file:
+        return file.readline().strip().removeprefix(f"# {name}: ")
+
+def page(top, about, version, date, behind, name="snort"):
+    """The man page of a program, of the manual below a folder: what it is about, and heads with paragraphs behind the manual's."""
+    part, kind, words, parts = PAGES[name]
+    usage = next(lines for kind, lines in blocks(section(top, words, "")) if kind == "example")
+    out = [rf'.TH {plain(name.upper())} {part} {date} "{plain(version)}" "{kind}"', ".SH NAME", rf"{plain(name)} \- {plain(about)}",
            ".SH SYNOPSIS", *synopsis(usage)]
-    for head, parts in PARTS:
+    for head, sections in parts:
         out.append(f".SH {head}")
-        for name, heading in parts:
-            if heading and len(parts) > 1 and heading.upper() != head:
+        for file, heading in sections:
+            if heading and len(sections) > 1 and heading.upper() != head:
                 out.append(f".SS {plain(re.sub(r'^[0-9]+[.] ', '', heading))}")
-            out += [it for kind, lines in blocks(section(top, name, heading)) if lines != usage for it in requests(kind, lines)]
+            out += [it for kind, lines in blocks(section(top, file, heading)) if lines != usage for it in requests(kind, lines)]
     for head, texts in behind:
         out += [f".SH {head}", *(it for text in texts for it in paragraph(text))]
     return joined(out)
