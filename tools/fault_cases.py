@@ -2,9 +2,13 @@
 
 Nothing here is an output of the program: a line is put together from its record's moment, the number of the rule that
 matches there, and the ends of what it matches, by the form of alert lines; an event of Unified2 from the same, by the form
-of its records; the packets that `--generate` makes are made once more, by the manual's words on them.
+of its records; the packets that `--generate` makes are made once more, by the manual's words on them. The records that
+snort_eve reads, and its lines, are those of tools/field_cases.py.
 """
 import collections, struct
+from base64 import b64encode
+
+from field_cases import EVE, EVENT, FRAME, PACKET
 
 # Packets: C is 10.0.0.1, S is 10.0.0.2; moments are whole seconds.
 C, S = bytes([10, 0, 0, 1]), bytes([10, 0, 0, 2])
@@ -64,6 +68,14 @@ def pcapng(packets):
         blocks.append(block(ENHANCED, struct.pack("<IIIII", 0, upper, lower, len(packet), len(packet)) + packet))
         blocks.append(block(STATISTICS, struct.pack("<III", 0, upper, lower)))
     return b"".join(blocks)
+
+def unified2_ends(records):
+    """The same of Unified2 records."""
+    ends, at = [], 0
+    while at + 8 <= len(records):
+        at += 8 + struct.unpack_from(">I", records, at + 4)[0]
+        ends += [at] * (at <= len(records))
+    return ends
 
 def record_ends(capture):
     """How many bytes of a capture are read where each of its whole records is."""
@@ -177,9 +189,28 @@ def site_lines(seed, count):
     assert len(attacked) < 2 and all(len(it) < 1024 for it in streams.values())  # else their order and flushes count, too
     return lines + [(END, attack(count - 1, it)) for it in attacked]
 
+# Lines of snort_eve: pairs of the record at which they come, from 0 on (END: at the file's end), and their bytes.
+EVE_PACKET = f',"payload_printable":"abc","packet":"{b64encode(FRAME).decode()}","packet_info":{{"linktype":1}}'
+ALONE, WITH_PACKET = ((EVE % ("", it)).encode() for it in ("", EVE_PACKET))
+
+def eve_file(count):
+    """So many events with their packets, and one without, which waits for its packet until the end."""
+    return count * (EVENT + PACKET) + EVENT, [(2 * it + 1, WITH_PACKET) for it in range(count)] + [(END, ALONE)]
+
+def eve_case(name, *counts, cut=0):
+    """A case of snort_eve over such files, of which the last one lacks so many bytes, and so its last event."""
+    made = [eve_file(it) for it in counts]
+    files = {f"f{place}": records for place, (records, _) in enumerate(made)}
+    lines = [(f"f{place}", *line) for place, (_, lines) in enumerate(made) for line in lines]
+    if cut:
+        files[f"f{len(made) - 1}"], lines = made[-1][0][:-cut], lines[:-1]
+    return Case(name, " ".join(files), files, lines, 2 if cut else 0, False, None, "snort_eve")
+
 # A case: its name, its words, its files, its lines, the status, and whether it is run with several lanes.
-# `faults` names the groups of faults that a case is for, where these aren't all.
-Case = collections.namedtuple("Case", "name words files lines status spread faults", defaults=({}, [], 0, True, None))
+# `faults` names the groups of faults that a case is for, where these aren't all; `program` is the one that runs. A line of
+# snort_eve has the name of its file in front.
+Case = collections.namedtuple("Case", "name words files lines status spread faults program",
+                              defaults=({}, [], 0, True, None, "snort"))
 CASES = [
     Case("fragments", "-c r -r p", FRAGMENTED, [line(2, 1, FRAGMENT)]),
     Case("hosts", "-c r -r p --host-table h", {**FRAGMENTED, "h": b"10.0.0.2 last linux\n"}, [line(2, 2, FRAGMENT)]),
@@ -250,4 +281,6 @@ CASES = [
          [events(0, 1, 1, U(b"abc"), C, S), events(1, 2, 1, U6(b"abc"), C6, S6)]),
     Case("words", "-c r", status=1, spread=False),
     Case("version", "-V", spread=False),
+    eve_case("eve", 2), eve_case("eve-files", 1, 2), eve_case("eve-blocks", 700), eve_case("eve-cut", 1, 1, cut=1),
+    Case("eve-words", "--host", status=1, spread=False, program="snort_eve"),
 ]

@@ -1,7 +1,7 @@
 #!/usr/bin/env python3
 """Runs the detector with one fault at a time, and tells the runs that end otherwise than the manual says.
 
-    tools/faults.py [--program PATH] [--cases WORD,..] [--faults WORD,..] [--lanes N,..] [--stacks] > table.md
+    tools/faults.py [--program PATH] [--eve PATH] [--cases WORD,..] [--faults WORD,..] [--lanes N,..] [--stacks] > table.md
     tools/faults.py .. --resume FILE [--minutes M] > table.md
     tools/faults.py --test PATH NAME
 
@@ -27,6 +27,7 @@ Each run ends within 20 seconds and by no signal. Where a fault lets it go on, a
                         warnings, `ERROR: cannot read NAME`
     write               of lines: status 4, what was written before, the warnings, `ERROR: cannot write`
                         of messages: the status and the lines of a run without a fault, a beginning of the messages
+Cases of the program snort_eve, which --eve names, are left out where it isn't built, which is told.
 The table is in Markdown: a cell says how many numbers ended with which status. Wrong ends follow, one a line, and with
 --stacks the calls that the faulty one stood in (by gdb). The exit status is 1 where there are some. --test runs a test
 function of the file that `rt test` leaves in a crate's `out`, each call for memory refused in turn: each run passes.
@@ -38,7 +39,8 @@ and the exit status is 3 where some are left.
 import argparse, collections, os, resource, signal, struct, subprocess, sys, tempfile, time
 
 sys.dont_write_bytecode = True
-from fault_cases import CASES, record_ends
+import scripts
+from fault_cases import CASES, record_ends, unified2_ends
 from fault_pieces import Kept, OutOfTime, Pieces, sum_of
 
 TOP = os.path.dirname(os.path.dirname(os.path.abspath(__file__)))
@@ -99,9 +101,14 @@ def is_told(errors, clean, message, least=0):
     first = warnings(clean)
     return any(errors == b"".join(first[:count]) + message for count in range(least, len(first) + 1))
 
-def lines_before(case, moved):
-    """The lines of the whole records among so many bytes of the capture."""
-    records = sum(it <= moved for it in record_ends(case.files["p"]))
+def lines_before(case, fault, seen):
+    """The lines of the whole records that were read before a fault of a file."""
+    moved = seen.moved if fault == "read" else 0
+    if case.program == "snort_eve":
+        names, records = [*case.files], sum(it <= moved for it in unified2_ends(case.files[seen.file]))
+        place = names.index(seen.file), records
+        return b"".join(text for name, record, text in case.lines if (names.index(name), record) < place)
+    records = sum(it <= moved for it in record_ends(case.files["p"])) if seen.file == "p" else 0
     return b"".join(text for record, text in case.lines if record < records)
 
 def wrong_end(case, fault, clean, end, seen):
@@ -122,8 +129,7 @@ def wrong_end(case, fault, clean, end, seen):
     if fault == "write" and seen.descriptor == 1:
         status, alerts, message = 4, clean.alerts[:seen.moved], "cannot write"
     elif fault in ("open", "state", "read") and seen.file in case.files:
-        status, message = 3, f"cannot read {seen.file}"
-        alerts = lines_before(case, seen.moved) if fault == "read" and seen.file == "p" else b""
+        status, message, alerts = 3, f"cannot read {seen.file}", lines_before(case, fault, seen)
     else:
         return None if end == clean else "not as without a fault"
     if end.status != status:
@@ -174,12 +180,12 @@ def limited(space):
     return {"preexec_fn": lambda: resource.setrlimit(resource.RLIMIT_DATA, (space << 14, space << 14))}
 
 def least_space(program, folder):
-    """The least limit at which the program starts at all."""
+    """The least limit at which a program starts at all."""
     low, high = 0, 1 << 16
     while low + 1 < high:
         middle = (low + high) // 2
         try:
-            starts = program.end(folder, ["-V"], **limited(middle)).status in (0, 5)
+            starts = program.end(folder, ["--help"], **limited(middle)).status in (0, 5)
         except (OSError, subprocess.SubprocessError):
             starts = False
         low, high = (low, middle) if starts else (middle, high)
@@ -221,7 +227,7 @@ def system_faults(program, case, words, clean):
 
 def wrong_clean(case, clean):
     """What is wrong with a run without a fault, or None."""
-    lines = b"".join(text for _, text in case.lines)
+    lines = b"".join(text for *_, text in case.lines)
     if clean[:2] != (case.status, lines):
         return f"not status {case.status} and lines {lines[-300:]!r}: {clean.alerts[-300:]!r}"
 
@@ -231,12 +237,16 @@ def run_piece(program, case, words, fault, clean, stacks):
               else each_number(program, case, words, fault, clean, stacks))
     return {"ends": collections.Counter(map(str, result.ends)), "wrong": result.wrong}
 
-def run_cases(program, given, pieces):
+def run_cases(programs, given, pieces):
     print("".join(f"| {it} " for it in ["Case", "Lanes", *given.faults, "Wrong"]) + "|")
     print("|---" * (3 + len(given.faults)) + "|")
     wrong = []
     for case in CASES:
+        program = programs.get(case.program)
         if given.cases and case.name not in given.cases:
+            continue
+        if not program:
+            print(f"{case.name} is left out, since snort_eve is not built", file=sys.stderr)
             continue
         folder = f"{program.work}/{case.name}"
         for name, content in {"": b"", **case.files}.items():
@@ -277,6 +287,7 @@ def main():
     words = argparse.ArgumentParser(description=__doc__, formatter_class=argparse.RawDescriptionHelpFormatter)
     listed = lambda it: it.split(",")
     words.add_argument("--program", default=f"{TOP}/crates/snort_main/out/snort_main", metavar="PATH")
+    words.add_argument("--eve", default=scripts.built_eve(), metavar="PATH")
     words.add_argument("--cases", type=listed, metavar="WORD,..", help=" ".join(it.name for it in CASES))
     words.add_argument("--faults", type=listed, default=[*FAULTS], metavar="WORD,..", help=" ".join(FAULTS))
     words.add_argument("--lanes", type=listed, default=["1", "4", "64"], metavar="N,..")
@@ -301,13 +312,15 @@ def main():
 
 def run_all(given, work):
     """What is wrong, over all pieces; it ends here where some are left."""
-    if not os.access(given.program, os.X_OK):
-        sys.exit(f"there is no program {given.program}: build it with ./snort -V")
+    paths = {name: path for name, path in (("snort", given.program), ("snort_eve", given.eve)) if path}
+    for path in paths.values():
+        if not os.access(path, os.X_OK):
+            sys.exit(f"there is no program {path}: build it with ./snort -V")
     until = None if given.minutes is None else time.monotonic() + 60 * given.minutes
     try:
         own = [f"{TOP}/tools/{it}" for it in ("faults.py", "fault_cases.py", "refuse.c")]
-        pieces = Pieces(given.resume, sum_of(given.program, *own), until)
-        wrong = run_cases(Program(given.program, work), given, pieces)
+        pieces = Pieces(given.resume, sum_of(*paths.values(), *own), until)
+        wrong = run_cases({name: Program(path, work) for name, path in paths.items()}, given, pieces)
     except OutOfTime:
         print(f"\n{len(pieces.known)} pieces so far; the others are left", flush=True)
         sys.exit(3)
