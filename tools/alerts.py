@@ -36,6 +36,7 @@ PORT = re.compile(r"(.*):(0|[1-9]\d{0,4})\Z")
 PACKET, EVENTS = 2, {7: struct.Struct(">9I4s4s2H4B"), 72: struct.Struct(">9I16s16s2H4B")}
 PACKET_HEAD = struct.Struct(">7I")
 LONGEST_BODY = 1048576
+NO_VALUE = re.compile(r"--[\w-]+=--|-\w--")
 
 class Wrong(Exception):
     """A line, or a record, that is no alert."""
@@ -264,6 +265,8 @@ class Words(argparse.ArgumentParser):
         """The words of the command, files and others in any order; behind `--` all are files."""
         words = sys.argv[1:]
         end = words.index("--") if "--" in words else len(words)
+        if any(map(NO_VALUE.fullmatch, words[:end])):  # argparse drops it
+            self.error("-- is no value of an option")
         found = self.parse_intermixed_args(words[:end])
         found.files += words[end + 1:]
         return found

@@ -1,4 +1,4 @@
-"""The programs that this checkout builds: their crates, where they stand, and whether a source is newer. Used by scripts, package."""
+"""Programs that this checkout builds: their crates, where they stand, and whether a source is newer. Used by build, package."""
 import os
 
 TOP = os.path.dirname(os.path.dirname(os.path.realpath(__file__)))

@@ -281,6 +281,6 @@ CASES = [
          [events(0, 1, 1, U(b"abc"), C, S), events(1, 2, 1, U6(b"abc"), C6, S6)]),
     Case("words", "-c r", status=1, spread=False),
     Case("version", "-V", spread=False),
-    eve_case("eve", 2), eve_case("eve-files", 1, 2), eve_case("eve-blocks", 700), eve_case("eve-cut", 1, 1, cut=1),
+    eve_case("eve", 2), eve_case("eve-files", 1, 2), eve_case("eve-blocks", 470), eve_case("eve-cut", 1, 1, cut=1),
     Case("eve-words", "--host", status=1, spread=False, program="snort_eve"),
 ]

@@ -1,4 +1,4 @@
-"""The man pages snort(8) and snort_eve(1), made of pages of the manual, and those of scripts, made of their help. Used by package.
+"""The man pages snort(8) and snort_eve(1), of pages of the manual, and those of the scripts, of their help. Used by package.
 
 What the pages say stays as it is: headings, paragraphs, lists, tables and examples become their requests of man(7), and a
 link becomes its text, in italics. A table's first column becomes the tags of a list. ./snort is called snort here, and rows
@@ -189,11 +189,11 @@ def about(top, name):
         return file.readline().strip().removeprefix(f"# {name}: ")
 
 def page(top, about, version, date, behind, name="snort"):
-    """The man page of a program, of the manual below a folder: what it is about, and heads with paragraphs behind the manual's."""
+    """The man page of a program, of the manual below a folder: what it is about, heads with paragraphs behind the manual's."""
     part, kind, words, parts = PAGES[name]
     usage = next(lines for kind, lines in blocks(section(top, words, "")) if kind == "example")
-    out = [rf'.TH {plain(name.upper())} {part} {date} "{plain(version)}" "{kind}"', ".SH NAME", rf"{plain(name)} \- {plain(about)}",
-           ".SH SYNOPSIS", *synopsis(usage)]
+    out = [rf'.TH {plain(name.upper())} {part} {date} "{plain(version)}" "{kind}"', ".SH NAME",
+           rf"{plain(name)} \- {plain(about)}", ".SH SYNOPSIS", *synopsis(usage)]
     for head, sections in parts:
         out.append(f".SH {head}")
         for file, heading in sections:

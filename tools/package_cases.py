@@ -50,6 +50,10 @@ TYPED = [  # what is typed, and the words of it in bash, and in zsh where they a
     ("snort_eve --hel\t", "--help"),
 ]
 
+def without_programs():
+    """What this process has around it, but for the names of programs."""
+    return {name: value for name, value in os.environ.items() if name not in ("SNORT", "SNORT_EVE")}
+
 class Terminal:
     """A shell at a terminal, in which the programs show the words that they are given."""
     SHOWN = "snort() { printf '[<'; printf '%s|' \"$@\"; printf '>]\\n'; }; snort_eve() { snort \"$@\"; }; printf 're%s' 'ady!'"
