@@ -22,8 +22,9 @@ EVE = (f'{{"timestamp":"1970-01-01T00:00:00.000000+0000","flow_id":{int(FLOW.hex
 def tool(name, *words, given=b"", eve=""):
     """The status, the output and the messages of a script, which leaves nothing to another snort_eve than the named one."""
     given = given.encode() if isinstance(given, str) else given
-    ran = subprocess.run([sys.executable, f"{TOOLS}/{name}", *words], input=given, capture_output=True, timeout=600,
-                         env={**os.environ, "SNORT_EVE": eve})
+    env = {**os.environ, "SNORT_EVE": eve}
+    env.pop("PYTHONUNBUFFERED", None)  # by which what it writes would be in order in any case
+    ran = subprocess.run([sys.executable, f"{TOOLS}/{name}", *words], input=given, capture_output=True, timeout=600, env=env)
     return ran.returncode, ran.stdout.decode(), ran.stderr.decode()
 
 def line_with(msg="t", classes="", protocol="UDP", ends="10.0.0.1:1000 -> 10.0.0.2:2000"):
