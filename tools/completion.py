@@ -38,6 +38,8 @@ ALONE = ("--read-unified2", "-V", "--help")
 APART = (("-r", "--generate"),)
 
 EVE_WORDS = (
+    Word("-c", "configuration with the texts of rules and classes", "CONF", FILES),
+    Word("-S", "variable for the configuration", "NAME=VALUE", "a name and a text"),
     Word("--host", "name that each line has", "NAME", "a text"),
     Word("--pcap-filename", "capture that each line names", "NAME", FILES),
     Word("--community-id-seed", "seed of community IDs", "N", "0 to 65535"),
