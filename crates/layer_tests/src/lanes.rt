@@ -1,5 +1,5 @@
 //! Lanes that lacked memory answer `Failed` to any batch, whatever its jobs are. With ample memory none lacks it, and the
-//! one batch that is made then is answered; `rt try --test --fail-alloc N` refuses the Nth allocation, and tools/faults.py
+//! one batch that is made then is answered; `rt try --test --fail-alloc N` refuses the Nth allocation, and tools/measure/faults
 //! each of the built test in turn.
 ghost use Rattle.std.specs.Prelude.{◌≡◌, ◌≤◌, length, All, IfSome};
 ghost use Rattle.conf_types.specs.Sound.{IsStreamConfig};

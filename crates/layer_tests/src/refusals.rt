@@ -1,6 +1,6 @@
 //! What a value is behind a refused allocation: as its contract says, and the call then succeeds when it is made
 //! again. With ample memory nothing is refused, and then the calls are compared alone. `rt try --test --fail-alloc N`
-//! refuses the Nth allocation, and tools/faults.py each of the built test in turn.
+//! refuses the Nth allocation, and tools/measure/faults each of the built test in turn.
 ghost use Rattle.std.specs.Prelude.{◌≤◌, ◌<◌, ◌+◌, ◌^◌, OnOk};
 ghost use Rattle.stream5_reassembly.specs.Segments.{passed};
 
