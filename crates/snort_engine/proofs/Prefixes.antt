@@ -35,10 +35,6 @@ read_rose g old middle new read rose = rose_since (g.faults old) (g.faults middl
 
 -- ---- a host whose capture was opened
 
--- or nothing was done with it
-pub opened_not : {H : Type 0} (g : HostOf H) (host : H) → OnlyOpened g host host
-opened_not g host = record { files = refl; earlier = λ seen may. may; later = omega arith }
-
 -- and then read from
 pub opened_read : {H : Type 0} (g : HostOf H) (old middle new : H) → OnlyOpened g old middle → OnlyRead g middle new → OnlyOpened g old new
 opened_read g old middle new one two = record {

@@ -49,12 +49,6 @@ returns-in-Err-clause-reason g c = record {
   quiet = λ other. refl;
 }
 
-pub returns-in-Ok-push-clause-reason : goal.returns-in-Ok-push-clause-reason
-returns-in-Ok-push-clause-reason g c = record { own = λ why is. absurd cc; failed = λ is. absurd cc; quiet = λ other. c.in-Ok-Some.ensures.quiet (λ failed. cc) }
-
-pub returns-in-Ok-None-clause-reason : goal.returns-in-Ok-None-clause-reason
-returns-in-Ok-None-clause-reason g c = record { own = λ why is. absurd cc; failed = λ is. absurd cc; quiet = λ other. c.in-Ok-None.ensures.quiet (λ failed. cc) }
-
 pub returns-in-Err-next-clause-reason : goal.returns-in-Err-next-clause-reason
 returns-in-Err-next-clause-reason g c = record {
   own = λ why is.

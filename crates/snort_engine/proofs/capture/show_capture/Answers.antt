@@ -2,7 +2,6 @@ use Rattle.std.proofs.Common.{refl, ap, ◌∙◌}
 use Rattle.snort_engine.specs.declared.plan.Source.{Source}
 use Rattle.snort_engine.specs.Steps.Sources.{way_from}
 use Rattle.snort_engine.specs.Steps.Showing.{plan_of}
-use Rattle.snort_engine.proofs.Prefixes.{opened_not}
 use Rattle.snort_engine.proofs.Quiet.{caused_since}
 use Rattle.snort_engine.proofs.capture.show_capture.Goals as goal
 
@@ -28,6 +27,3 @@ returns-in-File-clause-causes g c = rw c.in-File.is c.show_file.ensures.causes
 
 pub returns-in-Made-clause-causes : goal.returns-in-Made-clause-causes
 returns-in-Made-clause-causes g c = caused_since _ _ _ _ _ _ (c.show_made.ensures.causes (g.H.Host.faults c.args.host.now)) (λ never. absurd never) refl refl
-
-pub returns-in-Made-clause-host : goal.returns-in-Made-clause-host
-returns-in-Made-clause-host g c = opened_not g.H.Host c.args.host.now

@@ -6,7 +6,7 @@ use Rattle.snort_engine.specs.Steps.Reader.{IsReadable}
 use Rattle.snort_engine.specs.Steps.Stop.{stop_text}
 use Rattle.snort_engine.specs.Steps.Showing.{plan_of}
 use Rattle.snort_engine.proofs.MadeCaptures.{generated_long, made_ends, unmade_ends, never_rose}
-use Rattle.snort_engine.proofs.Quiet.{caused_lacking, caused_unseen}
+use Rattle.snort_engine.proofs.Quiet.{caused_unseen}
 use Rattle.snort_engine.proofs.capture.show_made.Goals as goal
 
 pub new-made-requires : goal.new-made-requires
@@ -30,11 +30,6 @@ returns-clause-ends g c = λ matches test files course before same makes.
     (c.new-made.ensures ∙ ap (λ (xs : List ℕ). Some (drop 24 xs)) c.deref.ensures.value)
     (c.show_opened.ensures.shows matches test (Some none) refl)
     (λ failed. never_rose (c.show_opened.ensures.causes.read_fault failed))
-
-pub returns-in_err-bytes-clause-causes : goal.returns-in_err-bytes-clause-causes
-returns-in_err-bytes-clause-causes g c = λ host.
-    let p = err_from_is_err_and c.from_residual.result c.from_residual.ensures.1 in
-    rw (p.1, p.2) (caused_lacking _ _ _ (omega arith))
 
 pub returns-clause-causes : goal.returns-clause-causes
 returns-clause-causes g c = λ host. caused_unseen _ host _ _ _ c.show_opened.ensures.causes never_rose

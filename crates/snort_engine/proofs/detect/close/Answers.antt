@@ -21,9 +21,6 @@ run_jobs-requires-clause-ready g c κs within =
     rw c.deref.ensures.value
     (ready_closing _ (jobs_way_by c.args.context.now.plan.now.checks c.args.context.now.plan.now.setup.hosts c.args.context.now.plan.now.setup.config) c.args.context.now.plan.now.setup.set.rules c.args.detector c.in_ok-jobs.jobs.items refl c.requires.known c.in_ok-jobs.ensures c.requires.few)
 
-pub run_jobs-requires-clause-none : goal.run_jobs-requires-clause-none
-run_jobs-requires-clause-none g c κs within = c.requires.known.none
-
 pub returns-in_err-run_jobs-clause-closed : goal.returns-in_err-run_jobs-clause-closed
 returns-in_err-run_jobs-clause-closed g c = λ matches test.
     let p = err_from_is_err_and c.from_residual-in_err-run_jobs.result c.from_residual-in_err-run_jobs.ensures.1 in

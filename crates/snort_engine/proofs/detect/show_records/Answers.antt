@@ -25,9 +25,6 @@ run_jobs-requires-clause-ready g c κs within =
     (ready_records _ (jobs_way_by c.args.context.now.plan.now.checks c.args.context.now.plan.now.setup.hosts c.args.context.now.plan.now.setup.config) c.args.context.now.plan.now.setup.set.rules c.args.detector.now c.args.records.now.items _ c.in_ok-made.made.jobs.items
     refl c.requires.known makes (omega (arith, few)))
 
-pub run_jobs-requires-clause-none : goal.run_jobs-requires-clause-none
-run_jobs-requires-clause-none g c κs within = c.requires.known.none
-
 pub returns-in_err-run_jobs-clause-shown : goal.returns-in_err-run_jobs-clause-shown
 returns-in_err-run_jobs-clause-shown g c = λ matches test.
     let p = err_from_is_err_and c.from_residual-in_err-run_jobs.result c.from_residual-in_err-run_jobs.ensures.1 in

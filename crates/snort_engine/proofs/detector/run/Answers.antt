@@ -158,22 +158,3 @@ pub returns-clause-told : goal.returns-clause-told
 returns-clause-told g c =
     told_headline g.H.Host g.A.Sink g.E.Sink _ _ c.args.host.now c.prepare-prepared.new.host c.args.alerts.now c.args.alerts.now c.args.errors.now c.report-in-Err.new.errors _ _ _ g.met.H.Host.as_told
     c.prepare-prepared.ensures.host.files (returns-clause-headline g c)
-
--- what stays of the maker
-pub returns-in-Ok-Show-clause-same_meaning : goal.returns-in-Ok-Show-clause-same_meaning
-returns-in-Ok-Show-clause-same_meaning g c = c.prepare-prepared.ensures.maker.same_meaning
-
-pub returns-in-Ok-Show-clause-grows : goal.returns-in-Ok-Show-clause-grows
-returns-in-Ok-Show-clause-grows g c = c.prepare-prepared.ensures.maker.grows
-
-pub returns-in-Ok-Tell-clause-same_meaning : goal.returns-in-Ok-Tell-clause-same_meaning
-returns-in-Ok-Tell-clause-same_meaning g c = c.prepare-prepared.ensures.maker.same_meaning
-
-pub returns-in-Ok-Tell-clause-grows : goal.returns-in-Ok-Tell-clause-grows
-returns-in-Ok-Tell-clause-grows g c = c.prepare-prepared.ensures.maker.grows
-
-pub returns-clause-same_meaning : goal.returns-clause-same_meaning
-returns-clause-same_meaning g c = c.prepare-prepared.ensures.maker.same_meaning
-
-pub returns-clause-grows : goal.returns-clause-grows
-returns-clause-grows g c = c.prepare-prepared.ensures.maker.grows

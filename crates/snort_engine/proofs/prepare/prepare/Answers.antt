@@ -81,18 +81,6 @@ returns-in_err-prepare_run-in-Ok-Run-clause-prepared g c = λ files agree.
     (c.in_err-prepare_run-in-Ok-Run.ensures.prepared files agree))
 
 -- the host didn't fail at a file, or that stopped it
-pub returns-in-Ok-Help-clause-causes : goal.returns-in-Ok-Help-clause-causes
-returns-in-Ok-Help-clause-causes g c = stopped_early _ _ _ _ tt (λ uncut. refl)
-
-pub returns-in-Ok-Version-clause-causes : goal.returns-in-Ok-Version-clause-causes
-returns-in-Ok-Version-clause-causes g c = stopped_early _ _ _ _ tt (λ uncut. refl)
-
-pub returns-in-Err-CommandLine-clause-causes : goal.returns-in-Err-CommandLine-clause-causes
-returns-in-Err-CommandLine-clause-causes g c = stopped_early _ _ _ _ tt (λ uncut. refl)
-
-pub returns-in-Err-NoMemory-clause-causes : goal.returns-in-Err-NoMemory-clause-causes
-returns-in-Err-NoMemory-clause-causes g c = stopped_early _ _ _ _ tt (λ uncut. refl)
-
 pub returns-in_ok-list_records-in-Ok-ReadUnified2-clause-causes : goal.returns-in_ok-list_records-in-Ok-ReadUnified2-clause-causes
 returns-in_ok-list_records-in-Ok-ReadUnified2-clause-causes g c = ready_early _ _ _ _ (c.in_ok-list_records-in-Ok-ReadUnified2.ensures.quiet refl)
 

@@ -12,6 +12,3 @@ pub returns-clause-ready : goal.returns-clause-ready
 returns-clause-ready g c =
     let read = c.read_setup-outcome.ensures in
     ready_setup _ _ c.read_setup-outcome.result read.config read.rules read.few read.meant
-
-pub returns-clause-maker : goal.returns-clause-maker
-returns-clause-maker g c = record { same_meaning = c.read_setup-outcome.ensures.same_meaning; grows = c.read_setup-outcome.ensures.grows }

@@ -28,9 +28,6 @@ unfolding ClosesShown
 returns-clause-closes g c = λ matches test. inr (inl (sym c.is_whole.ensures ∙ c.if-not-is_whole.false, refl, c.in_ok-counts.ensures.closed matches test))
 
 -- what stopped the closing is a fault of writing, or want of memory
-pub returns-then-not-is_whole-clause-causes : goal.returns-then-not-is_whole-clause-causes
-returns-then-not-is_whole-clause-causes g c = closes_same _ _ _ refl
-
 pub returns-in_err-counts-clause-causes : goal.returns-in_err-counts-clause-causes
 returns-in_err-counts-clause-causes g c =
     let p = err_from_is_err_and c.from_residual.result c.from_residual.ensures.1 in

@@ -1,4 +1,4 @@
-use Rattle.std.proofs.Common.{◌≡◌, ◌≤◌, ℕ, Err, length, vec_len, refl, sym, ap, subst, ◌∙◌, arith}
+use Rattle.std.proofs.Common.{◌≡◌, ◌≤◌, ℕ, Err, length, vec_len, sym, ap, subst, ◌∙◌, arith}
 use Rattle.std.proofs.lemmas.Result.{err_from_is_err_and}
 use Rattle.edge_io.specs.Files.{left_by}
 use Rattle.edge_io.specs.Told.{Rose}
@@ -8,7 +8,7 @@ use Rattle.snort_engine.specs.declared.reader.RecordReader.{RecordReader}
 use Rattle.snort_engine.specs.Steps.Reader.{number_of}
 use Rattle.snort_engine.specs.Steps.Showing.{plan_of, most_at, room_behind, MayGoFurther, Standing}
 use Rattle.snort_engine.proofs.Batches.{more_reached, showing_cuts, within_batch}
-use Rattle.snort_engine.proofs.Quiet.{caused_done, caused_lacking, caused_reached, caused_unwritten}
+use Rattle.snort_engine.proofs.Quiet.{caused_reached, caused_unwritten}
 use Rattle.snort_engine.proofs.Shown.{nothing_left, batch_lacks, batch_shown, batch_stops, part_shown}
 use Rattle.snort_engine.proofs.show.show_next_batch.Goals as goal
 
@@ -132,12 +132,6 @@ returns-clause-closable g c = λ whole.
     }
 
 -- a fault is told, or one of writing, or want of memory in its place
-pub returns-then-most-eq0-clause-causes : goal.returns-then-most-eq0-clause-causes
-returns-then-most-eq0-clause-causes g c = caused_done _ _ _ refl refl
-
-pub returns-then-lacks_memory-clause-causes : goal.returns-then-lacks_memory-clause-causes
-returns-then-lacks_memory-clause-causes g c = caused_lacking _ _ _ c.show_some.ensures.later
-
 pub returns-in_err-show_records-clause-causes : goal.returns-in_err-show_records-clause-causes
 returns-in_err-show_records-clause-causes g c =
     let p = err_from_is_err_and c.from_residual.result c.from_residual.ensures.1 in

@@ -3,7 +3,7 @@ use Rattle.std.proofs.lemmas.Result.{err_from_is_err_and}
 use Rattle.alert_lines.proofs.Prefixes.{WritesPart-none}
 use Rattle.snort_engine.specs.Steps.Stop.{outcome_status}
 use Rattle.snort_engine.specs.Steps.Showing.{plan_of}
-use Rattle.snort_engine.proofs.Quiet.{caused_closed, caused_lacking}
+use Rattle.snort_engine.proofs.Quiet.{caused_closed}
 use Rattle.snort_engine.proofs.Shown.{close-start, closed_show, closed_behind}
 use Rattle.snort_engine.proofs.show.show_opened.Goals as goal
 
@@ -33,11 +33,6 @@ pub returns-clause-close : goal.returns-clause-close
 returns-clause-close g c = λ matches test seen may.
     closed_behind (plan_of matches c.args.context.now.plan.now) c.args.reader.now _ _ c.show_batches-shown.new.detector _ _ _ _ _ c.show_batches-shown.result c.close_shown.result
     (c.show_batches-shown.ensures.comes matches test (c.in_ok-detector.ensures.stands matches) seen may) (c.close_shown.ensures.closes matches test)
-
-pub returns-in_err-detector-clause-causes : goal.returns-in_err-detector-clause-causes
-returns-in_err-detector-clause-causes g c =
-    let p = err_from_is_err_and c.from_residual.result c.from_residual.ensures.1 in
-    rw (p.1, p.2) (caused_lacking _ _ _ (omega arith))
 
 pub returns-clause-causes : goal.returns-clause-causes
 returns-clause-causes g c =

@@ -1,5 +1,5 @@
 -- What was opened, by the answers of both readers.
-use Rattle.std.proofs.Common.{Some, Err, ap, ◌∙◌, ⊎_elim, arith}
+use Rattle.std.proofs.Common.{Some, Err, ap, ◌∙◌, ⊎_elim}
 use Rattle.std.proofs.lemmas.Result.{err_from_is_err_and}
 use Rattle.edge_io.specs.Files.{left_by}
 use Rattle.edge_io.specs.Told.{Rose}
@@ -77,24 +77,3 @@ pub returns-clause-quiet : goal.returns-clause-quiet
 returns-clause-quiet g c = λ unfailed.
     c.in_ok-reader.ensures.quiet (λ failed. cc)
     ∙ c.in-Err.ensures.quiet (otherwise_unfailed _ c.in-Err.why (c.begins_otherwise.ensures.otherwise c.if-not-begins_otherwise.false))
-
--- what stays of the host
-pub returns-in-Ok-clause-host : goal.returns-in-Ok-clause-host
-returns-in-Ok-clause-host g c = record { files = c.in-Ok.ensures.same_contents; earlier = c.in-Ok.ensures.earlier; later = c.in-Ok.ensures.later }
-
-pub returns-then-not-begins_otherwise-clause-host : goal.returns-then-not-begins_otherwise-clause-host
-returns-then-not-begins_otherwise-clause-host g c = record { files = c.in-Err.ensures.same_contents; earlier = c.in-Err.ensures.earlier; later = c.in-Err.ensures.later }
-
-pub returns-in_err-reader-clause-host : goal.returns-in_err-reader-clause-host
-returns-in_err-reader-clause-host g c = record {
-  files = c.in_err-reader.ensures.same_contents ∙ c.in-Err.ensures.same_contents;
-  earlier = λ seen may. c.in-Err.ensures.earlier seen (c.in_err-reader.ensures.earlier seen may);
-  later = omega (arith, c.in-Err.ensures.later, c.in_err-reader.ensures.later);
-}
-
-pub returns-clause-host : goal.returns-clause-host
-returns-clause-host g c = record {
-  files = c.in_ok-reader.ensures.same_contents ∙ c.in-Err.ensures.same_contents;
-  earlier = λ seen may. c.in-Err.ensures.earlier seen (c.in_ok-reader.ensures.earlier seen may);
-  later = omega (arith, c.in-Err.ensures.later, c.in_ok-reader.ensures.later);
-}
