@@ -9,3 +9,4 @@ pub mod AsciiTexts
 pub mod Times
 pub mod Depths
 pub mod Lines
+pub mod LineMoments

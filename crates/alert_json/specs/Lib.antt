@@ -7,3 +7,5 @@ pub mod Value
 pub mod Reading
 pub mod Tokens
 pub mod LineEvents
+pub mod LineMoments
+pub mod LineYears

@@ -1,0 +1,7 @@
+use Rattle.std.proofs.Common.{sym, ◌∙◌, true≢false}
+use Rattle.alert_json.proofs.LineMoments.{small-of}
+use Rattle.alert_json.proofs.line_moment.civil_of.Goals as goal
+
+pub returns-else-are_small : goal.returns-else-are_small
+returns-else-are_small c nanos few m =
+    true≢false (sym (c.are_small.ensures.1 (small-of c.args.year c.args.time nanos few m)) ∙ c.if-are_small.false)
