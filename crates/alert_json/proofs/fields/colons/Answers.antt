@@ -1,3 +1,4 @@
+-- Why `colons` keeps `ascii`.
 use Rattle.alert_json.proofs.AsciiTexts.{IsAscii-colon}
 use Rattle.alert_json.proofs.fields.colons.Goals as goal
 

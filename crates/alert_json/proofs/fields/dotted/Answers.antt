@@ -1,3 +1,4 @@
+-- Why `dotted` keeps `ascii`.
 use Rattle.std.proofs.Common.{◌<◌, ◌^◌, arith}
 use Rattle.alert_json.proofs.AsciiTexts.{IsAscii-dotted}
 use Rattle.alert_json.proofs.fields.dotted.Goals as goal

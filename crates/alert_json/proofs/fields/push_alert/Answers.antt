@@ -1,3 +1,4 @@
+-- Why `push_alert` keeps `added`.
 use Rattle.std.proofs.lemmas.Result.{on_ok_weaker}
 use Rattle.alert_json.proofs.Adding.{object_member}
 use Rattle.alert_json.proofs.fields.push_alert.Goals as goal

@@ -1,3 +1,4 @@
+-- Why `push_alert_members` keeps `added`.
 use Rattle.std.proofs.lemmas.Result.{on_ok_weaker}
 use Rattle.alert_json.specs.Facts.{alert_facts}
 use Rattle.alert_json.proofs.Groups.{alert-group}

@@ -1,3 +1,4 @@
+-- Why `push_community` keeps `added`.
 use Rattle.alert_json.proofs.Groups.{no-community}
 use Rattle.alert_json.proofs.fields.push_community.Goals as goal
 

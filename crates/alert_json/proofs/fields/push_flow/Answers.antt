@@ -1,3 +1,4 @@
+-- Why `push_flow` keeps `added`.
 use Rattle.alert_json.proofs.Groups.{flow-group}
 use Rattle.alert_json.proofs.fields.push_flow.Goals as goal
 

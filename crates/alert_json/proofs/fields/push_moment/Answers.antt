@@ -1,3 +1,4 @@
+-- Why `push_moment` keeps `added`.
 use Rattle.std.proofs.Common.{◌∙◌}
 use Rattle.alert_json.proofs.Adding.{text-same}
 use Rattle.alert_json.proofs.fields.push_moment.Goals as goal

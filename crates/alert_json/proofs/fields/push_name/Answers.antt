@@ -1,3 +1,4 @@
+-- Why `push_name` keeps `added`.
 use Rattle.alert_json.proofs.Adding.{none}
 use Rattle.alert_json.proofs.fields.push_name.Goals as goal
 

@@ -1,3 +1,4 @@
+-- Why `push_packet` keeps `added`.
 use Rattle.alert_json.proofs.Groups.{no-packet}
 use Rattle.alert_json.proofs.fields.push_packet.Goals as goal
 

@@ -1,3 +1,4 @@
+-- Why `push_run` keeps `added`.
 use Rattle.std.proofs.lemmas.Result.{on_ok_weaker}
 use Rattle.alert_json.specs.Facts.{run_facts}
 use Rattle.alert_json.proofs.Groups.{run-group}

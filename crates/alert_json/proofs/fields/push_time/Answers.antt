@@ -1,3 +1,4 @@
+-- Why `push_time` keeps `added`.
 use Rattle.std.proofs.Common.{refl}
 use Rattle.alert_json.specs.Facts.{event_facts}
 use Rattle.alert_json.proofs.Groups.{time-group}

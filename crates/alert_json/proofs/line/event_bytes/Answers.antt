@@ -1,3 +1,4 @@
+-- Why `event_bytes` keeps `text` and `reads_back`.
 use Rattle.std.proofs.Common.{◌∙◌}
 use Rattle.alert_json.specs.Facts.{event_facts, run_facts}
 use Rattle.alert_json.proofs.Depths.{event_low}

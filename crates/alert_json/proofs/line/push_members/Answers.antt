@@ -1,3 +1,4 @@
+-- Why `push_members` keeps `added`.
 use Rattle.alert_json.specs.Facts.{event_facts, run_facts}
 use Rattle.alert_json.proofs.Groups.{event-group}
 use Rattle.alert_json.proofs.line.push_members.Goals as goal

@@ -1,3 +1,4 @@
+-- Why `civil_of` does what its contract says.
 use Rattle.std.proofs.Common.{sym, ◌∙◌, true≢false}
 use Rattle.alert_json.proofs.LineMoments.{small-of}
 use Rattle.alert_json.proofs.line_moment.civil_of.Goals as goal

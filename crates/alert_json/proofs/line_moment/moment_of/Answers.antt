@@ -1,3 +1,4 @@
+-- Why `moment_of` does what its contract says.
 use Rattle.std.proofs.Common.{arith}
 use Rattle.alert_json.proofs.LineMoments.{civil-at, moment-at}
 use Rattle.alert_json.proofs.line_moment.moment_of.Goals as goal

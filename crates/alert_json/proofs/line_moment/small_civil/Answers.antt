@@ -1,3 +1,4 @@
+-- Why `small_civil` does what its contract says.
 use Rattle.std.proofs.Common.{rules}
 use Rattle.alert_json.proofs.LineMoments.{date-of, time-of}
 use Rattle.alert_json.proofs.line_moment.small_civil.Goals as goal

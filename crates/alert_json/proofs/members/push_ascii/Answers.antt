@@ -1,3 +1,4 @@
+-- Why `push_ascii` may call `unreachable`.
 use Rattle.std.proofs.lemmas.Str.{IsUtf8-from_ascii}
 use Rattle.alert_json.proofs.members.push_ascii.Goals as goal
 

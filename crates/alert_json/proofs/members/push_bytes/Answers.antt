@@ -1,3 +1,4 @@
+-- Why `push_bytes` keeps `added`.
 use Rattle.std.proofs.Common.{◌∙◌, sym}
 use Rattle.std.proofs.lemmas.Result.{on_ok_weaker}
 use Rattle.alert_json.proofs.Latin.{text_of-utf8, text_of-other}

@@ -1,3 +1,4 @@
+-- Why `push_digits` keeps `added`.
 use Rattle.std.specs.Prelude.{decimal}
 use Rattle.std.proofs.lemmas.Result.{on_ok_weaker}
 use Rattle.alert_json.proofs.Adding.{text_member}

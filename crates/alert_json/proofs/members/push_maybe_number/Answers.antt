@@ -1,3 +1,4 @@
+-- Why `push_maybe_number` keeps `added`.
 use Rattle.alert_json.proofs.Adding.{none}
 use Rattle.alert_json.proofs.members.push_maybe_number.Goals as goal
 

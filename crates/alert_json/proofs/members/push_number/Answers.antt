@@ -1,3 +1,4 @@
+-- Why `push_number` keeps `added`.
 use Rattle.std.proofs.Common.{arith}
 use Rattle.std.proofs.lemmas.Result.{on_ok_weaker}
 use Rattle.alert_json.proofs.Adding.{number_member}

@@ -1,3 +1,4 @@
+-- Why `push_text` keeps `added`.
 use Rattle.std.proofs.lemmas.Result.{on_ok_weaker}
 use Rattle.alert_json.proofs.Adding.{text_member}
 use Rattle.alert_json.proofs.members.push_text.Goals as goal

@@ -1,3 +1,4 @@
+-- Why `four_digits` does what its contract says.
 use Rattle.std.proofs.Common.{◌<◌, ◌/◌, ◌%◌, arith}
 use Rattle.alert_fast.proofs.PaddedDigits.{digits-2}
 use Rattle.alert_json.proofs.Times.{digits-4}

@@ -1,3 +1,4 @@
+-- Why `push_stamp` does what its contract says.
 use Rattle.std.proofs.lemmas.Result.{on_ok_weaker}
 use Rattle.std.proofs.Common.{ℕ, List, ◌++◌, ap, ◌∙◌}
 use Rattle.alert_json.proofs.Times.{timestamp-pieces}

@@ -1,3 +1,4 @@
+-- Why `timestamp` keeps `ascii`.
 use Rattle.alert_json.proofs.AsciiTexts.{IsAscii-timestamp}
 use Rattle.alert_json.proofs.stamp.timestamp.Goals as goal
 

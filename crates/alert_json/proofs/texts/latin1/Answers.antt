@@ -1,3 +1,4 @@
+-- Why `latin1` does what its contract says.
 use Rattle.std.proofs.Common.{string_bytes}
 use Rattle.alert_json.proofs.Latin.{latin_more}
 use Rattle.alert_json.proofs.texts.latin1.Goals as goal

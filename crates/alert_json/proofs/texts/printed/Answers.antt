@@ -1,3 +1,4 @@
+-- Why `printed` keeps `ascii`.
 use Rattle.alert_json.proofs.AsciiTexts.{IsAscii-printable}
 use Rattle.alert_json.proofs.texts.printed.Goals as goal
 

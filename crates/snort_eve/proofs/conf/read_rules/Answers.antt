@@ -1,3 +1,4 @@
+-- Why `read_rules` keeps `given` and `earlier`.
 use Rattle.std.proofs.Common.{Some}
 use Rattle.edge_io.specs.Told.{Rose}
 use Rattle.snort_setup.specs.Whole.{ready_of}

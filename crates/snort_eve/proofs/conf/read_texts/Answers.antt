@@ -1,3 +1,4 @@
+-- Why `read_texts` keeps `given`, `cause` and `quiet`.
 use Rattle.edge_io.specs.Told.{Rose}
 use Rattle.std.proofs.Common.{◌≡◌}
 use Rattle.snort_setup.specs.Whole.{ready_of}

@@ -1,3 +1,4 @@
+-- Why `copy_pieces` keeps `long`.
 use Rattle.std.proofs.Common.{Ok, refl, ap, ◌∙◌, arith}
 use Rattle.std.proofs.lemmas.Result.{err_from_is_err_and}
 use Rattle.snort_eve.proofs.Copying.{come-start, other-stop}

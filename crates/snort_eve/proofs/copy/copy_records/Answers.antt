@@ -1,3 +1,4 @@
+-- Why `copy_records` keeps `stops`, `copies`, `quiet_alerts`, `quiet` and others.
 use Rattle.std.proofs.Common.{refl, ◌∙◌}
 use Rattle.std.proofs.lemmas.Result.{on_err_weaker}
 use Rattle.snort_eve.proofs.Copying.{on_err, stop-start, stop-last, copied-last, other-stop}

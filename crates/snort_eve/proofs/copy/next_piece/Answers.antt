@@ -1,3 +1,4 @@
+-- Why `next_piece` keeps `stops`, `comes`, `over` and `long`.
 use Rattle.std.proofs.Common.{ℕ, inr, ◌∙◌, refl, sym, ap, subst, take, [], arith}
 use Rattle.std.proofs.lemmas.Result.{on_ok_weaker, on_err_weaker}
 use Rattle.edge_io.specs.Told.{before, NothingLeft}

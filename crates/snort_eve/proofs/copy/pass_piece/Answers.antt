@@ -1,3 +1,4 @@
+-- Why `pass_piece` keeps `breaks`.
 use Rattle.snort_eve.proofs.Copying.{on_err, piece-broken, piece-unbegun}
 use Rattle.snort_eve.proofs.copy.pass_piece.Goals as goal
 

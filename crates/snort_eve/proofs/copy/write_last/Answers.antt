@@ -1,3 +1,4 @@
+-- Why `write_last` keeps `breaks`.
 use Rattle.std.proofs.Common.{List, ℕ, ◌++◌, ◌∙◌, ap}
 use Rattle.snort_eve.specs.Joins.{flushed, lines_of}
 use Rattle.snort_eve.proofs.Copying.{on_err, last-broken, last-unbegun}

@@ -1,3 +1,4 @@
+-- Why `push_all` does what its contract says.
 use Rattle.std.proofs.Common.{◌++◌, ◌∙◌, ap}
 use Rattle.unified2_out.specs.declared.record.U2.{U2}
 use Rattle.snort_eve.specs.Joins.{waiting, completed, lines_of}

@@ -1,3 +1,4 @@
+-- Why `frame_of` does what its contract says.
 use Rattle.std.proofs.Common.{◌∙◌, ap, length, arith}
 use Rattle.std.proofs.lemmas.List.{take_rest, length-drop}
 use Rattle.byteorder.specs.Endian.{big_number}

@@ -1,3 +1,4 @@
+-- Why `push_front` does what its contract says.
 use Rattle.std.proofs.Common.{refl}
 use Rattle.snort_eve.proofs.FrontSteps.{waits-none, large-none}
 use Rattle.snort_eve.proofs.records.push_front.Goals as goal

@@ -1,3 +1,4 @@
+-- Why `push_whole` does what its contract says.
 use Rattle.std.proofs.Common.{subst, take}
 use Rattle.unified2_out.specs.Reading.{IsCauseOf}
 use Rattle.snort_eve.proofs.FrontSteps.{whole-record, whole-foreign}

@@ -1,3 +1,4 @@
+-- Why `take_records` keeps `taken` and `foreign`.
 use Rattle.std.proofs.Common.{[], ◌-◌, ◌∙◌, length, take, drop, subst, append-nil, arith}
 use Rattle.std.proofs.lemmas.List.{take_rest}
 use Rattle.unified2_out.specs.Fronts.{HasNoRecord}

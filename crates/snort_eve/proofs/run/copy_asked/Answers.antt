@@ -1,3 +1,4 @@
+-- Why `copy_asked` keeps `runs`.
 use Rattle.std.proofs.Common.{Option, subst, ap}
 use Rattle.std.specs.Prelude.{option_map}
 use Rattle.snort_eve.specs.Asking.{Asked, asked_facts}

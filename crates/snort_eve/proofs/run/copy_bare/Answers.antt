@@ -1,3 +1,4 @@
+-- Why `copy_bare` keeps `runs`.
 use Rattle.snort_eve.specs.Asking.{wanted_facts}
 use Rattle.snort_eve.specs.Texts.{texts_of}
 use Rattle.snort_eve.proofs.Configured.{run-bare}

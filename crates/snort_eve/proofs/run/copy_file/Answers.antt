@@ -1,3 +1,4 @@
+-- Why `copy_file` keeps `runs`.
 use Rattle.snort_eve.proofs.Running.{file-unopened}
 use Rattle.snort_eve.proofs.run.copy_file.Goals as goal
 

@@ -1,3 +1,4 @@
+-- Why `copy_files` keeps `runs`.
 use Rattle.std.proofs.Common.{◌≡◌, ◌∙◌, refl, arith}
 use Rattle.snort_eve.proofs.Running.{done-none, done-more, other-end, run-stops, run-done, unless-done}
 use Rattle.snort_eve.proofs.run.copy_files.Goals as goal

@@ -1,3 +1,4 @@
+-- Why `copy_named` keeps `runs`, and may call `copy_asked`.
 use Rattle.std.proofs.Common.{map, subst, sym}
 use Rattle.std.specs.Prelude.{string_bytes}
 use Rattle.snort_eve.specs.Asking.{AskNamed, asked_of}

@@ -1,3 +1,4 @@
+-- Why `copy_open` keeps `runs`, `unread` and `quiet`.
 use Rattle.std.proofs.Common.{◌≡◌, List, ℕ, sym, subst}
 use Rattle.snort_eve.specs.declared.outcome.Outcome.{Outcome}
 use Rattle.edge_io.specs.Told.{Rose}

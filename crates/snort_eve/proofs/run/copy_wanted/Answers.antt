@@ -1,3 +1,4 @@
+-- Why `copy_wanted` keeps `runs` and `quiet`, and may call `copy_with`.
 use Rattle.std.proofs.Common.{◌≡◌, Option, None, Some, ap, sym, subst}
 use Rattle.std.specs.Prelude.{option_map}
 use Rattle.snort_eve.specs.declared.words.Conf.{Conf}

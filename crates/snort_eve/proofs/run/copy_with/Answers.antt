@@ -1,3 +1,4 @@
+-- Why `copy_with` keeps `runs`, `quiet`, `unread` and `unwritten`.
 use Rattle.std.proofs.Common.{◌≡◌, ◌⊎◌, List, ℕ, Some, inl, inr, sym, subst, ◌∙◌, ap}
 use Rattle.edge_io.specs.Files.{Lacks}
 use Rattle.edge_io.specs.Told.{Rose}

@@ -1,3 +1,4 @@
+-- Why `matches` does what its contract says.
 use Rattle.std.proofs.Common.{◌≡◌, ◌∙◌, true, refl, sym, ap, map, ℕ, List, [], ◌∷◌, Some, None, inl, inr}
 use Rattle.std.specs.Prelude.{string_bytes}
 use Rattle.clap.specs.Faults.{fault_of, is_simple_and_free}

@@ -1,3 +1,4 @@
+-- Why `keep_messages` does what its contract says.
 use Rattle.std.proofs.Common.{◌∙◌}
 use Rattle.std.specs.Ordering.{nat_cmp}
 use Rattle.std.specs.BTreeMap.{get}

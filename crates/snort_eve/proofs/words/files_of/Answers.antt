@@ -1,3 +1,4 @@
+-- Why `files_of` does what its contract says.
 use Rattle.std.proofs.Common.{List, ℕ, Option, ap, map, ◌++◌, ◌∙◌}
 use Rattle.std.specs.Prelude.{codes, option_map}
 use Rattle.std.specs.Borrow.{Bor}

@@ -1,3 +1,4 @@
+-- Why `given` does what its contract says.
 use Rattle.std.proofs.Common.{◌≡◌, ◌∙◌, refl, sym, ap, ap₂, Option, Some, None}
 use Rattle.std.specs.Prelude.{option_and_then, option_map, find, slice_get}
 use Rattle.std.specs.Str.{bytes_eq}

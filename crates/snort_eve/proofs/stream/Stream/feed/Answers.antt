@@ -1,3 +1,4 @@
+-- Why `Stream::feed` keeps `fed`.
 use Rattle.std.proofs.Common.{◌∙◌, sym}
 use Rattle.snort_eve.proofs.Copying.{feed-step}
 use Rattle.snort_eve.proofs.stream.Stream.feed.Goals as goal
