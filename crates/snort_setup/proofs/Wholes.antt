@@ -31,9 +31,7 @@ none-refused_by words (Whole read) grown = none-refused _ _ grown
 none-refused_by words (RefusedAt fault output) grown = refl
 none-refused_by words (Asks name output) grown = refl
 
--- ---- rule lines behind a configuration
-
--- ---- rule lines behind a configuration
+-- ---- rule lines after a configuration
 
 lines-ruled : (words : Words) (configured : Configured) (before : List (List ℕ)) (refused : List ℕ) (end : RulesEnd) (ended : Ended) → IsConfigured configured before ended
     → RulesGive (frame_of words.skips configured.vars configured.loaded) refused 0 (nothing_stands before) configured.loaded.rules end → IsRuledBy words refused ended (ruled_by configured.loaded end)

@@ -1,3 +1,5 @@
+-- A zero in front makes the run that begins there one longer, any other segment ends it; a run as long as the longest takes
+-- its place, so that the first of that length is found.
 use Rattle.std.proofs.Common.{arith}
 use Rattle.std.proofs.lemmas.Grind.{common_steps}
 use Rattle.alert_fast.proofs.address.longest_zero_run.Goals as goal

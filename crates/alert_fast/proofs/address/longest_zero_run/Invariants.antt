@@ -1,3 +1,5 @@
+-- The loop of `longest_zero_run` goes from the last segment to the first: it has the run of zeros that begins at `i`, and
+-- the longest run from `i` on.
 use Rattle.std.proofs.Common.{◌≡◌, ◌+◌, ◌≤◌, length, drop}
 use Rattle.std.specs.Net.Text.{zero_run, longest_zero_run}
 use Rattle.alert_fast.proofs.address.longest_zero_run.Given as goal

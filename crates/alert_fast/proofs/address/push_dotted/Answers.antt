@@ -1,3 +1,5 @@
+-- The bytes of an address, from the highest down, are the four numbers that its text has with a dot between each
+-- two: `dotted_text-pieces`.
 use Rattle.std.proofs.lemmas.Result.{on_ok_weaker}
 use Rattle.std.proofs.Common.{ℕ, List, ◌<◌, ◌^◌, ◌++◌, ap, ◌∙◌, arith}
 use Rattle.alert_fast.proofs.LineTexts.{dotted_text-pieces}

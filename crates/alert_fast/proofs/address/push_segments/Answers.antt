@@ -1,3 +1,5 @@
+-- Where memory is lacking for the groups after the gap, what was there before is still at the front: all that came
+-- was appended (`take-kept`).
 use Rattle.std.proofs.lemmas.Result.{on_err_weaker}
 use Rattle.std.proofs.Common.{◌≡◌, ℕ, ◌++◌, List, ap, ◌∙◌, append_assoc}
 use Rattle.alert_fast.proofs.LineTexts.{take-kept}

@@ -1,3 +1,4 @@
+-- The pieces, joined, are the marks around the rule's three numbers and its message: `marked_msg-pieces`.
 use Rattle.std.proofs.lemmas.Result.{on_ok_weaker}
 use Rattle.std.proofs.Common.{ℕ, List, ◌++◌, ap, ◌∙◌}
 use Rattle.alert_fast.proofs.LineTexts.{marked_msg-pieces}

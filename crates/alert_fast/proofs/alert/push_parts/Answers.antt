@@ -1,3 +1,4 @@
+-- Nine parts are appended, one after another, and joined they are the line of the definition: `line_text-parts`.
 use Rattle.std.proofs.lemmas.Result.{on_ok_weaker}
 use Rattle.alert_fast.proofs.LineTexts.{line_text-parts}
 use Rattle.alert_fast.proofs.alert.push_parts.Goals as goal

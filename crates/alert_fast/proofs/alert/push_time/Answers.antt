@@ -1,3 +1,5 @@
+-- The numbers of `utc_time`, in two digits and in six, are those of the definition's date and clock, with the same signs
+-- between them: `time_text-pieces`.
 use Rattle.std.proofs.lemmas.Result.{on_ok_weaker}
 use Rattle.std.proofs.Common.{ℕ, List, ◌++◌, ap, ◌∙◌}
 use Rattle.alert_fast.proofs.LineTexts.{time_text-pieces}

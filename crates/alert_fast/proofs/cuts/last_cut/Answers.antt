@@ -1,3 +1,5 @@
+-- The place that `rfind` finds is the last one of the needle, so that no other cut leaves more before it (`cut_last`); where
+-- it finds none there is no cut.
 use Rattle.std.proofs.Common.{◌≡◌, ℕ, ◌+◌, ◌-◌, ◌*◌, ◌%◌, ◌^◌, ◌<◌, ◌≤◌, List, ◌++◌, length, take, drop, fold, sym, ap, ◌∙◌, arith, take_all}
 use Rattle.std.proofs.lemmas.List.{length-drop}
 use Rattle.alert_fast.proofs.Places.{cut_nowhere, cut_last}

@@ -1,3 +1,4 @@
+-- What `Ipv4Addr` parses is how the address of its four octets is written, and nothing else is: `v4_whole` and `v4_none`.
 use Rattle.alert_fast.proofs.EndWords.{v4_whole, v4_none}
 use Rattle.alert_fast.proofs.ends.dotted.Goals as goal
 

@@ -1,3 +1,5 @@
+-- A month and a day are two fronts, one after the other: as the text begins with no other month, there is no date
+-- where no day comes after it.
 use Rattle.std.specs.Prelude.{decimal, codes}
 use Rattle.alert_fast.specs.Fronts.{ended, followed, BothFit, both}
 use Rattle.alert_fast.specs.Pieces.{digits}

@@ -1,3 +1,5 @@
+-- The front of a line is a time with its mark and the numbers with a blank: each is the only one that the text may begin
+-- with, so that a step that fails leaves no front.
 use Rattle.std.specs.Prelude.{decimal, codes}
 use Rattle.alert_fast.specs.Fronts.{ended, followed, BothFit, both}
 use Rattle.alert_fast.specs.Pieces.{digits}

@@ -1,3 +1,5 @@
+-- An hour and a minute, each in two digits with a colon, are read one after the other (`both_front`), or the text
+-- begins with no such pair.
 use Rattle.std.specs.Prelude.{decimal, codes}
 use Rattle.alert_fast.specs.Fronts.{ended, followed, BothFit, both}
 use Rattle.alert_fast.specs.Pieces.{digits}

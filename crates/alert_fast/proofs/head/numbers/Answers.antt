@@ -1,3 +1,5 @@
+-- The three numbers, each with the byte that ends it, are a front and a pair of fronts after it: where one of them can't be
+-- read, none of the triples fits.
 use Rattle.std.specs.Prelude.{decimal, codes}
 use Rattle.alert_fast.specs.Fronts.{ended, followed, BothFit, both}
 use Rattle.alert_fast.specs.Pieces.{digits}

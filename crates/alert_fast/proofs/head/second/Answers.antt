@@ -1,3 +1,5 @@
+-- A second up to its full stop and six digits up to a blank are two fronts, one after the other: where either is missing,
+-- the text begins with no seconds.
 use Rattle.std.specs.Prelude.{decimal, codes}
 use Rattle.alert_fast.specs.Fronts.{ended, followed, BothFit, both}
 use Rattle.alert_fast.specs.Pieces.{digits}

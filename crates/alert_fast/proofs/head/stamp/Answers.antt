@@ -1,3 +1,5 @@
+-- A date, then an hour with its minute, then the seconds: fronts one after another, of which the text begins
+-- with these and no others.
 use Rattle.std.specs.Prelude.{decimal, codes}
 use Rattle.alert_fast.specs.Fronts.{ended, followed, BothFit, both}
 use Rattle.alert_fast.specs.Pieces.{digits}

@@ -1,3 +1,4 @@
+-- The text of one piece more comes after those of the pieces before it: the lemma `appended_more`.
 use Rattle.alert_fast.proofs.PieceLists.{appended_more}
 use Rattle.alert_fast.proofs.pieces.push_pieces.Goals as goal
 

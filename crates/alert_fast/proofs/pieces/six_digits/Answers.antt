@@ -1,3 +1,5 @@
+-- A number below 1,000,000 has the three digits of its thousands and then those of the rest: `digits-6`, with
+-- `digits-3` for each half.
 use Rattle.std.proofs.Common.{◌<◌, ◌/◌, ◌%◌, arith}
 use Rattle.alert_fast.proofs.PaddedDigits.{digits-3, digits-6}
 use Rattle.alert_fast.proofs.pieces.six_digits.Goals as goal

@@ -1,3 +1,4 @@
+-- A number below 1000 has its hundreds, its tens and its units as its digits: `digits-3`.
 use Rattle.alert_fast.proofs.PaddedDigits.{digits-3}
 use Rattle.std.proofs.Common.{sym}
 use Rattle.alert_fast.proofs.pieces.three_digits.Goals as goal

@@ -1,3 +1,5 @@
+-- What the pattern binds after six bytes is all that is left of the word, so that the code reads the digits
+-- that the definition reads.
 use Rattle.std.proofs.Common.{◌≡◌, ℕ, ◌-◌, ◌%◌, ◌≤◌, List, length, drop, ap, ◌∙◌, arith, take_all}
 use Rattle.std.proofs.lemmas.List.{length-drop}
 use Rattle.alert_fast.specs.Words.{read_value}

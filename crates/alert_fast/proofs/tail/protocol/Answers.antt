@@ -1,3 +1,5 @@
+-- The one protocol that a word may name is `protocol_value`, and the word names it just where that protocol's text is the
+-- word, which `is_protocol` decides.
 use Rattle.std.proofs.Common.{◌≡◌, ◌<◌, sym, ◌∙◌, arith, true≢false}
 use Rattle.std.proofs.lemmas.Slice.Eq.{bytes_eq-Decides}
 use Rattle.alert_fast.specs.Line.{protocol_text}

@@ -1,3 +1,5 @@
+-- No protocol's text has the brace that ends it (`free_protocol`), so that the word up to the first brace is the protocol,
+-- or the text begins with none.
 use Rattle.alert_fast.specs.Line.{protocol_text}
 use Rattle.alert_fast.specs.Tails.{IsProtocol}
 use Rattle.alert_fast.proofs.Fronts.{ended_front, ended_nowhere, ended_no}

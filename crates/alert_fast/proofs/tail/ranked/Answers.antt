@@ -1,3 +1,5 @@
+-- A priority and a protocol, each with what follows it, are two fronts, one after the other: where a step fails, the text
+-- begins with no such pair.
 use Rattle.std.specs.Prelude.{decimal, codes}
 use Rattle.alert_fast.specs.Fronts.{ended, followed, BothFit, both}
 use Rattle.alert_fast.specs.Pieces.{digits}

@@ -1,3 +1,5 @@
+-- The civil time has as many nanoseconds as the moment: so its date is that of the whole days, its clock is what is left of
+-- a day, and each number fits its type.
 use Rattle.std.proofs.Common.{arith, ◌<◌, ◌^◌, ◌∙◌, ℕ, ap, ◌/◌}
 use Rattle.alert_fast.proofs.Dates.{date_of-moment, time_nanos-moment, hour-moment, minute-moment, second-moment, micros-moment, cast_u8, cast_u32, size_u16}
 use Rattle.alert_fast.proofs.utc.utc_time.Goals as goal

@@ -1,3 +1,5 @@
+-- A number's decimal text gives the number back, so that the word is one just where the text of its value is the word
+-- again (`whole`, `no_whole`).
 use Rattle.std.proofs.Common.{◌≡◌, ℕ, ◌%◌, ◌^◌, ◌<◌, sym, ap, ◌∙◌, arith, true≢false}
 use Rattle.std.specs.Prelude.{decimal}
 use Rattle.std.proofs.lemmas.Bool.{eqb-true, eq-eqb}

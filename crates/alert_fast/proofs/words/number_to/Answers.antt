@@ -1,3 +1,5 @@
+-- No decimal text has a byte that isn't a digit (`free_number`), so that the word up to the first `end` is the number, or
+-- the text begins with none.
 use Rattle.std.specs.Prelude.{decimal}
 use Rattle.alert_fast.specs.Pieces.{digits}
 use Rattle.alert_fast.specs.Words.{IsNumber}

@@ -1,3 +1,5 @@
+-- A port is below 2^16, so that the one that a word may be is the word's value modulo 2^16: it is this port where
+-- the port's text is the word.
 use Rattle.std.proofs.Common.{◌≡◌, ℕ, ◌%◌, ◌^◌, ◌<◌, sym, ap, ◌∙◌, arith, true≢false}
 use Rattle.std.specs.Prelude.{decimal}
 use Rattle.std.proofs.lemmas.Bool.{eqb-true, eq-eqb}

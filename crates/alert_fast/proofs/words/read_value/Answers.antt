@@ -1,3 +1,4 @@
+-- One byte more takes the value times ten, adds the digit and cuts to 32 bits, as one step of the fold does: `fold_more`.
 use Rattle.std.proofs.Common.{◌≡◌, ℕ, ◌+◌, ◌-◌, ◌*◌, ◌%◌, ◌^◌, ◌<◌, ◌≤◌, List, ◌++◌, length, take, drop, fold, sym, ap, ◌∙◌, arith, take_all}
 use Rattle.std.proofs.lemmas.List.Sums.{fold_more}
 use Rattle.alert_fast.proofs.words.read_value.Goals as goal

@@ -1,3 +1,4 @@
+-- The loop of `read_value` has the fold over the bytes so far, and it is below 2^32.
 use Rattle.std.proofs.Common.{◌≡◌, ℕ, ◌+◌, ◌-◌, ◌*◌, ◌%◌, ◌^◌, ◌<◌, fold, take}
 use Rattle.alert_fast.proofs.words.read_value.Given as goal
 

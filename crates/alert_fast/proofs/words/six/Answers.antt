@@ -1,3 +1,5 @@
+-- A number of six digits is below 1,000,000, so that the one that a word may be is the word's value modulo that: it is this
+-- number where its six digits are the word.
 use Rattle.std.proofs.Common.{◌≡◌, ℕ, ◌%◌, ◌^◌, ◌<◌, sym, ap, ◌∙◌, arith, true≢false}
 use Rattle.std.specs.Prelude.{decimal}
 use Rattle.std.proofs.lemmas.Bool.{eqb-true, eq-eqb}

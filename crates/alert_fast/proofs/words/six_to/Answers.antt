@@ -1,3 +1,5 @@
+-- No six digits have the byte that ends them (`free_six`), so that the word up to the first `end` is the microseconds, or
+-- the text begins with none.
 use Rattle.std.specs.Prelude.{decimal}
 use Rattle.alert_fast.specs.Pieces.{digits}
 use Rattle.alert_fast.specs.Words.{IsMicros}

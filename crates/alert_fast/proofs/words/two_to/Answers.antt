@@ -1,3 +1,5 @@
+-- No two digits have the byte that ends them (`free_two`), so that the word up to the first `end` is the number, or
+-- the text begins with none.
 use Rattle.std.specs.Prelude.{decimal}
 use Rattle.alert_fast.specs.Pieces.{digits}
 use Rattle.alert_fast.specs.Words.{IsTwo}

@@ -1,3 +1,5 @@
+-- A sink that stopped has taken the first `done` bytes of what waited, and its count of faults rose: a part was
+-- written (`offered_part`).
 use Rattle.alert_lines.proofs.Emitting.{offered_part}
 use Rattle.alert_lines.proofs.lines.offer.Goals as goal
 

@@ -1,3 +1,5 @@
+-- A text that was made waits after the others, and a full block is then offered with it: both steps, one after the other,
+-- are the text on its way (`emits_both`).
 use Rattle.std.proofs.Common.{refl, sym}
 use Rattle.std.proofs.lemmas.List.{append-nil}
 use Rattle.std.proofs.lemmas.Result.{err_from_is_err_and}

@@ -1,3 +1,5 @@
+-- At a place without a rule there is no line and none is counted; at one with a rule there is the line of this rule, or a
+-- part of it where a fault stops it.
 use Rattle.std.proofs.lemmas.Result.{err_from_is_err_and}
 use Rattle.alert_lines.specs.Showing.{subject_of}
 use Rattle.alert_lines.proofs.Showing.{place_absent, place_part, place_passed, place_shown, place_there}

@@ -1,3 +1,5 @@
+-- The lines of the places so far are on their way, and the next place's line has the number after theirs; a fault at it
+-- leaves a part (`places_part`).
 use Rattle.std.proofs.Common.{◌≡◌, take, arith}
 use Rattle.std.proofs.lemmas.List.{take_all}
 use Rattle.std.proofs.lemmas.Result.{err_from_is_err_and}

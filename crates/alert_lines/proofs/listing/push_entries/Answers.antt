@@ -1,3 +1,4 @@
+-- The line of one record more comes after those of the records before it (`entries_more`); in the end all records are taken.
 use Rattle.std.proofs.Common.{◌≡◌, take, arith, append-nil, sym}
 use Rattle.std.proofs.lemmas.List.{take_all}
 use Rattle.alert_lines.proofs.Records.{entries_more}

@@ -1,3 +1,5 @@
+-- The line of an event is its front, its microseconds, a blank and its two ends, appended one after
+-- another: the lemma `event_parts`.
 use Rattle.std.proofs.lemmas.Result.{on_ok_weaker}
 use Rattle.alert_lines.proofs.Records.{event_parts}
 use Rattle.alert_lines.proofs.listing.push_event.Goals as goal

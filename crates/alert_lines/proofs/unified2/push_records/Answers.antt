@@ -1,3 +1,4 @@
+-- First the event's text is appended and then its packet's, which together are the text of the alert's records.
 use Rattle.std.proofs.Common.{◌++◌, ◌∙◌, ℕ, List, ap, ap₂, append_assoc}
 use Rattle.std.proofs.lemmas.Result.{on_ok_weaker}
 use Rattle.unified2_out.specs.declared.record.U2Event.{U2Event}

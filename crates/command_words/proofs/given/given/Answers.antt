@@ -1,3 +1,5 @@
+-- Each row is of one entry of the matches, with its source and its values, so that looking an id up in either finds
+-- the same text (`given_is`).
 use Rattle.std.proofs.Common.{◌≡◌, ◌∙◌, refl, sym, ap, ap₂, Option, Some, None}
 use Rattle.std.specs.Prelude.{option_and_then, option_map, find, slice_get}
 use Rattle.std.specs.Str.{bytes_eq}

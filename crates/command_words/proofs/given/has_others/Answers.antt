@@ -1,3 +1,5 @@
+-- Whether the words gave an id that may not be used beside `--read-unified2` is the same of the ids that are left, past each
+-- that may be used or wasn't given; of no ids it is false.
 use Rattle.std.proofs.Common.{rules, ◌∙◌, sym, ap, List}
 use Rattle.clap.specs.Matches.{found_of, ids_left}
 use Rattle.clap.specs.Walk.{Row, Text, rows_of}

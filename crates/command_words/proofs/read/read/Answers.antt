@@ -1,3 +1,5 @@
+-- The arguments are texts (`arguments_text`), and of such words the rows of `clap` ask for what the plain reading asks
+-- for: the lemma `command_is`.
 use Rattle.std.proofs.Common.{◌∙◌, ap, map, List, Option}
 use Rattle.std.specs.Prelude.{string_bytes}
 use Rattle.clap.specs.Walk.{Row}

@@ -1,3 +1,5 @@
+-- `snort` is a simple command, as unfolding it shows, and of such commands `clap`'s contract tells the rows of the matches
+-- or the kinds of a refusal: one other than want of memory is a refusal of the words.
 use Rattle.std.proofs.Common.{◌≡◌, ◌∙◌, true, refl, sym, ap, map, ℕ, List, [], ◌∷◌, Some, None, inl, inr}
 use Rattle.std.specs.Prelude.{string_bytes}
 use Rattle.clap.specs.Faults.{fault_of, is_simple_and_free}

@@ -1,3 +1,4 @@
+-- Once no bytes are left the lines so far are all lines of the file.
 use Rattle.std.proofs.Common.{sym, ◌∙◌, eqb-true}
 use Rattle.conf_parser.specs.Lines.{content_lines}
 use Rattle.conf_parser.proofs.Joining.{kept-end}

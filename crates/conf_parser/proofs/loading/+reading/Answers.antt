@@ -1,3 +1,5 @@
+-- A file is read line by line, and an included one where its line is, if includes may still nest:
+-- each answer is that of the reading's definition over whatever may be seen of the host afterwards.
 use Rattle.std.proofs.Common.{refl, ◌∙◌, arith}
 use Rattle.std.proofs.lemmas.Result.{err_from_is_err_and}
 use Rattle.edge_io.specs.Told.{Rose}

@@ -1,3 +1,4 @@
+-- The name is UTF-8, so the way out for one that isn't is never taken.
 use Rattle.std.proofs.lemmas.Str.{IsUtf8-from_is_utf8}
 use Rattle.conf_parser.proofs.loading.file_bytes.Goals as goal
 

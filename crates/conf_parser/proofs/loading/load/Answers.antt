@@ -1,3 +1,5 @@
+-- What is answered over whatever may be seen of the host afterwards holds of the files
+-- that it tells, as these don't change; places and soundness follow from that reading.
 use Rattle.std.proofs.Common.{Some, Ok, Err, refl, ◌∙◌, ap}
 use Rattle.edge_io.specs.Told.{Rose}
 use Rattle.conf_parser.specs.Reading.{file_count, nothing_read}

@@ -1,3 +1,5 @@
+-- A file within the limit is opened with its lines; one that is too large is refused
+-- at the line that includes it, and one that the host didn't give is asked for.
 use Rattle.std.proofs.Common.{ℕ, List, sym, ap, subst, ◌∙◌}
 use Rattle.edge_io.specs.Told.{Rose}
 use Rattle.conf_parser.specs.declared.reading.Opened.{Opened}

@@ -1,3 +1,5 @@
+-- The text's draft is the one so far changed by the settings left: a name
+-- takes its value, if it has one, from the words after it, which get fewer.
 use Rattle.std.proofs.Common.{◌∙◌, ap, sym, length, arith}
 use Rattle.std.specs.Option.{option_copied}
 use Rattle.conf_parser.specs.Options.{paired}

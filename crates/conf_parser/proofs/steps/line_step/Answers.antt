@@ -1,3 +1,5 @@
+-- A line's meaning says how the reading goes on after it; a file that
+-- it includes may be read, as its name is UTF-8 where this file's is.
 use Rattle.std.proofs.Common.{ap}
 use Rattle.conf_parser.proofs.Included.{given_may}
 use Rattle.conf_parser.proofs.LineSteps.{spot_of, step-ok, step-err}

@@ -1,3 +1,5 @@
+-- The list that was read is the one that the text spells; `BadAddress` means
+-- that it spells none, and `Limit` that the one it spells is too long.
 use Rattle.std.proofs.Common.{refl}
 use Rattle.net_lists.specs.Addresses.{address_bounds}
 use Rattle.net_lists.proofs.Starts.{address_parts}

@@ -1,3 +1,4 @@
+-- A name ends at the first byte that isn't in one, or at the text's end, so it is no longer than the text.
 use Rattle.std.proofs.Common.{arith}
 use Rattle.net_lists.proofs.Fronts.{unwrap_or-position}
 use Rattle.std.proofs.lemmas.List.Sums.{prefix_len-le-length}

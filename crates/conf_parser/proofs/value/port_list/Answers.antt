@@ -1,3 +1,5 @@
+-- The reader of ports answers as the grammar does: with its list, with
+-- `BadPort` where there is none, and with `Limit` where it is too long.
 use Rattle.std.proofs.Common.{refl}
 use Rattle.net_lists.specs.Parts.{port_bounds}
 use Rattle.net_lists.proofs.Starts.{port_parts}

@@ -1,3 +1,5 @@
+-- No byte from `len` on is a slash, so what follows the last slash
+-- is these bytes and what follows it before them; `len` falls.
 use Rattle.std.proofs.Common.{◌≡◌, ◌≤◌, ◌+◌, ◌==◌, not, length, take}
 use Rattle.std.specs.List.{suffix_len}
 use Rattle.conf_parser.proofs.variables.directory_len.Given as goal

@@ -1,3 +1,4 @@
+-- `from_utf8` answers `Ok` just for bytes that are UTF-8, which the test of the definition decides.
 use Rattle.std.proofs.Common.{sym}
 use Rattle.std.proofs.lemmas.Bool.{false_from_ne_true}
 use Rattle.std.proofs.lemmas.Str.{IsUtf8-from_is_utf8, is_utf8-from_IsUtf8}

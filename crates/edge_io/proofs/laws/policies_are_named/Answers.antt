@@ -1,3 +1,4 @@
+-- The law rests on one look-up for each of the twenty policies: its name is found, and computes to that policy.
 use Rattle.std.proofs.Common.{◌≡◌, Some, refl}
 use Rattle.edge_io.specs.declared.policy.FragPolicy.{FragPolicy}
 use Rattle.edge_io.specs.declared.policy.FragPolicy.TheVariants as frag

@@ -1,3 +1,4 @@
+-- As many bytes in front as the text has are equal to it without case just if both are equal once folded.
 use Rattle.std.proofs.Common.{◌≡◌, length, take, arith}
 use Rattle.std.proofs.lemmas.Grind.{common_steps}
 use Rattle.edge_io.proofs.Folding.{begins_folded}

@@ -1,3 +1,5 @@
+-- The text begins at no place before `start`, so the first where
+-- it does is the answer, and past the last place there is none.
 use Rattle.std.proofs.Common.{◌≡◌, ℕ, ap, sym, ◌∙◌, false, true, drop, below_more, arith}
 use Rattle.std.proofs.lemmas.List.{take_rest}
 use Rattle.edge_io.specs.Matching.{begins}

@@ -1,3 +1,4 @@
+-- The library's comparison without ASCII case decides the same equality of lowered texts that the definition tests.
 use Rattle.std.proofs.Common.{map}
 use Rattle.std.specs.Char.{to_ascii_lowercase}
 use Rattle.std.proofs.lemmas.Bool.Decides.{same_from_decides}

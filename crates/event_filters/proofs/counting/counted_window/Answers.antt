@@ -1,3 +1,4 @@
+-- The key's window is replaced or inserted and no other changes, since the map's test of keys is `same_key`.
 use Rattle.std.proofs.Common.{◌≡◌, Bool, Some, cond, subst, rules}
 use Rattle.std.specs.Map.{lookup}
 use Rattle.event_filters.specs.declared.counting.Key.{Key}

@@ -1,3 +1,4 @@
+-- To make room changes no window, seen by the map's test of keys, which is `same_key`.
 use Rattle.std.proofs.Common.{◌≡◌, Bool, subst}
 use Rattle.std.specs.Map.{lookup}
 use Rattle.event_filters.specs.declared.counting.Key.{Key}

@@ -1,3 +1,5 @@
+-- What `lets_through` answers of a match, and the windows that it
+-- leaves, are a run over one place, gathered if it is let through.
 use Rattle.std.proofs.Common.{ℕ, List, [], ◌∷◌, ◌++◌, true, false, sym, ap, ◌∙◌}
 use Rattle.std.proofs.lemmas.List.{append-nil}
 use Rattle.event_filters.proofs.Running.{Stays-one}

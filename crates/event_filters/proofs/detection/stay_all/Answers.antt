@@ -1,3 +1,5 @@
+-- The run over the places so far and one over the next are one run;
+-- each place takes at most one window and one place of the list.
 use Rattle.std.proofs.Common.{ℕ, List, [], ◌∷◌, ◌++◌, get_or, take, arith, sym, ap, subst, ◌∙◌, rules}
 use Rattle.std.proofs.lemmas.List.{take_more}
 use Rattle.event_filters.specs.Runs.{Matched, Stays}

@@ -1,3 +1,5 @@
+-- A suppressed event counts nowhere, one that its own filter holds back
+-- doesn't reach the global one, and one that passes both is appended.
 use Rattle.std.proofs.Common.{ℕ, List, [], ◌∷◌, ◌++◌, true, false, sym, ap, ◌∙◌}
 use Rattle.std.proofs.lemmas.List.{append-nil}
 use Rattle.event_filters.specs.Runs.{lines_of}

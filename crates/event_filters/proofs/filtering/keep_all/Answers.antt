@@ -1,3 +1,5 @@
+-- The run over the events so far and one over the next are one run,
+-- and at most one place of each kind of room is used for each.
 use Rattle.std.proofs.Common.{ℕ, List, [], ◌∷◌, ◌++◌, get_or, take, arith, sym, ap, subst, ◌∙◌}
 use Rattle.std.proofs.lemmas.List.{take_more}
 use Rattle.event_filters.specs.Runs.{Filtered, Keeps, lines_of}

@@ -1,3 +1,4 @@
+-- The law rests on items without a match giving no event, so that no count and no answer goes by them.
 use Rattle.event_filters.proofs.Unmatched.{IsGiven-matched, kept-matched, kept-none}
 use Rattle.event_filters.proofs.laws.nothing_matches.Goals as goal
 

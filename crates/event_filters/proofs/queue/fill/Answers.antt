@@ -1,3 +1,4 @@
+-- The queue is that of the rules so far, and `add` is one rule more of it.
 use Rattle.std.proofs.Common.{ℕ, List, get_or, arith, sym, ap, ◌∙◌}
 use Rattle.event_filters.specs.Queue.{comes_before, with_event}
 use Rattle.event_filters.proofs.Queues.{filled-more}

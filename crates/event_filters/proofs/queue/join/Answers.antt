@@ -1,3 +1,4 @@
+-- To insert an event at the first place that it comes before is to join the queue in order.
 use Rattle.std.proofs.Common.{ℕ, insert, sym, ap, ◌∙◌}
 use Rattle.event_filters.specs.Queue.{comes_before}
 use Rattle.event_filters.proofs.Queues.{joined-insert}

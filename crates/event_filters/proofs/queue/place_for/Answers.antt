@@ -1,3 +1,4 @@
+-- The event comes before none of those looked at, so the first that it does come before, or the end, is its place.
 use Rattle.std.proofs.Common.{arith, ◌≤◌, ◌∙◌, length, sym}
 use Rattle.std.proofs.lemmas.List.Sums.{position_or_len_is}
 use Rattle.event_filters.proofs.queue.place_for.Goals as goal

@@ -1,3 +1,4 @@
+-- A line that tracks an address drops an item's events just if its list has the item's address of that kind.
 use Rattle.std.proofs.Common.{true, sym, ap, ◌∙◌}
 use Rattle.std.specs.Option.{option_map_or}
 use Rattle.net_lists.specs.Verdicts.{has_address, is_listed}

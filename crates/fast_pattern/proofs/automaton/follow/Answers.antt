@@ -1,3 +1,5 @@
+-- Where a pattern was marked before, so were those that it ends in, and the rest of the chain is among them, so `follow` may
+-- stop there (`follows-seen`).
 use Rattle.std.proofs.Common.{ℕ, ◌-◌, true, false, not, ltb, List, length, sym, subst, ◌∙◌, arith}
 use Rattle.std.proofs.lemmas.Bool.{and_parts, ltb-true, not-true}
 use Rattle.fast_pattern.specs.Marking.{is_marked}

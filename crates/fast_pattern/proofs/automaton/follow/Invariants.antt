@@ -1,3 +1,5 @@
+-- The loop of `follow` has marked and listed the chain as far as it isn't left from `at` on; each turn marks a pattern, so
+-- the unmarked ones grow fewer.
 use Rattle.std.proofs.Common.{length}
 use Rattle.fast_pattern.specs.Finding.{IsFollowing}
 use Rattle.fast_pattern.proofs.Hitting.{unseen}

@@ -1,3 +1,5 @@
+-- A block is added where all its ports are listed, and nothing where none is, a single port being one or the other; else its
+-- halves' blocks have the listed ones (`add-parts`).
 use Rattle.std.proofs.Common.{◌≡◌, ℕ, ◌+◌, ◌-◌, ◌^◌, List, [], ◌∷◌, ◌++◌, sym, ap, subst, ◌∙◌, arith}
 use Rattle.std.proofs.lemmas.Bool.{not-true}
 use Rattle.std.proofs.lemmas.Nat.{pow_pos}

@@ -1,3 +1,5 @@
+-- The flags of `share_of` are those of the parts so far: whether all are negated, and whether some part, negated or not, has
+-- the range whole or meets it.
 use Rattle.std.proofs.Common.{◌≡◌, ◌&&◌, not, take}
 use Rattle.std.specs.List.{list_any, list_all}
 use Rattle.fast_pattern.specs.Blocks.{has_whole, meets}

@@ -1,3 +1,4 @@
+-- The choice among the options that are left, where `best` is the best so far, is the choice among all.
 use Rattle.std.proofs.Common.{◌≡◌, drop}
 use Rattle.fast_pattern.specs.FastPattern.{chosen}
 use Rattle.fast_pattern.proofs.Choosing.{chosen_behind}

@@ -1,3 +1,4 @@
+-- No slot was cleared; an empty list has let all ports in, and each of the list's first parts its own.
 use Rattle.std.proofs.Common.{◌≡◌, ℕ, ◌<◌, true, length, get_or}
 use Rattle.net_lists.specs.declared.part.Bounds.{Bounds}
 use Rattle.net_lists.specs.declared.part.Part.{Part}

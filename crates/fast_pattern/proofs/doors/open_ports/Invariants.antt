@@ -1,3 +1,4 @@
+-- No slot was cleared, and the first `offset` ports from `low` on are let in.
 use Rattle.std.proofs.Common.{◌≡◌, ℕ, ◌+◌, ◌<◌, ◌≤◌, true}
 use Rattle.fast_pattern.specs.Windows.{KeepsSlots}
 use Rattle.fast_pattern.specs.Doors.{is_open}

@@ -1,3 +1,5 @@
+-- An item that the header fits has its ports let in on both sides (`tcp-lets`, `udp-lets`); for `ip` all six parts are open,
+-- since none is closed by the next call.
 use Rattle.std.proofs.Common.{◌≡◌, ℕ, zero, suc, ◌<◌, true, List, sym, ap, ◌∙◌, arith}
 use Rattle.fast_pattern.specs.Candidates.{header_fits}
 use Rattle.fast_pattern.specs.Doors.{is_all}

@@ -1,3 +1,5 @@
+-- What one rule lets in stays so, since no later one clears a slot (`rules-more`); so at the end of the list every rule's
+-- items are let in.
 use Rattle.std.proofs.Common.{◌≡◌, subst, ◌∙◌, arith}
 use Rattle.fast_pattern.specs.declared.header.Asked.{Asked}
 use Rattle.fast_pattern.specs.Doors.{LetsIn}

@@ -1,3 +1,4 @@
+-- No slot was cleared, and what the headers of the rules so far fit is let in.
 use Rattle.std.proofs.Common.{◌≡◌, ℕ, ◌<◌, length, get_or}
 use Rattle.fast_pattern.specs.declared.header.Asked.{Asked}
 use Rattle.fast_pattern.specs.Windows.{KeepsSlots}

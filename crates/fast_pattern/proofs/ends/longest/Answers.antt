@@ -1,3 +1,4 @@
+-- The maximum is no less than before, so earlier patterns stay below it, and the new one is by its own length.
 use Rattle.std.proofs.Common.{ℕ, List, ◌≤◌, length, take, ap, sym, arith}
 use Rattle.std.proofs.lemmas.List.{take_all}
 use Rattle.std.proofs.lemmas.List.Elements.{All-more, All-weaker, All-same}

@@ -1,3 +1,4 @@
+-- No pattern so far is longer than `most`.
 use Rattle.std.proofs.Common.{◌≤◌, length, take, All}
 use Rattle.fast_pattern.proofs.ends.longest.Given as goal
 

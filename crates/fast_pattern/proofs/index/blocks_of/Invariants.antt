@@ -1,3 +1,4 @@
+-- `blocks` has the block of each entry so far.
 use Rattle.std.proofs.Common.{◌≡◌, take}
 use Rattle.fast_pattern.specs.Blocks.{blocks_of}
 use Rattle.fast_pattern.proofs.index.blocks_of.Given as goal

@@ -1,3 +1,4 @@
+-- One more byte gets the letter of its lower case, and no letter before it changes (`folded-more`).
 use Rattle.fast_pattern.proofs.Lettering.{folded-none, folded-more}
 use Rattle.fast_pattern.proofs.letters.folded.Goals as goal
 

@@ -1,3 +1,4 @@
+-- Each byte below `byte` has the letter of its lower case.
 use Rattle.fast_pattern.specs.Letters.{AreFolded}
 use Rattle.fast_pattern.proofs.letters.folded.Given as goal
 

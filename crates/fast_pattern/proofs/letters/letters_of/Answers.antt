@@ -1,3 +1,5 @@
+-- The letters of marked bytes rise, so two bytes have the same one only where they are one byte in lower case (`all-told`),
+-- and none is above the last (`all-below`).
 use Rattle.std.proofs.Common.{◌-◌, arith}
 use Rattle.fast_pattern.proofs.Lettering.{all-told, all-below}
 use Rattle.fast_pattern.proofs.letters.letters_of.Goals as goal

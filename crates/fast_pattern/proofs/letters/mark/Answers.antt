@@ -1,3 +1,4 @@
+-- A mark that is set clears none (`keeps-set`), so with the next one's all bytes so far are marked (`marked-more`).
 use Rattle.std.proofs.Common.{true, ◌∙◌, arith, length-set}
 use Rattle.fast_pattern.proofs.Lettering.{keeps-refl, keeps-set, keeps-trans, marked-none, marked-more, marked-all}
 use Rattle.fast_pattern.proofs.letters.mark.Goals as goal

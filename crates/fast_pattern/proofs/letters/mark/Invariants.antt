@@ -1,3 +1,4 @@
+-- The pattern's bytes so far are marked, no mark was cleared, and there are still 256 of them.
 use Rattle.std.proofs.Common.{◌≡◌, length, take}
 use Rattle.fast_pattern.specs.Letters.{AreMarked, KeepsMarks}
 use Rattle.fast_pattern.proofs.letters.mark.Given as goal

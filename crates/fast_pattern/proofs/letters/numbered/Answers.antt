@@ -1,3 +1,4 @@
+-- A marked byte gets a letter above all others (`numbered-more`), an unmarked one keeps the letter 0 (`numbered-skip`).
 use Rattle.fast_pattern.proofs.Lettering.{numbered-none, numbered-skip, numbered-more}
 use Rattle.fast_pattern.proofs.letters.numbered.Goals as goal
 use Rattle.fast_pattern.proofs.letters.numbered.Goals.{then-used-byte, else-used-byte}

@@ -1,3 +1,4 @@
+-- The marked bytes below `byte` have rising letters, none above `last`, and all other bytes have the letter 0.
 use Rattle.fast_pattern.specs.Letters.{AreNumbered}
 use Rattle.fast_pattern.proofs.letters.numbered.Given as goal
 

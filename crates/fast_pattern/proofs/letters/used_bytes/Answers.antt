@@ -1,3 +1,4 @@
+-- Marks of earlier patterns stay while the next one's are set (`patterns-more`), so in the end all are there.
 use Rattle.std.proofs.Common.{ℕ, List, subst, ◌∙◌}
 use Rattle.fast_pattern.specs.Letters.{AreMarked}
 use Rattle.fast_pattern.proofs.Lettering.{patterns-more, patterns-all}

@@ -1,3 +1,4 @@
+-- The bytes of the patterns so far are marked.
 use Rattle.std.proofs.Common.{take}
 use Rattle.fast_pattern.specs.Letters.{AllMarked}
 use Rattle.fast_pattern.proofs.letters.used_bytes.Given as goal

@@ -1,3 +1,5 @@
+-- Each of the first `place` patterns leads to the one before it of its state, or else to the chain of the state that this
+-- one fails to.
 use Rattle.fast_pattern.specs.Outputs.{AreNexts}
 use Rattle.fast_pattern.proofs.links.nexts.Given as goal
 

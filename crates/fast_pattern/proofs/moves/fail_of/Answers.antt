@@ -1,3 +1,5 @@
+-- A word of one letter fails to the empty one; a longer one fails to where its last letter leads from the fail of the word
+-- without it (`fails-move-by`).
 use Rattle.std.proofs.Common.{◌≡◌, ◌-◌, List, ap, ◌∙◌}
 use Rattle.fast_pattern.specs.declared.trie.Step.{Step}
 use Rattle.fast_pattern.specs.Words.{step_at}

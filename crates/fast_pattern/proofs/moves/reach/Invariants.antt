@@ -1,3 +1,4 @@
+-- At the state `at` the same words end with the letter as at the first one; `at` falls.
 use Rattle.fast_pattern.specs.Moves.{IsReaching}
 use Rattle.fast_pattern.proofs.moves.reach.Given as goal
 

@@ -1,3 +1,4 @@
+-- `entries` has the moves to the states below `state`.
 use Rattle.fast_pattern.specs.Rows.{AreEntries}
 use Rattle.fast_pattern.proofs.rows.entries_of.Given as goal
 

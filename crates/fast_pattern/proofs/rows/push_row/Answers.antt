@@ -1,3 +1,4 @@
+-- A move more lengthens the row (`rows-more`), and one for each letter makes it whole (`row-done`).
 use Rattle.std.proofs.Common.{ℕ, ◌+◌, List, sym, subst, arith}
 use Rattle.fast_pattern.specs.Rows.{IsNextEntry, HasRows}
 use Rattle.fast_pattern.proofs.Rowing.{rows-more, row-done}

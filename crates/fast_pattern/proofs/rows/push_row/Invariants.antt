@@ -1,3 +1,4 @@
+-- If the table had the rows of the earlier states, it has those and the first `letter` moves of this one.
 use Rattle.fast_pattern.specs.Rows.{HasRows}
 use Rattle.fast_pattern.proofs.rows.push_row.Given as goal
 

@@ -1,3 +1,4 @@
+-- The words of the states up to `count` have few letters; how far `count` is from `most` falls.
 use Rattle.std.proofs.Common.{◌+◌, ◌-◌}
 use Rattle.fast_pattern.specs.Rows.{AreShallow}
 use Rattle.fast_pattern.proofs.rows.shallow_count.Given as goal

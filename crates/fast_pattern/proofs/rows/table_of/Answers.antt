@@ -1,3 +1,4 @@
+-- The loop ends at `dense`, so the rows that it made are those of all states that have one.
 use Rattle.std.proofs.Common.{◌≡◌, ℕ, subst, arith}
 use Rattle.fast_pattern.specs.Rows.{HasRows}
 use Rattle.fast_pattern.proofs.rows.table_of.Goals as goal

@@ -1,3 +1,4 @@
+-- The table has the whole rows of the states below `state`.
 use Rattle.fast_pattern.specs.Rows.{HasRows}
 use Rattle.fast_pattern.proofs.rows.table_of.Given as goal
 

@@ -1,3 +1,4 @@
+-- A rule with an entry at each of its blocks is filed at the ports that lie in these, and at no others (`filed-more`).
 use Rattle.std.proofs.Common.{ℕ, ◌++◌, ap, ◌∙◌, List}
 use Rattle.fast_pattern.specs.Blocks.{entries_of}
 use Rattle.fast_pattern.proofs.Siding.{filed-none, filed-more}

@@ -1,3 +1,4 @@
+-- The rules below `place` that are sought at a port are filed at its blocks, and no others are.
 use Rattle.fast_pattern.specs.Sides.{AreFiled}
 use Rattle.fast_pattern.proofs.sides.entries_by.Given as goal
 

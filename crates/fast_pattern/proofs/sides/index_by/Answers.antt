@@ -1,3 +1,4 @@
+-- No place past the end of the rules is sought, so what is filed of them all is what is sought (`side-made`).
 use Rattle.fast_pattern.proofs.Siding.{side-made}
 use Rattle.fast_pattern.proofs.sides.index_by.Goals as goal
 

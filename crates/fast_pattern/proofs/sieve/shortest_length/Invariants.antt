@@ -1,3 +1,4 @@
+-- `shortest` isn't 0, and no pattern so far but an empty one is shorter.
 use Rattle.std.proofs.Common.{ℕ, ◌<◌, ◌≤◌, length}
 use Rattle.fast_pattern.specs.Words.{word_at}
 use Rattle.fast_pattern.proofs.sieve.shortest_length.Given as goal

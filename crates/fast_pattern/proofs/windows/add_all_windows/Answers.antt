@@ -1,3 +1,4 @@
+-- Where the loop ends, the patterns so far are all of them, and each has its windows in the table.
 use Rattle.std.proofs.Common.{arith}
 use Rattle.fast_pattern.proofs.windows.add_all_windows.Goals as goal
 

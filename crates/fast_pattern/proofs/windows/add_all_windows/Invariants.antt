@@ -1,3 +1,4 @@
+-- The windows of the patterns so far are in the table, which is as long as it was.
 use Rattle.std.proofs.Common.{◌≡◌, ℕ, ◌<◌, length}
 use Rattle.fast_pattern.specs.Words.{word_at}
 use Rattle.fast_pattern.specs.Windows.{HasWindows}

@@ -1,3 +1,4 @@
+-- Setting a slot clears none, so the windows before stay in the table, and the next one's slot is set by the call itself.
 use Rattle.std.proofs.Common.{◌≡◌, ℕ, ap, ◌∙◌, arith, ⊎_elim}
 use Rattle.std.proofs.lemmas.Bool.{cases_lt}
 use Rattle.fast_pattern.specs.Windows.{window_at, slot_of, slot_bit}

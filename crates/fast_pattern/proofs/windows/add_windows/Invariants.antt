@@ -1,3 +1,4 @@
+-- No slot was cleared, and those of the pattern's first `offset` windows are set.
 use Rattle.std.proofs.Common.{ℕ, ◌<◌}
 use Rattle.fast_pattern.specs.Windows.{window_at, slot_of, slot_bit, KeepsSlots}
 use Rattle.fast_pattern.proofs.windows.add_windows.Given as goal

@@ -1,3 +1,4 @@
+-- A word with one bit more, written back to its place, sets the slot of that bit and clears none of any word (`sets-slot`).
 use Rattle.std.proofs.Common.{arith}
 use Rattle.fast_pattern.proofs.Slots.{sets-slot}
 use Rattle.fast_pattern.proofs.windows.set_slot.Goals as goal

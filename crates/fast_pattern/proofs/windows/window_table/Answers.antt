@@ -1,3 +1,4 @@
+-- What the lent slice gives back is the whole table, since it has kept its length.
 use Rattle.std.proofs.Common.{◌≡◌, ◌++◌, List, ℕ, length, take, drop, sym, ap, subst, ◌∙◌, arith}
 use Rattle.std.proofs.lemmas.List.{take-append-le, take_all}
 use Rattle.fast_pattern.specs.Windows.{HaveWindows}

@@ -1,3 +1,5 @@
+-- Where the inspector tells all items, what `search_batch` finds is the answer itself, with the entries and the sum that
+-- `batch_out` makes of it: the lemma `answered`.
 use Rattle.flow_lanes.proofs.Jobs.HaveSearched.{answered}
 use Rattle.flow_lanes.specs.Batching.{lanes_of}
 use Rattle.flow_lanes.proofs.batch.answer_batch.Goals as goal

@@ -1,3 +1,5 @@
+-- The loop of `batch_out` has the entries of the answers so far and the sum of their candidates; each answer adds less than
+-- 2^64, so that the sum fits `u128`.
 use Rattle.std.proofs.Common.{◌≡◌, ◌*◌, ◌≤◌, length, map}
 use Rattle.std.specs.Prelude.{sum_by}
 use Rattle.flow_lanes.proofs.batch.batch_out.Given as goal

@@ -1,3 +1,4 @@
+-- The loop of `greatest_number` has the fold over the jobs so far: the number of the last of them, or what was known before.
 use Rattle.std.proofs.Common.{◌≡◌, take, Some}
 use Rattle.std.specs.Prelude.{fold}
 use Rattle.flow_lanes.specs.declared.job.Job.{Job}

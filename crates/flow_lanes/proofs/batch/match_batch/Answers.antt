@@ -1,3 +1,5 @@
+-- Where the inspector tells matched items alone, what `search_batch` finds, put into `Matches` by `fill`, is the batch's
+-- matches: the lemma `told_matches`.
 use Rattle.flow_lanes.proofs.Jobs.HaveSearched.{told_matches}
 use Rattle.flow_lanes.specs.Batching.{lanes_of}
 use Rattle.flow_lanes.proofs.batch.match_batch.Goals as goal

@@ -1,3 +1,4 @@
+-- The loop of `new_workers` has made a new lane for each place so far.
 use Rattle.std.proofs.Common.{◌≡◌}
 use Rattle.std.specs.Prelude.{replicate}
 use Rattle.flow_lanes.specs.Standing.{new_lane}

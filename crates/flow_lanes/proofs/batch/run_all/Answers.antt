@@ -1,3 +1,5 @@
+-- Why `for_each_spread` may call at each place: there are 1 to 64 lanes, so that each place fits, and the worker's jobs are
+-- sound by `AreSoundAmong`.
 use Rattle.std.proofs.Common.{length, sym, subst, arith, rules}
 use Rattle.flow_lanes.specs.declared.worker.Worker.{Worker}
 use Rattle.flow_lanes.specs.Batching.{AreSoundIn}

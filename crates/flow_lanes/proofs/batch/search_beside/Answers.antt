@@ -1,3 +1,5 @@
+-- The workers' answers are the parts of one batch (`AreParts`): each part ascends, no number is in two of them, and so the
+-- merge has each job once, in the batch's order.
 use Rattle.flow_lanes.proofs.Jobs.AreParts.{gathered_learns, gathered_search, parts_apart, parts_ascend}
 use Rattle.flow_lanes.proofs.batch.search_beside.Goals as goal
 

@@ -1,3 +1,5 @@
+-- Taking a worker's answers leaves its lane as it was and the workers after it untouched, so that the parts are the
+-- answers that the workers had.
 use Rattle.std.proofs.Common.{arith, Ok}
 use Rattle.flow_lanes.proofs.Jobs.TakenParts.{kept_more, rest_more, taken_more}
 use Rattle.flow_lanes.proofs.batch.take_parts.Goals as goal

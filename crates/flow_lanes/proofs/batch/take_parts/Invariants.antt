@@ -1,3 +1,5 @@
+-- The loop of `take_parts` has the answers of the workers so far; all lanes are as they were, and the workers
+-- that are left are untouched.
 use Rattle.std.proofs.Common.{◌≡◌, map, take, drop, Ok}
 use Rattle.flow_lanes.specs.Batching.{lanes_of}
 use Rattle.flow_lanes.proofs.batch.take_parts.Given as goal

@@ -1,3 +1,4 @@
+-- Each turn of `cut_parts` appends the part of the next number, by which the list of parts grows: the lemma `parts-more`.
 use Rattle.flow_lanes.proofs.Sessions.PartsOf.{parts-more}
 use Rattle.flow_lanes.proofs.cutting.cut_parts.Goals as goal
 

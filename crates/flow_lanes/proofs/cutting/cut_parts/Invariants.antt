@@ -1,3 +1,4 @@
+-- The loop of `cut_parts` has appended the parts of the numbers so far, each of at most `item_size` bytes.
 use Rattle.std.proofs.Common.{◌≡◌, ℕ, ◌*◌, ◌++◌, drop, map, take}
 use Rattle.std.specs.List.{range_with_len}
 use Rattle.flow_lanes.specs.Streams.{item_size}

@@ -1,3 +1,4 @@
+-- A run that is one part (`is_one_part`) is the only one of its parts, so that it is pushed as it is; any other run is cut.
 use Rattle.std.proofs.Common.{List, ℕ, ◌++◌, ap, sym, ◌∙◌}
 use Rattle.flow_lanes.proofs.cutting.cut_run.Goals as goal
 

@@ -1,3 +1,5 @@
+-- The payloads of one run more are those of the runs before it and then its parts, which is what `cut_run` appends:
+-- the lemma `payloads-more`.
 use Rattle.std.proofs.Common.{ℕ, List, ◌++◌, ap, sym, ◌∙◌}
 use Rattle.flow_lanes.specs.Streams.{item_size, parts_of}
 use Rattle.flow_lanes.proofs.Sessions.PartsOf.{payloads-more}

@@ -1,3 +1,4 @@
+-- The loop of `cut_runs` has cut the runs so far: it has their payloads, in order.
 use Rattle.std.proofs.Common.{◌≡◌}
 use Rattle.flow_lanes.specs.Streams.{payloads_of}
 use Rattle.flow_lanes.proofs.cutting.cut_runs.Given as goal

@@ -1,3 +1,4 @@
+-- From 1 to `item_size` bytes make one part, since their number of parts, rounded up, is 1: the lemma `one-part`.
 use Rattle.std.proofs.Common.{◌<◌, ◌≤◌, length, arith}
 use Rattle.std.proofs.lemmas.Bool.Decides.{nat_tests}
 use Rattle.flow_lanes.specs.Streams.{item_size}

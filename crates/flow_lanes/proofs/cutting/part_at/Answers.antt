@@ -1,3 +1,5 @@
+-- Two splits give the part: the first drops `part * item_size` bytes, the second takes `item_size` of the rest, or all
+-- of it where it is shorter.
 use Rattle.std.proofs.Common.{ℕ, take, ap, ◌∙◌}
 use Rattle.flow_lanes.specs.Streams.{item_size}
 use Rattle.flow_lanes.proofs.Sessions.PartsOf.{take-shorter}

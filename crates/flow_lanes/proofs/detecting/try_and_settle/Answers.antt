@@ -1,3 +1,5 @@
+-- The tally's hits from `first` on are those of this session's items, and so `settle` steers by just these (`settles-by`);
+-- no step lets the session reach further.
 use Rattle.std.proofs.Common.{Option, subst, sym, ◌∙◌, drop, arith}
 use Rattle.std.specs.Prelude.{option_map, unwrap_or, ◌++◌}
 use Rattle.std.specs.FinSet.{empty}

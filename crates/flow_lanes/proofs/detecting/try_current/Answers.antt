@@ -1,3 +1,5 @@
+-- The streams are tried first, and then the packet's own item with the bits that they left: both lists are tried
+-- as one, by `tries-append`.
 use Rattle.flow_lanes.specs.Given.{packet_of}
 use Rattle.flow_lanes.specs.Working.{own_item}
 use Rattle.flow_lanes.proofs.ItemHits.Tried.{tries-append}

@@ -1,3 +1,5 @@
+-- What was left, the packet's streams and its own item are, in this order, the items of the definition (`items-on`); of the
+-- steps `accept_packet` alone lets the session reach further.
 use Rattle.std.proofs.Common.{subst, Bool}
 use Rattle.flow_lanes.specs.Flows.{session_at_hand}
 use Rattle.flow_lanes.specs.Given.{making_of, packet_of}

@@ -1,3 +1,5 @@
+-- A session that stays as it is keeps its place and its bits, so that what `Session::stay` says of the session holds of
+-- what is kept (`stays-at`).
 use Rattle.std.proofs.Common.{Option, Some, refl, subst, sym}
 use Rattle.flow_lanes.specs.Flows.{FlowState}
 use Rattle.flow_lanes.specs.Given.{making_of, packet_of}

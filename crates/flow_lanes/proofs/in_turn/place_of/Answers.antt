@@ -1,3 +1,5 @@
+-- With one lane every job is in lane 0, whatever its flow; else the place is `lane_of` of the job's flow,
+-- which is below the count.
 use Rattle.std.proofs.Common.{ap, ◌∙◌, arith}
 use Rattle.flow_lanes.specs.Flows.{flow_of}
 use Rattle.flow_lanes.specs.Standing.{lane_of}

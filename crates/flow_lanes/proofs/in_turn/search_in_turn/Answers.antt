@@ -1,3 +1,5 @@
+-- A job that is searched by its own lane is added to what all lanes have searched and learnt, and by what they have learnt
+-- the next job is sound; in the end all jobs are taken.
 use Rattle.std.proofs.Common.{◌≡◌, ℕ, suc, [], List, length, set, take, drop, ap, sym, subst, ◌∙◌, arith, rules}
 use Rattle.std.proofs.lemmas.List.{take_all}
 use Rattle.ordered_merge.specs.declared.numbered.Numbered.{Numbered}

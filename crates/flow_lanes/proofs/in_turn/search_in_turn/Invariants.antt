@@ -1,3 +1,5 @@
+-- The loop of `search_in_turn` has searched the jobs so far, as if they were the whole batch, and the
+-- lanes have learnt of these.
 use Rattle.std.proofs.Common.{take}
 use Rattle.flow_lanes.specs.Batching.{HaveLearnt, HaveSearched, lanes_of}
 use Rattle.flow_lanes.proofs.in_turn.search_in_turn.Given as goal

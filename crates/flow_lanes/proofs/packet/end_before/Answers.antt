@@ -1,3 +1,4 @@
+-- Where no session ended before the packet there is no item to try, and a tally that stays as it is has tried an empty list.
 use Rattle.std.proofs.Common.{◌≡◌, ◌++◌, Bool, subst, sym}
 use Rattle.flow_lanes.specs.Flows.{bits_at_hand, session_at_hand}
 use Rattle.flow_lanes.specs.ItemHits.{hits_of, told}

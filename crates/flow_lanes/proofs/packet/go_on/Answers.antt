@@ -1,3 +1,5 @@
+-- The items that `push_current` makes are those of `items_on`, and `try_and_settle` tries just these, with the bits that the
+-- session has then: the lemma `goes-on`.
 use Rattle.std.proofs.Common.{List, ◌++◌, ◌+◌, ◌^◌, ap, subst, ◌∙◌}
 use Rattle.rule_eval.specs.declared.item.Item.{Item}
 use Rattle.flow_lanes.specs.Detecting.{SettlesBy}

@@ -1,3 +1,5 @@
+-- Either the packet leaves its session as it is, and its items, taken in place, are the definition's (`StaysAt`); or nothing
+-- has changed yet, and `packet_on` does it all.
 use Rattle.std.proofs.Common.{◌≡◌, ◌+◌, ◌-◌, ◌^◌, length, Option, OnOk, subst}
 use Rattle.std.proofs.lemmas.Result.{on_ok_weaker}
 use Rattle.flow_lanes.specs.Detecting.{DetectsOn}

@@ -1,3 +1,5 @@
+-- A packet before which a session ended begins its own, if it has one (`fresh`): so the items of the ended session and then
+-- the packet's are the definition's, each with its own session's bits.
 use Rattle.std.proofs.Common.{◌≡◌, true, ap, subst, sym, ◌∙◌}
 use Rattle.stream5_sessions.specs.declared.state.State.{State}
 use Rattle.stream5_sessions.specs.declared.step.Step.{Step}

@@ -1,3 +1,5 @@
+-- Nothing is left before a packet that stays, and it neither begins nor ends a session: so what it flushes and its own item
+-- are the items of `items_on` (`staying-items`).
 use Rattle.std.proofs.Common.{◌+◌, ◌^◌, ◌++◌, ap, subst, ◌∙◌, length, List}
 use Rattle.rule_eval.specs.declared.item.Item.{Item}
 use Rattle.flow_lanes.specs.Detecting.{SettlesBy}

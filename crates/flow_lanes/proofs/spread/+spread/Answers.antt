@@ -1,3 +1,5 @@
+-- The second part of a slice begins where the first ends, so that what is asked and done at each place of both parts is
+-- asked and done at each place of the slice.
 use Rattle.std.specs.Fork.{AcceptsAt, ChangesAt}
 use Rattle.flow_lanes.proofs.Jobs.ChangesFrom.{accepts_back, changes_both}
 use Rattle.flow_lanes.proofs.spread.+spread.Goals as goal

@@ -1,3 +1,5 @@
+-- A slice is cut into two parts that aren't empty, so that four times its length falls on the way from `spread` to `both`,
+-- to its two closures and to `spread` again.
 use Rattle.std.proofs.Common.{◌+◌, ◌-◌, ◌*◌, length}
 use Rattle.flow_lanes.proofs.spread.+spread.Given as goal
 

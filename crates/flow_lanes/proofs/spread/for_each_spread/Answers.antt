@@ -1,3 +1,4 @@
+-- The whole slice is the part of it that begins at place 0, so that what `spread` does to a part is done at each place.
 use Rattle.std.proofs.Common.{◌≡◌, ℕ, ◌+◌, refl, subst, get_or, arith}
 use Rattle.std.specs.Fork.{ChangesAt}
 use Rattle.flow_lanes.proofs.spread.for_each_spread.Goals as goal

@@ -1,3 +1,5 @@
+-- A call at place `k` changes this place alone: what was done before it stays, and the places after it
+-- are still as at the start.
 use borrow.Author.Count.{below_more}
 use mathlib.Core.Path.{sym, subst, ◌∙◌}
 use Prim.Native.Nat.{ℕ, ◌+◌, ◌<◌}

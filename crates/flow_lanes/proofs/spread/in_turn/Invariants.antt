@@ -1,3 +1,4 @@
+-- The loop of `in_turn` has called `f` at each place below `k`, and the others are as at the start.
 use Rattle.std.proofs.Common.{◌≡◌, ℕ, ◌+◌, ◌<◌, ◌≤◌, get_or}
 use Rattle.std.specs.Fork.{ChangesAt}
 use Rattle.flow_lanes.proofs.spread.in_turn.Given as goal

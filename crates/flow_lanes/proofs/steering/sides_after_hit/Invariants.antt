@@ -1,3 +1,4 @@
+-- The loop of `sides_after_hit` has the sides after those of the item's rules that were taken so far.
 use Rattle.std.proofs.Common.{◌≡◌, take}
 use Rattle.std.specs.Prelude.{fold}
 use Rattle.flow_lanes.specs.Flows.{sides_after_rule}

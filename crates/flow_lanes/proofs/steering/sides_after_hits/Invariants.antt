@@ -1,3 +1,4 @@
+-- The loop of `sides_after_hits` has the sides after all rules that match the items so far.
 use Rattle.std.proofs.Common.{◌≡◌, take}
 use Rattle.std.specs.Prelude.{fold}
 use Rattle.flow_lanes.specs.Flows.{sides_after_hit}

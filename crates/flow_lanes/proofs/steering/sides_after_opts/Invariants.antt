@@ -1,3 +1,4 @@
+-- The loop of `sides_after_opts` has the sides after the options so far.
 use Rattle.std.proofs.Common.{◌≡◌, take}
 use Rattle.std.specs.Prelude.{fold}
 use Rattle.flow_lanes.specs.Flows.{sides_behind}

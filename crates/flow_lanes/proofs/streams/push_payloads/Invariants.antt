@@ -1,3 +1,4 @@
+-- The loop of `push_payloads` has appended an item for each payload so far, all with the same head.
 use Rattle.std.proofs.Common.{◌≡◌, ℕ, List, ◌++◌, map}
 use Rattle.flow_lanes.proofs.streams.push_payloads.Given as goal
 

@@ -1,3 +1,5 @@
+-- A run that is one part is an item with its own bytes, and any other run is cut and its parts are pushed: either way the
+-- items of `parts_of` are appended.
 use Rattle.std.proofs.Common.{List, ℕ, ◌++◌, ap, sym, ◌∙◌}
 use Rattle.flow_lanes.specs.Streams.{item_size, parts_of}
 use Rattle.flow_lanes.proofs.Sessions.ItemsWith.{items_with, pushed-are}

@@ -1,3 +1,4 @@
+-- The items of one run more are those of its parts, appended to those of the runs before it: the lemma `items-more`.
 use Rattle.flow_lanes.proofs.Sessions.ItemsWith.{items-more}
 use Rattle.flow_lanes.proofs.streams.push_runs.Goals as goal
 

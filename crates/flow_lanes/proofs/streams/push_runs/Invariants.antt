@@ -1,3 +1,4 @@
+-- The loop of `push_runs` has appended the items of the payloads of the runs so far, all with the same head.
 use Rattle.std.proofs.Common.{◌≡◌, ◌++◌}
 use Rattle.flow_lanes.specs.Streams.{payloads_of}
 use Rattle.flow_lanes.proofs.Sessions.ItemsWith.{items_with}

@@ -1,3 +1,5 @@
+-- The inspector's groups are those of its rules (its fact `stand`), so that what they append to an
+-- empty list are the candidates.
 use Rattle.std.proofs.Common.{ℕ, List, ◌++◌, ap, ◌∙◌}
 use Rattle.std.proofs.Math.Logic.{∥∥₁_elim}
 use Rattle.std.specs.Coded.{Coded-set, coded_list, coded_ℕ}

@@ -1,3 +1,5 @@
+-- Triable rules change known bits alone, so that `matching_among` may be asked; what it finds among the candidates are all
+-- rules that match, and the item is tried with these (`tries-one`).
 use Rattle.std.proofs.Common.{◌∷◌, [], ◌++◌, ap, ◌∙◌, List}
 use Rattle.rule_eval.proofs.ChangesKnownBits.{known_where_triable}
 use Rattle.flow_lanes.specs.declared.answer.Hits.{Hits}

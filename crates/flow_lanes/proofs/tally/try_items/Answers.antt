@@ -1,3 +1,5 @@
+-- One item more adds its hits, itself and its candidates to what the items before it gave, with the bits that they left
+-- (`tries-more`); in the end all items are tried.
 use Rattle.std.proofs.Common.{◌<◌, length, arith, sym, add-zero, subst, List}
 use Rattle.std.proofs.lemmas.List.{take_all}
 use Rattle.rule_eval.specs.declared.item.Item.{Item}

@@ -1,3 +1,5 @@
+-- The loop of `try_items` has tried the items so far: their hits, the bits after them, and how many
+-- items and candidates they are.
 use Rattle.std.proofs.Common.{◌≡◌, ◌+◌, ◌≤◌, length, take}
 use Rattle.option_eval.specs.Places.{Means}
 use Rattle.rule_eval.specs.Hits.{Trying}

@@ -1,3 +1,5 @@
+-- The packet's own item is a list of one item or of none, so that what is said of one (`tries-single`) or of none
+-- (`tries-none`) is enough.
 use Rattle.std.proofs.lemmas.Result.{on_ok_weaker}
 use Rattle.flow_lanes.specs.Given.{packet_of}
 use Rattle.flow_lanes.specs.Working.{item_with}

@@ -1,3 +1,5 @@
+-- No rule matches a packet without a candidate, whatever the facts of its session: so where matches alone are told, counting
+-- it is all that is to be done (`tries-nothing`).
 use Rattle.std.proofs.Common.{◌≡◌, [], eqb-true, sym, ◌∙◌, arith}
 use Rattle.std.proofs.lemmas.Result.{on_ok_weaker}
 use Rattle.fast_pattern.specs.Candidates.{candidates}

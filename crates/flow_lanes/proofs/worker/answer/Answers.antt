@@ -1,3 +1,5 @@
+-- What `search` finds of the job is pushed with the job's number, and no more is asked: the parts of `AddsFound` are
+-- what these two calls promise.
 use Rattle.flow_lanes.proofs.worker.answer.Goals as goal
 
 pub returns : goal.returns

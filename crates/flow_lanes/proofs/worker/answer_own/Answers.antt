@@ -1,3 +1,5 @@
+-- A job whose flow is in the lane at the share's place is one of the lane's own, so that its answer makes the lane go on
+-- with it: the lemma `AddsOwn-own`.
 use Rattle.flow_lanes.proofs.Jobs.OwnJobs.{AddsOwn-own, in_lane}
 use Rattle.flow_lanes.proofs.worker.answer_own.Goals as goal
 

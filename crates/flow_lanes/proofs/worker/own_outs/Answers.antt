@@ -1,3 +1,5 @@
+-- The lane goes on with the batch one job more at a time, its own or another's, and what it has learnt of its earlier jobs
+-- makes its next one sound (`GoesOn-sound`).
 use Rattle.std.proofs.Common.{suc, [], List, take, drop, sym, subst}
 use Rattle.std.proofs.lemmas.List.{take_all}
 use Rattle.flow_lanes.specs.declared.job.Job.{Job}

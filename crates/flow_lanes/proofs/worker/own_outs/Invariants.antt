@@ -1,3 +1,4 @@
+-- The loop of `own_outs` has gone on with those of the jobs so far that are the lane's own.
 use Rattle.std.proofs.Common.{take}
 use Rattle.flow_lanes.specs.Batching.{GoesOn, own_jobs}
 use Rattle.flow_lanes.proofs.worker.own_outs.Given as goal

@@ -1,3 +1,5 @@
+-- An item by itself has no session, no bits and no flow: one try from an empty tally is all of the job, and
+-- the flows stay as they are.
 use Rattle.std.proofs.Common.{None, refl}
 use Rattle.flow_lanes.proofs.Sessions.DetectsOn.{alone-hits, alone-items, alone-tries}
 use Rattle.flow_lanes.proofs.Jobs.IsDone.{do-alone}

@@ -1,3 +1,5 @@
+-- A flow that is kept ends in its place and is then removed, so that nothing of it is kept; of one that isn't kept there is
+-- nothing to end, and no item.
 use Rattle.std.proofs.Common.{◌≡◌, None, Some, sym, ◌∙◌, rules}
 use Rattle.flow_lanes.specs.Kept.{kept_in}
 use Rattle.flow_lanes.proofs.Sessions.DetectsOn.{nothing-hits, nothing-items, nothing-tries}

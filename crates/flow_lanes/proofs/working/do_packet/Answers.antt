@@ -1,3 +1,5 @@
+-- The map lends the flow's own entry, which alone changes as `packet` changes it (`do-packet`); where it has none, the
+-- packet is the flow's first.
 use Rattle.std.proofs.Common.{◌+◌, Option, Some, length, ap, subst, sym, ◌∙◌, rules}
 use Rattle.flow_lanes.specs.Given.{making_of, packet_of}
 use Rattle.flow_lanes.specs.Kept.{kept_in}

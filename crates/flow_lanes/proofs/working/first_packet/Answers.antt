@@ -1,3 +1,5 @@
+-- Nothing is kept of the flow, so that what is in its entry is the new flow that was put there: the packet is sound for it,
+-- and its job is done as in any flow.
 use Rattle.std.proofs.Common.{ℕ, List, ◌+◌, Option, Some, None, length, ap, subst, sym, ◌∙◌, rules}
 use Rattle.std.specs.HashMap.Entry.{entry_value, map_with_value}
 use Rattle.flow_lanes.specs.declared.job.Work.TheVariants as works

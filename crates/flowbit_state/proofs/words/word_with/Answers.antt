@@ -1,3 +1,5 @@
+-- The or with the mask sets its one bit (`is_bit-or`), the and with the others unsets it (`is_bit-and`), the exclusive or
+-- toggles it (`is_bit-xor`), and the other bits stay.
 use Rattle.std.proofs.Common.{ap, sym, ◌∙◌}
 use Rattle.std.specs.Prelude.{◌==◌, if◌then◌else◌}
 use Rattle.flowbit_state.specs.Changes.{bit_after}

@@ -1,3 +1,5 @@
+-- After each fragment at most `most` are held, and each tracker has some, none of which ends past place 65535; from that the
+-- four bounds follow by sums.
 use Rattle.frag3_core.proofs.Held.{fragments_few, datagrams_few, places_few, bytes_few}
 use Rattle.frag3_core.proofs.bounds.held_fragments_are_few.Goals as goal
 

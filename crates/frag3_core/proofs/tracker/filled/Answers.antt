@@ -1,3 +1,5 @@
+-- The bytes that `append_to` adds to the empty room are those at the places from 0 on (`bytes_at-appended`); where it adds
+-- none, some place has no byte (`bytes_at-none`).
 use Rattle.std.proofs.Common.{◌+◌, Some, ap, subst, sym, ◌∙◌}
 use Rattle.std.specs.Option.{is_some}
 use Rattle.std.proofs.lemmas.Bool.{false≢true}

@@ -1,3 +1,5 @@
+-- One line is taken at each turn: it is passed over where it has no content, its entry is added, or it is refused; what the
+-- rest gives after it is what the text gives.
 use Rattle.std.proofs.Common.{◌+◌, sym, ap, ◌∙◌, arith}
 use Rattle.std.proofs.lemmas.Result.{err_from_is_err_and}
 use Rattle.std.specs.Str.Lines.{lines}

@@ -1,3 +1,5 @@
+-- The entries of the lines so far, with those that the rest gives after them, are what the text gives; no more lines were
+-- taken than bytes. The rest falls in length.
 use Rattle.std.proofs.Common.{◌≡◌, ◌+◌, ◌≤◌, length}
 use Rattle.std.specs.Str.Lines.{lines}
 use Rattle.net_lists.specs.Lines.{kept}

@@ -1,3 +1,4 @@
+-- The bytes from the walk's place to the packet's end, read as a datagram, are the transport part at that place.
 use Rattle.std.proofs.Common.{length, refl, ◌∙◌, arith}
 use Rattle.packet_decode.proofs.Parts.{transport_part}
 use Rattle.ipv6_decode.proofs.records.upper.Goals as goal

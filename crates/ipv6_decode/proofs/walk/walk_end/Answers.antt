@@ -1,3 +1,4 @@
+-- The walk from each header on is the whole walk's, so a header that is wrong is its fault.
 use Rattle.std.proofs.Common.{◌≡◌, true, sym, ◌∙◌}
 use Rattle.std.proofs.lemmas.Result.{err_from_is_err_and}
 use Rattle.ipv6_decode.specs.Headers.{is_at_header}

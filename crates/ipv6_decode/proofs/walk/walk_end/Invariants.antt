@@ -1,3 +1,5 @@
+-- The walk from here, over as many headers as are left, ends as the
+-- one from the start; its place never falls, and is within the packet.
 use Rattle.std.proofs.Common.{◌≡◌, ◌≤◌, length}
 use Rattle.ipv6_decode.specs.Headers.{most_headers, walk_end}
 use Rattle.ipv6_decode.proofs.walk.walk_end.Given as goal

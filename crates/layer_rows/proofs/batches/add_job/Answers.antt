@@ -1,3 +1,5 @@
+-- A plain job with the next number was pushed, or nothing changed where memory was lacking: either way the jobs are numbered
+-- from `first` on (`pushed`).
 use Rattle.std.proofs.Common.{arith}
 use Rattle.std.specs.Prelude.{is_ok}
 use Rattle.layer_rows.proofs.Pushed.{pushed}

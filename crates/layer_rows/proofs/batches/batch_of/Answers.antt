@@ -1,3 +1,4 @@
+-- An empty list of jobs is numbered from any number on, so that what the loop keeps holds where it begins: `AreFrom-none`.
 use Rattle.std.proofs.Common.{List, sym, subst}
 use Rattle.flow_lanes.specs.declared.job.Job.{Job}
 use Rattle.flow_lanes.specs.Course.{AreFrom}

@@ -1,3 +1,4 @@
+-- The lanes of `run_batches` are after a course of the jobs that were counted so far, whatever words are left.
 use Rattle.flow_lanes.specs.Course.{IsCourse}
 use Rattle.layer_rows.proofs.batches.run_batches.Given as goal
 

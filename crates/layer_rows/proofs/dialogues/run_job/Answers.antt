@@ -1,3 +1,5 @@
+-- A turn of a dialogue of fewer than 2^32 jobs is sound for the lane (`dialogue-sound`), which then knows of one
+-- job more (`dialogue-more`).
 use Rattle.std.proofs.Common.{length}
 use Rattle.layer_rows.proofs.DialogueLaws.{dialogue-more, dialogue-sound}
 use Rattle.layer_rows.proofs.dialogues.run_job.Goals as goal

@@ -1,3 +1,4 @@
+-- The lane of `run_steps` is after a dialogue of the steps so far.
 use Rattle.layer_rows.specs.Dialogue.{IsDialogue}
 use Rattle.layer_rows.proofs.dialogues.run_steps.Given as goal
 

@@ -1,3 +1,5 @@
+-- The packet is between the two ends of the dialogue because its head is, whatever payload it has; both
+-- ways go by the first engine.
 use Rattle.std.proofs.Common.{refl, arith}
 use Rattle.layer_rows.proofs.dialogues.turn.Goals as goal
 

@@ -1,3 +1,5 @@
+-- The heads of both sides go between the same two ends, one in each direction, whatever flags and numbers they have:
+-- `client-head` and `server-head`.
 use Rattle.std.proofs.Common.{subst, sym}
 use Rattle.packet_decode.specs.declared.item.ItemHead.{ItemHead}
 use Rattle.layer_rows.specs.Dialogue.{IsTurnHead}

@@ -1,3 +1,5 @@
+-- The one job of the batch is the end of a flow, which is plain, and has the number 0, from which the jobs
+-- of new lanes are numbered.
 use Rattle.std.proofs.Common.{◌∷◌, [], ap}
 use Rattle.layer_tests.proofs.lanes.compare_lanes.Goals as goal
 

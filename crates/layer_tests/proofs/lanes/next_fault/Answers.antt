@@ -1,3 +1,5 @@
+-- Lanes that have failed are asked for nothing of the jobs, since what is asked holds of lanes that work alone; they answer
+-- a fault, and have failed still.
 use Rattle.std.proofs.Common.{sym, ◌∙◌}
 use Rattle.std.proofs.lemmas.Bool.{true≢false}
 use Rattle.layer_tests.proofs.lanes.next_fault.Goals as goal

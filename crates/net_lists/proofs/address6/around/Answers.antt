@@ -1,3 +1,5 @@
+-- Seven groups of 16 bits at most, with zeros between, make eight: so the
+-- front ones lose nothing where they are moved up, and the sum fits 128 bits.
 use Rattle.std.proofs.Common.{◌≡◌, ◌+◌, ◌-◌, ◌*◌, ◌%◌, ◌<◌, ◌^◌, Some, None, cond, ap, sym, ◌∙◌, arith}
 use Rattle.std.proofs.lemmas.Bool.{le-leb}
 use Rattle.net_lists.proofs.HexGroups.{around_fits}

@@ -1,3 +1,5 @@
+-- A digit more makes a number sixteen times as large at least, so one
+-- capped at 65535 stays there: to cap at each digit is to cap once.
 use Rattle.std.proofs.Common.{◌+◌, ◌*◌, arith}
 use Rattle.std.proofs.lemmas.List.Sums.{fold_more}
 use Rattle.net_lists.specs.Addresses.{hex_value, hex_digit}

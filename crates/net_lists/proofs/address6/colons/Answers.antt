@@ -1,3 +1,5 @@
+-- With a `::` the address is the groups on both sides around it,
+-- else eight groups: each way out of the code is one case of that.
 use Rattle.std.proofs.Common.{◌∙◌, sym, ap}
 use Rattle.std.specs.Option.{option_and_then}
 use Rattle.net_lists.specs.Addresses.{groups}

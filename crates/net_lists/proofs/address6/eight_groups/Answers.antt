@@ -1,3 +1,4 @@
+-- An empty text has no group, and any other has those that are read between its colons.
 use Rattle.std.proofs.Common.{◌∙◌, arith}
 use Rattle.std.proofs.lemmas.Bool.Decides.{nat_tests}
 use Rattle.net_lists.proofs.HexGroups.{groups-empty, groups-some}

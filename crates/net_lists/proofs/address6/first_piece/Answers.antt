@@ -1,3 +1,5 @@
+-- A text split at its colons is the bytes before the first, and
+-- the pieces of what follows it; without a colon it is one piece.
 use Rattle.std.proofs.Common.{◌∙◌, ◌+◌, ◌==◌, sym, ap, ◌∷◌, take}
 use Rattle.std.specs.List.{slice_split}
 use Rattle.std.proofs.lemmas.List.{take_rest}

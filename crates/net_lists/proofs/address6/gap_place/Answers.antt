@@ -1,3 +1,4 @@
+-- No `::` begins before `place`: one that begins here is the first, and past the last byte there is none.
 use Rattle.std.proofs.Common.{◌∙◌, sym, ap, arith, codes, nat_eq}
 use Rattle.std.specs.List.{starts_with}
 use Rattle.std.proofs.lemmas.List.{take_rest}

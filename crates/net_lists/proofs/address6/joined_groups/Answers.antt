@@ -1,3 +1,5 @@
+-- The groups so far, joined with the pieces left, make the answer:
+-- a piece that is no group ends it, and so does a ninth group.
 use Rattle.std.proofs.Common.{◌≡◌, ◌∙◌, sym, ap, ◌∷◌}
 use Rattle.net_lists.specs.Groups.{joined, pieces_left}
 use Rattle.net_lists.proofs.HexGroups.{joined-stop, joined-full, joined-on, joined-end}

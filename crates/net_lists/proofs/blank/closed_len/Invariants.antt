@@ -1,3 +1,5 @@
+-- All bytes from `len` on are blanks, so the blanks at the text's
+-- end are these and those at the end of what is before; `len` falls.
 use Rattle.std.proofs.Common.{◌≡◌, ◌≤◌, ◌+◌, length, take}
 use Rattle.std.specs.List.{suffix_len}
 use Rattle.edge_io.specs.Bytes.{is_blank}

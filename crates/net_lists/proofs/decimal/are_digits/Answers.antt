@@ -1,3 +1,4 @@
+-- `all` over the bytes of a text that isn't empty is the test `list_all` of its definition.
 use Rattle.std.proofs.Common.{◌≡◌, ◌∙◌, ◌&&◌, not, ap, sym, rules, tests}
 use Rattle.std.specs.List.{list_all}
 use Rattle.std.specs.Char.{is_ascii_digit}

@@ -1,4 +1,6 @@
-use Rattle.std.proofs.Common.{ℕ, ◌+◌, ◌*◌, ◌-◌, arith}
+-- A digit more makes a number ten times as large at least, so one
+-- capped stays capped; a cap below 2 ^ 60 leaves room for the step.
+use Rattle.std.proofs.Common.{◌+◌, ◌*◌, ◌-◌, arith}
 use Rattle.std.proofs.lemmas.List.Sums.{fold_more}
 use Rattle.net_lists.specs.Numbers.{decimal_value}
 use Rattle.net_lists.proofs.decimal.capped_value.Goals as goal
@@ -10,5 +12,4 @@ loop-digit-init c = omega arith
 pub loop-digit-preserved : goal.loop-digit-preserved
 unfolding decimal_value
 loop-digit-preserved c =
-    let step : ℕ → ℕ → ℕ = λ value digit. 10 * value + (digit - 48) in
     omega (arith, fold_more (λ value digit. 10 * value + (digit - 48)) 0 c.args.digits.now c.loop-digit.digit-index 0 c.loop-digit-test.true, c.saturating_sub.ensures, c.from.ensures, c.min-value.ensures, c.loop-digit.invariant)

@@ -1,3 +1,4 @@
+-- `value` is what the digits so far spell, or `cap` if that is more.
 use Rattle.std.proofs.Common.{◌≡◌, min, take}
 use Rattle.net_lists.specs.Numbers.{decimal_value}
 use Rattle.net_lists.proofs.decimal.capped_value.Given as goal

@@ -1,3 +1,4 @@
+-- A name goes on up to the first byte that doesn't continue it, or to the text's end.
 use Rattle.std.proofs.Common.{◌≡◌, ◌∙◌, not, ap, length, unwrap_or, rules, tests}
 use Rattle.std.specs.List.{position}
 use Rattle.std.proofs.lemmas.Iterator.{YieldsList-from_slice}

@@ -1,3 +1,5 @@
+-- The lines of a text are what is before its first line feed, less a carriage
+-- return, and the lines of what follows it; without a feed it is one line.
 use Rattle.net_lists.proofs.FirstLine.{lines_cut, lines_last}
 use Rattle.net_lists.proofs.lines.cut_line.Goals as goal
 

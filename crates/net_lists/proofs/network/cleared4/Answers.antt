@@ -1,3 +1,5 @@
+-- The shift in 64 bits is the power of two itself, and a number less
+-- its remainder by that has room in 32 bits for all its last bits.
 use Rattle.std.proofs.Common.{◌≡◌, ◌*◌, ◌%◌, ◌^◌, arith}
 use Rattle.std.proofs.lemmas.Nat.{one_shl}
 use Rattle.net_lists.proofs.Prefixes.{last_fits}

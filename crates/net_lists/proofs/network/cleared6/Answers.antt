@@ -1,3 +1,5 @@
+-- Fewer than 128 places to shift lose no bit, and a number less its
+-- remainder by that power has room in 128 bits for all its last bits.
 use Rattle.std.proofs.Common.{◌≡◌, ◌*◌, ◌%◌, ◌^◌, arith}
 use Rattle.std.proofs.lemmas.Nat.{one_shl}
 use Rattle.net_lists.proofs.Prefixes.{last_fits}

@@ -1,3 +1,5 @@
+-- A capped number and its negative fit 64 bits, so what is kept within
+-- the bounds there is what the whole numbers say, with a `-` or without.
 use Rattle.std.proofs.Common.{◌≡◌, ◌∙◌, ap, arith, ℤ, pos, neg_ℤ, ◌-ℤ◌, to_z, of_z, w32, w64}
 use Rattle.std.proofs.lemmas.Int.{ints}
 use Rattle.net_lists.specs.Numbers.{signed_kept_in}

@@ -1,3 +1,5 @@
+-- Past the blanks in front a word goes up to the next blank that is in no bracket;
+-- what follows it, less its blanks in front, has the other words and is shorter.
 use Rattle.std.proofs.Common.{◌≡◌, ◌∙◌, ◌<◌, sym, ap, cond, List, [], ◌∷◌, length, take, drop, subst, ℕ}
 use Rattle.edge_io.specs.Bytes.{is_blank, without_front_blanks}
 use Rattle.net_lists.specs.Cutting.{front_len, words, first_word, behind_word, is_filled}

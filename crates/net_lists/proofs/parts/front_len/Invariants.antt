@@ -1,3 +1,5 @@
+-- No byte so far cuts: the length before the first that does is `len`
+-- and what the rest has before its own, at the brackets' depth reached.
 use Rattle.std.proofs.Common.{◌≡◌, ◌≤◌, ◌+◌, drop}
 use Rattle.net_lists.specs.Cutting.{front_len}
 use Rattle.net_lists.specs.Parted.{cuts}

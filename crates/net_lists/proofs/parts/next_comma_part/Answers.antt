@@ -1,3 +1,5 @@
+-- Where no comma cuts, the text is one part; else the first part is
+-- what is before the comma, trimmed, and the others are those after it.
 use Rattle.std.proofs.Common.{◌≡◌, ◌∙◌, ◌+◌, ◌-◌, suc, sym, ap, [], ◌∷◌, length, take, drop, arith, add-one}
 use Rattle.std.proofs.lemmas.List.{take_rest}
 use Rattle.std.proofs.lemmas.Grind.{common_steps}

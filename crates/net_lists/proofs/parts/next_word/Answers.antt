@@ -1,3 +1,4 @@
+-- Past the bytes that cut, nothing left means no word, and else a word goes up to the next byte that cuts.
 use Rattle.std.proofs.Common.{◌≡◌, ℕ, ◌∙◌, ◌-◌, sym, ap, List, ◌∷◌, length, take, drop, arith}
 use Rattle.std.specs.List.{prefix_len}
 use Rattle.std.proofs.lemmas.List.{take_rest}

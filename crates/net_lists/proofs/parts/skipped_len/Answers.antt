@@ -1,3 +1,4 @@
+-- The bytes in front that cut end at the first that doesn't, or are the whole text.
 use Rattle.std.proofs.Common.{◌≡◌, ◌∙◌, not, ap, length, unwrap_or, rules, tests}
 use Rattle.std.specs.List.{position}
 use Rattle.std.proofs.lemmas.Iterator.{YieldsList-from_slice}

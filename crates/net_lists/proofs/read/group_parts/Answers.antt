@@ -1,3 +1,5 @@
+-- What the group gives is what the tokens left give after the parts so far:
+-- a token out of place is bad, and so is an end where one must follow.
 use Rattle.std.proofs.Common.{◌∙◌, sym, arith}
 use Rattle.net_lists.specs.Machine.{group_parts}
 use Rattle.net_lists.proofs.Steps.{goes_on, stops_at, stops_early, is_done}

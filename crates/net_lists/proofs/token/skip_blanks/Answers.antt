@@ -1,3 +1,4 @@
+-- Blanks in front are no symbols, so without them the symbols are the same, and the text begins with no blank.
 use Rattle.std.proofs.Common.{ap, ◌∙◌}
 use Rattle.net_lists.specs.Tokens.{symbols, begins_blank}
 use Rattle.net_lists.proofs.Words.{symbols-blanks, begins_blank-blanks}

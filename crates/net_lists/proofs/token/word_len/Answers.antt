@@ -1,3 +1,4 @@
+-- A word in front ends at the first byte that isn't one of a word's, or at the text's end.
 use Rattle.std.proofs.Common.{◌≡◌, ◌∙◌, not, ap, length, unwrap_or, rules, tests}
 use Rattle.std.specs.List.{position}
 use Rattle.std.proofs.lemmas.Iterator.{YieldsList-from_slice}

@@ -1,3 +1,5 @@
+-- The places rise, so what was seen from one serves all later ones,
+-- and each is kept just if no occurrence is within its reach.
 use Rattle.std.proofs.Common.{◌+◌, ◌-◌, ◌<◌, ◌≤◌, ℕ, length, arith, ⊎_elim, Contains, nat_le, refl}
 use Rattle.option_eval.specs.Absent.{IsReached}
 use Rattle.option_eval.proofs.Asking.{kept_none, kept_next, rising_with, length_later, first_below, none_left}

@@ -1,3 +1,5 @@
+-- A search that finds nothing moves `done` alone, one that finds an occurrence
+-- moves both marks just past it; either way what was noted stays noted.
 use Rattle.std.proofs.Common.{arith, refl}
 use Rattle.option_eval.specs.Sets.{Occurs}
 use Rattle.option_eval.proofs.Looking.{sees_none, sees_some}

@@ -1,3 +1,5 @@
+-- A content longer than the payload leads nowhere; else it leads to
+-- the ends that `sweep` gathers within its reach of the places asked.
 use Rattle.std.proofs.Common.{length, arith, ap}
 use Rattle.std.proofs.lemmas.Result.{IfOk-weaker}
 use Rattle.option_eval.proofs.Contents.{content_none, content_gathers}

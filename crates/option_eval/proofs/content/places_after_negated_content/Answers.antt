@@ -1,3 +1,5 @@
+-- A negated content that counts from a place is a test: it leads to
+-- that place alone, just if its bytes are out of reach from there.
 use Rattle.std.proofs.Common.{◌≡◌, ◌||◌, Bool, true, false, refl}
 use Rattle.std.proofs.lemmas.Bool.{false≢true}
 use Rattle.std.proofs.lemmas.Result.{IfOk-weaker}

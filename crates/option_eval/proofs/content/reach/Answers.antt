@@ -1,3 +1,5 @@
+-- The window of a content that the fast pattern alone seeks keeps a `Reach`'s
+-- invariant: it begins at 0, which is small, and has no room to bound.
 use Rattle.std.proofs.Common.{arith}
 use Rattle.std.proofs.lemmas.Int.{ints}
 use Rattle.option_eval.proofs.content.reach.Goals as goal

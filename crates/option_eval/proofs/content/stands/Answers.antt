@@ -1,3 +1,5 @@
+-- The places within reach are those from `low` on and below `end`,
+-- so what the search finds between them answers for the window.
 use Rattle.std.proofs.Common.{◌+◌, ◌-◌, length, arith}
 use Rattle.option_eval.proofs.Contents.{window_answer}
 use Rattle.option_eval.proofs.content.stands.Goals as goal

@@ -1,3 +1,4 @@
+-- At most four bytes, each below 256, make a number below 2 ^ 41 in either byte order.
 use Rattle.std.proofs.Common.{arith}
 use Rattle.option_eval.proofs.Digits.{little_small, big_small}
 use Rattle.option_eval.proofs.fetch.bytes_number.Goals as goal

@@ -1,3 +1,4 @@
+-- After i digits the sum is below 17 ^ i, so ten digits stay below 2 ^ 41, and no step overflows.
 use Rattle.std.proofs.Common.{arith}
 use Rattle.option_eval.proofs.Digits.{digits_small, digits_fit}
 use Rattle.option_eval.proofs.fetch.digits_number.Goals as goal

@@ -1,3 +1,4 @@
+-- The sum is the number of the digits so far; after i of them it is below 17 ^ i.
 use Rattle.std.proofs.Common.{◌≡◌, ◌^◌, ◌<◌, take}
 use Rattle.option_eval.specs.Numbers.{digits_number}
 use Rattle.option_eval.proofs.fetch.digits_number.Given as goal

@@ -1,3 +1,4 @@
+-- `needs_place` asks the same of the options after the first, a list that is one shorter.
 use Rattle.std.proofs.Common.{length}
 use Rattle.option_eval.proofs.kind.+needs_place.Given as goal
 

@@ -1,3 +1,5 @@
+-- What is known of an option is so from any state; what is asked anew from one
+-- state is so from all where the option counts from the start and reads no value.
 use Rattle.std.proofs.Common.{◌+◌, Bool, length, arith, subst}
 use Rattle.option_eval.specs.Known.{LeadsAlike}
 use Rattle.option_eval.specs.Kinds.{needs_place}

@@ -1,3 +1,5 @@
+-- With no number at the place the test fails, with `!` or without; else
+-- `compares` decides it, as the value fits its 128 bits unchanged.
 use Rattle.std.proofs.Common.{ℤ, ◌∙◌, subst, IsTrue}
 use Rattle.std.specs.Int.{w128}
 use Rattle.std.proofs.lemmas.Bool.{false≢true}

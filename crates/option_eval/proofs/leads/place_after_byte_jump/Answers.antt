@@ -1,3 +1,5 @@
+-- Without a number the jump leads nowhere; else it leads to one whole number,
+-- if that is a place of the payload, and `post` means the same in 32 bits.
 use Rattle.std.proofs.Common.{ℤ, pos, ◌+ℤ◌, ◌+◌, cond, length, subst}
 use Rattle.std.specs.Int.{w32}
 use Rattle.std.proofs.lemmas.Int.{to_z-of_z}

@@ -1,3 +1,5 @@
+-- Two kinds of options jump: a `pcre`, whose pattern is made alike with `!`
+-- and without, and a `byte_jump`, whose `post` means the same in 32 bits.
 use Rattle.std.proofs.Common.{ℤ, false, subst, rules}
 use Rattle.std.proofs.lemmas.Int.{to_z-of_z}
 use Rattle.std.specs.Int.{w32}

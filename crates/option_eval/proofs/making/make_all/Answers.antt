@@ -1,3 +1,5 @@
+-- One turn adds what serves one option more; the maker means the
+-- same after each turn, so all patterns find what it meant at first.
 use Rattle.std.proofs.Common.{◌≡◌, ◌+◌, ◌++◌, ◌∷◌, [], take, map, arith, sym, ap, ◌∙◌}
 use Rattle.std.proofs.lemmas.List.{take_more}
 use Rattle.rule_types.specs.declared.option.Opt.{Opt}

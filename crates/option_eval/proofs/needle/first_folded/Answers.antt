@@ -1,3 +1,5 @@
+-- Bytes that occur with case folded begin with the first letter in either
+-- case, so between two places with such a letter they occur nowhere.
 use Rattle.std.proofs.Common.{◌≡◌, true, arith, ◌+◌, subst}
 use Rattle.std.proofs.lemmas.Bool.{false≢true}
 use Rattle.option_eval.specs.Sets.{Occurs}

@@ -1,3 +1,5 @@
+-- The places before `rest` have led where they lead; each turn adds the
+-- one place that the next leads to, if any, which is within the payload.
 use Rattle.std.proofs.Common.{length, arith, get_or}
 use Rattle.option_eval.specs.Sets.{LeadsFrom}
 use Rattle.option_eval.proofs.Asking.{led_next, contains_head, contains_later, length_later, with_if_within}

@@ -1,3 +1,4 @@
+-- An option that asks nothing of the payload is a test that holds at each place, so it leaves all places.
 use Rattle.std.proofs.Common.{sym}
 use Rattle.option_eval.specs.Sets.{LeadsFrom}
 use Rattle.option_eval.proofs.Asking.{all_stay}

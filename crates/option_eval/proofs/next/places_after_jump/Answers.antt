@@ -1,3 +1,5 @@
+-- A jump that isn't relative leads alike from each place, so the first is
+-- enough; to sort places and drop those that come again leaves the same set.
 use Rattle.std.proofs.Common.{◌+◌, ℕ, List, length, arith, sym, ◌∙◌, subst, Contains}
 use Rattle.std.proofs.lemmas.Result.{IfOk-weaker}
 use Rattle.std.proofs.lemmas.List.Sorted.{Contains-permutation, IsPermutation-sym}

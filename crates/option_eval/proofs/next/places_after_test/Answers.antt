@@ -1,3 +1,5 @@
+-- A test that isn't relative holds at all places or at none, so it
+-- is asked at the first alone; a relative one is asked at each.
 use Rattle.std.proofs.Common.{◌+◌, length, arith, sym, ◌∙◌}
 use Rattle.std.proofs.lemmas.Bool.{false≢true}
 use Rattle.option_eval.specs.Sets.{LeadsFrom}

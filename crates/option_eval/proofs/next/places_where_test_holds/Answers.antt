@@ -1,3 +1,5 @@
+-- Of the places before `rest` those are kept at which the test holds, still
+-- rising; a test leads nowhere but to its own place, so these are all.
 use Rattle.std.proofs.Common.{◌+◌, length, arith}
 use Rattle.option_eval.specs.Sets.{LeadsFrom}
 use Rattle.option_eval.proofs.Asking.{kept_next, kept_all, rising_with, length_later, first_below}

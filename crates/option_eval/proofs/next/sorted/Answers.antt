@@ -1,3 +1,4 @@
+-- `sort_unstable` gives as many places in order, so writing them over the slice replaces all of it.
 use Rattle.std.proofs.Common.{ℕ, ◌≡◌, length, ap, ◌∙◌}
 use Rattle.std.specs.List.{refill}
 use Rattle.std.proofs.lemmas.List.Sorted.{IsNonDecreasingBy-from_sort}

@@ -1,3 +1,5 @@
+-- Each place of a merged state is a standing of its own, so more than a
+-- part's places mean that any list of the standings is longer than a part.
 use Rattle.std.proofs.Common.{List, ℕ, Contains, arith, sym, subst}
 use Rattle.std.specs.Prelude.{⊤, ◌<◌, ◌^◌}
 use Rattle.option_eval.specs.Sets.{standing}

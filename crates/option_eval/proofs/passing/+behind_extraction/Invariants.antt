@@ -1,3 +1,4 @@
+-- The search for the first extraction goes on in the options after the first, which are fewer.
 use Rattle.std.proofs.Common.{length}
 use Rattle.option_eval.proofs.passing.+behind_extraction.Given as goal
 

@@ -1,3 +1,5 @@
+-- Each state is walked to the next extraction, and what that leaves is tried together, or part by part and then
+-- forgotten: a way through from some state is found in one of these, and visits are counted for each list of values.
 use Rattle.std.proofs.Common.{◌≡◌, ℕ, ◌+◌, ◌*◌, ◌<◌, ◌≤◌, ◌^◌, ◌⊎◌, List, [], Some, None, Contains, length, inl, inr, IfOk, IsTrue, refl, sym, subst, arith}
 use Rattle.std.specs.Prelude.{⊤}
 use Rattle.std.proofs.lemmas.Result.{IfOk-weaker}

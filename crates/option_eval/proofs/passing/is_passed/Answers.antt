@@ -1,3 +1,5 @@
+-- The walk from the payload's start finds a way or leaves states after the first extraction; a way
+-- through from these is one from the start, and the visits of both are together within the bounds.
 use Rattle.std.proofs.Common.{◌+◌, ◌≤◌, ◌∷◌, [], ℕ, List, Some, None, Contains, ⊎_elim, length, refl, sym, subst, arith}
 use Rattle.std.specs.Prelude.{⊤}
 use Rattle.std.proofs.lemmas.Result.{IfOk-weaker}

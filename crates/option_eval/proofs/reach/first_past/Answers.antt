@@ -1,3 +1,4 @@
+-- Bytes of this size end within the room up to the start of the last that do, so the first place past it is one more.
 use Rattle.std.proofs.Common.{arith}
 use Rattle.std.proofs.lemmas.Int.{ints}
 use Rattle.option_eval.proofs.Spans.{past_the_room}

@@ -1,3 +1,5 @@
+-- A rule and what was made of it have the same place in two lists of one length, so `is_passed`
+-- answers for that rule; by `visits_few` its bounds by lists of values give the one by the rule alone.
 use Rattle.std.proofs.Common.{◌≡◌, ◌<◌, length, map, arith, get_or, sym, ap, subst}
 use Rattle.std.proofs.lemmas.List.{get_or_default}
 use Rattle.std.proofs.lemmas.Result.{IfOk-weaker}

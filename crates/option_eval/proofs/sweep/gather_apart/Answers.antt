@@ -1,3 +1,4 @@
+-- A window is searched once the next begins past its end: so its ends are below all that the next can give.
 use Rattle.std.proofs.Common.{◌<◌, length, arith}
 use Rattle.std.proofs.lemmas.Bool.Decides.{nat_tests}
 use Rattle.std.proofs.lemmas.Result.{IfOk-weaker}

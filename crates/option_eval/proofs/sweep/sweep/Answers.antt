@@ -1,3 +1,5 @@
+-- One window is still to be searched at each turn: the next place's window joins
+-- it if they touch, else it is searched first, so no place is compared twice.
 use Rattle.std.proofs.Common.{◌+◌, ◌-◌, ℕ, length, arith, ap, ◌∙◌, min, nat_lt, refl}
 use Rattle.std.proofs.lemmas.Result.{IfOk-weaker}
 use Rattle.option_eval.proofs.Rising.{rising_high}

@@ -1,3 +1,5 @@
+-- Options are gone through one at a time: an extraction leaves its states, any other leads the places on;
+-- what is known of an option is taken out for its turn, and kept again where it leads alike from each state.
 use Rattle.std.proofs.Common.{◌≡◌, ◌-◌, ◌+◌, ◌∷◌, true, List, length, arith, take, drop, map, refl, sym, ap, subst, ◌∙◌}
 use Rattle.rule_types.specs.declared.option.Opt.{Opt}
 use Rattle.option_eval.specs.Known.{is_free, AreKnown}

@@ -1,3 +1,5 @@
+-- `is_walked` goes on with one option fewer in `is_walked_from`, which calls it
+-- back with the same options: so twice their number falls, and one more than that.
 use Rattle.std.proofs.Common.{◌*◌, ◌+◌, length}
 use Rattle.option_eval.proofs.walk.+walk.Given as goal
 

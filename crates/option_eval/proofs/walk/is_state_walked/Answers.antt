@@ -1,3 +1,5 @@
+-- A state's places, sorted and each once, are the same places, so
+-- the ways from them are the same; without a place there is no way.
 use Rattle.std.proofs.Common.{◌+◌, ℕ, List, length, arith, sym, subst, ◌∙◌, Contains}
 use Rattle.std.proofs.lemmas.Bool.{eqb-true}
 use Rattle.std.proofs.lemmas.Result.{IfOk-weaker}

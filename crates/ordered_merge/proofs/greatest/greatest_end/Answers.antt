@@ -1,3 +1,5 @@
+-- The end of one more part becomes the greatest where its number is greater or the first (`GreatestUpTo-takes`), else what
+-- was greatest is (`GreatestUpTo-keeps`); an empty part has no end (`GreatestUpTo-empty`).
 use Rattle.std.proofs.Common.{◌+◌, sym, subst, refl}
 use Rattle.ordered_merge.specs.Greatest.{GreatestUpTo}
 use Rattle.ordered_merge.specs.Merging.{Ascends}

@@ -1,3 +1,4 @@
+-- `greatest` is the greatest end of the first `at` parts, or none where they are all empty.
 use Rattle.ordered_merge.specs.Greatest.{GreatestUpTo}
 use Rattle.ordered_merge.proofs.greatest.greatest_end.Given as goal
 

@@ -1,3 +1,5 @@
+-- In ascending parts the last entry of the one with the greatest end is above all entries (`popped_greatest`), and without
+-- it that part still ascends (`popped_ascends`).
 use Rattle.std.proofs.Common.{◌≡◌, []}
 use Rattle.std.proofs.lemmas.List.Elements.{All-from_all_within, All-set}
 use Rattle.ordered_merge.specs.Merging.{Ascends}

@@ -1,3 +1,5 @@
+-- Each turn takes the greatest entry of what is left to the end of what was taken, which so keeps falling
+-- (`FallsInto-more`); what is left becomes one entry shorter.
 use Rattle.std.proofs.Common.{arith}
 use Rattle.std.proofs.lemmas.List.Sorted.{IsPermutation-pop_more, length_permutation}
 use Rattle.ordered_merge.specs.Merging.{joined}

@@ -1,3 +1,5 @@
+-- What was taken falls and no entry that is left is above it, together they are all entries, and the parts ascend; what is
+-- left grows shorter.
 use Rattle.std.proofs.Common.{◌++◌, All, length}
 use Rattle.std.specs.List.Sorted.{IsPermutation}
 use Rattle.ordered_merge.specs.Merging.{Ascends, joined}

@@ -1,3 +1,5 @@
+-- A falling list whose numbers differ ascends when reversed (`Ascends-reversed`), and there is only one ascending order of
+-- given numbers (`ascending_unique`).
 use Rattle.std.proofs.Common.{sym, subst}
 use Rattle.std.proofs.lemmas.List.Sorted.{IsPermutation-trans, IsPermutation-map}
 use Rattle.ordered_merge.specs.Merging.{Ascends, joined, numbers}

@@ -1,3 +1,4 @@
+-- The numbers of an ascending list differ from each other, and still do in another order (`apart_permuted`).
 use Rattle.ordered_merge.proofs.Finding.{apart_permuted}
 use Rattle.ordered_merge.proofs.merging.permuted_numbers_stand_apart.Goals as goal
 

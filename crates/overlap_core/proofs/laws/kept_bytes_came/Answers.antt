@@ -1,3 +1,4 @@
+-- The segment that is chosen at a place is one of those that cover it, since each step of the choice gives one of its two.
 use Rattle.overlap_core.proofs.Agreeing.{chosen_byte-came}
 use Rattle.overlap_core.proofs.laws.kept_bytes_came.Goals as goal
 

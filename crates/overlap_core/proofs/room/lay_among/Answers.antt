@@ -1,3 +1,5 @@
+-- The row parts where the segment's places from the floor on begin (`parted`), and `seek` comes just there; so what `lay`
+-- makes is the whole row with the segment laid over it.
 use Rattle.std.proofs.Common.{◌≡◌, ◌++◌, max, ap, subst, sym, ◌∙◌, arith}
 use Rattle.overlap_core.specs.declared.segment.Bounds.{Bounds}
 use Rattle.overlap_core.specs.Overlap.{end_of}

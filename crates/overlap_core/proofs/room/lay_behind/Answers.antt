@@ -1,3 +1,4 @@
+-- The piece that is put last has all of the segment's bytes, since the buffer is as long as the segment.
 use Rattle.std.proofs.Common.{◌≡◌, ◌+◌, ◌∷◌, [], ◌++◌, length, ap, ◌∙◌}
 use Rattle.overlap_core.specs.declared.segment.Bounds.{Bounds}
 use Rattle.overlap_core.specs.Rows.{part_of}

@@ -1,3 +1,5 @@
+-- Put at the end of the row (`laid_behind`) or laid among its pieces, the segment is laid over the row, which is then one
+-- that holds what is chosen.
 use Rattle.std.proofs.Common.{subst}
 use Rattle.overlap_core.specs.declared.room.Buffers.{Buffers}
 use Rattle.overlap_core.specs.Overlap.{bounds_of}

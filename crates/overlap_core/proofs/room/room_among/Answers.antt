@@ -1,3 +1,5 @@
+-- After the two cuts no piece has places on both sides of where the segment begins or ends (`room-cuts`), and `seek` comes
+-- to where the row parts, so the gaps from there on are measured.
 use Rattle.std.proofs.Common.{◌≡◌, ◌++◌, max, ap, subst, sym, ◌∙◌, arith}
 use Rattle.overlap_core.specs.Pieces.{IsRow}
 use Rattle.overlap_core.specs.Rows.{BeginBelow, BeginFrom, gap_sizes, IsCutAt, StandsAt}

@@ -1,3 +1,5 @@
+-- In a row only the last piece that begins below the place may have it inside, so cutting that one cuts the row
+-- (`cut_whole`); cut or not, the pieces tell what they told (`recut_of`).
 use Rattle.std.proofs.Common.{◌≡◌, ℕ, ap, ◌∙◌, arith}
 use Rattle.overlap_core.specs.Pieces.{IsRow}
 use Rattle.overlap_core.specs.Rows.{cut_row}

@@ -1,3 +1,5 @@
+-- What is laid so far, with what laying the rest will give, is the whole (`laying_more`); at the first piece past the
+-- segment's end only the last gap is left (`laying_end`).
 use Rattle.std.proofs.Common.{◌≡◌, ◌++◌, ℕ, [], Some, ap, ◌∙◌, sym, subst, append-nil}
 use Rattle.overlap_core.specs.declared.segment.Bounds.{Bounds}
 use Rattle.overlap_core.specs.Overlap.{end_of}

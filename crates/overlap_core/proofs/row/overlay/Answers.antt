@@ -1,3 +1,4 @@
+-- The piece that was at the place goes back there overlaid, and `next` passes it; so it is the last one before the place.
 use Rattle.std.proofs.Common.{◌≡◌, [], ◌∷◌, ◌++◌, Some, None, ap, sym, subst, ◌∙◌}
 use Rattle.overlap_core.specs.Pieces.{Piece}
 use Rattle.overlap_core.specs.Rows.{overlaid, StandsAt}

@@ -1,3 +1,4 @@
+-- After `step_back` the place is no later than the one sought, and from there `step_on` comes just to it.
 use Rattle.std.proofs.Common.{◌∙◌}
 use Rattle.overlap_core.proofs.row.seek.Goals as goal
 

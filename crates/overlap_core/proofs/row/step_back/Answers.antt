@@ -1,3 +1,5 @@
+-- A piece that begins below the one sought is before it (`place_below`), so the walk back, which ends at such a piece or at
+-- the first, ends no later.
 use Rattle.std.proofs.Common.{ap, ◌∙◌, arith}
 use Rattle.overlap_core.proofs.Standing.{place_below}
 use Rattle.overlap_core.proofs.row.step_back.Goals as goal

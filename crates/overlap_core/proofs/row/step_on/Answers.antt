@@ -1,3 +1,5 @@
+-- While the piece at hand begins below the one sought it is before it (`place_below`), so `next` doesn't pass too far; where
+-- it doesn't, the place is found (`sought`).
 use Rattle.std.proofs.Common.{length, ap, ◌∙◌}
 use Rattle.std.proofs.lemmas.Option.{slice_get_within}
 use Rattle.overlap_core.proofs.Standing.{moved_to, place_below, smaller_next, sought}

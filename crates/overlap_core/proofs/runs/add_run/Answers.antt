@@ -1,3 +1,5 @@
+-- Bytes are joined to the last run where that ends at their start (`with_run-meets`), and are a run of their own after
+-- another (`with_run-apart`) or after none (`with_run-first`).
 use Rattle.std.proofs.Common.{◌≡◌, [], ◌∷◌, ◌++◌, ap, sym, ◌∙◌, arith}
 use Rattle.overlap_core.specs.Joined.{with_run}
 use Rattle.overlap_core.proofs.Joining.{make_run, with_run-apart, with_run-first, with_run-meets}

@@ -1,3 +1,5 @@
+-- A piece that begins where the bytes so far end has the next ones (`filling_appended`); one that begins elsewhere shows
+-- that this place has none (`none_here`).
 use Rattle.std.proofs.Common.{◌≡◌, ◌-◌, ◌++◌, length, min, take, ap, sym, subst, ◌∙◌, append_assoc, length-append, arith}
 use Rattle.std.proofs.lemmas.List.{length-take-le}
 use Rattle.overlap_core.proofs.Filling.{filling_appended, IsFilling, none_here, some_missing}

@@ -1,3 +1,4 @@
+-- Where `out` is empty, the runs that take its stead are its own, none, and then these (`no_runs`).
 use Rattle.std.proofs.Common.{◌≡◌, ◌==◌, true, length, vec_len, sym, ◌∙◌, arith}
 use Rattle.std.proofs.lemmas.Bool.Decides.{nat_tests}
 use Rattle.overlap_core.proofs.Single.{no_runs}

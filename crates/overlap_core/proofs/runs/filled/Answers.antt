@@ -1,3 +1,5 @@
+-- A piece that begins where the bytes so far end is copied to the places after them (`filling_more`); one that begins
+-- elsewhere shows that a place has no byte (`none_here`).
 use Rattle.std.proofs.Common.{◌≡◌, ◌+◌, ◌-◌, length, min, take, get_or, rules, ap, subst, sym, ◌∙◌, arith}
 use borrow.Rule.Slice.PartMut.{put_mid}
 use Rattle.std.proofs.lemmas.List.{get_or-take, length-take-le, places}

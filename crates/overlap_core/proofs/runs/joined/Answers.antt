@@ -1,3 +1,5 @@
+-- A piece that begins below the limit adds its bytes to the runs (`joining_more`); at the first one that doesn't, or after
+-- the last, the runs are whole (`joining_past`, `joining_out`).
 use Rattle.std.proofs.Common.{◌<◌, ◌≤◌, ap, subst, ◌∙◌}
 use Rattle.overlap_core.specs.Joined.{with_run}
 use Rattle.overlap_core.proofs.Joining.{IsJoining, joining_more, joining_out, joining_past}

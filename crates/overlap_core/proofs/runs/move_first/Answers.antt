@@ -1,3 +1,4 @@
+-- With the place at the front, the piece that is taken out is the first, and the others are left (`first-out`).
 use Rattle.std.proofs.Common.{◌∷◌, [], ◌++◌, ap, ◌∙◌}
 use Rattle.overlap_core.specs.Joined.{run_of}
 use Rattle.overlap_core.proofs.Single.{first-out}

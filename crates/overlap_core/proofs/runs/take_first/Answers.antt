@@ -1,3 +1,4 @@
+-- The room in `out` is made first, so the first piece is moved there without fail, and then the others are raised.
 use Rattle.std.proofs.Common.{◌∷◌, [], ◌++◌, ap, ◌∙◌}
 use Rattle.overlap_core.specs.Joined.{run_of}
 use Rattle.overlap_core.specs.Rows.{raised}

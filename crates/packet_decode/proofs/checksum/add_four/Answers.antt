@@ -1,3 +1,4 @@
+-- Four bytes as one number count as its two words, since 65536 counts as 1 modulo 65535.
 use Rattle.std.proofs.Common.{arith}
 use Rattle.packet_decode.proofs.Sums.{four}
 use Rattle.packet_decode.proofs.checksum.add_four.Goals as goal

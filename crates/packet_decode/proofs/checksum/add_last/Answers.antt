@@ -1,3 +1,4 @@
+-- A last odd byte counts as a word whose other byte is 0, and with no byte left the sum is what it is.
 use Rattle.std.proofs.Common.{arith}
 use Rattle.packet_decode.proofs.Sums.{one, none_left}
 use Rattle.packet_decode.proofs.checksum.add_last.Goals as goal

@@ -1,3 +1,5 @@
+-- The sum so far counts with the bytes left as the whole does; each
+-- byte left adds no more than 2 ^ 61, so there is room for all.
 use Rattle.std.proofs.Common.{◌≡◌, ◌+◌, ◌*◌, ◌<◌, ◌^◌, length}
 use Rattle.packet_decode.specs.Checksum.{sums_to_all_ones}
 use Rattle.packet_decode.proofs.checksum.add_rows.Given as goal

@@ -1,3 +1,4 @@
+-- Two bytes as one number are the one word that they add.
 use Rattle.std.proofs.Common.{arith}
 use Rattle.packet_decode.proofs.Sums.{two}
 use Rattle.packet_decode.proofs.checksum.add_two.Goals as goal

@@ -1,3 +1,4 @@
+-- An address of version 4 counts as its words by its number, one of version 6 by its two halves of 64 bits.
 use Rattle.std.proofs.Common.{arith}
 use Rattle.packet_decode.proofs.Sums.{address_4, address_6}
 use Rattle.packet_decode.proofs.checksum.address_total.Goals as goal

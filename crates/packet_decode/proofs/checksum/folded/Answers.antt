@@ -1,3 +1,4 @@
+-- A sum counts as much as its parts of 64 and 32 bits together, and each mask gives the remainder that is such a part.
 use Rattle.std.proofs.Common.{◌≡◌, ◌-◌, ◌/◌, ◌%◌, ◌^◌, bit_and, ap, ◌∙◌, arith}
 use Rattle.std.proofs.lemmas.Nat.{and_mask}
 use Rattle.packet_decode.specs.Checksum.{is_all_ones}

@@ -1,3 +1,5 @@
+-- Eight, eight and four bytes are the first twenty, each counted as
+-- its words: with no options none are left, and their sum decides.
 use Rattle.std.proofs.Common.{◌≡◌, length, ap, ◌∙◌, arith}
 use Rattle.packet_decode.specs.Checksum.{is_all_ones}
 use Rattle.packet_decode.proofs.Sums.{none_left}

@@ -1,3 +1,4 @@
+-- 256 times 256 counts as 1, so the sum in exchanged bytes counts as the pseudo header's, each address as its words.
 use Rattle.packet_decode.proofs.Sums.{pseudo}
 use Rattle.packet_decode.proofs.checksum.pseudo_total.Goals as goal
 

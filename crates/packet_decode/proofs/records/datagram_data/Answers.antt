@@ -1,3 +1,4 @@
+-- What is read of the bytes between the bounds is, with `start` added to its place, what the whole record has there.
 use Rattle.std.proofs.Common.{refl, sym, ◌∙◌}
 use Rattle.std.proofs.lemmas.Result.{err_from_is_err_and}
 use Rattle.packet_decode.proofs.Parts.{placed_part, transport_part}

@@ -1,3 +1,5 @@
+-- What was left of the capture at first is the bytes filled so far and what is left now: a read
+-- moves the bytes that it gives from the one to the other, and gives none where no file is open.
 use Rattle.std.proofs.Common.{◌≤◌, ◌-◌, ℕ, length, take, arith, ap, subst, ◌∙◌}
 use Rattle.std.proofs.lemmas.Grind.{common_steps}
 use Rattle.edge_io.specs.Files.{IsUnopened, left_by}

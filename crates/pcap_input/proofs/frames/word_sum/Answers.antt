@@ -1,3 +1,4 @@
+-- Two bytes more are one word more; at the end an odd byte is the high one of a word, and no byte adds nothing.
 use Rattle.std.proofs.Common.{arith}
 use Rattle.edge_io.proofs.Words.{two, last, nothing}
 use Rattle.pcap_input.proofs.frames.word_sum.Goals as goal

@@ -1,3 +1,4 @@
+-- The sum so far and that of the words left are the whole sum, and each byte left adds 65536 at most.
 use Rattle.std.proofs.Common.{◌≡◌, ◌+◌, ◌*◌, ◌≤◌, length}
 use Rattle.edge_io.specs.Bytes.{word_sum}
 use Rattle.pcap_input.proofs.frames.word_sum.Given as goal

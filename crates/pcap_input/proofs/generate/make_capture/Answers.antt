@@ -1,3 +1,5 @@
+-- The file header is the capture before its first record; each turn appends
+-- the next frame's record, and with no frame left nothing is to come.
 use Rattle.std.proofs.Common.{◌≡◌, ◌+◌, ◌-◌, List, ℕ, ◌++◌, ap, ◌∙◌, arith}
 use Rattle.pcap_input.specs.Generated.{header_bytes, frames, record_bytes, records_from, generated}
 use Rattle.pcap_input.proofs.Making.{records-first, records-step, records-end}

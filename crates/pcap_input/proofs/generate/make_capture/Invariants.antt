@@ -1,3 +1,4 @@
+-- The bytes so far, and the records of the frames that this traffic still makes, are the whole capture.
 use Rattle.std.proofs.Common.{◌≡◌, ◌-◌, ◌++◌}
 use Rattle.pcap_input.specs.Generated.{frames, records_from, generated}
 use Rattle.pcap_input.proofs.generate.make_capture.Given as goal

@@ -1,3 +1,4 @@
+-- There are as many nodes more as there were turns, and the vector's room is no less than it was.
 use Rattle.std.proofs.Common.{◌≡◌, ◌+◌, ◌≤◌, vec_capacity, vec_len}
 use Rattle.piece_list.proofs.spare.add_rooms.Given as goal
 

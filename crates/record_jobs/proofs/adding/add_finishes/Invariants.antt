@@ -1,3 +1,4 @@
+-- The number is the first one and as many more as flows were taken, whose ends, numbered from the first one on, were added.
 use Rattle.std.proofs.Common.{◌≡◌, ◌+◌, ◌++◌, map, take}
 use Rattle.flow_lanes.specs.declared.job.Work.TheVariants as work
 use Rattle.record_jobs.specs.Jobs.{numbered}

@@ -1,3 +1,4 @@
+-- The engine found and what the host table says of the address make the rules of `frag_rules` (`rules_by-engine`).
 use Rattle.std.proofs.Common.{◌∙◌}
 use Rattle.record_jobs.proofs.Bound.{rules_by-engine}
 use Rattle.record_jobs.proofs.engines.frag_rules.Goals as goal

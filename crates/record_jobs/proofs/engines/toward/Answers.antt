@@ -1,3 +1,5 @@
+-- The engine's place is no greater than the number of engines (`stream_place-within`); with what the host table says of the
+-- address it gives what goes by the address (`toward_is`).
 use Rattle.std.proofs.Common.{ap, arith, length, ◌∙◌}
 use Rattle.record_jobs.specs.Way.{stream_place, way_of}
 use Rattle.record_jobs.proofs.Bound.{stream_place-within}

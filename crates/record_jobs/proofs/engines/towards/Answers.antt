@@ -1,3 +1,5 @@
+-- With one engine, to all, and an empty host table every address goes by the engine at place 0 and by no host's policy, so
+-- the one answer is both (`toward_one`).
 use Rattle.std.proofs.Common.{sym, ◌∙◌}
 use Rattle.record_jobs.specs.Way.{way_of}
 use Rattle.record_jobs.proofs.OnePlace.{toward_one}

@@ -1,3 +1,4 @@
+-- A front's counts are those of the records it stands for, and the definition counts each once (`records-counted`).
 use Rattle.record_jobs.proofs.Counting.{records-counted}
 use Rattle.record_jobs.proofs.laws.records_are_counted.Goals as goal
 

@@ -1,3 +1,5 @@
+-- A part that has room for all keeps the flows, fragments and first moment of its own pairs, so its records' items are those
+-- in the whole (`same-items`), those at its end included (`part-items`).
 use Rattle.record_jobs.proofs.SplitClosed.{part-items}
 use Rattle.record_jobs.proofs.SplitItems.{same-items}
 use Rattle.record_jobs.proofs.split_laws.parts_have_their_items.Goals as goal

@@ -1,3 +1,4 @@
+-- Where every match contains one of the literals and none of them is found in the bytes, there is no match (`none_lacking`).
 use Rattle.regex_extract.specs.Needles.{ContainsNeedle}
 use Rattle.regex_meta.proofs.LeftmostLemmas.{are_bytes}
 use Rattle.regex_maker.proofs.Sieves.{none_lacking, holds_of}

@@ -1,3 +1,4 @@
+-- The loop of `change_bits` has the bits after the options so far.
 use Rattle.std.proofs.Common.{◌≡◌, take, fold}
 use Rattle.rule_eval.specs.Hits.{bits_behind}
 use Rattle.rule_eval.proofs.hits.change_bits.Given as goal

@@ -1,3 +1,5 @@
+-- The candidates that match, each tried with the bits that those before it left, are all rules that match, since no other
+-- rule does (`picked-hits`); the bits in the end are the ones that these leave.
 use Rattle.std.proofs.Common.{ℕ, ◌<◌, List, length, sym, ap, subst, ◌∙◌}
 use Rattle.std.specs.Prelude.{All}
 use Rattle.rule_eval.specs.Hits.{AreHits}

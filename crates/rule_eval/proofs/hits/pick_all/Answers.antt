@@ -1,3 +1,4 @@
+-- One place more is tried with the bits that the places before it left (`picks_all-more`); in the end all places are tried.
 use Rattle.std.proofs.Common.{◌≡◌, ℕ, ◌<◌, List, length, get_or, take, subst, arith}
 use Rattle.std.proofs.lemmas.List.{take_all, take_more}
 use Rattle.rule_eval.specs.Picking.{PicksAll}

@@ -1,3 +1,5 @@
+-- The loop of `pick_all` has tried the places so far: by any test it has found those whose rules match, and the
+-- bits are as these leave them.
 use Rattle.std.proofs.Common.{take}
 use Rattle.option_eval.specs.Places.{Means}
 use Rattle.option_eval.specs.RuleSet.{FindWhatIsMeant}

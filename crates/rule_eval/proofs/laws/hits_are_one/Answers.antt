@@ -1,3 +1,5 @@
+-- Since it is decided whether a rule matches there is a list, and at each rule the relation goes one way alone, so that two
+-- lists are the same (`AreMatches-unique`).
 use Rattle.rule_eval.specs.Hits.{places_from}
 use Rattle.rule_eval.proofs.AreHits.{AreMatches-unique, places_from-are}
 use Rattle.rule_eval.proofs.Tells.{test_of, test_of-tells}

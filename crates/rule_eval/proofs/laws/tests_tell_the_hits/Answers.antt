@@ -1,3 +1,5 @@
+-- The list that a test gives is of all rules that match, as the test tells of each, and there is only one
+-- such list: `matching-hits`.
 use Rattle.rule_eval.proofs.AreHits.{matching-hits}
 use Rattle.rule_eval.proofs.laws.tests_tell_the_hits.Goals as goal
 

@@ -1,3 +1,5 @@
+-- The rule that was read is the one at the place, and its header, fields and bits were tested: what is left is its payload's
+-- part, which `payload_holds` decides (`matches-then`).
 use Rattle.std.proofs.Common.{◌≡◌, List, get_or, sym, ap, subst, ◌∙◌, IsTrue, ◌↔◌, IfOk}
 use Rattle.std.proofs.lemmas.List.{get_or_default}
 use Rattle.rule_types.specs.declared.rule.Rule.{Rule}

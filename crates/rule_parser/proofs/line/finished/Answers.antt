@@ -1,3 +1,4 @@
+-- The draft's class is one of the classes, and `told` hands on the same, so its priority is there.
 use Rattle.std.proofs.Common.{length}
 use Rattle.rule_parser.proofs.Classing.{told-there}
 use Rattle.rule_parser.proofs.line.finished.Goals as goal

@@ -1,3 +1,5 @@
+-- The options left are the first and those after it: one that stops the
+-- reader is the fault of all, and after the last only blanks may follow.
 use Rattle.std.proofs.Common.{true, false}
 use Rattle.std.proofs.lemmas.Result.{err_from_is_err_and}
 use Rattle.rule_parser.proofs.Naming.{begins_begins}

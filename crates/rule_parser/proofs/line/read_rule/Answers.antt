@@ -1,3 +1,5 @@
+-- A line has one meaning, so any meaning of it is what was answered; a
+-- rule that is read is sound, as at most 1024 names were there before.
 use Rattle.std.proofs.Common.{◌≤◌, Ok, Err, length, ap, arith}
 use Rattle.rule_parser.specs.Faults.{stop_fault}
 use Rattle.rule_parser.proofs.Meaning.{answers-as}

@@ -1,3 +1,4 @@
+-- A class that the options of a rule name is one of the classes, as `finished` asks.
 use Rattle.rule_parser.proofs.Reading.{options-class}
 use Rattle.rule_parser.proofs.line.rule_body.Goals as goal
 

@@ -1,3 +1,5 @@
+-- A header that is wrong is the fault of the line; after one that
+-- is right the line means what `rule_body` makes of the rest.
 use Rattle.std.proofs.Common.{ℕ, List, subst}
 use Rattle.std.proofs.lemmas.Result.{err_from_is_err_and}
 use Rattle.rule_parser.specs.Bits.{GivesWith}

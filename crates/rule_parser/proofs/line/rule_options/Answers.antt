@@ -1,3 +1,4 @@
+-- Options that are written one after another are cut into just these texts, so the fold over the text is the fold over them.
 use Rattle.std.proofs.Common.{◌+◌, length}
 use Rattle.rule_parser.specs.Drafts.{empty_draft}
 use Rattle.rule_parser.proofs.CuttingLaws.{options-read}

@@ -1,3 +1,5 @@
+-- A plan's way goes by its source: a file's capture ends as `show_file` says, and one that is made as `show_made` says, in
+-- which the host has no part.
 use Rattle.std.proofs.Common.{refl, ap, ◌∙◌}
 use Rattle.snort_engine.specs.declared.plan.Source.{Source}
 use Rattle.snort_engine.specs.Steps.Sources.{way_from}

@@ -1,3 +1,5 @@
+-- A capture that is made has a savefile's header, and what follows is read from a host that never fails: so what
+-- `show_opened` shows of it is what the course makes (`made_ends`).
 use Rattle.std.proofs.Common.{ℕ, List, Some, ◌≤◌, length, drop, refl, ap, sym, ◌∙◌, subst, arith}
 use Rattle.std.proofs.lemmas.Result.{err_from_is_err_and}
 use Rattle.std.specs.FinMap.{empty}

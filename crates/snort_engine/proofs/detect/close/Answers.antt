@@ -1,3 +1,5 @@
+-- The jobs that the front leaves are sound for the lanes by what the detector knows (`ready_closing`), so that they may be
+-- run: whole, or until a fault stops them.
 use Rattle.std.proofs.Common.{refl}
 use Rattle.std.proofs.lemmas.Result.{err_from_is_err_and}
 use Rattle.alert_lines.proofs.Emitting.{emits_nothing, emits_stopped, emits_told}

@@ -1,3 +1,5 @@
+-- One record more adds its jobs, and its place once for each of them, so that the jobs and the places stay of one length; in
+-- the end all records are taken.
 use Rattle.std.proofs.Common.{◌≡◌, length, refl, take, arith}
 use Rattle.std.proofs.lemmas.List.{take_all}
 use Rattle.record_jobs.specs.Way.{way_of}

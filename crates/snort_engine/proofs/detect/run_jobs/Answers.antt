@@ -1,3 +1,5 @@
+-- What `search` finds is the definition's by any test that tells what the maker means (`detects_by`); its lines are made and
+-- then offered, unless a fault stops one of these steps.
 use Rattle.std.proofs.Common.{refl}
 use Rattle.std.proofs.lemmas.Result.{err_from_is_err_and}
 use Rattle.alert_lines.specs.Beside.{by_place, source_in}

@@ -1,3 +1,5 @@
+-- The jobs that are run are those that the records make, each with its record's place: so what `run_jobs` shows is what the
+-- records show, all of it or until a fault.
 use Rattle.std.proofs.Common.{refl, arith}
 use Rattle.std.proofs.lemmas.Result.{err_from_is_err_and}
 use Rattle.alert_lines.proofs.Emitting.{emits_nothing, emits_told}

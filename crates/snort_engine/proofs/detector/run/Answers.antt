@@ -1,3 +1,5 @@
+-- The headline is put together in each way that a run goes: a capture is shown, a file's lines are told, or it stops before
+-- either. What is told of a host may be seen of it, so `told` follows.
 use Rattle.std.proofs.Common.{refl, ◌∙◌, arith}
 use Rattle.edge_io.specs.Files.{left_by}
 use Rattle.edge_io.specs.Told.{Rose}

@@ -1,3 +1,5 @@
+-- A file that was loaded has the bytes that the files have by its name, and so their lines; one that wasn't stops the run
+-- for the reason that `load` tells. Of the host its count of faults alone may change.
 use Rattle.std.proofs.Common.{ℕ, List, Some, Err, sym, ap, subst, ◌∙◌, arith}
 use Rattle.edge_io.specs.Told.{Rose}
 use Rattle.edge_io.specs.declared.host.LoadFault.{LoadFault}

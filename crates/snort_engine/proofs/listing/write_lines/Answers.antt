@@ -1,3 +1,5 @@
+-- A sink that stopped has taken the first `done` bytes of the lines, and these are a part of them:
+-- the lemma `WritesPart-take`.
 use Rattle.alert_lines.proofs.Prefixes.{WritesPart-take}
 use Rattle.snort_engine.proofs.listing.write_lines.Goals as goal
 

@@ -1,3 +1,5 @@
+-- Each command goes its way: help, version and faulty words stop without a file, a Unified2 file is listed, and a run is
+-- prepared, whose words are in form (`command_named`, `command_ranged`).
 use Rattle.std.specs.Prelude.{map, string_bytes}
 use Rattle.std.proofs.Common.{refl}
 use Rattle.std.proofs.lemmas.Result.{err_from_is_err_and}

@@ -1,3 +1,5 @@
+-- A run is prepared by its setup and then by what is left to do: where the setup stops, it stops the run; else the plan
+-- keeps it, with all that is known of it.
 use Rattle.std.proofs.lemmas.Result.{err_from_is_err_and}
 use Rattle.command_words.specs.Told.{run_of}
 use Rattle.snort_setup.specs.declared.setup.Setup.{Setup}

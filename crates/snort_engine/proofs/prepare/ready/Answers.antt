@@ -1,3 +1,5 @@
+-- What is left to do with a setup is the definition's way: with `test` the configuration is accepted, without a source the
+-- words are no command, and else the plan goes by its source.
 use Rattle.std.proofs.Common.{refl}
 use Rattle.command_words.specs.Told.{run_of}
 use Rattle.snort_setup.specs.Whole.{ready_of}

@@ -1,3 +1,5 @@
+-- The report's text is made whole and then told, with the status of the outcome; where memory is lacking for it, the text is
+-- that of want of memory, and so is the status.
 use Rattle.std.proofs.Common.{ℕ, List, ◌++◌, ap, ◌∙◌}
 use Rattle.snort_engine.specs.Counts.{with_counts}
 use Rattle.snort_engine.specs.Steps.Stop.{outcome_text}

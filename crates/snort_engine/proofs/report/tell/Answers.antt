@@ -1,3 +1,5 @@
+-- A text is offered once: a sink that failed before gets nothing, one that takes it has all of it, and one that stops has a
+-- first part, and its count of faults rose.
 use Rattle.std.proofs.Common.{◌≡◌, true, false, rules, arith}
 use Rattle.alert_lines.proofs.Prefixes.{WritesPart-take}
 use Rattle.snort_engine.proofs.Reported.{tells_nothing, tells_whole, tells_part}

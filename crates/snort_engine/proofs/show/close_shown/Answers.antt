@@ -1,3 +1,5 @@
+-- Where the work on the capture was cut short it isn't closed, and ends as it was shown; else `close` closes it, for which
+-- `MayClose` has all that is asked.
 use Rattle.std.proofs.Common.{Err, refl, sym, ap, ◌∙◌, inl, inr, arith}
 use Rattle.std.proofs.lemmas.Result.{err_from_is_err_and}
 use Rattle.alert_lines.specs.declared.fault.WriteFault.{WriteFault}

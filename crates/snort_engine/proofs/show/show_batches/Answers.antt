@@ -1,3 +1,5 @@
+-- From one batch to the next the detector is the one after the records that the reader gave; each full batch moves the
+-- reader on, which gives `most_records` at most, so that the loop ends.
 use Rattle.std.proofs.Common.{Ok, Err, refl, ap, ◌∙◌, arith}
 use Rattle.std.proofs.lemmas.Result.{err_from_is_err_and}
 use Rattle.edge_io.specs.Told.{Rose}

@@ -1,3 +1,5 @@
+-- A reader that opened a file is at its first record, so that what `show_opened` shows is what a capture of the file's bytes
+-- shows; a file that wasn't opened stops the run, for its cause.
 use Rattle.std.proofs.Common.{Some, Err, refl, sym, ap, inl, arith}
 use Rattle.std.proofs.lemmas.Result.{err_from_is_err_and}
 use Rattle.edge_io.specs.Told.{Rose}

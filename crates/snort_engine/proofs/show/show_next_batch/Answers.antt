@@ -1,3 +1,5 @@
+-- A batch has the next records, as many as there is room for unless the capture ends; they are shown, or a part of their
+-- lines where memory is lacking or a write fails; after a full one the reader is further on.
 use Rattle.std.proofs.Common.{◌≡◌, ◌≤◌, ℕ, Err, length, vec_len, sym, ap, subst, ◌∙◌, arith}
 use Rattle.std.proofs.lemmas.Result.{err_from_is_err_and}
 use Rattle.edge_io.specs.Files.{left_by}

@@ -1,3 +1,5 @@
+-- A new detector is the one after no record, the batches take it on, and it is closed where they came to their end: the
+-- steps of the capture's showing, one after another.
 use Rattle.std.proofs.Common.{refl, arith}
 use Rattle.std.proofs.lemmas.Result.{err_from_is_err_and}
 use Rattle.alert_lines.proofs.Prefixes.{WritesPart-none}

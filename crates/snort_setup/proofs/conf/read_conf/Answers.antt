@@ -1,3 +1,5 @@
+-- A loading that stopped is a reading that stops, over files that agree
+-- with the host: at a refused line, or at a file that is asked for.
 use Rattle.std.proofs.Common.{Some, refl}
 use Rattle.edge_io.specs.Told.{Rose}
 use Rattle.snort_setup.specs.Words.{words_of}

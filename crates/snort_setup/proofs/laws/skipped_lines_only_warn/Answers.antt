@@ -1,3 +1,5 @@
+-- The law rests on what a line gives not going by the warnings: so a skipped
+-- line's warning is carried along to the end, and nothing else differs.
 use Rattle.snort_setup.proofs.SkippedLines.{outside-skipped, refused-skipped, skipped}
 use Rattle.snort_setup.proofs.laws.skipped_lines_only_warn.Goals as goal
 

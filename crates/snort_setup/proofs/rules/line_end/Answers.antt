@@ -1,3 +1,4 @@
+-- The line's text is the bytes that `read_line` read, so what the maker was asked for is what this line asks.
 use Rattle.snort_setup.proofs.rules.line_end.Goals as goal
 
 pub returns-in-None-clause-asks : goal.returns-in-None-clause-asks

@@ -1,3 +1,5 @@
+-- A line that is a rule gives what `judge` makes of it; any other has its
+-- fault, which isn't want of memory, and leaves the names as they were.
 use Rattle.std.proofs.Common.{Some, refl, sym, subst}
 use Rattle.rule_parser.specs.declared.fault.RuleFault.{RuleFault}
 use Rattle.snort_setup.specs.Rules.{Standing}

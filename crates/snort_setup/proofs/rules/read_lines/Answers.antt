@@ -1,3 +1,5 @@
+-- The lines before lead to what is there now, with those whose patterns were refused: a line
+-- more goes on from there or ends the reading, and the maker means the same throughout.
 use Rattle.std.proofs.Common.{[], List, refl, sym, ap, subst, ◌∙◌}
 use Rattle.std.proofs.lemmas.List.Elements.{All-nil, All-same}
 use Rattle.rule_types.specs.Sound.{IsSound}

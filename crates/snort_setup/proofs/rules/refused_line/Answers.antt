@@ -1,3 +1,5 @@
+-- The file, the line and the reason make the message: an error that
+-- ends the lines, or a warning more where such a fault may be skipped.
 use Rattle.std.proofs.Common.{◌++◌, ◌∷◌, [], ℕ, List, sym, ap, ◌∙◌}
 use Rattle.snort_setup.specs.Pieces.{reason_text}
 use Rattle.snort_setup.specs.Texts.{file_at, error_line, warning_line}

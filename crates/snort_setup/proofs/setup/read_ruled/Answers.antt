@@ -1,3 +1,5 @@
+-- How the rule lines end decides: at a refused line with its message,
+-- else with the accepted rules, which are never more than `most_rules`.
 use Rattle.std.proofs.Common.{ℕ, ◌≤◌, List, length, sym, subst}
 use Rattle.std.proofs.lemmas.Result.{err_from_is_err_and}
 use Rattle.option_eval.specs.RuleSet.{Rules}

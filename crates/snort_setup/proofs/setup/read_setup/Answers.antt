@@ -1,3 +1,5 @@
+-- What the configuration, the rule lines and the host table answer one after another
+-- is the setup, by files that agree with the host; files that it tells do agree.
 use Rattle.std.proofs.Common.{Some, Ok, Err, refl, ◌∙◌}
 use Rattle.std.proofs.lemmas.Result.{err_from_is_err_and}
 use Rattle.edge_io.specs.Told.{Rose}

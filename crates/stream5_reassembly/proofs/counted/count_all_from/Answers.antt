@@ -1,3 +1,4 @@
+-- One run more counts from the base (`map_over_more`), and those after it, untouched, don't begin before it.
 use Rattle.std.proofs.Common.{◌<◌, ◌≢◌, length, set, ap, sym, ◌∙◌, arith, get_or-set_other, length-set}
 use Rattle.std.proofs.lemmas.List.Edits.{map_over_more}
 use Rattle.overlap_core.specs.declared.segment.Run.{Run}

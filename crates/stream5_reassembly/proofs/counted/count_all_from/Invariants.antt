@@ -1,3 +1,4 @@
+-- The runs so far count from the base, those after them are as they were, and none of these begins before the base.
 use Rattle.std.proofs.Common.{◌≡◌, ◌++◌, length, map, take, drop}
 use Rattle.std.specs.List.{AllWithin}
 use Rattle.stream5_reassembly.specs.Counted.{counted_from, IsFrom}

@@ -1,3 +1,5 @@
+-- A look-up that finds nothing leaves the keys as they were (`unpromoted`), so a flow that begins does so among the old
+-- ones; one that finds a key puts it first (`promoted-some`).
 use Rattle.std.proofs.Common.{◌≡◌, ℕ, Option, None, IfOk, OnOk, OnErr, ap, ◌∙◌, sym, subst}
 use Rattle.std.specs.Map.{lookup}
 use Rattle.stream5_sessions.specs.Keys.{same_key}

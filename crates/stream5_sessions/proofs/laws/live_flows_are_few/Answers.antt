@@ -1,3 +1,4 @@
+-- Different live flows are of different kept keys, and no more keys of a protocol are kept than may live (`live-few`).
 use Rattle.stream5_sessions.proofs.Lasting.{live-few}
 use Rattle.stream5_sessions.proofs.laws.live_flows_are_few.Goals as goal
 

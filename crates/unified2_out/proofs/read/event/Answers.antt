@@ -1,3 +1,5 @@
+-- The body of an event of kind 7 has one size: a body of another is no such record,
+-- and one of that size is its words, two addresses of 4 bytes and its tail.
 use Rattle.std.proofs.Common.{ap, ◌∙◌, take, drop, arith}
 use Rattle.unified2_out.proofs.Bodies.{size-7, event-of}
 use Rattle.unified2_out.proofs.read.event.Goals as goal

@@ -1,3 +1,4 @@
+-- Nine words, two ports and four octets, read where they are, are the numbers of the event.
 use Rattle.std.proofs.Common.{ℕ, ap, refl, subst, List, arith}
 use Rattle.byteorder.specs.Endian.{big_number, IsRead}
 use Rattle.unified2_out.proofs.Numbers.{places}

@@ -1,3 +1,4 @@
+-- A body of kind 72 is its words, two addresses of 16 bytes and its tail, so one of any other size is no such record.
 use Rattle.std.proofs.Common.{ap, ◌∙◌, take, drop, arith}
 use Rattle.unified2_out.proofs.Bodies.{size-72, event-of-6}
 use Rattle.unified2_out.proofs.read.event_ip6.Goals as goal

@@ -1,3 +1,5 @@
+-- A frame is a kind, a length and as many bytes, no more than 1,048,576:
+-- where these aren't all there no frame is at the front, else it is this one.
 use Rattle.std.proofs.Common.{◌≤◌, length, ap, ◌∙◌, take, inl, inr, arith}
 use Rattle.std.proofs.lemmas.List.{take_rest, length-drop}
 use Rattle.byteorder.specs.Endian.{big_number}

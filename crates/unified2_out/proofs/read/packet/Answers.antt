@@ -1,3 +1,5 @@
+-- A packet's body has seven numbers and then as many bytes as the last says:
+-- a shorter body or another count is no packet, and else this is the one.
 use Rattle.std.proofs.Common.{refl, ap, ◌∙◌, drop, arith}
 use Rattle.byteorder.specs.Endian.{big_number}
 use Rattle.unified2_out.proofs.Bodies.{size-2, packet-of}

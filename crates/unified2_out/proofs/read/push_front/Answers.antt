@@ -1,3 +1,4 @@
+-- The front has no record where it has no frame, or a frame of no record; else that record is the front's, and is appended.
 use Rattle.unified2_out.proofs.Walks.{front-no_frame, front-no_record, front-record}
 use Rattle.unified2_out.proofs.read.push_front.Goals as goal
 

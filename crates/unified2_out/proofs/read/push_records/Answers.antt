@@ -1,3 +1,5 @@
+-- The records that end at `place` were added; each has bytes, so the place
+-- rises, and where no record begins the bytes are bad from there on.
 use Rattle.std.proofs.Common.{◌∙◌, ap, take, length, arith}
 use Rattle.unified2_out.proofs.Walks.{front-size, walk-start, walk-step, walk-bad, walk-kept}
 use Rattle.unified2_out.proofs.read.push_records.Goals as goal

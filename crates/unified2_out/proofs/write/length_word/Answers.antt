@@ -1,3 +1,4 @@
+-- What a number has above 2 ^ 32 doesn't show in its four bytes, so the sum may be taken modulo that.
 use Rattle.std.proofs.Common.{◌≡◌, ◌+◌, ◌%◌, ap, ◌∙◌, arith}
 use Rattle.byteorder.specs.Endian.{big_bytes}
 use Rattle.unified2_out.proofs.Numbers.{words-modulo}

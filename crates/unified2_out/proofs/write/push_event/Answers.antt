@@ -1,3 +1,4 @@
+-- An event's text is its head, its two addresses and its tail, which are appended one after another.
 use Rattle.unified2_out.proofs.Writing.{event-appended}
 use Rattle.unified2_out.proofs.write.push_event.Goals as goal
 

@@ -1,3 +1,4 @@
+-- The text of a frame is its kind, its body's length and its body, which are appended in this order.
 use Rattle.std.proofs.Common.{◌≡◌, ◌+◌, length, ap, ◌∙◌, arith}
 use Rattle.byteorder.specs.Endian.{big_bytes}
 use Rattle.unified2_out.proofs.Writing.{frame-appended}

@@ -1,3 +1,4 @@
+-- A packet's text is nine words and then its bytes; the two words that tell lengths have the same four bytes modulo 2 ^ 32.
 use Rattle.std.proofs.Common.{◌≡◌, ◌+◌, length, refl, ap, ◌∙◌, arith}
 use Rattle.byteorder.specs.Endian.{big_bytes}
 use Rattle.unified2_out.specs.Records.{packet_of}

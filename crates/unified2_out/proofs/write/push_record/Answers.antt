@@ -1,3 +1,4 @@
+-- A record that is neither event nor packet has as its text the frame of its kind and its bytes.
 use Rattle.std.proofs.Common.{ap, ◌∙◌, ◌++◌, sym, ℕ, List}
 use Rattle.std.proofs.lemmas.Result.{on_ok_weaker}
 use Rattle.unified2_out.specs.Records.{frame_text, unified2_text}

@@ -1,3 +1,4 @@
+-- The new filters are those of no item, and what was counted is 0, as the tally of no item is.
 use Rattle.std.proofs.Common.{refl}
 use Rattle.alert_lines.specs.Showing.{tally_of}
 use Rattle.alert_lines.proofs.writer.AlertWriter.new.Goals as goal

@@ -1,3 +1,5 @@
+-- The hits of the jobs are shown one after another, and all items are counted at once, with those that no rule matches:
+-- `shows_matches`; where a step fails, a part was shown.
 use Rattle.std.proofs.lemmas.Result.{err_from_is_err_and}
 use Rattle.alert_lines.specs.Sourcing.{source_by}
 use Rattle.alert_lines.proofs.Matching.{matches_nothing, matches_part, shows_matches}

@@ -1,3 +1,5 @@
+-- Jobs are taken in their order, each with the record of its place: the items of one job more are shown after those of the
+-- jobs before it (`jobs_step`).
 use Rattle.std.proofs.Common.{◌≡◌, refl, take, arith}
 use Rattle.std.proofs.lemmas.List.{take_all}
 use Rattle.std.proofs.lemmas.Result.{err_from_is_err_and}

@@ -1,3 +1,5 @@
+-- The filters keep some of the item's rules, whose lines are made, and then the item is counted: three steps that make
+-- `shows_one`, or a part of it where one of them fails.
 use Rattle.std.proofs.Common.{ap, refl, ℕ, List}
 use Rattle.std.specs.Prelude.{length}
 use Rattle.std.proofs.lemmas.Result.{err_from_is_err_and}

@@ -1,3 +1,5 @@
+-- The items of a job are all beside the same record, and one item more is shown after those before it
+-- (`items_step`), or a part of its lines.
 use Rattle.std.proofs.Common.{◌≡◌, take, arith}
 use Rattle.std.proofs.lemmas.List.{take_all}
 use Rattle.std.proofs.lemmas.Result.{err_from_is_err_and}

@@ -1,3 +1,5 @@
+-- A read notes the bytes that it gave: files that agree with the
+-- notes had just these next, and none if no file of theirs was open.
 use Rattle.std.proofs.Common.{rules}
 use Rattle.edge_io.specs.Told.{before}
 use Rattle.edge_io.proofs.Hearing.{taken_by, unopened_by}

@@ -1,3 +1,5 @@
+-- Empty windows stand for no event at all, so with the tables of this
+-- configuration and these rules the filters stand for no item given.
 use Rattle.event_filters.proofs.Given.{given-none}
 use Rattle.event_filters.proofs.filters.Filters.new.Goals as goal
 

@@ -1,3 +1,5 @@
+-- An item's matches go through the detection filters, the queue and the
+-- event filters in this order; to make room for them changes no window.
 use Rattle.std.proofs.Common.{ℕ, List, refl, subst}
 use Rattle.event_filters.specs.Standing.{FiltersState, Passes}
 use Rattle.event_filters.proofs.Given.{passes-from}

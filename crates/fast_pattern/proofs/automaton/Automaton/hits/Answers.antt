@@ -1,3 +1,5 @@
+-- Nothing begins before the first place, so no marks cover it (`covers-none`); once all bytes are covered, what is marked
+-- are the hits (`covers-all`).
 use Rattle.std.proofs.Common.{List, ℕ, length, sym, subst, arith}
 use Rattle.fast_pattern.specs.Finding.{Covers}
 use Rattle.fast_pattern.proofs.Covering.{covers-none, covers-all}

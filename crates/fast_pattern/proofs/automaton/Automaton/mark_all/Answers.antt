@@ -1,3 +1,5 @@
+-- Between two walks the sieve's skip loses nothing, since no pattern begins at a place that it passes (`covers-skipped`); so
+-- each turn covers up to where its walk ended.
 use Rattle.std.proofs.Common.{◌≡◌, ℕ, length, subst, arith}
 use Rattle.fast_pattern.specs.Finding.{Covers}
 use Rattle.fast_pattern.proofs.Covering.{covers-skipped}

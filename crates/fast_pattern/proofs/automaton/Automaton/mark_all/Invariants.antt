@@ -1,3 +1,4 @@
+-- The loop of `mark_all` has marked and listed all patterns that begin before `done`; the bytes after `done` grow fewer.
 use Rattle.std.proofs.Common.{◌-◌, ◌≤◌, length}
 use Rattle.fast_pattern.specs.Finding.{CoversOn}
 use Rattle.fast_pattern.proofs.automaton.Automaton.mark_all.Given as goal

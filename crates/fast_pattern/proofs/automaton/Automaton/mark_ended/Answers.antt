@@ -1,3 +1,4 @@
+-- The chain that `follow` marks is that of the state with the place: its head is that state's in `heads` (`marks-chain`).
 use Rattle.std.proofs.Common.{◌≡◌, ℕ, ◌<◌, List, slice_index, ap, subst, ◌∙◌}
 use Rattle.fast_pattern.specs.Rows.{state_of}
 use Rattle.fast_pattern.specs.Finding.{Follows}

@@ -1,3 +1,5 @@
+-- Each byte goes on with the walk by `step` and `note` (`walks-more`), and at the end of the payload no pattern is left
+-- unended, so all are covered (`covers-whole`).
 use Rattle.std.proofs.Common.{slice_index, refl}
 use Rattle.fast_pattern.proofs.Walking.{walks-none, walks-more}
 use Rattle.fast_pattern.proofs.Covering.{covers-whole}

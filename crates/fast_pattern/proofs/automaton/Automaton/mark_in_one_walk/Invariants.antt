@@ -1,3 +1,4 @@
+-- The loop of `mark_in_one_walk` is at the state after the bytes so far, and what ended in them is marked and listed.
 use Rattle.std.proofs.Common.{take}
 use Rattle.fast_pattern.specs.Words.{word_of}
 use Rattle.fast_pattern.specs.Finding.{Walks}

@@ -1,3 +1,4 @@
+-- `finds-made` puts together what the calls answer, since each was given the very lists that the automaton keeps.
 use Rattle.std.proofs.Common.{◌≡◌, ℕ, ◌+◌, List, length, subst, arith}
 use Rattle.fast_pattern.specs.declared.automaton.Automaton.{Automaton}
 use Rattle.fast_pattern.specs.Outputs.{AreOwned, IsLinking, AreNexts}

@@ -1,3 +1,5 @@
+-- A place and a letter within the table are a move of a row (`step-row`); past the table the state has no row, and
+-- `step_back` has its move (`step-sparse`).
 use Rattle.std.proofs.Common.{◌+◌, ◌<◌, ◌≤◌, length, ◌∙◌, arith}
 use Rattle.std.proofs.lemmas.List.{get_or_default}
 use Rattle.fast_pattern.proofs.Stepping.{step-row, step-sparse}

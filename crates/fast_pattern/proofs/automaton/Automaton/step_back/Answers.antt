@@ -1,3 +1,5 @@
+-- The way back along the fails ends at a state that is longer by the letter, to which the move is (`back-child`), or at one
+-- with a row, which has the move (`back-row`).
 use Rattle.std.proofs.Common.{ℕ, ◌+◌, ◌*◌, List, slice_index, ap, subst, ◌∙◌, arith}
 use Rattle.fast_pattern.specs.Moves.{Reaches}
 use Rattle.fast_pattern.proofs.Stepping.{back-child, back-row}

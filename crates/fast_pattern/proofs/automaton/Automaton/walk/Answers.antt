@@ -1,3 +1,5 @@
+-- At a state of at most three letters no pattern that began before the last three bytes is still unended, so these may be
+-- given back (`covers-walked`); at the end of the bytes none is.
 use Rattle.std.proofs.Common.{◌≡◌, ℕ, ◌+◌, ◌-◌, ◌/◌, ◌≤◌, inl, inr, slice_index, take, drop, refl, subst, arith}
 use Rattle.fast_pattern.specs.Words.{word_of}
 use Rattle.fast_pattern.specs.Finding.{Walks}

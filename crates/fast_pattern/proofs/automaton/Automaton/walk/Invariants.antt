@@ -1,3 +1,5 @@
+-- The loop of `walk` is at the state after the bytes from `from` to `done`, and what ended in them is marked and listed; the
+-- bytes after `done` grow fewer.
 use Rattle.std.proofs.Common.{◌-◌, ◌≤◌, length, take, drop}
 use Rattle.fast_pattern.specs.Words.{word_of}
 use Rattle.fast_pattern.specs.Finding.{Walks}

@@ -1,3 +1,4 @@
+-- A trie that grows keeps the numbers of its words, so one pattern's next end leaves all others right (`between-more`).
 use Rattle.std.proofs.Common.{ℕ, ◌+◌, List, [], sym, refl, subst, ◌∙◌}
 use Rattle.std.proofs.lemmas.List.{get_or_read}
 use Rattle.fast_pattern.specs.Growing.{AreBetween}

@@ -1,3 +1,4 @@
+-- The first `place` patterns end a letter deeper than the others, and no word of the trie has more than `depth + 1` letters.
 use Rattle.std.proofs.Common.{◌≡◌, ◌+◌}
 use Rattle.fast_pattern.specs.Words.{IsTrie, words_of}
 use Rattle.fast_pattern.specs.Growing.{AreBetween}

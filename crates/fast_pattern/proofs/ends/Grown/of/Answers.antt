@@ -1,3 +1,5 @@
+-- At first all patterns end at the empty word (`at-none`); grown as deep as the longest one, the trie has each of them whole
+-- (`grown-all`).
 use Rattle.std.proofs.Common.{◌≡◌, ℕ, ◌+◌, List, length, replicate, subst, sym, arith}
 use Rattle.fast_pattern.specs.Words.{words_of}
 use Rattle.fast_pattern.specs.Growing.{AreAt}

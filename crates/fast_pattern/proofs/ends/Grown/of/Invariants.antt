@@ -1,3 +1,4 @@
+-- Each pattern's first `depth` letters end at its state, in a trie as wide as there are letters.
 use Rattle.std.proofs.Common.{◌≡◌}
 use Rattle.fast_pattern.specs.Words.{IsTrie, words_of}
 use Rattle.fast_pattern.specs.Growing.{AreAt}

@@ -1,3 +1,5 @@
+-- The doors let in each item that some header fits, so one that they don't has no candidates, and nothing is to be appended
+-- (`none-let-in`).
 use Rattle.std.proofs.Common.{ℕ, List, ◌++◌, sym, ap, ◌∙◌}
 use Rattle.std.proofs.lemmas.List.{append-nil}
 use Rattle.fast_pattern.specs.Doors.{lets_in}

@@ -1,3 +1,5 @@
+-- Sorted and without repeats, those of the hits and the due rules whose headers fit are the candidates, for two ascending
+-- lists with the same members are one (`candidates-are`).
 use Rattle.std.proofs.Common.{◌≡◌, ℕ, List, ◌++◌, eqb, ap, ◌∙◌, arith}
 use Rattle.std.specs.List.{filter, dedup}
 use Rattle.std.proofs.lemmas.List.{get_or_default}

@@ -1,3 +1,4 @@
+-- What was kept are those of the places so far whose rules' headers fit.
 use Rattle.std.proofs.Common.{◌≡◌, take}
 use Rattle.std.specs.List.{filter}
 use Rattle.fast_pattern.specs.Grouping.{fits_at}

@@ -1,3 +1,4 @@
+-- The headers so far are what is asked of the rules so far, in their order.
 use Rattle.std.proofs.Common.{◌≡◌, map, take}
 use Rattle.fast_pattern.specs.Grouping.{asked_of}
 use Rattle.fast_pattern.proofs.groups.Groups.headers.Given as goal

@@ -1,3 +1,5 @@
+-- A place that passes the test is the next of the numbers that do (`numbers-more`), and one that doesn't is left out
+-- (`numbers-skip`).
 use Rattle.std.proofs.Common.{sym, ap, ◌∙◌}
 use Rattle.fast_pattern.specs.Kinds.{is_plain}
 use Rattle.fast_pattern.proofs.Ordering.{numbers-start, numbers-more, numbers-skip}

@@ -1,3 +1,4 @@
+-- `plain` has the places below `place` that pass `is_plain`, in ascending order.
 use Rattle.std.proofs.Common.{◌≡◌}
 use Rattle.fast_pattern.specs.Kinds.{is_plain}
 use Rattle.fast_pattern.specs.Finding.{numbers}

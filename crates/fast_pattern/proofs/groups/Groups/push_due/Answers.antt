@@ -1,3 +1,5 @@
+-- With ports the indexes of both sides add the rules that are due (`sides-due`); without ports all rules of the kind's list
+-- are (`list-due`).
 use Rattle.std.proofs.Common.{◌≡◌, ℕ, List, ◌++◌, ◌||◌, sym, ap, subst, refl, ◌∙◌, ⊎_elim}
 use Rattle.packet_decode.specs.declared.packet.Body.{Body}
 use Rattle.packet_decode.specs.declared.packet.Body.TheVariants as body

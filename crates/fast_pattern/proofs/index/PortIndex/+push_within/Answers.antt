@@ -1,3 +1,5 @@
+-- A port lies in the block itself and in blocks of the half that has it, so the entries at the one number and those of that
+-- half are all (`within-part`).
 use Rattle.std.proofs.Common.{◌≡◌, ℕ, ◌+◌, ◌-◌, ◌*◌, ◌^◌, ◌<◌, ◌≤◌, ◌==◌, suc, sym, ap, subst, ◌∙◌, arith, ⊎_elim}
 use Rattle.std.proofs.lemmas.Bool.{cases_lt}
 use Rattle.fast_pattern.specs.Blocks.{number, lies_in, AddFiled}

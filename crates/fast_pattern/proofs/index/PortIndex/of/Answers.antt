@@ -1,3 +1,4 @@
+-- The blocks that are chained are the entries' own, so they are below 131072, as the entries' are.
 use Rattle.std.proofs.Common.{◌≡◌, ℕ, ◌<◌, List, All, sym, subst, ◌∙◌, ap}
 use Rattle.std.proofs.lemmas.List.Elements.{All-map}
 use Rattle.fast_pattern.specs.declared.index.Entry.{Entry}

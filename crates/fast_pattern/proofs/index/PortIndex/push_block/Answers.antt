@@ -1,3 +1,5 @@
+-- From the block's head each entry leads to the one before it of the same block, so where the chain ends all of them were
+-- added (`followed-all`).
 use Rattle.std.proofs.Common.{◌≡◌, ℕ, ◌-◌, List, [], ◌∷◌, ◌++◌, min, slice_index, ap, subst, ◌∙◌, arith}
 use Rattle.fast_pattern.specs.declared.index.Entry.{Entry}
 use Rattle.fast_pattern.specs.Blocks.{entry_at, IsFollowed}

@@ -1,3 +1,4 @@
+-- What was added, with what the first `at` entries still have at the block, is all that is to be added; `at` falls.
 use Rattle.fast_pattern.specs.Blocks.{IsFollowed}
 use Rattle.fast_pattern.proofs.index.PortIndex.push_block.Given as goal
 

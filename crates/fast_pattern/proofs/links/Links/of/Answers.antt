@@ -1,3 +1,5 @@
+-- A state's chain begins with its own last pattern, or else with the chain of the state that it fails to, an earlier one,
+-- which is linked already (`linking-more`).
 use Rattle.std.proofs.Common.{◌≡◌, ℕ, List, slice_index, ap, subst, ◌∙◌}
 use Rattle.fast_pattern.specs.Moves.{FailsTo}
 use Rattle.fast_pattern.specs.Outputs.{either}

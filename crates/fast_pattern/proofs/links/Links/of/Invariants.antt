@@ -1,3 +1,4 @@
+-- The states below `state` have their fails and the heads of their chains.
 use Rattle.fast_pattern.specs.Outputs.{IsLinking}
 use Rattle.fast_pattern.proofs.links.Links.of.Given as goal
 

@@ -1,3 +1,5 @@
+-- A pattern that becomes the last of its state has the last one until then as its `same` (`owned-more`), and the lent slice
+-- gives back just that (`lent-back`).
 use Rattle.std.proofs.Common.{◌≡◌, ℕ, ◌+◌, List, ◌∷◌, [], ◌++◌, length, slice_index, sym, ap, subst, ◌∙◌}
 use Rattle.fast_pattern.specs.Outputs.{AreOwned, owned_by}
 use Rattle.fast_pattern.proofs.Filling.{owned-more, lent-back}

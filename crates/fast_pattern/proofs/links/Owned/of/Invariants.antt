@@ -1,3 +1,4 @@
+-- `firsts` has the last of the first `place` patterns at each state, and `sames` the one before each of them.
 use Rattle.fast_pattern.specs.Outputs.{AreOwned}
 use Rattle.fast_pattern.proofs.links.Owned.of.Given as goal
 

@@ -1,3 +1,4 @@
+-- `insert` answers whether the place is new to the set (`answer-is`), and adds it alone (`marks-added`).
 use Rattle.fast_pattern.proofs.Marking.{answer-is, marks-added}
 use Rattle.fast_pattern.proofs.seen.Seen.mark.Goals as goal
 

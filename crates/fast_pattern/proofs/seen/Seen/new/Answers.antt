@@ -1,3 +1,4 @@
+-- A set that is empty has no place (`none-marked`).
 use Rattle.fast_pattern.proofs.Marking.{none-marked}
 use Rattle.fast_pattern.proofs.seen.Seen.new.Goals as goal
 

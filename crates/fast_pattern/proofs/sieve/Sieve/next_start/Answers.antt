@@ -1,3 +1,4 @@
+-- Two skips in a row are one (`skips-trans`), and in a rest shorter than any pattern none begins (`skips-end`).
 use Rattle.std.proofs.Common.{arith}
 use Rattle.fast_pattern.proofs.Sieving.{skips-trans, skips-end}
 use Rattle.fast_pattern.proofs.sieve.Sieve.next_start.Goals as goal

@@ -1,3 +1,5 @@
+-- The stride and a window's letters exceed the shortest length by no more than one, so all windows lie whole within their
+-- patterns (`sifts-made`).
 use Rattle.std.proofs.Common.{arith}
 use Rattle.fast_pattern.specs.declared.sieve.Sieve.{Sieve}
 use Rattle.fast_pattern.proofs.Sieving.{sifts-made}

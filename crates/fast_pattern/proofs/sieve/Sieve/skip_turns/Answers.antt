@@ -1,3 +1,4 @@
+-- Four bits whose sum is 0 are 0 each, so a turn is four skips of one window (`skips-more`).
 use Rattle.std.proofs.Common.{◌≡◌, ℕ, ◌+◌, ◌-◌, ◌*◌, ap, subst, ◌∙◌, arith}
 use Rattle.fast_pattern.specs.Sieving.{window_bit, Skips}
 use Rattle.fast_pattern.proofs.Sieving.{skips-none, skips-more}

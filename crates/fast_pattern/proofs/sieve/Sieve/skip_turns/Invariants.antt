@@ -1,3 +1,4 @@
+-- In the turns so far no pattern begins from `from` on and before `to`; the bytes after `to` grow fewer.
 use Rattle.std.proofs.Common.{◌-◌, ◌≤◌, length}
 use Rattle.fast_pattern.specs.Sieving.{Skips}
 use Rattle.fast_pattern.proofs.sieve.Sieve.skip_turns.Given as goal

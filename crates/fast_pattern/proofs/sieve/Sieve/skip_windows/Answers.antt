@@ -1,3 +1,4 @@
+-- Where a window's slot isn't set, no pattern begins at the places up to it that the stride takes (`skips-more`).
 use Rattle.std.proofs.Common.{arith}
 use Rattle.fast_pattern.proofs.Sieving.{skips-none, skips-more}
 use Rattle.fast_pattern.proofs.sieve.Sieve.skip_windows.Goals as goal

@@ -1,3 +1,4 @@
+-- By the windows so far no pattern begins from `from` on and before `to`; the bytes after `to` grow fewer.
 use Rattle.std.proofs.Common.{◌-◌, ◌≤◌, length}
 use Rattle.fast_pattern.specs.Sieving.{Skips}
 use Rattle.fast_pattern.proofs.sieve.Sieve.skip_windows.Given as goal

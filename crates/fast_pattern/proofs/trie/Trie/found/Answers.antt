@@ -1,3 +1,5 @@
+-- From `firsts` on by `same` each child of the state is met, so where the chain ends without the letter no child has it
+-- (`seek-end`).
 use Rattle.std.proofs.Common.{◌≡◌, ◌-◌, min, List, sym, ap, ◌∙◌, arith}
 use Rattle.fast_pattern.specs.declared.trie.Step.{Step}
 use Rattle.fast_pattern.specs.Words.{step_at}

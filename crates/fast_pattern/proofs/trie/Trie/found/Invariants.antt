@@ -1,3 +1,4 @@
+-- A child by the letter, if there is one, is a state no later than `at`; `at` falls.
 use Rattle.fast_pattern.specs.Words.{IsSeeking}
 use Rattle.fast_pattern.proofs.trie.Trie.found.Given as goal
 

@@ -1,3 +1,4 @@
+-- Without a step the only word is the empty one (`words-none`), and it has no child (`empty-trie`).
 use Rattle.std.proofs.Common.{List, ℕ, ◌∷◌, [], ◌++◌, sym, ap, subst, ◌∙◌}
 use Rattle.fast_pattern.specs.declared.trie.Trie.{Trie}
 use Rattle.fast_pattern.specs.Words.{words_of, IsTrieOf}

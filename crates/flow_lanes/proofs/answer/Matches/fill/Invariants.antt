@@ -1,3 +1,5 @@
+-- The loop of `fill` has the entries of the jobs so far and the sums of their items and candidates; each job adds less than
+-- 2^64, so that the sums fit `u128`.
 use Rattle.std.proofs.Common.{◌≡◌, ◌*◌, ◌≤◌, length, map}
 use Rattle.std.specs.Prelude.{sum_by}
 use Rattle.flow_lanes.proofs.answer.Matches.fill.Given as goal

@@ -1,3 +1,5 @@
+-- What `answer_batch` says of the workers' lanes is what `batch` promises of `Lanes`, whose view has these lanes; what is
+-- asked of the jobs is known, since no batch failed before.
 use Rattle.std.proofs.Common.{◌≡◌, false, Some, length, ap, sym, ◌∙◌, arith, rules}
 use Rattle.std.specs.Prelude.{fold}
 use Rattle.std.proofs.lemmas.List.{with_items_is}

@@ -1,3 +1,5 @@
+-- `match_batch` speaks of the workers' lanes, `search` of the view of `Lanes`: the view's lanes are those of the workers,
+-- before the batch and after it.
 use Rattle.std.proofs.Common.{◌≡◌, false, Some, length, ap, sym, ◌∙◌, arith, rules}
 use Rattle.std.specs.Prelude.{fold}
 use Rattle.std.proofs.lemmas.List.{with_items_is}

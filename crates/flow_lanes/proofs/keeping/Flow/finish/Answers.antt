@@ -1,3 +1,5 @@
+-- The end of a flow tries the items of its closing session from an empty tally, which are those of `finish_items`;
+-- `end_session` lets no session reach further, so that the invariant holds.
 use Rattle.std.proofs.Common.{◌≡◌, length, subst}
 use Rattle.flow_lanes.specs.Flows.{all_items, hits_in, session_at_hand}
 use Rattle.flow_lanes.specs.ItemHits.{told}

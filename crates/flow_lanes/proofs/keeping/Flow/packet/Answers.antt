@@ -1,3 +1,5 @@
+-- A flow has fewer than 2^32 packets before this one, and each moves its session on by 2^31 places at most: so the session
+-- is found within reach, and the packet keeps the invariant.
 use Rattle.std.proofs.Common.{Some, length, subst, sym}
 use Rattle.flow_lanes.specs.Detecting.{DetectsOn}
 use Rattle.flow_lanes.specs.Flows.{session_at_hand}

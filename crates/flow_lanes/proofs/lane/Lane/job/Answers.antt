@@ -1,3 +1,5 @@
+-- An inspector that tells all items makes what `search` finds of a job its answer, and `tries` the number of its candidates:
+-- the lemmas `answers-job` and `counts-tries`.
 use Rattle.flow_lanes.proofs.Jobs.IsDone.{answers-job, counts-tries}
 use Rattle.flow_lanes.proofs.lane.Lane.job.Goals as goal
 

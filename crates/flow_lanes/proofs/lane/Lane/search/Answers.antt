@@ -1,3 +1,5 @@
+-- What `do_work` does to the flows is what the definition does to those of the lane's view, whose settings stay: so the job
+-- is searched (`searches-job`), and the lane has learnt of it.
 use Rattle.std.proofs.Common.{length, refl, subst, sym}
 use Rattle.flow_lanes.specs.Sound.{IsSoundFor}
 use Rattle.flow_lanes.specs.Standing.{LaneState, LearnsJob, known_of}

@@ -1,3 +1,5 @@
+-- Data and acknowledgement change different sides, so that with the data first the session is the same (`data_first`), and
+-- each side comes further once (`grow-both`).
 use Rattle.std.proofs.Common.{◌+◌, ◌-◌, ◌^◌, ap, ◌∙◌}
 use Rattle.flow_lanes.specs.Given.{packet_of}
 use Rattle.flow_lanes.specs.Sessions.{after_ack, is_from_client, sizes_of}

@@ -1,3 +1,5 @@
+-- What was left of ended stretches and then all that is held, both with the session's last sizes, are its closing
+-- items: the lemma `closing-is`.
 use Rattle.std.proofs.lemmas.Result.{on_ok_weaker}
 use Rattle.flow_lanes.proofs.Sessions.ItemsOn.{closing-is}
 use Rattle.flow_lanes.proofs.session.Session.close.Goals as goal

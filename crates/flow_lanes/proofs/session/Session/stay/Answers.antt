@@ -1,3 +1,5 @@
+-- Where neither side has anything left, the phases' own `stay` tells the whole step, and the session changes in its state
+-- alone: the lemma `stays-in`.
 use Rattle.std.proofs.Common.{length, Some, refl, sym, ◌∙◌}
 use Rattle.flow_lanes.specs.Given.{making_of, packet_of}
 use Rattle.flow_lanes.proofs.Sessions.StaysAt.{stays-in}

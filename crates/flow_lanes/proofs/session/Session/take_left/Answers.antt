@@ -1,3 +1,4 @@
+-- Where neither side has anything left, that no stretches were taken tells all of it: the lemma `none-told`.
 use Rattle.std.proofs.Common.{Option, sym, subst}
 use Rattle.flow_lanes.specs.declared.session.Stretches.{Stretches}
 use Rattle.flow_lanes.specs.Working.{TellsLeft}

@@ -1,3 +1,4 @@
+-- The stretches of both sides tell all that is left, even where that is nothing: the lemma `all-told`.
 use Rattle.std.proofs.Common.{Option, sym, subst}
 use Rattle.flow_lanes.specs.declared.session.Stretches.{Stretches}
 use Rattle.flow_lanes.specs.Working.{TellsLeft}

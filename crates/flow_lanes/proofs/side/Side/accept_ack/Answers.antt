@@ -1,3 +1,5 @@
+-- Where the acknowledgement flushes, its runs, cut, are the payloads of the definition (`acked-cut`); where it doesn't, the
+-- definition has none either (`acked-none`).
 use Rattle.std.proofs.Common.{ℕ, List, Ok, ◌++◌, sym, ap, subst, ◌∙◌}
 use Rattle.std.proofs.lemmas.List.{append-nil}
 use Rattle.overlap_core.specs.declared.segment.Run.{Run}

@@ -1,3 +1,5 @@
+-- A started direction gives the runs of all its places up to the top, which, cut, are what it holds; a direction that isn't
+-- started is idle, and holds nothing.
 use Rattle.std.proofs.Common.{List, ap, subst, sym, ◌∙◌}
 use Rattle.overlap_core.specs.declared.segment.Run.{Run}
 use Rattle.stream5_reassembly.specs.Segments.{AppendsFlushed, top}

@@ -1,3 +1,4 @@
+-- A side that is off and whose direction isn't started has an idle direction, and so nothing left: the lemma `none-left`.
 use Rattle.flow_lanes.proofs.Sessions.Sides.{none-left}
 use Rattle.flow_lanes.proofs.side.Side.has_left.Goals as goal
 

@@ -1,3 +1,4 @@
+-- Without words no bit is set, and the empty set has no number.
 use Rattle.std.proofs.Common.{ap, sym, ◌∙◌}
 use Rattle.std.specs.Prelude.{unwrap_or, option_map}
 use Rattle.std.specs.FinSet.{empty, contains, contains-empty}

@@ -1,3 +1,4 @@
+-- `word_with` changes one bit of one word, and all others of the 1024 are as they were (`set_in-changed`).
 use Rattle.std.proofs.Common.{ap, ◌∙◌, arith}
 use Rattle.flowbit_state.specs.Changes.{changed}
 use Rattle.flowbit_state.proofs.WordLaws.{set_in-changed, is_set-slice_set}

@@ -1,3 +1,5 @@
+-- A bit below 1024 is the bit `bit % 64` of the word that is found (`test_at`); where no word is found the number is past
+-- all bits, and in no set of words (`test_past`).
 use Rattle.std.proofs.Common.{rules}
 use Rattle.flowbit_state.proofs.WordLaws.{test_past, test_at}
 use Rattle.flowbit_state.proofs.words.Words.test.Goals as goal

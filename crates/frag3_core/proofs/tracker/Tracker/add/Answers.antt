@@ -1,3 +1,5 @@
+-- Where no room is made, the length isn't known, or fewer bytes are held than it has places, so that one has none; so the
+-- datagram is whole just where the room was filled (`datagram_by_room`).
 use Rattle.std.proofs.Common.{◌≡◌, ◌*◌, ◌-◌, ◌^◌, ◌≤◌, ◌∷◌, [], ◌++◌, min, ap, ◌∙◌, arith}
 use Rattle.std.specs.Option.{ForSome}
 use Rattle.std.proofs.lemmas.Grind.{common_steps}

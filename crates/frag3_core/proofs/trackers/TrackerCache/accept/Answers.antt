@@ -1,3 +1,5 @@
+-- A fragment by which a tracker grows is the definition's step (`takes-grown`), and so is one that begins a tracker
+-- (`takes-begun`); no step leaves more than the most held (`held_count-takes`).
 use Rattle.std.proofs.Common.{◌≡◌, ◌≤◌, true, false, ap, subst, sym, ◌∙◌}
 use Rattle.std.proofs.lemmas.Result.{IfOk-weaker}
 use Rattle.frag3_core.specs.Parts.{Begins, Grows, Takes, is_kept}

@@ -1,3 +1,5 @@
+-- The tracker that is found gets one fragment more, so all trackers hold one more (`held_count-set`) under the same keys;
+-- without memory it is set to what it was (`set_value_same`).
 use Rattle.std.proofs.Common.{◌≡◌, ◌+◌, Some, length, sym, ap, ◌∙◌, arith, length-append}
 use Rattle.std.specs.Map.{lookup, set_value}
 use Rattle.std.proofs.lemmas.Map.Steps.{set_value_same}

@@ -1,3 +1,5 @@
+-- Without the first tracker as many fragments fewer are held as it had (`held_count-drop`), and the others' keys are still
+-- apart (`AreTrackers-drop`).
 use Rattle.std.proofs.Common.{ap, drop, arith}
 use Rattle.frag3_core.specs.Parts.{frags_in}
 use Rattle.frag3_core.proofs.Entries.{AreTrackers-drop, held_count-drop, is_cache}

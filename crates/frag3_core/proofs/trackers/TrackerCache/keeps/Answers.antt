@@ -1,3 +1,5 @@
+-- The cache finds what `lookup` by the key finds (`key_test`), and its counter is the number of all fragments, so the code's
+-- comparison with `most` is the definition's.
 use Rattle.std.proofs.Common.{◌≡◌, Some, sym, ap, ◌∙◌, arith}
 use Rattle.std.specs.Map.{lookup}
 use Rattle.std.proofs.lemmas.Bool.Decides.{nat_tests}

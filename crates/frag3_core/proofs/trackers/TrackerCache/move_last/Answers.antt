@@ -1,3 +1,5 @@
+-- With one tracker put last there are the same ones: as many fragments are held (`held_count-demoted`), and no two keys are
+-- one (`AreTrackers-demoted`).
 use Rattle.std.proofs.Common.{sym, ap, ◌∙◌}
 use Rattle.lru.specs.LruCache.{lru_cache, demoted}
 use Rattle.frag3_core.specs.Trackers.{same_key}

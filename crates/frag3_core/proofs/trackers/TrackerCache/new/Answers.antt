@@ -1,3 +1,4 @@
+-- A new cache is empty: it holds no fragment, as its counter says, and no two keys are one (`AreTrackers-nil`).
 use Rattle.std.proofs.Common.{refl}
 use Rattle.frag3_core.proofs.Entries.{is_cache, AreTrackers-nil}
 use Rattle.frag3_core.proofs.trackers.TrackerCache.new.Goals as goal

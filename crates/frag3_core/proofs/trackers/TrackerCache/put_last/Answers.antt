@@ -1,3 +1,5 @@
+-- There are no more trackers than fragments (`length-le`), so the cache has room for one more; after `put` and `demote` that
+-- is the last, in place of any of its key (`put_last_is`).
 use Rattle.std.proofs.Common.{◌<◌, [], ◌∷◌, ◌++◌, length, ap, ◌∙◌, arith}
 use Rattle.std.specs.Map.{lookup, remove_entry}
 use Rattle.lru.specs.LruCache.{LruCache}

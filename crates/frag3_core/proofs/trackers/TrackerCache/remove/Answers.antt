@@ -1,3 +1,5 @@
+-- Without the tracker of the key as many fragments fewer are held as it had (`held_count-remove`), and the others' keys are
+-- still apart (`AreTrackers-remove`).
 use Rattle.std.proofs.Common.{ap, ◌∙◌, arith}
 use Rattle.std.specs.Map.{lookup, remove_entry}
 use Rattle.lru.specs.LruCache.{lru_cache}

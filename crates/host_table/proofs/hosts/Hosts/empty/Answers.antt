@@ -1,3 +1,4 @@
+-- An empty map, and lengths of which none is marked, index the empty list of entries: the lemma `indexed-nil`.
 use Rattle.host_table.proofs.Indexed.{indexed-nil}
 use Rattle.host_table.proofs.hosts.Hosts.empty.Goals as goal
 

@@ -1,3 +1,5 @@
+-- Prefix lengths are tried from the longest one down, and an address has one network of each: so the first that an entry has
+-- gives the entry with the longest prefix.
 use Rattle.std.proofs.Common.{◌≡◌, ◌+◌, ◌-◌, length, get_or, Some, sym, ap, ◌∙◌, arith}
 use Rattle.std.proofs.lemmas.Bool.{eqb-true}
 use Rattle.std.proofs.lemmas.List.Elements.{All-same}

@@ -1,3 +1,5 @@
+-- In the loop of `entry` no prefix length from `length` on has given an entry, so that the answer is the one with the
+-- longest prefix below it; `length` falls.
 use Rattle.std.proofs.Common.{◌≡◌, ◌≤◌, ◌+◌}
 use Rattle.net_lists.specs.Addresses.{bits_of}
 use Rattle.host_table.specs.Hosts.{entry_at}

@@ -1,3 +1,4 @@
+-- The map has a key just where an entry has its network, since the entries are indexed (`is_given-indexed`).
 use Rattle.std.proofs.Common.{◌∙◌, ap, is_some}
 use Rattle.std.specs.BTreeMap.{get}
 use Rattle.host_table.specs.Keys.{key_cmp}

@@ -1,3 +1,4 @@
+-- A prefix length that isn't marked is no entry's, by the index, so that the map needn't be asked.
 use Rattle.std.proofs.Common.{◌∙◌, sym, ap, get_or, false}
 use Rattle.net_lists.specs.Addresses.{network_at}
 use Rattle.host_table.specs.Index.{place_of}

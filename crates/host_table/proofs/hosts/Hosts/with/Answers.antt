@@ -1,3 +1,5 @@
+-- The new entry's network has its place at the end, as no other entry has it, and its prefix length is marked: so the
+-- entries are indexed still (`indexed-push`).
 use Rattle.std.proofs.Common.{◌≡◌, ◌<◌, cond, length, Some, None, ◌∙◌, ap, arith}
 use Rattle.std.specs.BTreeMap.{get, is_at}
 use Rattle.host_table.specs.declared.key.Key.{Key}

@@ -1,3 +1,5 @@
+-- One pass over the parts decides whether the address is listed:
+-- `has_address` tells it of one part, and the lemma `listed` of all.
 use Rattle.std.proofs.Common.{◌∙◌, ap}
 use Rattle.net_lists.specs.Membership.{HasAddress}
 use Rattle.net_lists.specs.Verdicts.{has_address, is_listed}

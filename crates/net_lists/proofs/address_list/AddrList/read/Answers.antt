@@ -1,3 +1,5 @@
+-- A text spells one list of addresses at most: what was read is that list,
+-- a bad text spells none, and one too long has more than 1024 parts.
 use Rattle.net_lists.specs.Addresses.{address_bounds}
 use Rattle.net_lists.specs.Compact.{parts_of}
 use Rattle.net_lists.proofs.Starts.{address_parts}

@@ -1,3 +1,5 @@
+-- The last bits of the first address are cleared, so the last address of
+-- the network, all of them set, still fits its version's 32 or 128 bits.
 use Rattle.std.proofs.Common.{◌≤◌, subst}
 use Rattle.edge_io.specs.declared.address.Addr.{Addr}
 use Rattle.net_lists.specs.Addresses.{bits_of}

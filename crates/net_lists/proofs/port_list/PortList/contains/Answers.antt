@@ -1,3 +1,5 @@
+-- One pass over the parts decides by the lemma `listed` whether the port
+-- is listed; `has_port` decides the same, so the two answers are one.
 use Rattle.std.proofs.Common.{◌∙◌, ap}
 use Rattle.net_lists.specs.Membership.{Has}
 use Rattle.net_lists.specs.Verdicts.{is_within, is_listed}

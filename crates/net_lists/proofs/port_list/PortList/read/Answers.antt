@@ -1,3 +1,5 @@
+-- What is read is the one list of ports that the text spells; where the reader
+-- finds it bad there is none, and where too long that one has more than 1024 parts.
 use Rattle.net_lists.specs.Parts.{port_bounds}
 use Rattle.net_lists.proofs.Starts.{port_parts}
 use Rattle.net_lists.proofs.ListParts.{spelled, answer_ok, answer_bad, answer_long, is_too_long}

@@ -1,3 +1,4 @@
+-- The entry that the code finds is the variable of this name, fixed or not; where it finds none, none is fixed.
 use Rattle.net_lists.proofs.Entries.{is_fixed-found, is_fixed-lacking}
 use Rattle.net_lists.proofs.vars.Vars.is_fixed.Goals as goal
 

@@ -1,3 +1,5 @@
+-- A `$` with a form gives its variable's value, or what the form has
+-- for one that is undefined; any other byte is a piece of its own.
 use Rattle.std.proofs.Common.{arith, ap}
 use Rattle.net_lists.specs.Found.{form_of, otherwise_of_kept}
 use Rattle.net_lists.proofs.Pieces.{pieces-value, pieces-otherwise, pieces-plain, pieces-lone}

@@ -1,3 +1,5 @@
+-- An extraction that isn't relative leads alike from each place, so asking the first
+-- alone leaves the states of all; places that rise are no more than the payload has.
 use Rattle.std.proofs.Common.{◌+◌, arith, length}
 use Rattle.std.proofs.lemmas.Result.{IfOk-weaker}
 use Rattle.option_eval.proofs.Asking.{length-asked}

@@ -1,3 +1,5 @@
+-- Without a number at the place nothing is added; with one, what is added is
+-- its state: the values with that number, kept as far as they are still read.
 use Rattle.std.proofs.Common.{◌∙◌, ap, slice_set, arith, length}
 use Rattle.std.specs.Prelude.{⊤, ◌≤◌}
 use Rattle.std.proofs.lemmas.Result.{IfOk-weaker}

@@ -1,3 +1,4 @@
+-- The places before `rest` have added their states, and one place more adds its own: at the end all places have.
 use Rattle.std.proofs.Common.{◌∷◌}
 use Rattle.option_eval.specs.Extractions.{extract_option}
 use Rattle.option_eval.proofs.Extracting.{asked_none, asked_next, asked_all}

@@ -1,3 +1,5 @@
+-- Bytes end within the room just before the place that `first_past`
+-- finds, as the room and the window's start are small numbers.
 use Rattle.std.proofs.Common.{arith}
 use Rattle.std.proofs.lemmas.Int.{ints}
 use Rattle.option_eval.proofs.reach.Reach.end.Goals as goal

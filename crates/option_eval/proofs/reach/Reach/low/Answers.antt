@@ -1,3 +1,4 @@
+-- A place is within reach from below just if the window's start isn't past it, and `first_from` gives the first such place.
 use Rattle.std.proofs.Common.{arith}
 use Rattle.std.proofs.lemmas.Int.{ints}
 use Rattle.option_eval.proofs.reach.Reach.low.Goals as goal

@@ -1,3 +1,4 @@
+-- The rule and what serves its options join the ends of two lists, so at each place the one still serves the other.
 use Rattle.std.proofs.Common.{◌++◌, ◌∷◌, [], sym, subst}
 use Rattle.std.specs.List.{AllZip}
 use Rattle.option_eval.specs.Ready.{IsReady}

@@ -1,3 +1,4 @@
+-- What `make_all` made finds what the maker means, so with it at the end each rule's patterns still do.
 use Rattle.std.proofs.Common.{[], map, sym, subst}
 use Rattle.std.specs.List.{AllZip}
 use Rattle.std.proofs.lemmas.Result.{on_ok_weaker}

@@ -1,3 +1,4 @@
+-- The places of these values are taken out, get one more at their end and are put back: no other values' places change.
 use Rattle.std.proofs.Common.{ℕ, List, ◌++◌, ◌∷◌, [], unwrap_or, ap, ◌∙◌}
 use Rattle.option_eval.specs.States.{map_at}
 use Rattle.option_eval.proofs.Stating.{get_put}

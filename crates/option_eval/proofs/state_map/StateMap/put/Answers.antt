@@ -1,3 +1,4 @@
+-- An insertion gives the state's values its places, and leaves what other values have.
 use Rattle.std.proofs.Common.{Some, refl}
 use Rattle.option_eval.specs.States.{map_at}
 use Rattle.option_eval.proofs.Stating.{get_updated}

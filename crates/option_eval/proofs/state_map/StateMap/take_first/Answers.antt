@@ -1,3 +1,4 @@
+-- Where a key is taken out of the map, nothing is left at its values, and all else is as before.
 use Rattle.std.proofs.Common.{None, refl}
 use Rattle.option_eval.specs.States.{map_at}
 use Rattle.option_eval.proofs.Stating.{get_updated}

@@ -1,3 +1,4 @@
+-- To remove one key leaves the places of all other values.
 use Rattle.option_eval.specs.States.{map_at}
 use Rattle.option_eval.proofs.Stating.{get_taken}
 use Rattle.option_eval.proofs.state_map.StateMap.taken.Goals as goal

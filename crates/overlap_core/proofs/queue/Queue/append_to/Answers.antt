@@ -1,3 +1,5 @@
+-- The bytes of the pieces are the chosen ones (`byte_in-chosen`), so what `append_places` says of the pieces holds of what
+-- the host keeps.
 use Rattle.std.proofs.Common.{true}
 use Rattle.overlap_core.specs.Joined.{byte_in}
 use Rattle.overlap_core.specs.Overlap.{chosen_byte}

@@ -1,3 +1,5 @@
+-- From the floor on the pieces' byte at a place is the chosen one (`byte_in-chosen`), which is there exactly where a segment
+-- covers the place.
 use Rattle.std.proofs.Common.{◌∙◌}
 use Rattle.overlap_core.specs.Overlap.{chosen_byte}
 use Rattle.overlap_core.proofs.Chosen.{byte_from, byte_in-chosen}

@@ -1,3 +1,4 @@
+-- What `filled` says of the pieces' bytes holds of the chosen ones, for these are the same (`byte_in-chosen`).
 use Rattle.std.proofs.Common.{length}
 use Rattle.overlap_core.specs.Joined.{byte_in}
 use Rattle.overlap_core.specs.Overlap.{chosen_byte}

@@ -1,3 +1,5 @@
+-- No piece ends past the covered end, so a segment that begins there is laid over the row by being put at its end
+-- (`laid_behind`), and its own end is the greatest.
 use Rattle.std.proofs.Common.{◌≡◌, ◌<◌, ◌≤◌, length, max, rules, ap, sym, subst, ◌∙◌, arith}
 use Rattle.overlap_core.specs.declared.segment.Bounds.{Bounds}
 use Rattle.overlap_core.specs.Overlap.{covered_end, end_of}

@@ -1,3 +1,5 @@
+-- The room was reserved for just these bounds, so the pieces are cut and the buffers are there (`room_asked`), and what
+-- `lay_over` makes is a row that holds what is chosen.
 use Rattle.std.proofs.Common.{◌≡◌, Some, max, rules, ap, sym, subst, ◌∙◌}
 use Rattle.overlap_core.specs.declared.segment.Bounds.{Bounds}
 use Rattle.overlap_core.specs.Overlap.{bounds_of, covered_end, end_of}

@@ -1,3 +1,4 @@
+-- Without a segment nothing is chosen and no place is covered, which is what an empty row of pieces tells.
 use Rattle.std.proofs.Common.{ap, sym, ◌∙◌, rules, arith}
 use Rattle.std.specs.Option.{option_map}
 use Rattle.overlap_core.specs.Pieces.{kept_at, kept_in}

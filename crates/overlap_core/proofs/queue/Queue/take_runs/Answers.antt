@@ -1,3 +1,5 @@
+-- From the later floor on the raised pieces tell what they told (`raised-tells`), and the runs of the pieces' bytes are
+-- those of the chosen ones (`byte_in-chosen`).
 use Rattle.std.proofs.Common.{◌≡◌, ◌≤◌, max, rules, ap, sym, subst, ◌∙◌, arith}
 use Rattle.overlap_core.specs.Joined.{byte_in}
 use Rattle.overlap_core.specs.Overlap.{chosen_byte}

@@ -1,3 +1,5 @@
+-- One letter more is one step more of the generator; after 64 none
+-- is left to draw, so the text and the state are the definition's.
 use Rattle.std.proofs.Common.{◌+◌, ◌-◌, arith}
 use Rattle.pcap_input.specs.Generated.{letters, steps}
 use Rattle.pcap_input.proofs.Making.{letters-step, letters-end, steps-step, steps-end}

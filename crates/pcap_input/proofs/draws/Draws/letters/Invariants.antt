@@ -1,3 +1,4 @@
+-- The letters so far, and those left to draw from this state, are those of the first state; so are the steps.
 use Rattle.std.proofs.Common.{◌≡◌, ◌-◌, ◌++◌, vec_len}
 use Rattle.pcap_input.specs.Generated.{letters, steps}
 use Rattle.pcap_input.proofs.draws.Draws.letters.Given as goal

@@ -1,3 +1,4 @@
+-- One step of the generator is taken for the mark and 64 for the letters, which makes 65.
 use Rattle.std.proofs.Common.{sym, ap, ◌∙◌}
 use Rattle.pcap_input.specs.Generated.{steps}
 use Rattle.pcap_input.proofs.Making.{steps-first}

@@ -1,3 +1,4 @@
+-- Two draws, the last number of the source and then the text, are what the definition of a datagram draws, in its order.
 use Rattle.std.proofs.Common.{◌∙◌, ap, ◌+◌}
 use Rattle.pcap_input.proofs.Making.{datagram-made}
 use Rattle.pcap_input.proofs.traffic.Traffic.datagram.Goals as goal

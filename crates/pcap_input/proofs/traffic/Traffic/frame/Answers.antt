@@ -1,3 +1,4 @@
+-- The draw below four decides as in the definition: a datagram on 0, a segment on any other.
 use Rattle.pcap_input.proofs.Making.{made-datagram, made-segment}
 use Rattle.pcap_input.proofs.traffic.Traffic.frame.Goals as goal
 

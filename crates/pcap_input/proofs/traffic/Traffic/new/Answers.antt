@@ -1,3 +1,4 @@
+-- Each turn sets one place and leaves the others, so at the end all sixteen have their first sessions.
 use Rattle.std.proofs.Common.{refl, arith, ◌∙◌, length-set}
 use Rattle.std.proofs.lemmas.List.FromFn.{fill_by_all}
 use Rattle.pcap_input.specs.Generated.{first_session}

@@ -1,3 +1,4 @@
+-- There are sixteen sessions, and those below `number` are as before their first turn.
 use Rattle.std.proofs.Common.{◌≡◌, ℕ, ◌<◌, length, get_or}
 use Rattle.pcap_input.specs.declared.traffic.Session.{Session}
 use Rattle.pcap_input.specs.Generated.{first_session}

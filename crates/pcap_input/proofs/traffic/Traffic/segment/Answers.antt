@@ -1,3 +1,5 @@
+-- The session that sends is drawn, then its payload: that session
+-- alone moves on by a turn, and its frame is the definition's.
 use Rattle.std.proofs.Common.{◌∙◌, ap}
 use Rattle.pcap_input.specs.declared.traffic.Session.{Session}
 use Rattle.pcap_input.specs.declared.traffic.Traffic.{Traffic}

@@ -1,3 +1,4 @@
+-- From the head sentinel (`front_next`) `next` leads to the first node, or to the tail: that is place 0 (`front_stands`).
 use Rattle.piece_list.proofs.Standing.{front_next, front_stands}
 use Rattle.piece_list.proofs.chain.Chain.front.Goals as goal
 

@@ -1,3 +1,4 @@
+-- What comes after the head sentinel is where the nodes begin (`front_stands`), so an iterator from there has all values.
 use Rattle.piece_list.proofs.Standing.{front_next, front_stands}
 use Rattle.piece_list.proofs.chain.Chain.iter.Goals as goal
 

@@ -1,3 +1,4 @@
+-- At a place below the length is a node (`here_next`), and what comes after it is at the next place (`next_stands`).
 use Rattle.piece_list.proofs.Standing.{here_next, next_stands}
 use Rattle.piece_list.proofs.chain.Chain.next.Goals as goal
 

@@ -1,3 +1,4 @@
+-- At a place below the length is a node (`here_is`), and its value is the list's at that place (`value_is`).
 use Rattle.piece_list.proofs.Standing.{here_is, value_is}
 use Rattle.piece_list.proofs.chain.Chain.peek.Goals as goal
 

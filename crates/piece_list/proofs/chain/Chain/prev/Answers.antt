@@ -1,3 +1,4 @@
+-- What comes before a place above 0 is a node (`here_prev`), that of the place before (`prev_stands`).
 use Rattle.piece_list.proofs.Standing.{here_prev, prev_stands}
 use Rattle.piece_list.proofs.chain.Chain.prev.Goals as goal
 

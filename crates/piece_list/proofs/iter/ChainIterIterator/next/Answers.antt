@@ -1,3 +1,5 @@
+-- As long as values are left the place is at a node, whose value is the first of them, and from the node after it the others
+-- are left (`next_gives_rest`).
 use Rattle.std.proofs.Common.{◌+◌, ◌∙◌, sym, arith}
 use Rattle.piece_list.specs.Linked.{values}
 use Rattle.piece_list.proofs.Places.{drop-get, rest_within}

@@ -1,3 +1,5 @@
+-- What a room owns, empty memory and the right to free it, is bound to no thread, so it may be sent whatever the type of the
+-- value (`Room-send`).
 use denote.RattleType.{RattleType}
 use denote.Param.Send.{IsSend}
 use Rattle.piece_list.proofs.Crosses.{Room-send}

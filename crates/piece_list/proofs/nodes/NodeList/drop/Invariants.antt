@@ -1,3 +1,4 @@
+-- Values are taken out at place 0, where the list stays; each turn makes it shorter.
 use Rattle.std.proofs.Common.{◌≡◌, length}
 use Rattle.piece_list.proofs.nodes.NodeList.drop.Given as goal
 

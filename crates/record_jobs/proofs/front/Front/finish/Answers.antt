@@ -1,3 +1,5 @@
+-- The flows that end are those that live after the records' touches, in ascending order, so their ends are those of the
+-- definition (`finishes-are`).
 use Rattle.std.proofs.Common.{◌++◌, List, ℕ, ap, subst, sym, ◌∙◌}
 use Rattle.stream5_sessions.specs.Liveness.{live_flows}
 use Rattle.record_jobs.specs.Fronts.{FrontState, StandsFor}

@@ -1,3 +1,5 @@
+-- A step of a front that stands for some records makes one that stands for these and the one taken, and adds the jobs of
+-- that record (`takes`).
 use Rattle.record_jobs.specs.Way.{linked, way_of}
 use Rattle.record_jobs.proofs.Taking.{takes}
 use Rattle.record_jobs.proofs.front.Front.jobs.Goals as goal

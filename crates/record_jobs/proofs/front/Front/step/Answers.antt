@@ -1,3 +1,5 @@
+-- A packet of version 4 that is no fragment brings itself alone, with the fields and payload as read in place, so what is
+-- done here is what the definitions say of the record (`straight`).
 use Rattle.std.proofs.Common.{◌≡◌, ℕ, ◌+◌, List, length, Option, Some, None, refl, sym, ap, ◌∙◌, subst, arith}
 use Rattle.packet_decode.specs.Decoding.{decoded, fields_at, payload_at, placed}
 use Rattle.stream5_sessions.specs.declared.key.Key.{Key}

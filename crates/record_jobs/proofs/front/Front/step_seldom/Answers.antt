@@ -1,3 +1,5 @@
+-- What the record brings, its touch and its counts are each what the definitions say, so the works that are added are the
+-- record's (`by_content`).
 use Rattle.std.proofs.Common.{Option, Some, ap, subst}
 use Rattle.stream5_sessions.specs.declared.key.Key.{Key}
 use Rattle.record_jobs.specs.declared.time.Time.{Time}

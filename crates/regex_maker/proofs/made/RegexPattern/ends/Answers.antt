@@ -1,3 +1,5 @@
+-- The pattern's own sieve is one for its expression, so `first_place` may be asked; and where the sieve says that all
+-- matches start at the first byte, they do, so that `find_at_start` may be.
 use Rattle.std.proofs.Common.{ap, sym, ◌∙◌}
 use Rattle.std.proofs.Math.Logic.{∥∥₁_elim, ∥∥₁_prop}
 use Rattle.regex_meta.proofs.PlansLemmas.{Suits-of_truncated}

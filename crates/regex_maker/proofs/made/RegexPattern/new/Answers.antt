@@ -1,3 +1,5 @@
+-- Sieve and shelf are made of the same program that the pattern then has in its box, so what their contracts say of it holds
+-- of the pattern's.
 use Rattle.regex_maker.proofs.made.RegexPattern.new.Goals as goal
 
 pub invariant_of-result : goal.invariant_of-result

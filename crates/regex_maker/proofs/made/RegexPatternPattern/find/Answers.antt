@@ -1,3 +1,5 @@
+-- The numbers of a payload are bytes, so the ends that `ends` gives are the span of the leftmost match (`span_in-found`), in
+-- order and within the bytes (`first_match_span`).
 use Rattle.std.proofs.Common.{Some, None, sym, ◌∙◌}
 use Rattle.regex_meta.proofs.ProgramLemmas.{first_match_span}
 use Rattle.regex_meta.specs.Programs.{pattern_of}

@@ -1,3 +1,5 @@
+-- The tree that was read matches as the text does, so the leftmost match of the program is what the text finds
+-- (`span_in-regex_span`); a text that was read is a pattern (`IsPattern-read`).
 use Rattle.std.proofs.Common.{ap, ◌∙◌}
 use Rattle.regex_meta.specs.Programs.{pattern_of}
 use Rattle.regex_meta.specs.declared.program.Program.{Program}

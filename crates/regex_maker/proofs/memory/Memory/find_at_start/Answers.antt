@@ -1,3 +1,5 @@
+-- An anchored expression has its leftmost match at place 0, ending where the forward automaton ends (`IsLocated_anchored`),
+-- or has none (`anchored_none`).
 use Rattle.std.proofs.Common.{sym, ap, subst, refl, true, false, option_map, arith}
 use Rattle.regex_meta.proofs.PlansLemmas.{anchored_none}
 use Rattle.regex_meta.proofs.ProgramLemmas.{IsLocated_anchored, attempt_no_end}

@@ -1,3 +1,5 @@
+-- The forward automaton finds where the leftmost match ends (`IsLocated_end`), and the reverse one the least start of a
+-- match that ends there, which is the leftmost's own (`span_from_least`).
 use Rattle.std.proofs.Common.{sym, ap, subst, refl, false, option_map}
 use Rattle.regex_meta.proofs.LeftmostLemmas.{are_bytes}
 use Rattle.regex_meta.proofs.ProgramLemmas.{IsLocated_end, leftmost_no_end, span_from_least}

@@ -1,3 +1,4 @@
+-- Each slot so far is for this automaton.
 use Rattle.std.proofs.Common.{◌≡◌}
 use Rattle.std.specs.Prelude.{All}
 use Rattle.regex_maker.proofs.shelf.Shelf.new.Given as goal

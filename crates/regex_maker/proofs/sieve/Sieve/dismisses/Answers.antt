@@ -1,3 +1,4 @@
+-- Fewer bytes than the shortest match has hold no match (`leftmost_short`).
 use Rattle.std.proofs.Common.{arith}
 use Rattle.regex_meta.proofs.ProgramLemmas.{leftmost_short}
 use Rattle.regex_maker.proofs.sieve.Sieve.dismisses.Goals as goal

@@ -1,3 +1,5 @@
+-- The ladder admits every place at which a match starts, so the first one that it finds is no later than the leftmost match,
+-- and where it finds none there is no match (`first_admitted`).
 use Rattle.regex_meta.specs.Plans.{IsAdmitted}
 use Rattle.regex_meta.specs.Programs.{pattern_of}
 use Rattle.regex_maker.proofs.Sieves.{first_admitted, holds_of}

@@ -1,3 +1,4 @@
+-- Where all matches start at place 0, with a byte of `first`, bytes that begin with no such one have none (`none_at_start`).
 use Rattle.regex_maker.proofs.Sieves.{none_at_start}
 use Rattle.regex_maker.proofs.sieve.Sieve.is_ruled_out_at_start.Goals as goal
 

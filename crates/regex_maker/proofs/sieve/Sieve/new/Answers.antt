@@ -1,3 +1,5 @@
+-- Each test is kept with the fact by which it was made: literals that every match has or ends with, a ladder that admits
+-- each match, and the anchor, as what extracts them promises.
 use Rattle.std.proofs.Common.{◌∙◌}
 use Rattle.regex_extract.specs.Needles.{ContainsNeedle, EndsWithNeedle, needles_of}
 use Rattle.regex_levels.specs.Beginnings.{AdmitsMatches}

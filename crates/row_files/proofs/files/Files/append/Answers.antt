@@ -1,3 +1,5 @@
+-- The map changes at this name alone, where the bytes grow, stay, or are put in: `files-grown`, `files-kept` and
+-- `files-made` say so of the files that contracts see.
 use Rattle.std.proofs.Common.{◌≡◌, Option, None, Vec, Result, Ok, Err, OnErr, ℕ, string_bytes, rules}
 use Rattle.std.specs.BTreeMap.{get_by_text}
 use Rattle.std.specs.declared.alloc.Global.{Global}

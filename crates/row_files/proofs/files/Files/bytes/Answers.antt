@@ -1,3 +1,5 @@
+-- What the map has by a name is what the files have that contracts see, and a file that isn't there has no bytes:
+-- `bytes-found` and `bytes-lacking`.
 use Rattle.row_files.proofs.Kept.{bytes-found, bytes-lacking}
 use Rattle.row_files.proofs.files.Files.bytes.Goals as goal
 

@@ -1,3 +1,5 @@
+-- The map's entries come in ascending order of their names, so that each `put` adds a file that the host didn't have: it has
+-- the files of the entries so far (`host-next`).
 use Rattle.std.proofs.Common.{◌≡◌, ◌∙◌, Bor, List, [], ◌∷◌, ◌++◌, String, Vec, ℕ, map, string_bytes, sym, ap, rules}
 use Rattle.std.specs.declared.alloc.Global.{Global}
 use Rattle.std.specs.FinMap as fin

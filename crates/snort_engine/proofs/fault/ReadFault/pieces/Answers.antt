@@ -1,3 +1,5 @@
+-- The pieces of each of these faults, joined, are its text: one text (`alone`), a text with a number (`numbered`), or, of a
+-- record that is too long, texts with two numbers between them.
 use Rattle.std.proofs.Common.{append_assoc}
 use Rattle.snort_engine.specs.Messages.{bad_block_text, link_type_text, no_memory_text, not_pcap_text, too_long_text, too_many_text, truncated_text}
 use Rattle.snort_engine.proofs.fault.ReadFault.pieces.Goals as goal

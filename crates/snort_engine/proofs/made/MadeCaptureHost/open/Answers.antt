@@ -1,3 +1,4 @@
+-- The host of a capture that is made has no file, so that it lacks whatever name it is to open: `get-empty`.
 use Rattle.std.proofs.Common.{inr, nat_cmp}
 use Rattle.std.specs.Cmp.Lexicographic.{slice_cmp}
 use Rattle.std.specs.FinMap.{get-empty}

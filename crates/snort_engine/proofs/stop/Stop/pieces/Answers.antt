@@ -1,3 +1,5 @@
+-- The pieces of each of these stops are one text (`alone`) or a text with a number (`numbered`), and joined
+-- they are the stop's text.
 use Rattle.snort_engine.specs.Steps.Stop.{stop_text}
 use Rattle.snort_engine.specs.Messages.{bad_unified2_text, usage_text, version_text, command_line_text, cannot_write_text, no_memory_text}
 use Rattle.snort_engine.proofs.stop.Stop.pieces.Goals as goal

@@ -1,3 +1,4 @@
+-- The set of numbers has just the numbers of the accepted rules, by the invariant of `Accepted`.
 use Rattle.std.proofs.Common.{◌∙◌, ap}
 use Rattle.std.specs.BTreeSet.{contains}
 use Rattle.option_eval.specs.RuleSet.{Rules}

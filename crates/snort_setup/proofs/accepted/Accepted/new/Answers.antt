@@ -1,3 +1,4 @@
+-- No rules have no numbers, so an empty set of these keeps the invariant.
 use Rattle.std.proofs.Common.{ap}
 use Rattle.option_eval.specs.RuleSet.{Rules}
 use Rattle.snort_setup.proofs.Numbered.{numbers-nil}

@@ -1,3 +1,4 @@
+-- A segment that is queued ends within the window and isn't one too many, so the limits are kept (`queued-kept`).
 use Rattle.std.proofs.Common.{rules}
 use Rattle.stream5_reassembly.specs.Inside.{state_of}
 use Rattle.stream5_reassembly.proofs.Steps.{queued-kept}

@@ -1,3 +1,5 @@
+-- Where nothing is held the top is the base, and a flush up to there changes nothing (`Stays-nothing`); a direction that
+-- isn't started holds nothing (`idle-top`).
 use Rattle.std.proofs.Common.{ap, ◌∙◌}
 use Rattle.stream5_reassembly.specs.Inside.{IsKept}
 use Rattle.stream5_reassembly.specs.Segments.{DirectionState, top}

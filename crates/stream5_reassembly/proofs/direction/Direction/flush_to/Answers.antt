@@ -1,3 +1,5 @@
+-- No run begins before the floor that it was taken from (`AppendsRuns-from`), so its start counts from there; and a base no
+-- later than the top keeps the direction within its limits (`flushed_to-kept`).
 use Rattle.overlap_core.specs.Overlap.{chosen_byte}
 use Rattle.stream5_reassembly.proofs.Shifted.{AppendsRuns-from}
 use Rattle.std.proofs.Common.{◌≡◌, length, ap, arith}

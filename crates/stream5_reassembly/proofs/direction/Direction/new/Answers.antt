@@ -1,3 +1,4 @@
+-- A direction that isn't started has no segment and its top at its base, so it is within its limits (`idle-kept`).
 use Rattle.std.proofs.Common.{refl}
 use Rattle.stream5_reassembly.proofs.Steps.{idle-kept}
 use Rattle.stream5_reassembly.proofs.direction.Direction.new.Goals as goal

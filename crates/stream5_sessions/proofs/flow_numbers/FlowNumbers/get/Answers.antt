@@ -1,3 +1,4 @@
+-- The number of a key is by definition what the tree has at the tree's key, which is what `get` looks up.
 use Rattle.std.proofs.Common.{ap, ◌∙◌}
 use Rattle.std.specs.BTreeMap.{get}
 use Rattle.stream5_sessions.specs.Trees.{tree_cmp, number_in}

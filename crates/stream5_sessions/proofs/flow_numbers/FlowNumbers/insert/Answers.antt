@@ -1,3 +1,5 @@
+-- An insertion gives the key's place the number and leaves each other place as it was (`tree_puts`); without memory the
+-- tree, and so every key's number, is as it was.
 use Rattle.std.proofs.Common.{ℕ, List, Some, Result, Ok, Err, OnErr, ap}
 use Rattle.std.specs.BTreeMap.{is_at}
 use Rattle.std.specs.Map.{lookup}

@@ -1,3 +1,4 @@
+-- An empty tree has no number at any key.
 use Rattle.std.proofs.Common.{ℕ, List, ap}
 use Rattle.std.specs.BTreeMap.{is_at}
 use Rattle.std.specs.Map.{lookup}

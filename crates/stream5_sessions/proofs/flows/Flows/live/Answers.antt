@@ -1,3 +1,5 @@
+-- The kept numbers, sorted, are the live flows in ascending order (`live_flows-sorted`), since each live key is kept once
+-- with its flow's number and no two have the same.
 use Rattle.std.proofs.Common.{ℕ, List, ◌++◌, ap, ◌∙◌}
 use Rattle.std.proofs.lemmas.List.Sorted.{IsNonDecreasingBy-from_sort}
 use Rattle.stream5_sessions.proofs.Numbers.{live_flows-sorted}

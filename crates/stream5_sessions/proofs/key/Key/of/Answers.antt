@@ -1,3 +1,5 @@
+-- The derived comparison of ends is the definition's order (`lt-before`), which is total, so the two ends named the other
+-- way round give the same key (`key_of-then`, `key_of-else`).
 use Rattle.std.proofs.Common.{Bool, cond, ap, ◌∙◌, sym}
 use Rattle.stream5_sessions.specs.Keys.{key_of}
 use Rattle.stream5_sessions.proofs.KeyLaws.{key_at}

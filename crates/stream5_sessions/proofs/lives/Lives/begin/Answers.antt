@@ -1,3 +1,5 @@
+-- The key is new, so the tree's number and the cache's entry are added alike (`indexed-begun`), and the evicted key leaves
+-- both; without memory for the entry the number is taken back (`indexed-undone`).
 use Rattle.std.proofs.Common.{◌≡◌, ℕ, ◌-◌, ◌∷◌, None, List, slice_get, option_map, sym, ap, subst, ◌∙◌, arith}
 use Rattle.std.specs.Map.{lookup}
 use Rattle.lru.specs.LruCache.{LruCache, lru_cache}

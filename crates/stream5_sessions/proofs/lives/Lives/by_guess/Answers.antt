@@ -1,3 +1,5 @@
+-- An entry with the key and the guess has the number that the tree has of the key, so it is the key's own
+-- (`by_guess-value`); without one nothing moves (`by_guess-after`).
 use Rattle.std.proofs.Common.{ℕ, sym, subst, ◌∙◌}
 use Rattle.lru.specs.LruCache.{LruCache}
 use Rattle.stream5_sessions.specs.declared.lives.Numbered.{Numbered}

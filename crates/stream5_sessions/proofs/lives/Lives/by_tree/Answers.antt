@@ -1,3 +1,5 @@
+-- The tree has each kept key's number and no other's, so looking up the key with its number is looking up the key
+-- (`lookup-plain`), and a key without a number isn't kept (`missing`).
 use Rattle.std.proofs.Common.{◌≡◌, ℕ, Some, sym, ap, subst, ◌∙◌}
 use Rattle.std.specs.Map.{lookup}
 use Rattle.lru.specs.LruCache.{LruCache, promoted}

@@ -1,3 +1,4 @@
+-- The cache's entries have the values of the keys' entries, as these differ in the keys alone (`values-entries`).
 use Rattle.std.proofs.Common.{◌≡◌, ℕ, List, IfOk, sym, ap, subst, ◌∙◌}
 use Rattle.std.specs.Map.{values_of}
 use Rattle.stream5_sessions.specs.Indexed.{LivesState}

@@ -1,3 +1,4 @@
+-- A new tree and a new cache are both empty, so the one has the numbers of the other's keys, none (`indexed-none`).
 use Rattle.std.proofs.Common.{ap}
 use Rattle.lru.specs.LruCache.{LruCache}
 use Rattle.stream5_sessions.specs.declared.lives.Numbered.{Numbered}

@@ -1,3 +1,5 @@
+-- A packet for which `stays_as_is` holds meets a row of the table that leaves the session as it is but for the last moment,
+-- and tells what `staying_step` does (`stays-told`).
 use Rattle.std.proofs.Common.{sym, ◌∙◌}
 use Rattle.stream5_sessions.proofs.StayLaws.{stays-told}
 use Rattle.stream5_sessions.proofs.session.Session.stay.Goals as goal
