@@ -1,4 +1,4 @@
--- Why `colons` keeps `ascii`.
+-- An address of version 6 is written with hexadecimal digits and colons alone, which are ASCII: `IsAscii-colon`.
 use Rattle.alert_json.proofs.AsciiTexts.{IsAscii-colon}
 use Rattle.alert_json.proofs.fields.colons.Goals as goal
 

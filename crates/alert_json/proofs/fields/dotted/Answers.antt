@@ -1,4 +1,5 @@
--- Why `dotted` keeps `ascii`.
+-- The address has 32 bits, so that its four numbers are small, and their decimal digits and the dots are
+-- ASCII: the lemma `IsAscii-dotted`.
 use Rattle.std.proofs.Common.{◌<◌, ◌^◌, arith}
 use Rattle.alert_json.proofs.AsciiTexts.{IsAscii-dotted}
 use Rattle.alert_json.proofs.fields.dotted.Goals as goal

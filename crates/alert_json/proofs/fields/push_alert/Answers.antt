@@ -1,4 +1,5 @@
--- Why `push_alert` keeps `added`.
+-- What `push_alert_members` adds, put between two brackets after the key, is a member whose value is an
+-- object: the lemma `object_member`.
 use Rattle.std.proofs.lemmas.Result.{on_ok_weaker}
 use Rattle.alert_json.proofs.Adding.{object_member}
 use Rattle.alert_json.proofs.fields.push_alert.Goals as goal

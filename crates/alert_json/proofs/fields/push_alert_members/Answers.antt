@@ -1,4 +1,5 @@
--- Why `push_alert_members` keeps `added`.
+-- Seven members are added one after another, of which action, category and severity have the values that the definition
+-- computes (`alert-group`).
 use Rattle.std.proofs.lemmas.Result.{on_ok_weaker}
 use Rattle.alert_json.specs.Facts.{alert_facts}
 use Rattle.alert_json.proofs.Groups.{alert-group}

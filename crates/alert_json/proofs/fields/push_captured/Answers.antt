@@ -1,4 +1,5 @@
--- Why `push_captured` keeps `added`.
+-- The printable payload, the bytes in base64 and the link type, added in this order, are the members of a packet
+-- that is known: `packet-group`.
 use Rattle.std.proofs.lemmas.Result.{on_ok_weaker}
 use Rattle.alert_json.specs.Facts.{packet_facts}
 use Rattle.alert_json.proofs.Groups.{packet-group}

@@ -1,4 +1,4 @@
--- Why `push_community` keeps `added`.
+-- A flow that has no hash has no community ID, so that no member is due and none is written: `no-community`.
 use Rattle.alert_json.proofs.Groups.{no-community}
 use Rattle.alert_json.proofs.fields.push_community.Goals as goal
 

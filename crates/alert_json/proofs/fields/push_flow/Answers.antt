@@ -1,4 +1,5 @@
--- Why `push_flow` keeps `added`.
+-- Each of eight calls goes on from the tokens that the one before it left, and ports, type and code are the definition's
+-- own: so all of the flow's members are added (`flow-group`).
 use Rattle.alert_json.proofs.Groups.{flow-group}
 use Rattle.alert_json.proofs.fields.push_flow.Goals as goal
 

@@ -1,4 +1,5 @@
--- Why `push_link` keeps `added`.
+-- The key, an opening bracket, the link type's member and the closing bracket are a member whose value is
+-- an object with this one member.
 use Rattle.std.proofs.lemmas.Result.{on_ok_weaker}
 use Rattle.alert_json.proofs.Adding.{object_member}
 use Rattle.alert_json.proofs.fields.push_link.Goals as goal

@@ -1,4 +1,4 @@
--- Why `push_moment` keeps `added`.
+-- The bytes that `timestamp` gives are the moment's text, so that the member of these bytes is that of the text.
 use Rattle.std.proofs.Common.{◌∙◌}
 use Rattle.alert_json.proofs.Adding.{text-same}
 use Rattle.alert_json.proofs.fields.push_moment.Goals as goal

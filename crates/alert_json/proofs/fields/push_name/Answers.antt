@@ -1,4 +1,4 @@
--- Why `push_name` keeps `added`.
+-- A name that isn't given has no member, so that the tokens stay as they are; one that is given is written by `push_bytes`.
 use Rattle.alert_json.proofs.Adding.{none}
 use Rattle.alert_json.proofs.fields.push_name.Goals as goal
 

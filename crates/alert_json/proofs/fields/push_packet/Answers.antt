@@ -1,4 +1,4 @@
--- Why `push_packet` keeps `added`.
+-- Where no packet is known its group has no member, and the tokens stay as they are: `no-packet`.
 use Rattle.alert_json.proofs.Groups.{no-packet}
 use Rattle.alert_json.proofs.fields.push_packet.Goals as goal
 

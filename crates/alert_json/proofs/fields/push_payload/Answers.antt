@@ -1,4 +1,5 @@
--- Why `push_payload` keeps `added`.
+-- A packet in which no payload was read has no such member, so that no token is appended; any other
+-- is printed by `push_printed`.
 use Rattle.alert_json.proofs.Adding.{none}
 use Rattle.alert_json.proofs.fields.push_payload.Goals as goal
 

@@ -1,4 +1,4 @@
--- Why `push_run` keeps `added`.
+-- The member of the host and then that of the capture's name, each where there is one, are those of the run: `run-group`.
 use Rattle.std.proofs.lemmas.Result.{on_ok_weaker}
 use Rattle.alert_json.specs.Facts.{run_facts}
 use Rattle.alert_json.proofs.Groups.{run-group}

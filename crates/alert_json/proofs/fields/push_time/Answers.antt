@@ -1,4 +1,5 @@
--- Why `push_time` keeps `added`.
+-- The stamp, the flow's number, the packet's count and the kind of event are added in this order, and the number is that of
+-- the definition: `time-group`.
 use Rattle.std.proofs.Common.{refl}
 use Rattle.alert_json.specs.Facts.{event_facts}
 use Rattle.alert_json.proofs.Groups.{time-group}

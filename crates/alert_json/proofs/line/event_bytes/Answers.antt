@@ -1,4 +1,5 @@
--- Why `event_bytes` keeps `text` and `reads_back`.
+-- The writer began empty and wrote one object with the event's members, which its bytes print (`line-text`); they are UTF-8
+-- and no deeper than a reader goes, so that the value is read back (`line-reads`).
 use Rattle.std.proofs.Common.{◌∙◌}
 use Rattle.alert_json.specs.Facts.{event_facts, run_facts}
 use Rattle.alert_json.proofs.Depths.{event_low}

@@ -1,4 +1,4 @@
--- Why `push_members` keeps `added`.
+-- The five groups, of time, flow, alert, packet and run, are added one after another: `event-group`.
 use Rattle.alert_json.specs.Facts.{event_facts, run_facts}
 use Rattle.alert_json.proofs.Groups.{event-group}
 use Rattle.alert_json.proofs.line.push_members.Goals as goal

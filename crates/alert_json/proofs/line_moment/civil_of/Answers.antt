@@ -1,4 +1,5 @@
--- Why `civil_of` does what its contract says.
+-- A moment of 64 bits has a year of four digits and the parts of a date and a clock (`small-of`), so that larger
+-- parts are those of no moment.
 use Rattle.std.proofs.Common.{sym, ◌∙◌, true≢false}
 use Rattle.alert_json.proofs.LineMoments.{small-of}
 use Rattle.alert_json.proofs.line_moment.civil_of.Goals as goal

@@ -1,4 +1,5 @@
--- Why `moment_of` does what its contract says.
+-- A moment's nanoseconds are those of its date and its time of day (`civil-at`), and the other way round (`moment-at`): so
+-- there is one just where they fit 64 bits.
 use Rattle.std.proofs.Common.{arith}
 use Rattle.alert_json.proofs.LineMoments.{civil-at, moment-at}
 use Rattle.alert_json.proofs.line_moment.moment_of.Goals as goal

@@ -1,4 +1,5 @@
--- Why `small_civil` does what its contract says.
+-- `DateTime::new` refuses parts that are no date or no time of day, and those of a moment are both: so where it
+-- refuses, there is no such moment.
 use Rattle.std.proofs.Common.{rules}
 use Rattle.alert_json.proofs.LineMoments.{date-of, time-of}
 use Rattle.alert_json.proofs.line_moment.small_civil.Goals as goal

@@ -1,4 +1,4 @@
--- Why `push_ascii` may call `unreachable`.
+-- Bytes of ASCII alone are UTF-8, so that `from_utf8` doesn't refuse them, and `unreachable` is never called.
 use Rattle.std.proofs.lemmas.Str.{IsUtf8-from_ascii}
 use Rattle.alert_json.proofs.members.push_ascii.Goals as goal
 

@@ -1,4 +1,5 @@
--- Why `push_bytes` keeps `added`.
+-- Bytes that are UTF-8 are their own text (`text_of-utf8`), and the text of any others is what they are in Latin-1
+-- (`text_of-other`): the two branches write just these.
 use Rattle.std.proofs.Common.{◌∙◌, sym}
 use Rattle.std.proofs.lemmas.Result.{on_ok_weaker}
 use Rattle.alert_json.proofs.Latin.{text_of-utf8, text_of-other}

@@ -1,4 +1,4 @@
--- Why `push_digits` keeps `added`.
+-- The key and then the digits as a string are the two tokens of a member whose text is these digits.
 use Rattle.std.specs.Prelude.{decimal}
 use Rattle.std.proofs.lemmas.Result.{on_ok_weaker}
 use Rattle.alert_json.proofs.Adding.{text_member}

@@ -1,4 +1,4 @@
--- Why `push_maybe_number` keeps `added`.
+-- Without a number the definition has no member, and no token is appended: the lemma `none`.
 use Rattle.alert_json.proofs.Adding.{none}
 use Rattle.alert_json.proofs.members.push_maybe_number.Goals as goal
 

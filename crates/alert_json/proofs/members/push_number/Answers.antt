@@ -1,4 +1,5 @@
--- Why `push_number` keeps `added`.
+-- The key and the number's digits are the two tokens of such a member, whose number, a `u64`, is below 2^64 as it has to be:
+-- the lemma `number_member`.
 use Rattle.std.proofs.Common.{arith}
 use Rattle.std.proofs.lemmas.Result.{on_ok_weaker}
 use Rattle.alert_json.proofs.Adding.{number_member}

@@ -1,4 +1,4 @@
--- Why `push_text` keeps `added`.
+-- A member whose value is a text is two tokens, its key and the string, appended one after the other: `text_member`.
 use Rattle.std.proofs.lemmas.Result.{on_ok_weaker}
 use Rattle.alert_json.proofs.Adding.{text_member}
 use Rattle.alert_json.proofs.members.push_text.Goals as goal

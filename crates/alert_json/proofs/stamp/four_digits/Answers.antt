@@ -1,4 +1,4 @@
--- Why `four_digits` does what its contract says.
+-- The four digits of a number below 10,000 are the two of its hundreds and then the two of the rest: `digits-4`.
 use Rattle.std.proofs.Common.{◌<◌, ◌/◌, ◌%◌, arith}
 use Rattle.alert_fast.proofs.PaddedDigits.{digits-2}
 use Rattle.alert_json.proofs.Times.{digits-4}

@@ -1,4 +1,5 @@
--- Why `push_stamp` does what its contract says.
+-- The numbers of `utc_time`, in two, four and six digits, with the signs between and after them are the moment's text: the
+-- lemma `timestamp-pieces`.
 use Rattle.std.proofs.lemmas.Result.{on_ok_weaker}
 use Rattle.std.proofs.Common.{ℕ, List, ◌++◌, ap, ◌∙◌}
 use Rattle.alert_json.proofs.Times.{timestamp-pieces}

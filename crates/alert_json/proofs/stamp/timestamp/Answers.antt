@@ -1,4 +1,4 @@
--- Why `timestamp` keeps `ascii`.
+-- The text of a moment is digits and signs alone, each of them ASCII: `IsAscii-timestamp`.
 use Rattle.alert_json.proofs.AsciiTexts.{IsAscii-timestamp}
 use Rattle.alert_json.proofs.stamp.timestamp.Goals as goal
 

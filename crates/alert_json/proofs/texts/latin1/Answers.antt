@@ -1,4 +1,4 @@
--- Why `latin1` does what its contract says.
+-- One byte more appends its character in UTF-8 to the text of the bytes before it: the lemma `latin_more`.
 use Rattle.std.proofs.Common.{string_bytes}
 use Rattle.alert_json.proofs.Latin.{latin_more}
 use Rattle.alert_json.proofs.texts.latin1.Goals as goal

@@ -1,4 +1,5 @@
--- Why `print_over` does what its contract says.
+-- Bytes before `at` have their printable form and the others are as they were, so that the byte that is read at `at` is
+-- still the old one: `map_over_more`.
 use Rattle.std.proofs.Common.{arith, get_or}
 use Rattle.std.proofs.lemmas.List.{get_or_default}
 use Rattle.std.proofs.lemmas.List.Edits.{map_over_more}

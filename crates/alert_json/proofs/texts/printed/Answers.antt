@@ -1,4 +1,4 @@
--- Why `printed` keeps `ascii`.
+-- Each byte of the printable form is printable itself or a full stop, and so below 128: `IsAscii-printable`.
 use Rattle.alert_json.proofs.AsciiTexts.{IsAscii-printable}
 use Rattle.alert_json.proofs.texts.printed.Goals as goal
 
