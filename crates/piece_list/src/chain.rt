@@ -26,7 +26,7 @@ impl<T> Model for Chain<T> {
 
     ghost view = { λ c. (values c.ring.nodes, c.at) };
 
-    ghost invariant = { λ c. Stands c.ring.head c.ring.tail c.ring.nodes c.head.ptr c.tail.ptr c.here.ptr c.len c.at };
+    ghost invariant = { λ c. Stands c.ring c.head.ptr c.tail.ptr c.here.ptr c.len c.at };
 }
 
 impl<T> Chain<T> {

@@ -25,8 +25,7 @@ impl<'a, T> Model for ChainIter<'a, T> {
 
     ghost view = { λ i. drop i.from (values i.ring.now.nodes) };
 
-    ghost invariant = { λ i. Stands i.ring.now.head i.ring.now.tail i.ring.now.nodes i.ring.now.head i.ring.now.tail i.here.ptr
-        (i.from + i.left) i.from
+    ghost invariant = { λ i. Stands i.ring.now i.ring.now.head i.ring.now.tail i.here.ptr (i.from + i.left) i.from
         × (i.from + i.left < 2 ^ 64) };
 }
 
