@@ -1,7 +1,7 @@
 -- Where options lead that lead alike from each state, so far as that is known.
 --
 -- To try it on: `pcre:"/zz/"` leads alike from each state; with R it doesn't, nor does `content:"a"; offset:n;`.
-use Rattle.std.specs.Prelude.{◌≡◌, ℕ, ◌<◌, Bool, ◌&&◌, not, List, [], ◌∷◌, length, Option, None, IfSome, slice_index_or}
+use Rattle.std.specs.Prelude.{◌≡◌, ℕ, ◌<◌, ◌≤◌, Bool, ◌&&◌, not, List, [], ◌∷◌, length, Option, None, IfSome, slice_index_or}
 use Rattle.rule_types.specs.declared.option.Opt.{Opt}
 use Rattle.option_eval.specs.declared.known.Known.{Known}
 use Rattle.option_eval.specs.declared.next.Next.{Next}
@@ -37,3 +37,8 @@ AreKnown means payload (option ∷ options) known =
 -- known places rise
 abbrev pub AreRising : ℕ → Known → Type 0
 AreRising high known = (left : ℕ) → IfSome (known_at known left) (RisesTo high)
+
+-- after a walk through the last so many options known places rise, and of the options before these is known what was
+pub record KeepsKnown (count high : ℕ) (old new : Known) : Type 0 where
+  pub rising : AreRising high new
+  pub others : (left : ℕ) → count ≤ left → known_at new left ≡ known_at old left

@@ -130,13 +130,24 @@ ByteTestLeads fetch negated cmp value payload before after =
 abbrev pub byte_jump_len : ℕ → Bool → ℕ → ℕ
 byte_jump_len times align number = rounded_up (if align then 4 else 0) (number * times)
 
+-- a jump, by its modifiers: `multiplier`, `align`, `from_beginning` and `post_offset`
+pub record Jump : Type 0 where
+  pub times : ℕ
+  pub align : Bool
+  pub beginning : Bool
+  pub post : ℤ
+
+abbrev pub jump : ℕ → Bool → Bool → ℤ → Jump
+jump times align beginning post = record { times = times; align = align; beginning = beginning; post = post }
+
 -- byte_jump leads so far from the place after the number, or under `from_beginning` from the payload's
 -- start, and `post_offset` bytes more; no further than the payload's end
-abbrev pub ByteJumpLeads : Fetch → ℕ → Bool → Bool → ℤ → List ℕ → Standing → Standing → Type 0
-ByteJumpLeads fetch times align beginning post payload before after =
+abbrev pub ByteJumpLeads : Fetch → Jump → List ℕ → Standing → Standing → Type 0
+ByteJumpLeads fetch how payload before after =
     (read : Fetched) × (fetched payload fetch before ≡ Some read) × (after.values ≡ before.values)
     × (after.place ≤ length payload)
-    × (pos after.place ≡ (pos ((if beginning then 0 else read.stop) + byte_jump_len times align read.number) +ℤ post))
+    × (pos after.place
+    ≡ (pos ((if how.beginning then 0 else read.stop) + byte_jump_len how.times how.align read.number) +ℤ how.post))
 
 -- ---- byte_extract
 
@@ -159,7 +170,7 @@ Leads means payload (opt.Pcre text flags relative negated) before after =
 Leads means payload (opt.ByteTest fetch negated cmp value) before after =
     ByteTestLeads fetch negated cmp value payload before after
 Leads means payload (opt.ByteJump fetch times align beginning post) before after =
-    ByteJumpLeads fetch times align beginning post payload before after
+    ByteJumpLeads fetch (jump times align beginning post) payload before after
 Leads means payload (opt.ByteExtract fetch name times align) before after =
     ByteExtractLeads fetch name times align payload before after
 Leads means payload _ before after = after ≡ before

@@ -3,7 +3,7 @@
 //! An option that counts from the payload's start and reads no value leads from each state to the same places.
 //! Where there are several states, what was asked from one of them is kept for those that come.
 
-ghost use Rattle.std.specs.Prelude.{◌≡◌, ℕ, ◌+◌, ◌<◌, ◌≤◌, ◌==◌, ◌⊎◌, true, false, Some, None, length, IfOk, if◌then◌else◌};
+ghost use Rattle.std.specs.Prelude.{◌≡◌, ℕ, ◌+◌, ◌≤◌, ◌==◌, ◌⊎◌, true, false, Some, None, length, IfOk, if◌then◌else◌};
 ghost use Rattle.option_eval.specs.Kinds.{needs_place};
 ghost use Rattle.option_eval.specs.Known.{known_at, is_free, IsKnown, LeadsAlike, AreRising};
 ghost use Rattle.option_eval.specs.Next.{RisesTo};
@@ -111,7 +111,6 @@ pub(crate) fn next_known<P: Pattern, L: Ledger>(
 ) -> Result<Next, NoMemory>
     requires ready { IsReady option.now made.now }
     requires plain { is_extract option.now ≡ false }
-    requires asked { 0 < length at.now.places.now }
     requires rising { IsRising 0 at.now.places.now (length at.now.payload.now + 1) }
     requires known_rising { AreRising (length at.now.payload.now + 1) known.old }
     ensures found { OfMadeOne P.finds option.now made.now (λ means.

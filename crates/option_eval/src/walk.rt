@@ -3,9 +3,9 @@
 //! An extraction leaves states behind it, and a walk adds its own to those that are there. So a value list and
 //! a place are gone on from once, whichever ways lead there.
 
-ghost use Rattle.std.specs.Prelude.{◌≡◌, ℕ, ◌+◌, ◌<◌, ◌≤◌, Contains, length, IfOk};
+ghost use Rattle.std.specs.Prelude.{◌≡◌, ℕ, ◌+◌, ◌≤◌, Contains, length, IfOk};
 ghost use Rattle.std.specs.List.{AllZip};
-ghost use Rattle.option_eval.specs.Known.{known_at, AreKnown, AreRising};
+ghost use Rattle.option_eval.specs.Known.{AreKnown, AreRising, KeepsKnown};
 ghost use Rattle.option_eval.specs.Next.{next_set};
 ghost use Rattle.option_eval.specs.Ready.{IsReady};
 ghost use Rattle.option_eval.specs.Sets.{IsRising};
@@ -84,7 +84,6 @@ pub(crate) fn is_walked<P: Pattern, L: Ledger>(
     visits: &mut Steps<L>,
 ) -> Result<bool, NoMemory>
     requires ready { AllZip IsReady options.now made.now }
-    requires asked { 0 < length at.now.places.now }
     requires rising { IsRising 0 at.now.places.now (length at.now.payload.now + 1) }
     requires known_rising { AreRising (length at.now.payload.now + 1) behind.old.known }
     ensures right { OfMade P.finds options.now made.now (λ means.
@@ -98,9 +97,8 @@ pub(crate) fn is_walked<P: Pattern, L: Ledger>(
     ensures known { OfMade P.finds options.now made.now (λ means.
         AreKnown means at.now.payload.now options.now behind.old.known
         → IfOk result (λ walked. AreKnown means at.now.payload.now options.now behind.new.known)) }
-    ensures known_rising { IfOk result (λ walked. AreRising (length at.now.payload.now + 1) behind.new.known) }
-    ensures others { IfOk result (λ walked. (left : ℕ) → length options.now ≤ left
-        → known_at behind.new.known left ≡ known_at behind.old.known left) }
+    ensures kept { IfOk result (λ walked. KeepsKnown (length options.now) (length at.now.payload.now + 1)
+        behind.old.known behind.new.known) }
 {
     let [option, later @ ..] = options else {
         return Ok(true);
@@ -143,7 +141,6 @@ fn is_walked_from<P: Pattern, L: Ledger>(
     visits: &mut Steps<L>,
 ) -> Result<bool, NoMemory>
     requires ready { AllZip IsReady options.now made.now }
-    requires asked { 0 < length at.now.places.now }
     requires rising { IsRising 0 (next_set next.now at.now.places.now) (length at.now.payload.now + 1) }
     requires known_rising { AreRising (length at.now.payload.now + 1) behind.old.known }
     ensures right { OfMade P.finds options.now made.now (λ means.
@@ -158,9 +155,8 @@ fn is_walked_from<P: Pattern, L: Ledger>(
     ensures known { OfMade P.finds options.now made.now (λ means.
         AreKnown means at.now.payload.now options.now behind.old.known
         → IfOk result (λ walked. AreKnown means at.now.payload.now options.now behind.new.known)) }
-    ensures known_rising { IfOk result (λ walked. AreRising (length at.now.payload.now + 1) behind.new.known) }
-    ensures others { IfOk result (λ walked. (left : ℕ) → length options.now ≤ left
-        → known_at behind.new.known left ≡ known_at behind.old.known left) }
+    ensures kept { IfOk result (λ walked. KeepsKnown (length options.now) (length at.now.payload.now + 1)
+        behind.old.known behind.new.known) }
 {
     match next {
         Next::Same => is_walked(alloc, options, made, at, behind, visits),

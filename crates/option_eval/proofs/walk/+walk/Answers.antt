@@ -14,7 +14,7 @@ use Rattle.option_eval.proofs.Stepping.{walked_by, leaves_plain, visits_upto}
 use Rattle.option_eval.proofs.walk.+walk.Goals as goal
 
 pub is_walked-returns-in_default-clause-right : goal.is_walked-returns-in_default-clause-right
-is_walked-returns-in_default-clause-right g t c = λ means made known. passed_none means c.args.at.now.payload.now c.args.options.now c.args.at.now.values.now c.args.at.now.places.now c.in_default.len_below c.requires.asked
+is_walked-returns-in_default-clause-right g t c = λ means made known. passed_none means c.args.at.now.payload.now c.args.options.now c.args.at.now.values.now c.args.at.now.places.now c.in_default.len_below c.args.at.now.some
 
 pub is_walked-returns-in-ByteExtract-clause-right : goal.is_walked-returns-in-ByteExtract-clause-right
 is_walked-returns-in-ByteExtract-clause-right g t c = λ means made known.
@@ -58,25 +58,22 @@ is_walked-returns-clause-known g t c = λ means made known.
     let all = subst (λ (xs : List Opt). AreKnown means c.args.at.now.payload.now xs c.args.behind.now.known) is known in
     subst (λ (xs : List Opt). AreKnown means c.args.at.now.payload.now xs c.keep.new.self) (sym is)
     (turn_known c.next_known.new.known c.is_walked_from.new.behind.known c.keep.new.self c.args.behind.now.known (length later) c.in_ok-next.next (is_free o ≡ true)
-    c.next_known.ensures.taken c.in_ok-walked.ensures.others c.keep.ensures.others c.keep.ensures.own means c.args.at.now.payload.now o later refl
+    c.next_known.ensures.taken c.in_ok-walked.ensures.kept.others c.keep.ensures.others c.keep.ensures.own means c.args.at.now.payload.now o later refl
     (λ on. c.in_ok-walked.ensures.known means finds.1 on) (λ free. c.in_ok-next.ensures.alike means finds.0 all.0 free) all)
 
-pub is_walked-returns-clause-known_rising : goal.is_walked-returns-clause-known_rising
-is_walked-returns-clause-known_rising g t c =
-    let options = c.args.options.now in
-    let later = take (length options - 1) (drop 1 options) in
-    let o = c.option-item.result in
-    turn_rising c.next_known.new.known c.is_walked_from.new.behind.known c.keep.new.self c.args.behind.now.known (length later) c.in_ok-next.next (is_free o ≡ true)
-    c.next_known.ensures.taken c.in_ok-walked.ensures.others c.keep.ensures.others c.keep.ensures.own (length c.args.at.now.payload.now + 1) c.in_ok-next.ensures.rising c.in_ok-walked.ensures.known_rising
-
-pub is_walked-returns-clause-others : goal.is_walked-returns-clause-others
-is_walked-returns-clause-others g t c = λ other past.
+pub is_walked-returns-clause-kept : goal.is_walked-returns-clause-kept
+is_walked-returns-clause-kept g t c =
     let options = c.args.options.now in
     let later = take (length options - 1) (drop 1 options) in
     let o = c.option-item.result in
     let is = behind_first options o c.in-len1-up.len_at_least c.option-item.is in
-    turn_others c.next_known.new.known c.is_walked_from.new.behind.known c.keep.new.self c.args.behind.now.known (length later) c.in_ok-next.next (is_free o ≡ true)
-    c.next_known.ensures.taken c.in_ok-walked.ensures.others c.keep.ensures.others c.keep.ensures.own other (omega (arith, ap length is, past))
+    record {
+      rising = turn_rising c.next_known.new.known c.is_walked_from.new.behind.known c.keep.new.self c.args.behind.now.known (length later) c.in_ok-next.next (is_free o ≡ true)
+          c.next_known.ensures.taken c.in_ok-walked.ensures.kept.others c.keep.ensures.others c.keep.ensures.own (length c.args.at.now.payload.now + 1) c.in_ok-next.ensures.rising
+          c.in_ok-walked.ensures.kept.rising;
+      others = λ other past. turn_others c.next_known.new.known c.is_walked_from.new.behind.known c.keep.new.self c.args.behind.now.known (length later) c.in_ok-next.next (is_free o ≡ true)
+          c.next_known.ensures.taken c.in_ok-walked.ensures.kept.others c.keep.ensures.others c.keep.ensures.own other (omega (arith, ap length is, past));
+    }
 
 pub is_walked-is_walked_from-requires-clause-known_rising : goal.is_walked-is_walked_from-requires-clause-known_rising
 is_walked-is_walked_from-requires-clause-known_rising g t c κs within =
