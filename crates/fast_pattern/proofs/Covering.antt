@@ -9,7 +9,7 @@ use Rattle.fast_pattern.specs.declared.automaton.Automaton.{Automaton}
 use Rattle.fast_pattern.specs.declared.seen.Seen.{Seen}
 use Rattle.fast_pattern.specs.Marking.{is_marked}
 use Rattle.fast_pattern.specs.Words.{begins, has_ended, word_of, word_at, IsClosed, IsAt}
-use Rattle.fast_pattern.specs.Finding.{numbers, is_ended, words_in, Covers, CoversOn, Walks, Steps, Notes, AreHits}
+use Rattle.fast_pattern.specs.Finding.{numbers, is_ended, words_in, so_far, Covers, CoversOn, Walks, Steps, Notes, AreHits}
 use Rattle.fast_pattern.proofs.Words.{same_bools, begins-length, ended-push, ended-suffix, begins-empty}
 use Rattle.fast_pattern.proofs.Growing.{word_of-more, word_of-length}
 use Rattle.fast_pattern.proofs.Occurring.{ended-here, ended-infix, infix-ended}
@@ -155,7 +155,7 @@ covers-all automaton bytes done seen hits h covers = record {
 -- a walk from a place on, up to where so much is pending as lies behind another place
 pub covers-walked : (automaton : Automaton) (bytes : List ℕ) (from count to at : ℕ) (old new : Seen) (old_hits new_hits : List ℕ) → from + count ≤ length bytes → to ≤ from + count
     → ((from + count ≡ length bytes) ⊎ ((at < automaton.shallow) × (to + 3 ≤ from + count)))
-    → Walks automaton (word_of automaton.letters (take count (drop from bytes))) at old old_hits new new_hits → CoversOn automaton bytes from old old_hits to new new_hits
+    → Walks automaton (word_of automaton.letters (take count (drop from bytes))) at old old_hits new new_hits → CoversOn automaton bytes from (so_far old old_hits) to (so_far new new_hits)
 covers-walked automaton bytes from count to at old new old_hits new_hits within back ends walks = record {
   on = λ covers. record {
     covered = λ patterns finds.
@@ -249,7 +249,7 @@ covers-skipped automaton sieve bytes from to seen hits own short skips covers = 
 -- a walk over all bytes
 pub covers-whole : (automaton : Automaton) (bytes : List ℕ) (i at : ℕ) (old new : Seen) (old_hits new_hits : List ℕ) → length bytes ≤ i
     → Walks automaton (word_of automaton.letters (take i bytes)) at old old_hits new new_hits
-    → CoversOn automaton bytes 0 old old_hits (length bytes) new new_hits
+    → CoversOn automaton bytes 0 (so_far old old_hits) (length bytes) (so_far new new_hits)
 covers-whole automaton bytes i at old new old_hits new_hits h walks =
     let same : take i bytes ≡ take (length bytes) (drop 0 bytes) = take_all i bytes h ∙ sym (take_all (length bytes) bytes (omega arith)) in
     let P : List ℕ → Type 0 = λ read. Walks automaton (word_of automaton.letters read) at old old_hits new new_hits in

@@ -89,17 +89,25 @@ pub record Finds (automaton : Automaton) (patterns : List (List ℕ)) : Type 0 w
       → length (word_at words state) ≤ few_letters
   pub sifts : IfSome automaton.sieve (λ sieve. Sifts sieve patterns)
 
--- behind what was read, since when some patterns were marked, the walk stands at a state's row, and has marked and
--- listed what has ended
-pub record IsWalked (automaton : Automaton) (patterns words : List (List ℕ)) (read : List ℕ) (at : ℕ) (old seen : Seen)
-    (hits : List ℕ) : Type 0 where
+-- what was found so far: patterns that are marked, and those that are listed
+pub record Found : Type 0 where
+  pub seen : Seen
+  pub hits : List ℕ
+
+abbrev pub so_far : Seen → List ℕ → Found
+so_far seen hits = record { seen = seen; hits = hits }
+
+-- after what was read, before which some patterns were marked, the walk is at a state's row, and has marked and listed
+-- what has ended
+pub record IsWalked (automaton : Automaton) (patterns words : List (List ℕ)) (read : List ℕ) (at : ℕ) (old : Seen)
+    (new : Found) : Type 0 where
   pub state : ℕ
   pub within : state < length words
   pub row : at ≡ place_of automaton.trie.width automaton.dense state
   pub is : IsAt words read (word_at words state)
-  pub marked : (place : ℕ) → place < length patterns → is_marked seen place
+  pub marked : (place : ℕ) → place < length patterns → is_marked new.seen place
       ≡ (is_marked old place || is_ended patterns read place)
-  pub listed : IsPermutation (numbers (is_marked seen) 0 (length patterns)) hits
+  pub listed : IsPermutation (numbers (is_marked new.seen) 0 (length patterns)) new.hits
 
 -- a move from the state with a place
 pub record Steps (automaton : Automaton) (at letter entry : ℕ) : Type 0 where
@@ -118,7 +126,7 @@ pub record Walks (automaton : Automaton) (read : List ℕ) (at : ℕ) (old : See
   pub walked : (patterns : List (List ℕ)) (finds : Finds automaton patterns)
       → IsClosedUnder (words_in automaton.letters patterns) old
       → IsPermutation (numbers (is_marked old) 0 (length (words_in automaton.letters patterns))) old_hits
-      → IsWalked automaton (words_in automaton.letters patterns) finds.words read at old seen hits
+      → IsWalked automaton (words_in automaton.letters patterns) finds.words read at old (so_far seen hits)
 
 -- no pattern but such as occur is marked, and each one is that begins before a place, wherever it ends
 pub record IsCovered (letters : List ℕ) (patterns : List (List ℕ)) (bytes : List ℕ) (done : ℕ) (seen : Seen)
@@ -137,9 +145,8 @@ pub record Covers (automaton : Automaton) (bytes : List ℕ) (done : ℕ) (seen 
       → IsCovered automaton.letters (words_in automaton.letters patterns) bytes done seen hits
 
 -- where all that begins before one place was marked, all that begins before another is now
-pub record CoversOn (automaton : Automaton) (bytes : List ℕ) (from : ℕ) (old : Seen) (old_hits : List ℕ)
-    (to : ℕ) (new : Seen) (new_hits : List ℕ) : Type 0 where
-  pub on : Covers automaton bytes from old old_hits → Covers automaton bytes to new new_hits
+pub record CoversOn (automaton : Automaton) (bytes : List ℕ) (from : ℕ) (old : Found) (to : ℕ) (new : Found) : Type 0 where
+  pub on : Covers automaton bytes from old.seen old.hits → Covers automaton bytes to new.seen new.hits
 
 -- the chain of a state was marked and listed
 pub record Marks (automaton : Automaton) (at : ℕ) (old : Seen) (old_hits : List ℕ) (new : Seen) (new_hits : List ℕ) : Type 0 where

@@ -92,7 +92,7 @@ fn next_reach(reach: usize, skipped: usize) -> usize {
 }
 
 impl Automaton {
-    ghost use Rattle.fast_pattern.specs.Finding.{Finds, Steps, StepsBack, CoversOn, Marks, Notes, AreHits};
+    ghost use Rattle.fast_pattern.specs.Finding.{Finds, Steps, StepsBack, CoversOn, Marks, Notes, AreHits, so_far};
 
     /// The automaton of these patterns; an empty one is none.
     pub fn of(alloc: Global, patterns: &[Text]) -> Result<Automaton, NoMemory>
@@ -197,7 +197,8 @@ impl Automaton {
         hits: &mut Vec<u32>,
     ) -> Result<usize, NoMemory>
         requires { from < length bytes.now }
-        ensures covers { IfOk result (λ to. CoversOn self.now bytes.now from seen.old hits.old.items to seen.new hits.new.items) }
+        ensures covers { IfOk result (λ to. CoversOn self.now bytes.now from (so_far seen.old hits.old.items)
+            to (so_far seen.new hits.new.items)) }
         ensures on { IfOk result (λ to. from < to) }
         ensures within { IfOk result (λ to. to ≤ length bytes.now) }
     {
@@ -224,7 +225,8 @@ impl Automaton {
         seen: &mut Seen,
         hits: &mut Vec<u32>,
     ) -> Result<(), NoMemory>
-        ensures { OnOk result (CoversOn self.now bytes.now 0 seen.old hits.old.items (length bytes.now) seen.new hits.new.items) }
+        ensures { OnOk result (CoversOn self.now bytes.now 0 (so_far seen.old hits.old.items)
+            (length bytes.now) (so_far seen.new hits.new.items)) }
     {
         let mut at = 0;
         for byte in bytes {
@@ -244,7 +246,8 @@ impl Automaton {
         hits: &mut Vec<u32>,
         effort: &mut Effort,
     ) -> Result<(), NoMemory>
-        ensures { OnOk result (CoversOn self.now bytes.now 0 seen.old hits.old.items (length bytes.now) seen.new hits.new.items) }
+        ensures { OnOk result (CoversOn self.now bytes.now 0 (so_far seen.old hits.old.items)
+            (length bytes.now) (so_far seen.new hits.new.items)) }
     {
         let Some(sieve) = &self.sieve else {
             effort.add_walk(0, bytes.len());
