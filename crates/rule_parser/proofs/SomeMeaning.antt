@@ -22,7 +22,7 @@ use Rattle.rule_parser.specs.declared.fault.RuleKind.TheVariants as kind
 use Rattle.rule_parser.specs.declared.header.Header.{Header}
 use Rattle.rule_parser.specs.Faults.{plain, rule_fault}
 use Rattle.rule_parser.specs.Headers.{After, IsAddressWord, IsHeader, IsPortWord, IsReadAs, IsWord, action_of, behind_header, direction_of, expanded_word, from_word, proto_of}
-use Rattle.rule_parser.specs.RuleLine.{IsAnswered, IsRuleLine, rule_body}
+use Rattle.rule_parser.specs.RuleLine.{HasMeaning, IsRuleLine, rule_body}
 
 -- ---- headers
 
@@ -147,13 +147,9 @@ no_memory len fault.Limit is = let same = ap (λ (f : RuleFault). f.kind) is in 
 no_memory len fault.OutsideProfile is = let same = ap (λ (f : RuleFault). f.kind) is in cc
 
 -- a line is a rule, or is refused for a fault
-pub some_meaning : (variables : Variables) (classes : List Class) (names : List (List ℕ)) (line : List ℕ)
-    → ((rule : Rule) × (later : List (List ℕ)) × IsAnswered (length line) (Ok rule) later (IsRuleLine variables classes names line))
-    ⊎ ((refused : RuleFault) × IsAnswered (length line) (Err refused) names (IsRuleLine variables classes names line) × (refused ≢ plain kind.NoMemory))
+pub some_meaning : (variables : Variables) (classes : List Class) (names : List (List ℕ)) (line : List ℕ) → HasMeaning variables classes names line
 some_meaning variables classes names line = by_answer (rule_line variables classes names line)
   where
-    by_answer : ((answer : Result (Rule × List (List ℕ)) Fault) × IsRuleLine variables classes names line answer)
-        → ((rule : Rule) × (later : List (List ℕ)) × IsAnswered (length line) (Ok rule) later (IsRuleLine variables classes names line))
-        ⊎ ((refused : RuleFault) × IsAnswered (length line) (Err refused) names (IsRuleLine variables classes names line) × (refused ≢ plain kind.NoMemory))
+    by_answer : ((answer : Result (Rule × List (List ℕ)) Fault) × IsRuleLine variables classes names line answer) → HasMeaning variables classes names line
     by_answer (Ok (rule, later), is) = inl (rule, later, is)
     by_answer (Err why, is) = inr (rule_fault (length line) why, inr (why, is, refl), no_memory (length line) why)

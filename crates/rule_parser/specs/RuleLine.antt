@@ -6,7 +6,7 @@
 -- one whose class there is not.
 -- To try it on: `alert udp any any -> any any (msg:"t"; content:"abc"; sid:1;)` is a rule with one content;
 -- without its `sid` it lacks that, and without its last byte it has a fault of syntax.
-use Rattle.std.specs.Prelude.{◌≡◌, ◌⊎◌, ℕ, ⊤, ◌<◌, ◌+◌, ◌-◌, ◌==◌, ◌&&◌, Option, Some, None, Result, Ok, Err, List, [], ◌∷◌, length, take, drop, slice_get, slice_index, unwrap_or, nat_le, if◌then◌else◌}
+use Rattle.std.specs.Prelude.{◌≡◌, ◌≢◌, ◌⊎◌, ℕ, ⊤, ◌<◌, ◌+◌, ◌-◌, ◌==◌, ◌&&◌, Option, Some, None, Result, Ok, Err, List, [], ◌∷◌, length, take, drop, slice_get, slice_index, unwrap_or, nat_le, if◌then◌else◌}
 use Rattle.std.specs.List.{list_all}
 use Rattle.std.specs.Option.{option_map}
 use Rattle.edge_io.specs.Bytes.{is_blank}
@@ -121,3 +121,12 @@ abbrev pub AnswersAs : ℕ → Result Rule RuleFault → List (List ℕ) → Res
 AnswersAs len (Ok rule) names meant = meant ≡ Ok (rule, names)
 AnswersAs len (Err fault) names meant =
     (fault ≡ plain NoMemory) ⊎ ((why : Fault) × (meant ≡ Err why) × (fault ≡ rule_fault len why))
+
+-- a line has a meaning: it is a rule, with the flowbit names behind it, or it is refused for a fault other than want of
+-- memory
+abbrev pub HasMeaning : Variables → List Class → List (List ℕ) → List ℕ → Type 0
+HasMeaning variables classes names line =
+    ((rule : Rule) × (later : List (List ℕ))
+    × IsAnswered (length line) (Ok rule) later (IsRuleLine variables classes names line))
+    ⊎ ((fault : RuleFault) × IsAnswered (length line) (Err fault) names (IsRuleLine variables classes names line)
+    × (fault ≢ plain NoMemory))
