@@ -3,7 +3,8 @@
 -- ISO 8601-1, "The Gregorian calendar": months and their lengths, leap years. The day numbers are the
 -- whole days of the POSIX epoch (IEEE Std 1003.1, Base Definitions, "Seconds Since the Epoch").
 -- To try it on: day 58 is 1970-02-28 and day 59 is 1970-03-01; day 14288 is 2009-02-13.
-use Rattle.std.specs.Prelude.{ℕ, zero, suc, ◌+◌, ◌%◌, Bool, not, ◌&&◌, ◌||◌, ◌==◌, nat_lt, if◌then◌else◌}
+use Rattle.std.specs.Prelude.{◌≡◌, ℕ, zero, suc, ◌+◌, ◌/◌, ◌%◌, Bool, not, ◌&&◌, ◌||◌, ◌==◌, nat_lt, if◌then◌else◌}
+use Rattle.alert_fast.specs.declared.utc.UtcTime.{UtcTime}
 
 -- a day of the calendar: its year, its month from 1 to 12, its day of the month from 1
 pub record CivilDate : Type 0 where
@@ -32,3 +33,14 @@ day_after date =
 unfoldable pub date_of : ℕ → CivilDate
 date_of zero = record { year = 1970; month = 1; day = 1 }
 date_of (suc number) = day_after (date_of number)
+
+-- the time in UTC so many nanoseconds after 1970-01-01 00:00:00: the day's date, and the time of day; what is less
+-- than a microsecond is cut off
+pub record IsUtc (nanos : ℕ) (time : UtcTime) : Type 0 where
+  pub year : time.year ≡ (date_of (nanos / 86_400_000_000_000)).year
+  pub month : time.month ≡ (date_of (nanos / 86_400_000_000_000)).month
+  pub day : time.day ≡ (date_of (nanos / 86_400_000_000_000)).day
+  pub hour : time.hour ≡ nanos / 3_600_000_000_000 % 24
+  pub minute : time.minute ≡ nanos / 60_000_000_000 % 60
+  pub second : time.second ≡ nanos / 1_000_000_000 % 60
+  pub microsecond : time.microsecond ≡ nanos / 1_000 % 1_000_000

@@ -1,7 +1,7 @@
 //! The UTC time of a moment.
-ghost use Rattle.std.specs.Prelude.{◌≡◌, ◌/◌, ◌%◌, ◌<◌, pos};
+ghost use Rattle.std.specs.Prelude.{◌≡◌, ◌<◌, pos};
 ghost use Rattle.jiff_core.specs.DateTime.{civil_nanos};
-ghost use Rattle.alert_fast.specs.Calendar.{date_of};
+ghost use Rattle.alert_fast.specs.Calendar.{IsUtc};
 
 use edge_io::Moment;
 use jiff::Timestamp;
@@ -23,13 +23,7 @@ pub struct UtcTime {
 
 /// The UTC time of a moment. Its parts fit the digits in which they are written.
 pub fn utc_time(moment: Moment) -> UtcTime
-    ensures year { result.year ≡ (date_of (moment.nanos / 86_400_000_000_000)).year }
-    ensures month { result.month ≡ (date_of (moment.nanos / 86_400_000_000_000)).month }
-    ensures day { result.day ≡ (date_of (moment.nanos / 86_400_000_000_000)).day }
-    ensures hour { result.hour ≡ moment.nanos / 3_600_000_000_000 % 24 }
-    ensures minute { result.minute ≡ moment.nanos / 60_000_000_000 % 60 }
-    ensures second { result.second ≡ moment.nanos / 1_000_000_000 % 60 }
-    ensures microsecond { result.microsecond ≡ moment.nanos / 1_000 % 1_000_000 }
+    ensures utc { IsUtc moment.nanos result }
     ensures year_fits { result.year < 10000 }
     ensures month_fits { result.month < 100 }
     ensures day_fits { result.day < 100 }
