@@ -5,7 +5,8 @@ ghost use Rattle.std.specs.Option.{ForSome};
 ghost use Rattle.regex_extract.specs.Needles.{ContainsNeedle, needles_of};
 ghost use Rattle.regex_hir.specs.Find.{find};
 ghost use Rattle.regex_hir.specs.Re.{Re};
-ghost use Rattle.regex_meta.specs.Programs.{leftmost};
+ghost use Rattle.regex_meta.specs.Plans.{IsAdmitted};
+ghost use Rattle.regex_meta.specs.Programs.{leftmost, pattern_of};
 ghost use Rattle.regex_maker.specs.Searching.{IsSieveFor};
 
 use edge_io::NoMemory;
@@ -13,6 +14,10 @@ use regex_extract::Needles;
 use regex_literal::{Bounded, Ladder, Prefilter};
 use regex_meta::Program;
 use std::alloc::Global;
+
+/// How long matches may be that the automaton looks for at once, where all of them start at the first byte: it reads
+/// no more bytes than these, and a search for literals would go over all.
+const SHORT: usize = 128;
 
 /// Tests that every match of an expression passes.
 #[derive(Drop)]
@@ -48,14 +53,68 @@ fn lacks(needles: &Option<Prefilter>, bytes: &[u8]) -> bool
     }
 }
 
+/// Whether no match is longer than `SHORT`.
+fn are_short(most: Option<usize>) -> bool {
+    most.is_some_and(|len| len <= SHORT)
+}
+
+/// The search for literals of which every match has one.
+fn required(alloc: Global, program: &Program) -> Result<Option<Prefilter>, NoMemory>
+    ensures { IfOk result (λ found. ∥ ForSome found (ContainsNeedle (pattern_of program.now)) ∥₁) }
+{
+    prefilter(alloc, regex_extract::required(alloc, &program.hir)?)
+}
+
+/// Whether the literals are those that a search looks for.
+fn are_sought(search: &Option<Prefilter>, needles: &Option<Needles>) -> bool {
+    match (search, needles) {
+        (Some(search), Some(needles)) => search.is_for(needles),
+        _ => false,
+    }
+}
+
+/// The search for literals with one of which every match ends, unless `required` looks for the same.
+fn ending(
+    alloc: Global,
+    program: &Program,
+    required: &Option<Prefilter>,
+) -> Result<Option<Prefilter>, NoMemory>
+    ensures { IfOk result (λ found. ∥ ForSome found (ContainsNeedle (pattern_of program.now)) ∥₁) }
+{
+    let needles = regex_extract::suffixes(alloc, &program.hir)?;
+    if are_sought(required, &needles) {
+        return Ok(None);
+    }
+    prefilter(alloc, needles)
+}
+
+/// The bytes with which a match can begin, unless all matches start at the first byte.
+fn ladder(alloc: Global, program: &Program, anchored: bool) -> Result<Option<Ladder>, NoMemory>
+    ensures { IfOk result (λ found. ∥ ForSome found (IsAdmitted (pattern_of program.now)) ∥₁) }
+{
+    if anchored {
+        return Ok(None);
+    }
+    Ok(regex_levels::ladder(alloc, &program.dfa.nfa)?)
+}
+
 impl Sieve {
+    /// No literals are looked for where all matches start at the first byte and are short.
     pub(crate) fn new(alloc: Global, program: &Program) -> Result<Sieve, NoMemory>
         ensures { IfOk result (λ sieve. IsSieveFor sieve program.now) }
     {
-        let required = prefilter(alloc, regex_extract::required(alloc, &program.hir)?)?;
-        let ending = prefilter(alloc, regex_extract::suffixes(alloc, &program.hir)?)?;
         let anchored = regex_extract::is_anchored_start(&program.hir);
-        let ladder = regex_levels::ladder(alloc, &program.dfa.nfa)?;
+        if anchored && are_short(program.max_len) {
+            return Ok(Sieve {
+                required: None,
+                ending: None,
+                ladder: None,
+                anchored,
+            });
+        }
+        let required = required(alloc, program)?;
+        let ending = ending(alloc, program, &required)?;
+        let ladder = ladder(alloc, program, anchored)?;
         Ok(Sieve {
             required,
             ending,
