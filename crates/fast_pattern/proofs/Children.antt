@@ -1,8 +1,9 @@
 -- The states that are another's word with a letter behind it, one after the other.
-use Rattle.std.proofs.Common.{◌≡◌, ℕ, ◌+◌, ◌-◌, ◌<◌, min, List, ◌∷◌, length, slice_index, sym, ap, subst, ◌∙◌, arith, ⊎_elim}
+use Rattle.std.proofs.Common.{◌≡◌, ℕ, ◌+◌, ◌-◌, ◌<◌, ◌≤◌, inl, inr, min, List, ◌∷◌, length, replicate, set, slice_index, sym, ap, subst, ◌∙◌, arith, ⊎_elim}
 use Rattle.std.proofs.lemmas.Bool.{cases_eq}
+use Rattle.std.proofs.lemmas.List.{length-set, get_or-set_same, get_or-set_other, length-replicate, get_or-replicate}
 use Rattle.fast_pattern.specs.declared.trie.Trie.{Trie}
-use Rattle.fast_pattern.specs.Words.{word_at, step_at, IsSought, IsSeeking, FindsChild}
+use Rattle.fast_pattern.specs.Words.{word_at, step_at, IsSought, IsSeeking, FindsChild, AreChildren, IsFilling}
 
 pub seek-start : (trie : Trie) (state letter at : ℕ) → at ≡ slice_index trie.firsts.items state → IsSeeking trie state letter at
 seek-start trie state letter at e = record {
@@ -69,4 +70,65 @@ seek-end trie state letter at is end = record {
         within = omega (arith, trie_is.count);
         grown = λ more. absurd (omega arith);
       };
+}
+
+-- all children of a state, by their letters
+pub filling-start : (trie : Trie) (state at : ℕ) (children : List ℕ) → at ≡ slice_index trie.firsts.items state → children ≡ replicate trie.width 0 → IsFilling trie state at children
+filling-start trie state at children e zeros = record {
+  count = ap length zeros ∙ length-replicate {A = ℕ} trie.width 0;
+  own = λ words deep is h.
+      let first = is.first state h in
+      let P : ℕ → Type 0 = λ a. (a ≤ length trie.steps.items) × (0 < a → (step_at trie.steps.items (a - 1)).up ≡ state) in
+      subst P (sym e) (first.within, first.own);
+  each = λ letter h. inl (ap (λ (c : List ℕ). slice_index c letter) zeros ∙ get_or-replicate {A = ℕ} trie.width letter 0 0 h, seek-start trie state letter at e);
+}
+
+pub filling-more : (trie : Trie) (state at next : ℕ) (children news : List ℕ) → 0 < at → IsFilling trie state at children → next ≡ min (step_at trie.steps.items (at - 1)).same (at - 1) → news ≡ set children (step_at trie.steps.items (at - 1)).by at → IsFilling trie state next news
+filling-more trie state at next children news some is known e = record {
+  count = ap length e ∙ length-set children by at ∙ is.count;
+  own = λ words deep trie_is h.
+      let was = is.own words deep trie_is h in
+      let same = trie_is.same (at - 1) (omega (arith, was.0)) in
+      let next_is : next ≡ (step_at trie.steps.items (at - 1)).same = omega (arith, known, same.within) in
+      let P : ℕ → Type 0 = λ a. (a ≤ length trie.steps.items) × (0 < a → (step_at trie.steps.items (a - 1)).up ≡ state) in
+      subst P (sym next_is) (omega (arith, same.within, was.0), λ more. same.own more ∙ was.1 some);
+  each = λ letter h. ⊎_elim
+      (λ here. inr (let P : ℕ → Type 0 = λ c. FindsChild trie state letter c in subst P (sym (written letter h here)) (child letter (sym here))))
+      (λ ne.
+      let kept = ap (λ (c : List ℕ). slice_index c letter) e ∙ get_or-set_other children by letter at 0 ne in
+      ⊎_elim
+      (λ left. inl (kept ∙ left.0, seek-more trie state letter at next some left.1 (λ same. ne (sym same)) known))
+      (λ right. inr (let P : ℕ → Type 0 = λ c. FindsChild trie state letter c in subst P (sym kept) right))
+      (is.each letter h))
+      (cases_eq letter by);
+}
+  where
+    by : ℕ
+    by = (step_at trie.steps.items (at - 1)).by
+
+    written : (letter : ℕ) → letter < trie.width → letter ≡ (step_at trie.steps.items (at - 1)).by → slice_index news letter ≡ at
+    written letter h here =
+        let P : ℕ → Type 0 = λ l. slice_index (set children l at) letter ≡ at in
+        ap (λ (c : List ℕ). slice_index c letter) e ∙ subst P here (get_or-set_same children letter at 0 (omega (arith, is.count)))
+
+    child : (letter : ℕ) → (step_at trie.steps.items (at - 1)).by ≡ letter → FindsChild trie state letter at
+    child letter here = record {
+      found = λ words deep trie_is h.
+          let was = is.own words deep trie_is h in
+          let k : at - 1 < length trie.steps.items = omega (arith, was.0) in
+          let back : at ≡ at - 1 + 1 = omega arith in
+          record {
+            lacks = λ none. absurd (omega arith);
+            within = omega (arith, was.0, trie_is.count);
+            grown = λ more. ap (word_at words) back ∙ trie_is.told (at - 1) k ∙ ap (λ (b : ℕ). b ∷ word_at words (step_at trie.steps.items (at - 1)).up) here ∙ ap (λ (u : ℕ). letter ∷ word_at words u) (was.1 some);
+          };
+    }
+
+pub filling-end : (trie : Trie) (state at : ℕ) (children : List ℕ) → IsFilling trie state at children → at ≡ 0 → AreChildren trie state children
+filling-end trie state at children is end = record {
+  count = is.count;
+  each = λ letter h. ⊎_elim
+      (λ left. let P : ℕ → Type 0 = λ c. FindsChild trie state letter c in subst P (sym left.0) (seek-end trie state letter at left.1 end))
+      (λ right. right)
+      (is.each letter h);
 }

@@ -4,7 +4,7 @@
 -- read stand with the latest letter first, so that what ends at a moment is what the list begins with.
 -- To try it on: behind the letters h, s, h, e the words `he` and `she` have ended, `his` hasn't; as lists
 -- they are e h, e h s and s i h, and what was read is e h s h.
-use Rattle.std.specs.Prelude.{◌≡◌, ℕ, ◌+◌, ◌-◌, ◌<◌, ◌≤◌, ◌==◌, Bool, true, false, ◌&&◌, ◌||◌, List, [], ◌∷◌, ◌++◌, length, map, reverse, slice_index, slice_index_or}
+use Rattle.std.specs.Prelude.{◌≡◌, ℕ, ◌+◌, ◌-◌, ◌<◌, ◌≤◌, ◌==◌, Bool, true, false, ◌&&◌, ◌||◌, ◌⊎◌, List, [], ◌∷◌, ◌++◌, length, map, reverse, slice_index, slice_index_or}
 use Rattle.fast_pattern.specs.declared.trie.Step.{Step}
 use Rattle.fast_pattern.specs.declared.trie.Trie.{Trie}
 
@@ -108,6 +108,11 @@ pub record FindsChild (trie : Trie) (state letter child : ℕ) : Type 0 where
   pub found : (words : List (List ℕ)) (deep : ℕ) → IsTrieOf words trie deep → state < length words
       → IsChild words state letter child
 
+-- these are a state's children, one for each letter
+pub record AreChildren (trie : Trie) (state : ℕ) (children : List ℕ) : Type 0 where
+  pub count : length children ≡ trie.width
+  pub each : (letter : ℕ) → letter < trie.width → FindsChild trie state letter (slice_index children letter)
+
 -- the state is still sought among those up to a number that are another's with a letter behind it
 pub record IsSought (steps : List Step) (state letter at : ℕ) : Type 0 where
   pub within : at ≤ length steps
@@ -118,3 +123,11 @@ pub record IsSought (steps : List Step) (state letter at : ℕ) : Type 0 where
 pub record IsSeeking (trie : Trie) (state letter at : ℕ) : Type 0 where
   pub sought : (words : List (List ℕ)) (deep : ℕ) → IsTrieOf words trie deep → state < length words
       → IsSought trie.steps.items state letter at
+
+-- of a state's children those that aren't written yet are among those up to a number
+pub record IsFilling (trie : Trie) (state at : ℕ) (children : List ℕ) : Type 0 where
+  pub count : length children ≡ trie.width
+  pub own : (words : List (List ℕ)) (deep : ℕ) → IsTrieOf words trie deep → state < length words
+      → (at ≤ length trie.steps.items) × (0 < at → (step_at trie.steps.items (at - 1)).up ≡ state)
+  pub each : (letter : ℕ) → letter < trie.width → ((slice_index children letter ≡ 0) × IsSeeking trie state letter at)
+      ⊎ FindsChild trie state letter (slice_index children letter)

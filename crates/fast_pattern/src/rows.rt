@@ -1,6 +1,7 @@
 //! The layout of the moves: rows for the first states, and the moves to all states.
 
 ghost use Rattle.std.specs.Prelude.{◌≡◌, ◌+◌, ◌*◌, ◌^◌, ◌<◌, ◌≤◌, ◌==◌, if◌then◌else◌, length, IfOk, OnOk};
+ghost use Rattle.fast_pattern.specs.Words.{FindsChild, AreChildren};
 ghost use Rattle.fast_pattern.specs.Rows.{sparse, place_of, entry_of, AreEntries, IsNextEntry, HasRows, IsParent, AreShallow, IsShallow};
 
 use crate::trie::{Trie, place, read, step_at};
@@ -79,7 +80,7 @@ fn entries_of(
     Ok(entries)
 }
 
-/// The next move of a table.
+/// The next move of a table, by the state that is longer by the letter, if there is one.
 fn next_entry(
     trie: &Trie,
     fails: &[u32],
@@ -87,10 +88,11 @@ fn next_entry(
     table: &[u32],
     state: u32,
     letter: u16,
+    child: u32,
 ) -> u32
+    requires { FindsChild trie.now state letter child }
     ensures { IsNextEntry trie.now fails.now entries.now table.now state letter result }
 {
-    let child = trie.found(state, letter);
     if child != 0 {
         return read(entries, child as usize);
     }
@@ -103,19 +105,22 @@ fn next_entry(
     )
 }
 
-/// Adds the row of a state.
+/// Adds the row of a state, by its children.
 fn push_row(
     trie: &Trie,
     fails: &[u32],
     entries: &[u32],
     state: u32,
+    children: &[u32],
     table: &mut Vec<u32>,
 ) -> Result<(), AllocError>
+    requires { AreChildren trie.now state children.now }
     ensures { OnOk result (HasRows trie.now fails.now entries.now state 0 table.old.items
         → HasRows trie.now fails.now entries.now (state + 1) 0 table.new.items) }
 {
     for letter in 0..trie.width {
-        let entry = next_entry(trie, fails, entries, table, state, letter);
+        let child = read(children, letter as usize);
+        let entry = next_entry(trie, fails, entries, table, state, letter, child);
         table.push(entry)?;
     }
     Ok(())
@@ -132,8 +137,11 @@ fn table_of(
     ensures { IfOk result (λ table. HasRows trie.now fails.now entries.now dense 0 table.items) }
 {
     let mut table = Vec::with_capacity(alloc, place(trie.width, dense, 0))?;
+    let mut room = vec![in alloc; 0; trie.width as usize]?;
+    let children = room.as_mut_slice();
     for state in 0..dense {
-        push_row(trie, fails, entries, state, &mut table)?;
+        trie.put_children(state, children);
+        push_row(trie, fails, entries, state, children, &mut table)?;
     }
     Ok(table)
 }

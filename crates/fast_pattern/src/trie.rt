@@ -66,7 +66,7 @@ pub fn step_at(steps: &[Step], at: usize) -> Step
 }
 
 impl Trie {
-    ghost use Rattle.fast_pattern.specs.Words.{IsTrie, words_of, word_at, HasChild, FindsChild};
+    ghost use Rattle.fast_pattern.specs.Words.{IsTrie, words_of, word_at, HasChild, FindsChild, AreChildren};
 
     /// The empty word alone.
     pub fn new(alloc: Global, width: u16) -> Result<Trie, NoMemory>
@@ -96,6 +96,20 @@ impl Trie {
             at = step.same.min(at - 1);
         }
         0
+    }
+
+    /// Writes, for each letter, the state whose word is this state's with the letter behind it; 0 where there is none.
+    pub fn put_children(&self, state: u32, children: &mut [u32])
+        requires { length children.old ≡ self.now.width }
+        ensures { AreChildren self.now state children.new }
+    {
+        children.fill(0);
+        let mut at = read(&self.firsts, state as usize);
+        while at != 0 {
+            let step = step_at(&self.steps, at as usize - 1);
+            write(children, step.by as usize, at);
+            at = step.same.min(at - 1);
+        }
     }
 
     /// Adds the state behind `up` that is longer by the letter.
