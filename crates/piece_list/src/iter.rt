@@ -68,10 +68,11 @@ pub struct Iter<'a, T> {
     left: Left<'a, T>,
 }
 
-/// At most one element of a list that keeps it in itself, or those in nodes.
+/// At most one element of a list that keeps it in itself, those of a row, or those in nodes.
 #[derive(Drop)]
 enum Left<'a, T> {
     One(Option<&'a T>),
+    Few(&'a [T]),
     Many(ChainIter<'a, T>),
 }
 
@@ -90,6 +91,14 @@ impl<'a, T> Iter<'a, T> {
     {
         Iter {
             left: Left::One(element),
+        }
+    }
+
+    pub(crate) fn of_few(row: &'a [T]) -> Iter<'a, T>
+        ensures { result ≡ row.now }
+    {
+        Iter {
+            left: Left::Few(row),
         }
     }
 
@@ -112,6 +121,11 @@ impl<'a, T> Iterator for Iter<'a, T> {
     fn next(&mut self) -> Option<&'a T> {
         match &mut self.left {
             Left::One(element) => element.take(),
+            Left::Few(row) => {
+                let (first, rest) = row.split_first()?;
+                *row = rest;
+                Some(first)
+            }
             Left::Many(chain) => chain.next(),
         }
     }

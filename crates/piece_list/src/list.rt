@@ -2,6 +2,7 @@
 ghost use Rattle.std.specs.Prelude.{◌≡◌, ◌+◌, ◌-◌, ◌<◌, ◌≤◌, ◌↔◌, ◌++◌, ◌∷◌, [], length, insert, remove, slice_get, option_copied, IsTrue, OnSome, IfNone, OnOk, if◌then◌else◌};
 ghost use Rattle.piece_list.specs.Pieces.{pieces};
 
+use crate::few::{Few, MOST};
 use crate::iter::Iter;
 use crate::nodes::NodeList;
 use crate::single::Single;
@@ -10,20 +11,21 @@ use std::alloc::Global;
 use std::marker::Model;
 
 /// A list of elements and a place in it, from before the first element to behind the last. An element
-/// alone lies in the list itself; with more each has a node of its own, linked both ways. So the place
-/// moves by one in constant time, and from either end; nodes that were reserved, or whose element was
-/// taken out, are spare. Contracts see the elements, the place as a number, and the number of spare
-/// nodes, where what lies in the list itself counts as one.
+/// alone lies in the list itself, a few lie in a row; with more each has a node of its own, linked both
+/// ways. So the place moves by one in constant time, and from either end; nodes that were reserved, or
+/// whose element was taken out, are spare. Contracts see the elements, the place as a number, and the
+/// number of spare nodes, where room in the list itself or in a row counts as one for each element.
 #[derive(Drop)]
 pub struct PieceList<T: Drop> {
     alloc: Global,
     held: Held<T>,
 }
 
-/// Where the elements lie. Once in nodes they stay in nodes.
+/// Where the elements lie. Once in a row they don't go back into the list itself, nor from nodes to a row.
 #[derive(Drop)]
 enum Held<T: Drop> {
     One(Single<T>),
+    Few(Few<T>),
     Many(NodeList<T>),
 }
 
@@ -50,7 +52,7 @@ impl<T: Drop> PieceList<T> {
     }
 
     /// Makes at least this many nodes spare. Where memory is lacking fewer may be spare, and never
-    /// fewer than before. The list and the place stay in either case. The first node takes no memory.
+    /// fewer than before. The list and the place stay in either case. The first node takes no memory, and seven more one block.
     pub fn reserve(&mut self, nodes: usize) -> Result<(), NoMemory>
         ensures enough { OnOk result (nodes ≤ self.new.spare) }
         ensures grown { self.old.spare ≤ self.new.spare }
@@ -58,11 +60,24 @@ impl<T: Drop> PieceList<T> {
     {
         match &mut self.held {
             Held::One(single) => {
-                if !single.reserve(nodes) {
-                    let linked = single.linked(self.alloc, nodes)?;
-                    self.held = Held::Many(linked);
+                if single.reserve(nodes) {
+                    return Ok(());
                 }
+                self.held = if nodes < MOST {
+                    Held::Few(single.few(self.alloc)?)
+                } else {
+                    Held::Many(single.linked(self.alloc, nodes)?)
+                };
                 Ok(())
+            }
+            Held::Few(few) => {
+                if few.has_spare(nodes) {
+                    return Ok(());
+                }
+                let mut linked = few.linked(self.alloc)?;
+                let made = linked.reserve(nodes);
+                self.held = Held::Many(linked);
+                made
             }
             Held::Many(linked) => linked.reserve(nodes),
         }
@@ -83,6 +98,7 @@ impl<T: Drop> PieceList<T> {
     {
         match &mut self.held {
             Held::One(single) => single.end(),
+            Held::Few(few) => few.end(),
             Held::Many(linked) => linked.end(),
         }
     }
@@ -93,6 +109,7 @@ impl<T: Drop> PieceList<T> {
     {
         match &mut self.held {
             Held::One(single) => single.front(),
+            Held::Few(few) => few.front(),
             Held::Many(linked) => linked.front(),
         }
     }
@@ -111,6 +128,7 @@ impl<T: Drop> PieceList<T> {
     {
         match &self.held {
             Held::One(single) => Iter::of_one(single.element()),
+            Held::Few(few) => Iter::of_few(few.row()),
             Held::Many(linked) => Iter::of_many(linked.iter()),
         }
     }
@@ -122,6 +140,7 @@ impl<T: Drop> PieceList<T> {
     {
         match &self.held {
             Held::One(single) => single.peek(),
+            Held::Few(few) => few.peek(),
             Held::Many(linked) => linked.peek(),
         }
     }
@@ -133,6 +152,7 @@ impl<T: Drop> PieceList<T> {
     {
         match &mut self.held {
             Held::One(single) => single.next(),
+            Held::Few(few) => few.next(),
             Held::Many(linked) => linked.next(),
         }
     }
@@ -144,6 +164,7 @@ impl<T: Drop> PieceList<T> {
     {
         match &mut self.held {
             Held::One(single) => single.prev(),
+            Held::Few(few) => few.prev(),
             Held::Many(linked) => linked.prev(),
         }
     }
@@ -155,6 +176,7 @@ impl<T: Drop> PieceList<T> {
     {
         match &mut self.held {
             Held::One(single) => single.insert_here(value),
+            Held::Few(few) => few.insert_here(value),
             Held::Many(linked) => linked.insert_here(value),
         }
     }
@@ -169,6 +191,7 @@ impl<T: Drop> PieceList<T> {
     {
         match &mut self.held {
             Held::One(single) => single.remove_here(),
+            Held::Few(few) => few.remove_here(),
             Held::Many(linked) => linked.remove_here(),
         }
     }

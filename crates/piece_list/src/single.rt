@@ -2,6 +2,7 @@
 ghost use Rattle.std.specs.Prelude.{◌≡◌, ◌+◌, ◌-◌, ◌<◌, ◌≤◌, ◌↔◌, [], length, insert, remove, slice_get, option_copied, option_to_list, IsTrue, IfOk, IfNone, OnErr, OnSome, if◌then◌else◌};
 ghost use Rattle.piece_list.specs.Pieces.{pieces};
 
+use crate::few::Few;
 use crate::nodes::NodeList;
 use edge_io::NoMemory;
 use std::alloc::Global;
@@ -64,6 +65,25 @@ impl<T: Drop> Single<T> {
         let mut linked = NodeList::take(alloc, nodes)?;
         self.move_to(&mut linked);
         Ok(linked)
+    }
+
+    /// The same list in a row with room for a few, to which the element moves. Without memory it stays.
+    pub(crate) fn few(&mut self, alloc: Global) -> Result<Few<T>, NoMemory>
+        ensures enough { IfOk result (λ few. 7 ≤ few.spare) }
+        ensures grown { IfOk result (λ few. self.old.spare ≤ few.spare) }
+        ensures kept { IfOk result (λ few. few ≡ pieces self.old.list self.old.place few.spare) }
+        ensures err { OnErr result (self.new ≡ self.old) }
+    {
+        let mut few = Few::take(alloc)?;
+        let place = self.place;
+        self.place = 0;
+        if let Some(element) = self.element.take() {
+            few.insert_here(element);
+            if place == 1 {
+                few.end();
+            }
+        }
+        Ok(few)
     }
 
     /// Moves the element, if there is one, to an empty list over nodes, and stands there as here.
