@@ -3,15 +3,5 @@ pub mod Dates
 pub mod PaddedDigits
 pub mod PieceLists
 pub mod LineTexts
-pub mod Fronts
-pub mod WholeWords
-pub mod Places
-pub mod Messages
-pub mod Heads
-pub mod Tails
-pub mod EndWords
-pub mod EndPairs
-pub mod Protocols
-pub mod Parts
-pub mod Readings
+pub mod ReadBack
 pub mod Telling

@@ -6,15 +6,5 @@ pub mod SettingSteps
 pub mod Joining
 pub mod Included
 pub mod LineSteps
-pub mod Goings
-pub mod Seeing
-pub mod Opening
-pub mod Finishing
-pub mod Soundness
-pub mod SoundnessFrag3
-pub mod SoundnessStream5
-pub mod SoundnessConfig
-pub mod SoundnessLines
-pub mod SoundnessReading
-pub mod Keeping
-pub mod Placing
+pub mod Readings
+pub mod Sound

@@ -6,8 +6,8 @@ use Rattle.net_lists.specs.Stops.{or_kind}
 use Rattle.net_lists.specs.declared.part.Part.{Part}
 use Rattle.net_lists.specs.Lists.{IsList, IsTooLong}
 use Rattle.net_lists.specs.Machine.{list_parts}
-use Rattle.net_lists.proofs.Starts.{AreParts}
-use Rattle.net_lists.proofs.ListParts.{spelled, read}
+use Rattle.net_lists.proofs.Lists.Starts.{AreParts}
+use Rattle.net_lists.proofs.Lists.Parts.{spelled, read}
 use Rattle.conf_parser.specs.declared.line.ConfKind.{ConfKind}
 use Rattle.conf_parser.specs.declared.line.ConfKind.TheVariants.{Limit}
 use Rattle.conf_parser.specs.Values.{within_limit}

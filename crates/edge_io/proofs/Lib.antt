@@ -4,11 +4,8 @@ pub mod Along
 pub mod AlongClasses
 pub mod Bytes
 pub mod Told
-pub mod Putting
+pub mod Hosts
 pub mod Places
 pub mod Folding
-pub mod Known
 pub mod Words
 pub mod Walks
-pub mod Hearing
-pub mod Seeing

@@ -5,7 +5,7 @@ use Rattle.std.proofs.lemmas.List.Elements.{All-more, All-weaker, All-same}
 use Rattle.std.proofs.lemmas.Bool.{false≢true, cases_lt, cases_eq, cases_Bool, cases_order, eqb-true, eq-eqb}
 use Rattle.std.proofs.lemmas.Bool.Decides.{nat_tests}
 use Rattle.fast_pattern.specs.Letters.{lower, IsMarked, AreMarked, AllMarked, KeepsMarks, AreFolded, AreNumbered, IsTold, AreTold, AllTold}
-use Rattle.fast_pattern.proofs.Words.{same_bools}
+use Rattle.fast_pattern.proofs.States.Words.{same_bools}
 
 pub lower-short : (byte : ℕ) → byte < 256 → lower byte < 256
 unfolding lower

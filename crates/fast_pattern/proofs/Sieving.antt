@@ -8,7 +8,7 @@ use Rattle.fast_pattern.specs.Letters.{lower, AllTold}
 use Rattle.fast_pattern.specs.Words.{begins, word_of, word_at}
 use Rattle.fast_pattern.specs.Windows.{window_at, folding_mask, slot_of, slot_bit, HaveWindows}
 use Rattle.fast_pattern.specs.Sieving.{window_bit, Sifts, Skips}
-use Rattle.fast_pattern.proofs.Occurring.{begins-split}
+use Rattle.fast_pattern.proofs.Finding.Occurring.{begins-split}
 use Rattle.fast_pattern.proofs.Slots.{same-lower, same-slot}
 
 -- where a pattern ends, its letters stand

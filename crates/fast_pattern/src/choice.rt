@@ -88,7 +88,7 @@ fn longer(one: Option<Sought>, other: Sought) -> Option<Sought>
 }
 
 /// The content that is chosen: the marked one, else the longest, the first of equals.
-#[tactic(auto, using(crate::proofs::Choosing::choosing))]
+#[tactic(auto, using(crate::proofs::Candidates::Choosing::choosing))]
 pub fn chosen(options: &[Opt]) -> Option<Sought>
     ensures { result ≡ chosen options.now }
 {

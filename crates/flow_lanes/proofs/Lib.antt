@@ -7,6 +7,5 @@ pub mod Jobs
 pub mod Heads
 pub mod Fits
 pub mod Between
-pub mod HeldSides
-pub mod HeldSessions
-pub mod HeldLanes
+pub mod Held
+pub mod Engines

@@ -5,10 +5,6 @@ pub mod PartsOf
 pub mod FlushedPayloads
 -- what is appended to items
 pub mod ItemsWith
--- the limits of an engine
-pub mod LimitsTo
--- the ports of an engine without settings
-pub mod DefaultPorts
 -- how far sides reach
 pub mod Reaches
 -- steps of one side

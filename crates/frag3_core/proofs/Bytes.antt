@@ -9,7 +9,7 @@ use Rattle.edge_io.specs.declared.policy.Preference.{Preference}
 use Rattle.overlap_core.specs.Segments.{Segment}
 use Rattle.overlap_core.specs.Overlap.{chosen_byte, covers, end_of, is_covered}
 use Rattle.overlap_core.specs.Runs.{AppendsBytes, AreBytes}
-use Rattle.overlap_core.proofs.Arrivals.{chosen_byte-is_some}
+use Rattle.overlap_core.proofs.Segments.Arrivals.{chosen_byte-is_some}
 use Rattle.frag3_core.specs.Inside.{byte_count}
 use Rattle.frag3_core.specs.Parts.{IsRoomFor}
 use Rattle.frag3_core.specs.Trackers.{TrackerState, bytes_at, datagram_of}

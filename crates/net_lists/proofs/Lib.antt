@@ -1,21 +1,10 @@
 -- Laws of the definitions of net_lists, and lemmas that its proofs share.
 pub mod FirstLine
 pub mod Fronts
-pub mod Ranges
+pub mod Numbers
 pub mod Cuts
 pub mod Drafts
-pub mod Words
-pub mod Digits
-pub mod HexGroups
-pub mod Prefixes
-pub mod Listed
-pub mod Compacted
-pub mod Entries
-pub mod Pieces
-pub mod Ports
-pub mod Appended
-pub mod Steps
-pub mod Accepted
-pub mod Derived
-pub mod Starts
-pub mod ListParts
+pub mod Lists
+pub mod Addresses
+pub mod Membership
+pub mod Variables

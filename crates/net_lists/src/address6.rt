@@ -53,7 +53,7 @@ fn is_group(text: &[u8]) -> bool
 }
 
 /// A group.
-#[tactic(auto, using(crate::proofs::HexGroups::hex_groups))]
+#[tactic(auto, using(crate::proofs::Addresses::HexGroups::hex_groups))]
 fn group(text: &[u8]) -> Option<u32>
     ensures value { result ≡ group text.now }
     ensures small { IfSome result (λ group. group < 65536) }

@@ -37,7 +37,7 @@ impl<'a> Iterator for AddrParts<'a> {
 
     ghost remaining = { item_count (λ left. left) };
 
-    #[tactic(auto, using(crate::proofs::Compacted::leaving))]
+    #[tactic(auto, using(crate::proofs::Membership::Compacted::leaving))]
     fn next(&mut self) -> Option<AddrPart> {
         match self.left {
             Left::V4(parts) => {

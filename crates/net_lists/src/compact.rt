@@ -50,7 +50,7 @@ fn without_version(part: AddrPart) -> Option<Addr4Part>
 }
 
 /// The parts without their versions, if all are of version 4.
-#[tactic(auto, using(crate::proofs::Compacted::keeping))]
+#[tactic(auto, using(crate::proofs::Membership::Compacted::keeping))]
 fn without_versions(alloc: Global, parts: &[AddrPart]) -> Result<Option<Vec<Addr4Part>>, AllocError>
     ensures { IfOk result (λ all. MatchOption all (Any IsOfVersion6 parts.now) (λ compact. map with_version compact.items
         ≡ parts.now)) }
@@ -101,7 +101,7 @@ impl Stored {
     }
 
     /// Whether there is no part.
-    #[tactic(auto, using(crate::proofs::Compacted::none_kept))]
+    #[tactic(auto, using(crate::proofs::Membership::Compacted::none_kept))]
     pub fn is_empty(&self) -> bool
         ensures { IsTrue result ↔ (parts_of self.now ≡ []) }
     {
@@ -123,7 +123,7 @@ impl Stored {
 }
 
 /// Whether the address is listed by parts that are all of version 4.
-#[tactic(auto, using(crate::proofs::Compacted::verdicts))]
+#[tactic(auto, using(crate::proofs::Membership::Compacted::verdicts))]
 fn is_listed_of_version_4(parts: &[Addr4Part], addr: Addr) -> bool
     ensures { result ≡ is_listed (has_address addr) (map with_version parts.now) }
 {

@@ -30,7 +30,7 @@ pub fn has_leading_zero(text: &[u8]) -> bool
 }
 
 /// The number that the text spells, digits alone and at least one, if it is at most `most`.
-#[tactic(auto, using(crate::proofs::Digits::capped))]
+#[tactic(auto, using(crate::proofs::Numbers::Digits::capped))]
 pub fn digits_upto(text: &[u8], most: u32) -> Option<u32>
     ensures value { result ≡ digits_upto most text.now }
     ensures within { IfSome result (λ number. number ≤ most) }

@@ -55,7 +55,7 @@ impl Ranged<Addr> for AddrBounds {
 }
 
 /// Whether some positive part has the value, or there is none; and no negated part has it.
-#[tactic(auto, using(crate::proofs::Listed::verdict_steps))]
+#[tactic(auto, using(crate::proofs::Membership::Listed::verdict_steps))]
 pub fn is_listed<X: Copy, B: Ranged<X>>(parts: &[Part<B>], value: X) -> bool
     ensures { result ≡ is_listed (B.has value) parts.now }
 {

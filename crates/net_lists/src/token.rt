@@ -34,7 +34,7 @@ pub fn next_token(text: &[u8]) -> Option<(Token<'_>, &[u8])>
 }
 
 /// The text from its first byte on that is no blank.
-#[tactic(auto, using(crate::proofs::Words::words))]
+#[tactic(auto, using(crate::proofs::Lists::Words::words))]
 fn skip_blanks(text: &[u8]) -> &[u8]
     ensures same { symbols result.now ≡ symbols text.now }
     ensures short { length result.now ≤ length text.now }
@@ -44,7 +44,7 @@ fn skip_blanks(text: &[u8]) -> &[u8]
 }
 
 /// The word in front and the bytes behind it.
-#[tactic(auto, using(crate::proofs::Words::words))]
+#[tactic(auto, using(crate::proofs::Lists::Words::words))]
 fn first_word(text: &[u8]) -> (Token<'_>, &[u8])
     requires { begins_word text.now ≡ true }
     ensures token { symbols text.now ≡ symbol_of result.0 ∷ symbols result.1.now }

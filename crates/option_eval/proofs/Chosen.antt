@@ -13,7 +13,7 @@ use Rattle.option_eval.specs.Numbers.{Standing}
 use Rattle.option_eval.specs.Places.{Means, IsWay, start}
 use Rattle.option_eval.specs.Sets.{standing}
 use Rattle.option_eval.specs.Walks.{MatchesFrom, MatchesFromOne}
-use Rattle.option_eval.proofs.Rising.{contains_cases, contains_first}
+use Rattle.option_eval.proofs.Sets.Rising.{contains_cases, contains_first}
 
 module _ {X Y : Type 0} (R : X → Y → Type 0) where
   pub zip_length : (xs : List X) (ys : List Y) → AllZip R xs ys → length ys ≡ length xs

@@ -1,22 +1,7 @@
 -- Laws of the definitions of option_eval, and lemmas that its proofs share.
-pub mod Asking
+pub mod Sets
 pub mod Chosen
-pub mod Contents
 pub mod Digits
-pub mod Stating
-pub mod Staying
-pub mod Extracting
-pub mod Few
-pub mod Forgetting
-pub mod Knowing
-pub mod Leading
-pub mod Looking
-pub mod Occurrences
-pub mod Parting
-pub mod Rising
-pub mod Spans
-pub mod Stepping
-pub mod Sweeping
-pub mod Values
-pub mod Visits
-pub mod Walking
+pub mod Extractions
+pub mod Walks
+pub mod Costs

@@ -48,7 +48,7 @@ pub fn fill<H: Host>(host: &mut H, buf: &mut [u8]) -> Result<usize, FillStop>
 
 /// What `fill` does, by whatever may be seen of the host afterwards.
 #[inline(always)]
-#[tactic(auto, using(crate::proofs::Filling::filling))]
+#[tactic(auto, using(crate::proofs::Pieces::Filling::filling))]
 fn fill_seen<H: Host>(host: &mut H, buf: &mut [u8]) -> Result<usize, FillStop>
     ensures within { IfOk result (λ count. count ≤ length buf.old) }
     ensures taken { (seen : Option Files) → MaySee (H.contents host.new) (H.agrees host.new) seen

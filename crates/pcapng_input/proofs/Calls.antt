@@ -12,9 +12,9 @@ use Rattle.pcapng_input.specs.Blocks.{opening, Next, Ends, Stands, next_of, reco
 use Rattle.pcap_input.specs.Reader.{Tells}
 use Rattle.pcapng_input.specs.Reader.{Reading, Opens, TakesHead, Answers}
 use Rattle.pcapng_input.specs.Calls.{IsOpenCall, IsNextCall, IsOfBytes, IsEnding, HasGiven, none, one_more, HasRead, IsBelow, IsLastCall, ReadsCut, ReadsAll, ReadsFirst}
-use Rattle.pcapng_input.proofs.Heads.{tells_opened}
-use Rattle.pcapng_input.proofs.Records.{records_left-ends, records_left-stands}
-use Rattle.pcapng_input.proofs.Endings.{below_limit, ng_records-skips, ng_records-refused}
+use Rattle.pcapng_input.proofs.Blocks.Heads.{tells_opened}
+use Rattle.pcapng_input.proofs.Captures.Records.{records_left-ends, records_left-stands}
+use Rattle.pcapng_input.proofs.Captures.Endings.{below_limit, ng_records-skips, ng_records-refused}
 
 -- ---- a call of `open`
 

@@ -1,21 +1,8 @@
 -- Laws of the definitions of pcapng_input, and lemmas that its proofs share.
 pub mod Ticks
-pub mod Sizes
+pub mod Blocks
 pub mod OptionLists
-pub mod Taking
-pub mod Stages
-pub mod Closing
-pub mod Begins
-pub mod Openings
-pub mod Moving
-pub mod Nexts
-pub mod Walking
-pub mod Heads
-pub mod Reading
-pub mod Records
-pub mod Numbers
-pub mod Beginnings
-pub mod Endings
+pub mod Captures
 pub mod Calls
 pub mod Held
 pub mod Savefiles

@@ -24,11 +24,11 @@ use Rattle.pcapng_input.specs.declared.content.Content.TheVariants as content
 use Rattle.pcapng_input.specs.declared.walk.Interface.{Interface}
 use Rattle.pcapng_input.specs.declared.walk.Walk.{Walk}
 use Rattle.pcapng_input.specs.Blocks.{Gives, Skips, content_of, enhanced_of, front_length, given_by, inner_length, interface_of, is_full, is_sized, kind_of, known, link_of, other_block, packet_of, section_type, step_of, first_walk, next_of as ng_next, ng_records, opening, order_of, section_of, records_left as ng_left}
-use Rattle.pcapng_input.proofs.Nexts.{next_of-gives, next_of-skips, next_of-stops}
-use Rattle.pcapng_input.proofs.Records.{records_left-ends as ng_left-ends, records_left-same as ng_left-same, records_left-stands as ng_left-stands}
+use Rattle.pcapng_input.proofs.Captures.Nexts.{next_of-gives, next_of-skips, next_of-stops}
+use Rattle.pcapng_input.proofs.Captures.Records.{records_left-ends as ng_left-ends, records_left-same as ng_left-same, records_left-stands as ng_left-stands}
 use Rattle.pcapng_input.specs.Options.{resolution_along, resolution_told}
-use Rattle.pcapng_input.proofs.Begins.{begun_other, begun_section, fronted-ok, known_fronted, section_known, step_begun, step_nothing}
-use Rattle.pcapng_input.proofs.Closing.{closing_whole, given-interface, given-packet, given-skipped}
+use Rattle.pcapng_input.proofs.Blocks.Begins.{begun_other, begun_section, fronted-ok, known_fronted, section_known, step_begun, step_nothing}
+use Rattle.pcapng_input.proofs.Blocks.Closing.{closing_whole, given-interface, given-packet, given-skipped}
 use Rattle.pcapng_input.specs.Twins.{AreTwins, block_text, Caught, IsPcapngOf, IsWritable, a_second, held_from, interface_body, nanos_each, ng_text, number_of, held_as, on_link, packet_body, pcap_text, section_body, word}
 use Rattle.pcapng_input.proofs.Savefiles.{savefile_is, word-length, word-reads}
 

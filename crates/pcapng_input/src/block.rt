@@ -101,7 +101,7 @@ impl Block {
     }
 
     /// How many bytes stand between the fixed front and the last four.
-    #[tactic(auto, using(crate::proofs::Sizes::sizes))]
+    #[tactic(auto, using(crate::proofs::Blocks::Sizes::sizes))]
     pub fn inner(self) -> u32
         requires { IsTrue (is_sized self) }
         ensures { result ≡ inner_length self }

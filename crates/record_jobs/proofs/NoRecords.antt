@@ -1,6 +1,6 @@
 -- Before any record was taken.
 use Rattle.std.proofs.Common.{◌≡◌, ℕ, List, [], map, refl, ap}
-use Rattle.stream5_sessions.proofs.NoTouch.{live_flows-none}
+use Rattle.stream5_sessions.proofs.Liveness.NoTouch.{live_flows-none}
 use Rattle.flow_lanes.specs.declared.job.Work.TheVariants as work
 use Rattle.record_jobs.specs.Counts.{counts, none_counted}
 use Rattle.record_jobs.specs.Jobs.{end_of, finishes, job_count, numbered}

@@ -183,7 +183,7 @@ fn fragment_content<'a>(
 }
 
 /// What a packet brings: its fragment, or itself.
-#[tactic(auto, using(crate::proofs::Contents::contents))]
+#[tactic(auto, using(crate::proofs::Fronts::Contents::contents))]
 fn content_of<'a>(
     alloc: Global,
     by: &FrontConfig<'_>,
@@ -205,7 +205,7 @@ fn content_of<'a>(
 }
 
 /// What a record brings, whose bytes begin with this link layer; `four` is what was read of it as version 4.
-#[tactic(auto, using(crate::proofs::Contents::contents), unfolding(crate::specs::Steps::record_content, crate::specs::Steps::waiting_after, crate::specs::Packets::said_by))]
+#[tactic(auto, using(crate::proofs::Fronts::Contents::contents), unfolding(crate::specs::Steps::record_content, crate::specs::Steps::waiting_after, crate::specs::Packets::said_by))]
 pub(crate) fn read_record<'a>(
     alloc: Global,
     by: &FrontConfig<'_>,

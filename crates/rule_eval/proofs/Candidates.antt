@@ -20,8 +20,8 @@ use Rattle.option_eval.specs.Numbers.{Standing}
 use Rattle.option_eval.specs.Places.{IsWay as IsWayThrough, Leads, Means, sought, start}
 use Rattle.fast_pattern.specs.Candidates.{fits, header_fits, is_candidate, occurs_if_any, ports_fit}
 use Rattle.fast_pattern.specs.FastPattern.{pattern_of}
-use Rattle.fast_pattern.proofs.Needing.{needs-pattern}
-use Rattle.net_lists.proofs.Ports.{has_port-from}
+use Rattle.fast_pattern.proofs.Candidates.Needing.{needs-pattern}
+use Rattle.net_lists.proofs.Membership.Ports.{has_port-from}
 use Rattle.rule_eval.specs.Hits.{Bits, Item, RuleMatches}
 
 -- the ports of a way, and of the way back under `<>`

@@ -11,7 +11,7 @@ use Rattle.rule_types.specs.declared.rule.Rule.{Rule}
 use Rattle.option_eval.specs.Numbers.{Standing, Fetched, fetched, number_of, origin, rounded_up}
 use Rattle.option_eval.specs.Places.{Means, Sought, StandsAt, Leads, Compares, SharesBit, Unless, IsWay, PayloadMatches, at_place, byte_jump_len, is_only, sought, start}
 use Rattle.option_eval.specs.Walks.{MatchesFrom}
-use Rattle.option_eval.proofs.Sweeping.{occurs_fits}
+use Rattle.option_eval.proofs.Sets.Sweeping.{occurs_fits}
 use Rattle.rule_eval.proofs.Decided.{Decided, decided_yes, decided_no, decided_like, decided_both, decided_three, decided_not, decided_same, decided_le, decided_same_z, decided_lt_z, decided_le_z, decided_if, decided_if_some, decided_each_below, decided_some}
 
 decided_none : (found : Option Span) → Decided (found ≡ None)

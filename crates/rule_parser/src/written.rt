@@ -62,7 +62,7 @@ impl Quoting {
 }
 
 /// How many bytes stand before the `;` that ends the first option.
-#[tactic(auto, using(crate::proofs::Cutting::option_lens))]
+#[tactic(auto, using(crate::proofs::Lines::Cutting::option_lens))]
 fn option_len(text: &[u8]) -> Option<usize>
     ensures len { result ≡ option_len outside text.now }
     ensures within { IfSome result (λ len. len < length text.now) }
@@ -80,7 +80,7 @@ fn option_len(text: &[u8]) -> Option<usize>
 }
 
 /// The first option of a text and what stands behind its `;`, if one ends in the text.
-#[tactic(auto, using(crate::proofs::Parting::first_options))]
+#[tactic(auto, using(crate::proofs::Lines::Parting::first_options))]
 pub(crate) fn first_option(text: &[u8]) -> Option<(&[u8], &[u8])>
     ensures { MatchOption result (option_texts outside text.now ≡ text.now ∷ [])
         (λ parts. IsFirstOption text.now parts.0.now parts.1.now) }

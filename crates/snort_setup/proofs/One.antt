@@ -6,7 +6,7 @@ use Rattle.conf_parser.specs.Loaded.{loaded_of}
 use Rattle.conf_parser.specs.Reading.{Ended, Whole, Refused as RefusedAt, Asks, told}
 use Rattle.rule_parser.specs.declared.fault.RuleFault.{RuleFault}
 use Rattle.rule_types.specs.declared.rule.Rule.{Rule}
-use Rattle.rule_parser.proofs.Meaning.{answers-as}
+use Rattle.rule_parser.proofs.Lines.Meaning.{answers-as}
 use Rattle.snort_setup.specs.Words.{Words}
 use Rattle.snort_setup.specs.Rules.{Frame, Standing, Verdict, RulesEnd, end_at, is_among, IsRule, IsFaulty, LineGives, RulesGive, behind_line}
 use Rattle.snort_setup.specs.Setup.{Ruled, Warned, ruled_by, conf_read, IsRuledBy, with_table}

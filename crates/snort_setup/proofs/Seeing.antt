@@ -5,7 +5,7 @@ use Rattle.std.proofs.lemmas.Bool.{lt-leb}
 use Rattle.edge_io.specs.Files.{Files, Lacks, IsLonger, AsTold}
 use Rattle.edge_io.specs.declared.host.LoadFault.{LoadFault}
 use Rattle.edge_io.specs.declared.host.LoadFault.TheVariants as load
-use Rattle.edge_io.proofs.Seeing.{seen_lacks}
+use Rattle.edge_io.proofs.Hosts.Seeing.{seen_lacks}
 use Rattle.host_table.specs.Hosts.{hosts_of}
 use Rattle.snort_setup.specs.declared.stop.SetupStop.{SetupStop}
 use Rattle.snort_setup.specs.declared.stop.SetupStop.TheVariants as stop

@@ -7,8 +7,8 @@ use Rattle.std.proofs.lemmas.List.Elements.{All-head, All-tail}
 use Rattle.overlap_core.specs.Segments.{Segment}
 use Rattle.overlap_core.specs.Overlap.{covers, end_of, is_covered}
 use Rattle.overlap_core.specs.Pieces.{bytes_held, IsRow, Piece}
-use Rattle.overlap_core.proofs.Arrivals.{chosen_byte-is_some}
-use Rattle.overlap_core.proofs.Ends.{covered_end-is_greatest}
+use Rattle.overlap_core.proofs.Segments.Arrivals.{chosen_byte-is_some}
+use Rattle.overlap_core.proofs.Segments.Ends.{covered_end-is_greatest}
 use Rattle.overlap_core.proofs.Few.{row-bytes, row-few}
 use Rattle.stream5_reassembly.specs.Segments.{DirectionState, flushed_bytes, IsWithinLimits, top}
 

@@ -7,7 +7,7 @@ use Rattle.overlap_core.specs.Segments.{Segment}
 use Rattle.overlap_core.specs.Overlap.{chosen_byte, covered_end, end_of}
 use Rattle.overlap_core.specs.declared.segment.Run.{Run}
 use Rattle.overlap_core.specs.Runs.{AppendsRuns}
-use Rattle.overlap_core.proofs.Ends.{covered_end-is_greatest, covered_end-none, covered_end-snoc}
+use Rattle.overlap_core.proofs.Segments.Ends.{covered_end-is_greatest, covered_end-none, covered_end-snoc}
 use Rattle.stream5_reassembly.specs.declared.limits.Added.{Added}
 use Rattle.stream5_reassembly.specs.declared.limits.Added.TheVariants.{Queued}
 use Rattle.stream5_reassembly.specs.declared.limits.Limits.{Limits}

@@ -1,20 +1,9 @@
 -- Laws of the definitions of stream5_sessions, and lemmas that its proofs share.
 pub mod KeyLaws
-pub mod TreeLaws
+pub mod Trees
 pub mod StepLaws
 pub mod StayLaws
 pub mod EndOrder
-pub mod Recent
-pub mod Protocols
-pub mod Apart
-pub mod Eviction
+pub mod Liveness
 pub mod Bounds
 pub mod Standing
-pub mod Rising
-pub mod Numbers
-pub mod CacheSteps
-pub mod Numbered
-pub mod Living
-pub mod NoTouch
-pub mod Lasting
-pub mod Guessed

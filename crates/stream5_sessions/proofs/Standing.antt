@@ -6,8 +6,8 @@ use Rattle.stream5_sessions.specs.declared.flows.Touch.{Touch}
 use Rattle.stream5_sessions.specs.Keys.{same_key}
 use Rattle.stream5_sessions.specs.Liveness.{MaxFlows, max_for, is_live, begun, flow_number, touch_found}
 use Rattle.stream5_sessions.specs.Caches.{FlowsState, HasSeen, IsKnown, IsFound, SeesTouch, kept_by, found_by, next_by, kept_of, looked_up, found_in, kept_after, touched_state}
-use Rattle.stream5_sessions.proofs.Protocols.{kept, lookup-kept, kept-touched, stretches-other}
-use Rattle.stream5_sessions.proofs.Eviction.{found-touched}
+use Rattle.stream5_sessions.proofs.Liveness.Protocols.{kept, lookup-kept, kept-touched, stretches-other}
+use Rattle.stream5_sessions.proofs.Liveness.Eviction.{found-touched}
 
 some_of : (max : MaxFlows) (tcp : Bool) → 0 < max.tcp → 0 < max.udp → 0 < max_for max tcp
 some_of max true t u = t

@@ -1,6 +1,6 @@
 -- A text that doesn't end as a message alone does has a class or is no split; with the last mark of a class before it the
 -- message is the longest (`classed_split`).
-use Rattle.alert_fast.proofs.Messages.{classed_split, classed_nowhere, classed_no}
+use Rattle.alert_fast.proofs.ReadBack.Messages.{classed_split, classed_nowhere, classed_no}
 use Rattle.alert_fast.proofs.cuts.classed.Goals as goal
 
 pub returns-in_err-named : goal.returns-in_err-named

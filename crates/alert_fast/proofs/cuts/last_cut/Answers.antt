@@ -2,7 +2,7 @@
 -- it finds none there is no cut.
 use Rattle.std.proofs.Common.{◌≡◌, ℕ, ◌+◌, ◌-◌, ◌*◌, ◌%◌, ◌^◌, ◌<◌, ◌≤◌, List, ◌++◌, length, take, drop, fold, sym, ap, ◌∙◌, arith, take_all}
 use Rattle.std.proofs.lemmas.List.{length-drop}
-use Rattle.alert_fast.proofs.Places.{cut_nowhere, cut_last}
+use Rattle.alert_fast.proofs.ReadBack.Places.{cut_nowhere, cut_last}
 use Rattle.alert_fast.proofs.cuts.last_cut.Goals as goal
 
 pub returns-in_err-place : goal.returns-in_err-place

@@ -1,6 +1,6 @@
 -- No text is both an address of version 4 in dots and one of version 6 in colons, so that the word is read as the
 -- one, or else as the other.
-use Rattle.alert_fast.proofs.EndWords.{address_v4, address_v6, address_none}
+use Rattle.alert_fast.proofs.ReadBack.EndWords.{address_v4, address_v6, address_none}
 use Rattle.alert_fast.proofs.ends.address.Goals as goal
 
 pub returns-in-Some : goal.returns-in-Some

@@ -1,7 +1,7 @@
 -- A word that `Ipv6Addr` parses is the text of at most the address that it parses, so that writing this one
 -- again decides whether it is.
 use Rattle.std.proofs.Common.{◌≡◌, ◌^◌, ◌<◌, sym, ◌∙◌, arith, true≢false}
-use Rattle.alert_fast.proofs.EndWords.{v6_whole, v6_none, v6_no}
+use Rattle.alert_fast.proofs.ReadBack.EndWords.{v6_whole, v6_none, v6_no}
 use Rattle.alert_fast.proofs.ends.colons.Goals as goal
 
 pub returns-then-branch : goal.returns-then-branch

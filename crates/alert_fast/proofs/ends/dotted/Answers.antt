@@ -1,5 +1,5 @@
 -- What `Ipv4Addr` parses is how the address of its four octets is written, and nothing else is: `v4_whole` and `v4_none`.
-use Rattle.alert_fast.proofs.EndWords.{v4_whole, v4_none}
+use Rattle.alert_fast.proofs.ReadBack.EndWords.{v4_whole, v4_none}
 use Rattle.alert_fast.proofs.ends.dotted.Goals as goal
 
 pub returns-in-Ok : goal.returns-in-Ok

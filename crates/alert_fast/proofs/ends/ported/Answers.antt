@@ -1,6 +1,6 @@
 -- The port of an end has no colon, so that the word is cut at the last one; where either part can't be
 -- read, no end is written so.
-use Rattle.alert_fast.proofs.EndPairs.{ported_whole, ported_none, ported_no_port, ported_no_address}
+use Rattle.alert_fast.proofs.ReadBack.EndPairs.{ported_whole, ported_none, ported_no_port, ported_no_address}
 use Rattle.alert_fast.proofs.ends.ported.Goals as goal
 
 pub returns-in-None : goal.returns-in-None

@@ -1,6 +1,6 @@
 -- Ends with ports have an address and a port in each word: where both words are such, they are the ends (`with_ends`), and
 -- where one isn't, no ends are written so.
-use Rattle.alert_fast.proofs.EndPairs.{with_ends, with_no_source, with_no_target}
+use Rattle.alert_fast.proofs.ReadBack.EndPairs.{with_ends, with_no_source, with_no_target}
 use Rattle.alert_fast.proofs.ends.with_ports.Goals as goal
 
 pub returns-in-None : goal.returns-in-None

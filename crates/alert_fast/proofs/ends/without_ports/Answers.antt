@@ -1,6 +1,6 @@
 -- Ends without ports have an address alone in each word: where both words are such, they are the ends (`plain_ends`), and
 -- where one isn't, no ends are written so.
-use Rattle.alert_fast.proofs.EndPairs.{plain_ends, plain_no_source, plain_no_target}
+use Rattle.alert_fast.proofs.ReadBack.EndPairs.{plain_ends, plain_no_source, plain_no_target}
 use Rattle.alert_fast.proofs.ends.without_ports.Goals as goal
 
 pub returns-in-None : goal.returns-in-None

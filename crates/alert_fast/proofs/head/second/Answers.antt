@@ -4,7 +4,7 @@ use Rattle.std.specs.Prelude.{decimal, codes}
 use Rattle.alert_fast.specs.Fronts.{ended, followed, BothFit, both}
 use Rattle.alert_fast.specs.Pieces.{digits}
 use Rattle.alert_fast.specs.Words.{IsNumber, IsTwo, IsMicros}
-use Rattle.alert_fast.proofs.Fronts.{both_front, both_none, both_no}
+use Rattle.alert_fast.proofs.ReadBack.Fronts.{both_front, both_none, both_no}
 use Rattle.alert_fast.proofs.head.second.Goals as goal
 
 pub returns-in_err-first : goal.returns-in_err-first

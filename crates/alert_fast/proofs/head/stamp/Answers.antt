@@ -6,7 +6,7 @@ use Rattle.alert_fast.specs.Pieces.{digits}
 use Rattle.alert_fast.specs.Words.{IsNumber, IsTwo, IsMicros}
 use Rattle.alert_fast.specs.Heads.{ArePair, date_text, hour_text, AreSeconds, second_text, AreNumbers, numbers_text, time_text}
 use Rattle.alert_fast.specs.Told.{IsLineTime}
-use Rattle.alert_fast.proofs.Fronts.{both_front, both_none, both_no}
+use Rattle.alert_fast.proofs.ReadBack.Fronts.{both_front, both_none, both_no}
 use Rattle.alert_fast.proofs.head.stamp.Goals as goal
 
 pub returns-in_err-day : goal.returns-in_err-day

@@ -1,7 +1,7 @@
 -- A time is a stamp that some year's calendar allows, and has the same text: so it is read where a stamp is read
 -- that `is_time` lets pass.
 use Rattle.std.proofs.Common.{◌≡◌, sym, ◌∙◌, true≢false}
-use Rattle.alert_fast.proofs.Heads.{time_front, time_none, time_no}
+use Rattle.alert_fast.proofs.ReadBack.Heads.{time_front, time_none, time_no}
 use Rattle.alert_fast.proofs.head.time.Goals as goal
 
 pub returns-in_err-parts : goal.returns-in_err-parts

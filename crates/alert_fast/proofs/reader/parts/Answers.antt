@@ -1,7 +1,7 @@
 -- Each step reads the only part that may be there: no part after the bracket of the priority has a bracket itself, so that
 -- the last one is the priority's, and what is before it is the message's.
 use Rattle.alert_fast.specs.Told.{lent}
-use Rattle.alert_fast.proofs.Parts.{parts_no_head, parts_no_bracket, parts_no_priority, parts_no_rank, parts_no_arrow, parts_no_msg, parts_whole}
+use Rattle.alert_fast.proofs.ReadBack.Parts.{parts_no_head, parts_no_bracket, parts_no_priority, parts_no_rank, parts_no_arrow, parts_no_msg, parts_whole}
 use Rattle.alert_fast.proofs.reader.parts.Goals as goal
 
 pub returns-in_err-time : goal.returns-in_err-time

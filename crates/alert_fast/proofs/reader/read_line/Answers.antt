@@ -1,7 +1,7 @@
 -- The parts of a line leave no choice of the two words of its ends (`same_words`): the line is read where these words are
 -- ends, and is no alert's where they aren't.
 use Rattle.alert_fast.specs.PartsRead.{part_facts}
-use Rattle.alert_fast.proofs.Readings.{reading_none, reading_no_ends, reading_whole}
+use Rattle.alert_fast.proofs.ReadBack.Readings.{reading_none, reading_no_ends, reading_whole}
 use Rattle.alert_fast.proofs.reader.read_line.Goals as goal
 
 pub returns-in-None : goal.returns-in-None

@@ -1,6 +1,6 @@
 -- The source has no blank and the target no line feed, so that the words up to these are the only ones; after the
 -- line feed nothing may follow.
-use Rattle.alert_fast.proofs.Tails.{arrow_none, arrow_no, arrow_nowhere, arrow_more, arrow_whole}
+use Rattle.alert_fast.proofs.ReadBack.Tails.{arrow_none, arrow_no, arrow_nowhere, arrow_more, arrow_whole}
 use Rattle.std.proofs.Common.{◌≡◌, List, length, sym, ap, ◌∙◌, true≢false}
 use Rattle.std.proofs.lemmas.Bool.{eq-eqb}
 use Rattle.alert_fast.proofs.tail.arrow.Goals as goal

@@ -3,7 +3,7 @@
 use Rattle.std.proofs.Common.{◌≡◌, ◌<◌, sym, ◌∙◌, arith, true≢false}
 use Rattle.std.proofs.lemmas.Slice.Eq.{bytes_eq-Decides}
 use Rattle.alert_fast.specs.Line.{protocol_text}
-use Rattle.alert_fast.proofs.Protocols.{protocol_whole, protocol_none}
+use Rattle.alert_fast.proofs.ReadBack.Protocols.{protocol_whole, protocol_none}
 use Rattle.alert_fast.proofs.tail.protocol.Goals as goal
 
 pub returns-then-is_protocol : goal.returns-then-is_protocol

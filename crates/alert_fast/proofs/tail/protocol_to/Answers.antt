@@ -2,8 +2,8 @@
 -- or the text begins with none.
 use Rattle.alert_fast.specs.Line.{protocol_text}
 use Rattle.alert_fast.specs.Tails.{IsProtocol}
-use Rattle.alert_fast.proofs.Fronts.{ended_front, ended_nowhere, ended_no}
-use Rattle.alert_fast.proofs.Protocols.{free_protocol, brace_is_foreign}
+use Rattle.alert_fast.proofs.ReadBack.Fronts.{ended_front, ended_nowhere, ended_no}
+use Rattle.alert_fast.proofs.ReadBack.Protocols.{free_protocol, brace_is_foreign}
 use Rattle.alert_fast.proofs.tail.protocol_to.Goals as goal
 
 pub returns-in_err-word : goal.returns-in_err-word

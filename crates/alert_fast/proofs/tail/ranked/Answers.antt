@@ -6,7 +6,7 @@ use Rattle.alert_fast.specs.Pieces.{digits}
 use Rattle.alert_fast.specs.Words.{IsNumber, IsTwo, IsMicros}
 use Rattle.alert_fast.specs.Line.{protocol_text}
 use Rattle.alert_fast.specs.Tails.{IsProtocol}
-use Rattle.alert_fast.proofs.Fronts.{both_front, both_none, both_no, followed_front, followed_none, followed_no}
+use Rattle.alert_fast.proofs.ReadBack.Fronts.{both_front, both_none, both_no, followed_front, followed_none, followed_no}
 use Rattle.alert_fast.proofs.tail.ranked.Goals as goal
 
 pub returns-in_err-priority : goal.returns-in_err-priority

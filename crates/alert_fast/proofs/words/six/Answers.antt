@@ -6,7 +6,7 @@ use Rattle.std.proofs.lemmas.Bool.{eqb-true, eq-eqb}
 use Rattle.std.proofs.lemmas.Slice.Eq.{slice_eq-Decides}
 use Rattle.alert_fast.specs.Pieces.{digits}
 use Rattle.alert_fast.specs.Words.{IsNumber, IsPort, IsTwo, IsMicros}
-use Rattle.alert_fast.proofs.WholeWords.{whole, no_whole, value_of_decimal, value_of_two, value_of_six, value_of_port}
+use Rattle.alert_fast.proofs.ReadBack.WholeWords.{whole, no_whole, value_of_decimal, value_of_two, value_of_six, value_of_port}
 use Rattle.alert_fast.proofs.words.six.Goals as goal
 
 pub returns-then-eq : goal.returns-then-eq

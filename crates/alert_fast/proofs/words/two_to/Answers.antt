@@ -3,8 +3,8 @@
 use Rattle.std.specs.Prelude.{decimal}
 use Rattle.alert_fast.specs.Pieces.{digits}
 use Rattle.alert_fast.specs.Words.{IsTwo}
-use Rattle.alert_fast.proofs.Fronts.{ended_front, ended_nowhere, ended_no}
-use Rattle.alert_fast.proofs.WholeWords.{free_two}
+use Rattle.alert_fast.proofs.ReadBack.Fronts.{ended_front, ended_nowhere, ended_no}
+use Rattle.alert_fast.proofs.ReadBack.WholeWords.{free_two}
 use Rattle.alert_fast.proofs.words.two_to.Goals as goal
 
 pub returns-in_err-word : goal.returns-in_err-word

@@ -3,7 +3,7 @@
 use Rattle.std.proofs.Common.{◌≡◌, ℕ, ◌+◌, ◌-◌, ◌*◌, ◌%◌, ◌^◌, ◌<◌, ◌≤◌, List, ◌++◌, length, take, drop, fold, sym, ap, ◌∙◌, arith, take_all}
 use Rattle.std.proofs.lemmas.List.{length-drop}
 use Rattle.std.proofs.lemmas.Bool.{eqb-true}
-use Rattle.alert_fast.proofs.Places.{no_place, first_place}
+use Rattle.alert_fast.proofs.ReadBack.Places.{no_place, first_place}
 use Rattle.alert_fast.proofs.words.word.Goals as goal
 
 pub returns-in_err-place : goal.returns-in_err-place

@@ -6,7 +6,7 @@ use Rattle.edge_io.specs.Told.{Rose}
 use Rattle.edge_io.proofs.Told.{rose-since}
 use Rattle.conf_parser.specs.Reading.{line_at, file_count, file_read}
 use Rattle.conf_parser.specs.Loading.{inner}
-use Rattle.conf_parser.proofs.Goings.{goes-refl, goes-then, goes_on-from, line-onward, line-stops, lines-next, lines-stop, lines-end, lines_of, line_of, inner-none, inner-some, if_err-since}
+use Rattle.conf_parser.proofs.Readings.Goings.{goes-refl, goes-then, goes_on-from, line-onward, line-stops, lines-next, lines-stop, lines-end, lines_of, line_of, inner-none, inner-some, if_err-since}
 use Rattle.conf_parser.proofs.loading.+reading.Goals as goal
 
 pub included-returns-then-left-eq0-clause-goes : goal.included-returns-then-left-eq0-clause-goes

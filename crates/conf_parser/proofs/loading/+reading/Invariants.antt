@@ -4,7 +4,7 @@ use Rattle.edge_io.specs.Files.{Files, MaySee}
 use Rattle.conf_parser.specs.Reading.{file_count}
 use Rattle.conf_parser.specs.Steps.{most_files}
 use Rattle.conf_parser.specs.Loading.{Goes}
-use Rattle.conf_parser.proofs.Goings.{lines_of}
+use Rattle.conf_parser.proofs.Readings.Goings.{lines_of}
 use Rattle.conf_parser.proofs.loading.+reading.Given as goal
 
 abbrev pub decreases-included : goal.decreases-included

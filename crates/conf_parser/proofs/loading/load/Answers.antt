@@ -3,11 +3,11 @@
 use Rattle.std.proofs.Common.{Some, Ok, Err, refl, ◌∙◌, ap}
 use Rattle.edge_io.specs.Told.{Rose}
 use Rattle.conf_parser.specs.Reading.{file_count, nothing_read}
-use Rattle.conf_parser.proofs.Goings.{seen_by, tells-seen_by}
-use Rattle.conf_parser.proofs.Finishing.{first-may, first-goes, whole, stopped_at, loading-whole, told-whole, loading-stopped, told-stopped}
-use Rattle.conf_parser.proofs.Seeing.{told_before, seen_cause}
-use Rattle.conf_parser.proofs.Placing.{stand-in}
-use Rattle.conf_parser.proofs.SoundnessReading.{loading-sound}
+use Rattle.conf_parser.proofs.Readings.Goings.{seen_by, tells-seen_by}
+use Rattle.conf_parser.proofs.Readings.Finishing.{first-may, first-goes, whole, stopped_at, loading-whole, told-whole, loading-stopped, told-stopped}
+use Rattle.conf_parser.proofs.Readings.Seeing.{told_before, seen_cause}
+use Rattle.conf_parser.proofs.Readings.Placing.{stand-in}
+use Rattle.conf_parser.proofs.Sound.Reading.{loading-sound}
 use Rattle.conf_parser.proofs.loading.load.Goals as goal
 
 pub returns-in-Err-clause-reading_seen : goal.returns-in-Err-clause-reading_seen

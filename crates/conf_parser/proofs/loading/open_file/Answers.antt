@@ -5,8 +5,8 @@ use Rattle.edge_io.specs.Told.{Rose}
 use Rattle.conf_parser.specs.declared.reading.Opened.{Opened}
 use Rattle.conf_parser.specs.Reading.{file_count, file_read}
 use Rattle.conf_parser.specs.Loading.{Goes, LoadsFile, opened_of, opened_count, opened_next}
-use Rattle.conf_parser.proofs.Opening.{goes-opened, unloaded, stops-unloaded}
-use Rattle.conf_parser.proofs.Seeing.{fault_cause}
+use Rattle.conf_parser.proofs.Readings.Opening.{goes-opened, unloaded, stops-unloaded}
+use Rattle.conf_parser.proofs.Readings.Seeing.{fault_cause}
 use Rattle.conf_parser.proofs.loading.open_file.Goals as goal
 
 pub returns-in_ok-opened-in-Ok-clause-goes : goal.returns-in_ok-opened-in-Ok-clause-goes

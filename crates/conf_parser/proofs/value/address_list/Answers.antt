@@ -2,7 +2,7 @@
 -- that it spells none, and `Limit` that the one it spells is too long.
 use Rattle.std.proofs.Common.{refl}
 use Rattle.net_lists.specs.Addresses.{address_bounds}
-use Rattle.net_lists.proofs.Starts.{address_parts}
+use Rattle.net_lists.proofs.Lists.Starts.{address_parts}
 use Rattle.conf_parser.specs.Values.{address_list}
 use Rattle.conf_parser.specs.declared.line.ConfKind.TheVariants.{BadAddress}
 use Rattle.conf_parser.proofs.ListKinds.{list_or-ok, list_or-bad, list_or-long}

@@ -2,7 +2,7 @@
 -- `BadPort` where there is none, and with `Limit` where it is too long.
 use Rattle.std.proofs.Common.{refl}
 use Rattle.net_lists.specs.Parts.{port_bounds}
-use Rattle.net_lists.proofs.Starts.{port_parts}
+use Rattle.net_lists.proofs.Lists.Starts.{port_parts}
 use Rattle.conf_parser.specs.Values.{port_list}
 use Rattle.conf_parser.specs.declared.line.ConfKind.TheVariants.{BadPort}
 use Rattle.conf_parser.proofs.ListKinds.{list_or-ok, list_or-bad, list_or-long}

@@ -4,7 +4,7 @@ use Rattle.std.proofs.Common.{ℕ, ◌-◌, true, false, not, ltb, List, length,
 use Rattle.std.proofs.lemmas.Bool.{and_parts, ltb-true, not-true}
 use Rattle.fast_pattern.specs.Marking.{is_marked}
 use Rattle.fast_pattern.specs.Finding.{IsFollowing}
-use Rattle.fast_pattern.proofs.Hitting.{unseen-less, following-none, following-more, follows-end, follows-seen, marked-by}
+use Rattle.fast_pattern.proofs.Finding.Hitting.{unseen-less, following-none, following-more, follows-end, follows-seen, marked-by}
 use Rattle.fast_pattern.proofs.automaton.follow.Goals as goal
 
 pub loop-at-init : goal.loop-at-init

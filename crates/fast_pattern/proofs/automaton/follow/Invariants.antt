@@ -2,7 +2,7 @@
 -- the unmarked ones grow fewer.
 use Rattle.std.proofs.Common.{length}
 use Rattle.fast_pattern.specs.Finding.{IsFollowing}
-use Rattle.fast_pattern.proofs.Hitting.{unseen}
+use Rattle.fast_pattern.proofs.Finding.Hitting.{unseen}
 use Rattle.fast_pattern.proofs.automaton.follow.Given as goal
 
 abbrev pub invariant-loop-at : goal.invariant-loop-at

@@ -1,7 +1,7 @@
 -- A place past the count is answered with false and no mark changes; below it, answer and marks are those of `Seen::mark`.
 use Rattle.std.proofs.Common.{not, arith}
 use Rattle.fast_pattern.specs.Marking.{is_marked}
-use Rattle.fast_pattern.proofs.Marking.{past-answer, past-marks, below-answer, answer-marks}
+use Rattle.fast_pattern.proofs.Finding.Marking.{past-answer, past-marks, below-answer, answer-marks}
 use Rattle.fast_pattern.proofs.automaton.mark.Goals as goal
 
 pub returns-then-count-at-clause-answer : goal.returns-then-count-at-clause-answer

@@ -4,7 +4,7 @@ use Rattle.std.proofs.Common.{◌≡◌, ℕ, ◌+◌, ◌-◌, ◌^◌, List, [
 use Rattle.std.proofs.lemmas.Bool.{not-true}
 use Rattle.std.proofs.lemmas.Nat.{pow_pos}
 use Rattle.fast_pattern.specs.Blocks.{AddBlocks}
-use Rattle.fast_pattern.proofs.Blocking.{add-whole, add-nothing, add-not-one, add-parts}
+use Rattle.fast_pattern.proofs.Ports.Blocking.{add-whole, add-nothing, add-not-one, add-parts}
 use Rattle.fast_pattern.proofs.blocks.+push_blocks.Goals as goal
 use Rattle.fast_pattern.proofs.blocks.+push_blocks.Goals.{then-not-share-via-then-not-share, then-not-share-via-else-not-share+then-bits-eq0}
 

@@ -1,6 +1,6 @@
 -- Place, beginning and length of what is chosen fit 32 bits, since a rule that may be tried has small numbers (`small-at`).
 use Rattle.std.proofs.Common.{sym, ◌∙◌, arith}
-use Rattle.fast_pattern.proofs.Sizes.{small-at}
+use Rattle.fast_pattern.proofs.Candidates.Sizes.{small-at}
 use Rattle.fast_pattern.proofs.choice.choose.Goals as goal
 
 pub overflow_cast-result : goal.overflow_cast-result

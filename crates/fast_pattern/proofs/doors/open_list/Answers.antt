@@ -1,7 +1,7 @@
 -- A port of the list lies in a part, or all parts are negated and let all ports in; the empty list lets all in as well
 -- (`opens-list`).
 use Rattle.std.proofs.Common.{arith}
-use Rattle.fast_pattern.proofs.Opening.{opens-list}
+use Rattle.fast_pattern.proofs.Ports.Opening.{opens-list}
 use Rattle.fast_pattern.proofs.doors.open_list.Goals as goal
 
 pub returns-clause-opens : goal.returns-clause-opens

@@ -3,7 +3,7 @@
 use Rattle.std.proofs.Common.{◌≡◌, ℕ, zero, suc, ◌<◌, true, List, sym, ap, ◌∙◌, arith}
 use Rattle.fast_pattern.specs.Candidates.{header_fits}
 use Rattle.fast_pattern.specs.Doors.{is_all}
-use Rattle.fast_pattern.proofs.Opening.{all-kept, tcp-lets, udp-lets, icmp-lets, ip-lets}
+use Rattle.fast_pattern.proofs.Ports.Opening.{all-kept, tcp-lets, udp-lets, icmp-lets, ip-lets}
 use Rattle.fast_pattern.proofs.doors.open_rule.Goals as goal
 
 pub returns-in-Tcp-clause-opens : goal.returns-in-Tcp-clause-opens

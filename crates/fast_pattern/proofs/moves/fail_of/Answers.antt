@@ -3,7 +3,7 @@
 use Rattle.std.proofs.Common.{◌≡◌, ◌-◌, List, ap, ◌∙◌}
 use Rattle.fast_pattern.specs.declared.trie.Step.{Step}
 use Rattle.fast_pattern.specs.Words.{step_at}
-use Rattle.fast_pattern.proofs.Moving.{fails-first-by, fails-move-by}
+use Rattle.fast_pattern.proofs.States.Moving.{fails-first-by, fails-move-by}
 use Rattle.fast_pattern.proofs.moves.fail_of.Goals as goal
 
 pub returns-then-step-eq0 : goal.returns-then-step-eq0

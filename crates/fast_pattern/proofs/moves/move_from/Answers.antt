@@ -1,7 +1,7 @@
 -- The way back goes on above the root alone, so it ends at a state that is longer by the letter (`moves-child`), or at the
 -- root, whose child by it is then the move (`moves-root`).
 use Rattle.std.proofs.Common.{arith}
-use Rattle.fast_pattern.proofs.Moving.{moves-child, moves-root}
+use Rattle.fast_pattern.proofs.States.Moving.{moves-child, moves-root}
 use Rattle.fast_pattern.proofs.moves.move_from.Goals as goal
 
 pub returns-then-reached-ne0 : goal.returns-then-reached-ne0

@@ -1,6 +1,6 @@
 -- Where no word is a state's with the letter, its fail does as well: the same words end there with it (`reaching-more`).
 use Rattle.std.proofs.Common.{ℕ, ◌-◌, min, ap, ◌∙◌, arith}
-use Rattle.fast_pattern.proofs.Moving.{reaching-more, reached-some, reached-none}
+use Rattle.fast_pattern.proofs.States.Moving.{reaching-more, reached-some, reached-none}
 use Rattle.fast_pattern.proofs.moves.reach.Goals as goal
 
 pub returns-then-child-ne0 : goal.returns-then-child-ne0

@@ -1,6 +1,6 @@
 -- Twice a place and one more fits 32 bits, since every place is below 2 to the 31 (`place-fits`).
 use Rattle.std.proofs.Common.{arith}
-use Rattle.fast_pattern.proofs.Stepping.{place-fits}
+use Rattle.fast_pattern.proofs.States.Stepping.{place-fits}
 use Rattle.fast_pattern.proofs.rows.entry_of.Goals as goal
 
 pub overflow_cast-result : goal.overflow_cast-result

@@ -1,7 +1,7 @@
 -- The move goes to the state that is longer by the letter (`entry-child`), from the root else to the root (`entry-root`),
 -- and from any other is the one in the fail's row (`entry-back`).
 use Rattle.std.proofs.Common.{ℕ, ◌+◌, ◌*◌, slice_index, ap, ◌∙◌, arith}
-use Rattle.fast_pattern.proofs.Rowing.{entry-child, entry-root, entry-back}
+use Rattle.fast_pattern.proofs.States.Rowing.{entry-child, entry-root, entry-back}
 use Rattle.fast_pattern.proofs.rows.next_entry.Goals as goal
 
 pub returns-then-child-ne0 : goal.returns-then-child-ne0

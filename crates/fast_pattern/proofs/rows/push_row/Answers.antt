@@ -1,7 +1,7 @@
 -- A move more lengthens the row (`rows-more`), and one for each letter makes it whole (`row-done`).
 use Rattle.std.proofs.Common.{ℕ, ◌+◌, List, sym, subst, arith}
 use Rattle.fast_pattern.specs.Rows.{IsNextEntry, HasRows}
-use Rattle.fast_pattern.proofs.Rowing.{rows-more, row-done}
+use Rattle.fast_pattern.proofs.States.Rowing.{rows-more, row-done}
 use Rattle.fast_pattern.proofs.rows.push_row.Goals as goal
 
 pub loop-letter-preserved : goal.loop-letter-preserved

@@ -1,6 +1,6 @@
 -- Places rise with states, so only earlier states, which are shallow, have one below the bound (`shallow-place`).
 use Rattle.std.proofs.Common.{arith}
-use Rattle.fast_pattern.proofs.Shallow.{shallow-place}
+use Rattle.fast_pattern.proofs.States.Shallow.{shallow-place}
 use Rattle.fast_pattern.proofs.rows.shallow_bound.Goals as goal
 
 pub returns : goal.returns

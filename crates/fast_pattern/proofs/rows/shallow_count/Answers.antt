@@ -1,7 +1,7 @@
 -- Where three steps up from a state lead to the root, its word has at most three letters, as each step up leaves one out
 -- (`shallow-more`).
 use Rattle.std.proofs.Common.{◌+◌, arith}
-use Rattle.fast_pattern.proofs.Shallow.{shallow-none, shallow-more, shallow-less}
+use Rattle.fast_pattern.proofs.States.Shallow.{shallow-none, shallow-more, shallow-less}
 use Rattle.fast_pattern.proofs.rows.shallow_count.Goals as goal
 
 pub loop-count-init : goal.loop-count-init

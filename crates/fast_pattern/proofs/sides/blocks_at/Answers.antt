@@ -6,7 +6,7 @@ use Rattle.net_lists.specs.declared.part.Bounds.{Bounds}
 use Rattle.net_lists.specs.declared.part.Part.{Part}
 use Rattle.fast_pattern.specs.Blocks.{AddBlocks}
 use Rattle.fast_pattern.specs.Sides.{AreSoughtAt}
-use Rattle.fast_pattern.proofs.Siding.{stands-not, stands-so}
+use Rattle.fast_pattern.proofs.Ports.Siding.{stands-not, stands-so}
 use Rattle.fast_pattern.proofs.sides.blocks_at.Goals as goal
 
 pub returns-then-not-stands_at : goal.returns-then-not-stands_at

@@ -1,7 +1,7 @@
 -- A rule with an entry at each of its blocks is filed at the ports that lie in these, and at no others (`filed-more`).
 use Rattle.std.proofs.Common.{ℕ, ◌++◌, ap, ◌∙◌, List}
 use Rattle.fast_pattern.specs.Blocks.{entries_of}
-use Rattle.fast_pattern.proofs.Siding.{filed-none, filed-more}
+use Rattle.fast_pattern.proofs.Ports.Siding.{filed-none, filed-more}
 use Rattle.fast_pattern.proofs.sides.entries_by.Goals as goal
 
 pub loop-place-init : goal.loop-place-init

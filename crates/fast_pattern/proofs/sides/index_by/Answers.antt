@@ -1,5 +1,5 @@
 -- No place past the end of the rules is sought, so what is filed of them all is what is sought (`side-made`).
-use Rattle.fast_pattern.proofs.Siding.{side-made}
+use Rattle.fast_pattern.proofs.Ports.Siding.{side-made}
 use Rattle.fast_pattern.proofs.sides.index_by.Goals as goal
 
 pub returns : goal.returns

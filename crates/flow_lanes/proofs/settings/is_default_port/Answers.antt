@@ -2,7 +2,7 @@
 -- is enough: `has_port-any`.
 use Rattle.std.proofs.Common.{arith, sym, ◌∙◌}
 use Rattle.conf_types.specs.Defaults.{default_ports}
-use Rattle.flow_lanes.proofs.Sessions.DefaultPorts.{has_port-any}
+use Rattle.flow_lanes.proofs.Engines.DefaultPorts.{has_port-any}
 use Rattle.flow_lanes.proofs.settings.is_default_port.Goals as goal
 
 pub returns : goal.returns

@@ -2,7 +2,7 @@
 -- front ones lose nothing where they are moved up, and the sum fits 128 bits.
 use Rattle.std.proofs.Common.{◌≡◌, ◌+◌, ◌-◌, ◌*◌, ◌%◌, ◌<◌, ◌^◌, Some, None, cond, ap, sym, ◌∙◌, arith}
 use Rattle.std.proofs.lemmas.Bool.{le-leb}
-use Rattle.net_lists.proofs.HexGroups.{around_fits}
+use Rattle.net_lists.proofs.Addresses.HexGroups.{around_fits}
 use Rattle.net_lists.proofs.address6.around.Goals as goal
 
 pub overflow_add-result : goal.overflow_add-result

@@ -4,7 +4,7 @@ use Rattle.std.proofs.Common.{◌∙◌, sym, ap}
 use Rattle.std.specs.Option.{option_and_then}
 use Rattle.net_lists.specs.Addresses.{groups}
 use Rattle.net_lists.specs.Groups.{around, whole, groups_upto}
-use Rattle.net_lists.proofs.HexGroups.{colons-gap, colons-whole}
+use Rattle.net_lists.proofs.Addresses.HexGroups.{colons-gap, colons-whole}
 use Rattle.net_lists.proofs.address6.colons.Goals as goal
 
 pub returns-in_err-front-in-Some : goal.returns-in_err-front-in-Some

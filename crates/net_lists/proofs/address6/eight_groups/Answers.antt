@@ -1,7 +1,7 @@
 -- An empty text has no group, and any other has those that are read between its colons.
 use Rattle.std.proofs.Common.{◌∙◌, arith}
 use Rattle.std.proofs.lemmas.Bool.Decides.{nat_tests}
-use Rattle.net_lists.proofs.HexGroups.{groups-empty, groups-some}
+use Rattle.net_lists.proofs.Addresses.HexGroups.{groups-empty, groups-some}
 use Rattle.net_lists.proofs.address6.eight_groups.Goals as goal
 
 pub returns-then-is_empty-clause-value : goal.returns-then-is_empty-clause-value

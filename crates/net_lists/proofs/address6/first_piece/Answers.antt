@@ -3,7 +3,7 @@
 use Rattle.std.proofs.Common.{◌∙◌, ◌+◌, ◌==◌, sym, ap, ◌∷◌, take}
 use Rattle.std.specs.List.{slice_split}
 use Rattle.std.proofs.lemmas.List.{take_rest}
-use Rattle.net_lists.proofs.HexGroups.{first_piece-some, first_piece-none}
+use Rattle.net_lists.proofs.Addresses.HexGroups.{first_piece-some, first_piece-none}
 use Rattle.net_lists.proofs.address6.first_piece.Goals as goal
 
 pub returns-in-Some : goal.returns-in-Some

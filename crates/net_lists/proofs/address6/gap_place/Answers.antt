@@ -2,7 +2,7 @@
 use Rattle.std.proofs.Common.{◌∙◌, sym, ap, arith, codes, nat_eq}
 use Rattle.std.specs.List.{starts_with}
 use Rattle.std.proofs.lemmas.List.{take_rest}
-use Rattle.net_lists.proofs.HexGroups.{gap_found, gap_goes_on, gap_ends}
+use Rattle.net_lists.proofs.Addresses.HexGroups.{gap_found, gap_goes_on, gap_ends}
 use Rattle.net_lists.proofs.address6.gap_place.Goals as goal
 
 pub returns-then-starts_with-clause-place : goal.returns-then-starts_with-clause-place

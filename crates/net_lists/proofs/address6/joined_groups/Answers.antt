@@ -2,7 +2,7 @@
 -- a piece that is no group ends it, and so does a ninth group.
 use Rattle.std.proofs.Common.{◌≡◌, ◌∙◌, sym, ap, ◌∷◌}
 use Rattle.net_lists.specs.Groups.{joined, pieces_left}
-use Rattle.net_lists.proofs.HexGroups.{joined-stop, joined-full, joined-on, joined-end}
+use Rattle.net_lists.proofs.Addresses.HexGroups.{joined-stop, joined-full, joined-on, joined-end}
 use Rattle.net_lists.proofs.address6.joined_groups.Goals as goal
 
 pub returns-in_err-group-clause-value : goal.returns-in_err-group-clause-value

@@ -1,6 +1,6 @@
 -- n groups make a number below 2 ^ (16 n), so with fewer than eight there is room for 16 bits more in 128.
 use Rattle.std.proofs.Common.{◌+◌, arith}
-use Rattle.net_lists.proofs.HexGroups.{grown_small, all_fit}
+use Rattle.net_lists.proofs.Addresses.HexGroups.{grown_small, all_fit}
 use Rattle.net_lists.proofs.address6.with_group.Goals as goal
 
 pub overflow_mul-result : goal.overflow_mul-result

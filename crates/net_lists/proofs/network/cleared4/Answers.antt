@@ -2,7 +2,7 @@
 -- its remainder by that has room in 32 bits for all its last bits.
 use Rattle.std.proofs.Common.{◌≡◌, ◌*◌, ◌%◌, ◌^◌, arith}
 use Rattle.std.proofs.lemmas.Nat.{one_shl}
-use Rattle.net_lists.proofs.Prefixes.{last_fits}
+use Rattle.net_lists.proofs.Addresses.Prefixes.{last_fits}
 use Rattle.net_lists.proofs.network.cleared4.Goals as goal
 
 pub returns-clause-within : goal.returns-clause-within

@@ -1,6 +1,6 @@
 -- The cap is above every `most`, so a number that was capped is out of the bounds, as the whole number is.
 use Rattle.std.proofs.Common.{◌∙◌, arith}
-use Rattle.net_lists.proofs.Ranges.{number_in-some, number_in-none}
+use Rattle.net_lists.proofs.Numbers.Ranges.{number_in-some, number_in-none}
 use Rattle.net_lists.proofs.number.number_in.Goals as goal
 
 pub returns-in-Some-clause-value : goal.returns-in-Some-clause-value

@@ -3,7 +3,7 @@
 use Rattle.std.proofs.Common.{◌≡◌, ◌∙◌, ap, arith, ℤ, pos, neg_ℤ, ◌-ℤ◌, to_z, of_z, w32, w64}
 use Rattle.std.proofs.lemmas.Int.{ints}
 use Rattle.net_lists.specs.Numbers.{signed_kept_in}
-use Rattle.net_lists.proofs.Ranges.{signed_in-plain, signed_in-minus}
+use Rattle.net_lists.proofs.Numbers.Ranges.{signed_in-plain, signed_in-minus}
 use Rattle.net_lists.proofs.number.signed_in.Goals as goal
 
 -- the same numbers are kept in the same bounds

@@ -2,7 +2,7 @@
 -- a token out of place is bad, and so is an end where one must follow.
 use Rattle.std.proofs.Common.{◌∙◌, sym, arith}
 use Rattle.net_lists.specs.Machine.{group_parts}
-use Rattle.net_lists.proofs.Steps.{goes_on, stops_at, stops_early, is_done}
+use Rattle.net_lists.proofs.Lists.Steps.{goes_on, stops_at, stops_early, is_done}
 use Rattle.net_lists.proofs.read.group_parts.Goals as goal
 
 pub returns-in_default-step : goal.returns-in_default-step

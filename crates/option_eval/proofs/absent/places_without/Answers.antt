@@ -2,9 +2,9 @@
 -- and each is kept just if no occurrence is within its reach.
 use Rattle.std.proofs.Common.{◌+◌, ◌-◌, ◌<◌, ◌≤◌, ℕ, length, arith, ⊎_elim, Contains, nat_le, refl}
 use Rattle.option_eval.specs.Absent.{IsReached}
-use Rattle.option_eval.proofs.Asking.{kept_none, kept_next, rising_with, length_later, first_below, none_left}
-use Rattle.option_eval.proofs.Looking.{serves_none, serves_next, tells, least_first}
-use Rattle.option_eval.proofs.Rising.{rising_high, rising_length}
+use Rattle.option_eval.proofs.Sets.Asking.{kept_none, kept_next, rising_with, length_later, first_below, none_left}
+use Rattle.option_eval.proofs.Sets.Looking.{serves_none, serves_next, tells, least_first}
+use Rattle.option_eval.proofs.Sets.Rising.{rising_high, rising_length}
 use Rattle.option_eval.proofs.absent.places_without.Goals as goal
 
 pub overflow_add-asked : goal.overflow_add-asked

@@ -2,8 +2,8 @@
 use Rattle.std.proofs.Common.{◌+◌, ◌≤◌, length}
 use Rattle.option_eval.specs.Absent.{IsReached}
 use Rattle.option_eval.specs.Sets.{IsRising}
-use Rattle.option_eval.proofs.Asking.{Kept}
-use Rattle.option_eval.proofs.Looking.{Serves}
+use Rattle.option_eval.proofs.Sets.Asking.{Kept}
+use Rattle.option_eval.proofs.Sets.Looking.{Serves}
 use Rattle.option_eval.proofs.absent.places_without.Given as goal
 
 abbrev pub invariant-loop-rest : goal.invariant-loop-rest

@@ -2,7 +2,7 @@
 -- moves both marks just past it; either way what was noted stays noted.
 use Rattle.std.proofs.Common.{arith, refl}
 use Rattle.option_eval.specs.Sets.{Occurs}
-use Rattle.option_eval.proofs.Looking.{sees_none, sees_some}
+use Rattle.option_eval.proofs.Sets.Looking.{sees_none, sees_some}
 use Rattle.option_eval.proofs.absent.seen_in.Goals as goal
 
 pub returns-in-None : goal.returns-in-None

@@ -2,7 +2,7 @@
 -- the ends that `sweep` gathers within its reach of the places asked.
 use Rattle.std.proofs.Common.{length, arith, ap}
 use Rattle.std.proofs.lemmas.Result.{IfOk-weaker}
-use Rattle.option_eval.proofs.Contents.{content_none, content_gathers}
+use Rattle.option_eval.proofs.Sets.Contents.{content_none, content_gathers}
 use Rattle.option_eval.proofs.content.places_after_content.Goals as goal
 
 pub returns-then-needle-payload-clause-found : goal.returns-then-needle-payload-clause-found

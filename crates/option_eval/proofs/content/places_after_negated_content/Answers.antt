@@ -5,8 +5,8 @@ use Rattle.std.proofs.lemmas.Bool.{false≢true}
 use Rattle.std.proofs.lemmas.Result.{IfOk-weaker}
 use Rattle.rule_types.specs.declared.option.Opt.TheVariants as opt
 use Rattle.option_eval.specs.Places.{is_only}
-use Rattle.option_eval.proofs.Contents.{absent_gathers}
-use Rattle.option_eval.proofs.Staying.{test_stays}
+use Rattle.option_eval.proofs.Sets.Contents.{absent_gathers}
+use Rattle.option_eval.proofs.Walks.Staying.{test_stays}
 use Rattle.option_eval.proofs.content.places_after_negated_content.Goals as goal
 
 or_true : (a b : Bool) → a ≡ true → (a || b) ≡ true

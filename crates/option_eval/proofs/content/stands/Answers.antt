@@ -1,7 +1,7 @@
 -- The places within reach are those from `low` on and below `end`,
 -- so what the search finds between them answers for the window.
 use Rattle.std.proofs.Common.{◌+◌, ◌-◌, length, arith}
-use Rattle.option_eval.proofs.Contents.{window_answer}
+use Rattle.option_eval.proofs.Sets.Contents.{window_answer}
 use Rattle.option_eval.proofs.content.stands.Goals as goal
 
 pub returns : goal.returns

@@ -5,7 +5,7 @@ use Rattle.option_eval.specs.Known.{LeadsAlike}
 use Rattle.option_eval.specs.Kinds.{needs_place}
 use Rattle.option_eval.specs.Next.{next_set, RisesTo}
 use Rattle.option_eval.specs.Sets.{Gathers, IsLedTo, LeadsFrom}
-use Rattle.option_eval.proofs.Knowing.{found_known, fixed, leads_all, rises_next}
+use Rattle.option_eval.proofs.Extractions.Knowing.{found_known, fixed, leads_all, rises_next}
 use Rattle.option_eval.proofs.known.next_known.Goals as goal
 
 pub returns-in-Some-clause-found : goal.returns-in-Some-clause-found

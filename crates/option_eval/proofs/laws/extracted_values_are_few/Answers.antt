@@ -1,6 +1,6 @@
 -- The law rests on the lists of `Values`: one of the numbers that extractions take
 -- at their places, one of the standings after them, each as short as its count says.
-use Rattle.option_eval.proofs.Values.{values_few}
+use Rattle.option_eval.proofs.Costs.Values.{values_few}
 use Rattle.option_eval.proofs.laws.extracted_values_are_few.Goals as goal
 
 pub returns : goal.returns

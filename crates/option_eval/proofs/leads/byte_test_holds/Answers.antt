@@ -5,7 +5,7 @@ use Rattle.std.specs.Int.{w128}
 use Rattle.std.proofs.lemmas.Bool.{false≢true}
 use Rattle.std.proofs.lemmas.Int.{to_z-of_z}
 use Rattle.option_eval.specs.Places.{Compares}
-use Rattle.option_eval.proofs.Leading.{byte_test_none, byte_test_some}
+use Rattle.option_eval.proofs.Walks.Leading.{byte_test_none, byte_test_some}
 use Rattle.option_eval.proofs.leads.byte_test_holds.Goals as goal
 
 pub returns-in-None : goal.returns-in-None

@@ -1,6 +1,6 @@
 -- A content that is a test holds where its bytes are within reach, or under `!`
 -- where they aren't: `content_stands` decides that, and `unless` turns it round.
-use Rattle.option_eval.proofs.Leading.{content_stays}
+use Rattle.option_eval.proofs.Walks.Leading.{content_stays}
 use Rattle.option_eval.proofs.leads.content_holds.Goals as goal
 
 pub returns-in-Needle : goal.returns-in-Needle

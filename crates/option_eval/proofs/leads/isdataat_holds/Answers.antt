@@ -1,7 +1,7 @@
 -- A place and a small number fit 128 bits, so the sum compared with the payload's length is the one of the whole numbers.
 use Rattle.std.proofs.Common.{arith}
 use Rattle.std.proofs.lemmas.Int.{ints}
-use Rattle.option_eval.proofs.Leading.{isdataat}
+use Rattle.option_eval.proofs.Walks.Leading.{isdataat}
 use Rattle.option_eval.proofs.leads.isdataat_holds.Goals as goal
 
 pub returns : goal.returns

@@ -1,6 +1,6 @@
 -- The pattern that was made finds what its text and flags mean, so a `pcre:!` holds just if it finds nothing.
 use Rattle.std.proofs.Common.{◌∙◌}
-use Rattle.option_eval.proofs.Leading.{pcre_absent}
+use Rattle.option_eval.proofs.Walks.Leading.{pcre_absent}
 use Rattle.option_eval.proofs.leads.negated_pcre_holds.Goals as goal
 
 pub returns-in_ok-pcre_finds-in-Pattern : goal.returns-in_ok-pcre_finds-in-Pattern

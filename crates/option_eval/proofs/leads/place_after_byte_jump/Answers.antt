@@ -5,7 +5,7 @@ use Rattle.std.specs.Int.{w32}
 use Rattle.std.proofs.lemmas.Int.{to_z-of_z}
 use Rattle.option_eval.specs.Places.{byte_jump_len}
 use Rattle.option_eval.specs.Sets.{PlaceIn}
-use Rattle.option_eval.proofs.Leading.{byte_jump_none, byte_jump_some}
+use Rattle.option_eval.proofs.Walks.Leading.{byte_jump_none, byte_jump_some}
 use Rattle.option_eval.proofs.leads.place_after_byte_jump.Goals as goal
 
 pub returns-in-None-clause-only : goal.returns-in-None-clause-only

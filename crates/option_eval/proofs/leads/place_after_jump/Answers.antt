@@ -6,7 +6,7 @@ use Rattle.std.specs.Int.{w32}
 use mir.Val.{SFits}
 use Rattle.rule_types.specs.declared.option.Opt.TheVariants as opt
 use Rattle.option_eval.specs.Ready.{pattern_of}
-use Rattle.option_eval.proofs.Leading.{made_either}
+use Rattle.option_eval.proofs.Walks.Leading.{made_either}
 use Rattle.option_eval.specs.Sets.{LeadsFrom, LeadsOnlyTo}
 use Rattle.option_eval.proofs.leads.place_after_jump.Goals as goal
 

@@ -1,7 +1,7 @@
 -- The pattern that was made finds what is meant: the end of the one span
 -- that it finds is the only place led to, and without a span there is none.
 use Rattle.std.proofs.Common.{◌∙◌, sym, Some, None}
-use Rattle.option_eval.proofs.Leading.{pcre_only}
+use Rattle.option_eval.proofs.Walks.Leading.{pcre_only}
 use Rattle.option_eval.proofs.leads.place_after_pcre.Goals as goal
 
 pub returns-in-None-clause-only : goal.returns-in-None-clause-only

@@ -1,6 +1,6 @@
 -- A test that is none of the four kinds asked here asks nothing of the payload, so it leads from each place to that place.
 use Rattle.std.proofs.Common.{refl}
-use Rattle.option_eval.proofs.Leading.{stays_otherwise}
+use Rattle.option_eval.proofs.Walks.Leading.{stays_otherwise}
 use Rattle.option_eval.specs.Sets.{standing}
 use Rattle.option_eval.proofs.leads.test_holds.Goals as goal
 

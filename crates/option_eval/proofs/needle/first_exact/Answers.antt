@@ -1,6 +1,6 @@
 -- What the finder finds in the part from `low` to `stop` is, with `low` added, the first place of the payload from there on.
 use Rattle.std.proofs.Common.{Some, None}
-use Rattle.option_eval.proofs.Occurrences.{first_exact}
+use Rattle.option_eval.proofs.Sets.Occurrences.{first_exact}
 use Rattle.option_eval.proofs.needle.first_exact.Goals as goal
 
 pub returns-in-None : goal.returns-in-None

@@ -3,7 +3,7 @@
 use Rattle.std.proofs.Common.{◌≡◌, true, arith, ◌+◌, subst}
 use Rattle.std.proofs.lemmas.Bool.{false≢true}
 use Rattle.option_eval.specs.Sets.{Occurs}
-use Rattle.option_eval.proofs.Occurrences.{nowhere_folded, nowhere_joined}
+use Rattle.option_eval.proofs.Sets.Occurrences.{nowhere_folded, nowhere_joined}
 use Rattle.option_eval.proofs.needle.first_folded.Goals as goal
 
 pub returns-then-stands_folded : goal.returns-then-stands_folded

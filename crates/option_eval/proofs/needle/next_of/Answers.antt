@@ -1,6 +1,6 @@
 -- `memchr2` seeks the letter's two cases from `low` to `end`, and its place in that part is, `low` more, one of the payload.
 use Rattle.std.proofs.Common.{Some, None}
-use Rattle.option_eval.proofs.Occurrences.{first_byte}
+use Rattle.option_eval.proofs.Sets.Occurrences.{first_byte}
 use Rattle.option_eval.proofs.needle.next_of.Goals as goal
 
 pub returns-in-None : goal.returns-in-None

@@ -1,5 +1,5 @@
 -- Bytes occur at a place with case folded just if the part there, which is as long, is equal to them without case.
-use Rattle.option_eval.proofs.Occurrences.{folded_stands, stands_folded}
+use Rattle.option_eval.proofs.Sets.Occurrences.{folded_stands, stands_folded}
 use Rattle.option_eval.proofs.needle.stands_folded.Goals as goal
 
 pub returns : goal.returns

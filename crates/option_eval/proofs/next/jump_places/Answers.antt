@@ -2,7 +2,7 @@
 -- one place that the next leads to, if any, which is within the payload.
 use Rattle.std.proofs.Common.{length, arith, get_or}
 use Rattle.option_eval.specs.Sets.{LeadsFrom}
-use Rattle.option_eval.proofs.Asking.{led_next, contains_head, contains_later, length_later, with_if_within}
+use Rattle.option_eval.proofs.Sets.Asking.{led_next, contains_head, contains_later, length_later, with_if_within}
 use Rattle.option_eval.proofs.next.jump_places.Goals as goal
 
 pub place_after_jump-requires-clause-inside : goal.place_after_jump-requires-clause-inside

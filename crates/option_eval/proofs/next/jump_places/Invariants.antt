@@ -4,7 +4,7 @@ use Rattle.option_eval.specs.Ready.{pattern_of}
 use Rattle.option_eval.specs.RuleSet.{IsMade}
 use Rattle.option_eval.specs.Places.{Means}
 use Rattle.option_eval.specs.Sets.{LeadsFrom}
-use Rattle.option_eval.proofs.Asking.{Led}
+use Rattle.option_eval.proofs.Sets.Asking.{Led}
 use Rattle.option_eval.proofs.next.jump_places.Given as goal
 
 abbrev pub invariant-loop-rest : goal.invariant-loop-rest

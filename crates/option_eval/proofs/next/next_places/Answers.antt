@@ -1,8 +1,8 @@
 -- An option that asks nothing of the payload is a test that holds at each place, so it leaves all places.
 use Rattle.std.proofs.Common.{sym}
 use Rattle.option_eval.specs.Sets.{LeadsFrom}
-use Rattle.option_eval.proofs.Asking.{all_stay}
-use Rattle.option_eval.proofs.Staying.{test_stays, other_test, other_stays}
+use Rattle.option_eval.proofs.Sets.Asking.{all_stay}
+use Rattle.option_eval.proofs.Walks.Staying.{test_stays, other_test, other_stays}
 use Rattle.option_eval.proofs.next.next_places.Goals as goal
 
 pub returns-then-not-is_payload_option-clause-found : goal.returns-then-not-is_payload_option-clause-found

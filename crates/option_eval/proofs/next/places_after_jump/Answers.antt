@@ -5,9 +5,9 @@ use Rattle.std.proofs.lemmas.Result.{IfOk-weaker}
 use Rattle.std.proofs.lemmas.List.Sorted.{Contains-permutation, IsPermutation-sym}
 use Rattle.std.specs.List.Sorted.{IsPermutation}
 use Rattle.option_eval.specs.Sets.{LeadsFrom}
-use Rattle.option_eval.proofs.Asking.{asked_is, length-asked, jumps_gathered}
-use Rattle.option_eval.proofs.Rising.{rising_most, rising_length}
-use Rattle.option_eval.proofs.Staying.{jump_free}
+use Rattle.option_eval.proofs.Sets.Asking.{asked_is, length-asked, jumps_gathered}
+use Rattle.option_eval.proofs.Sets.Rising.{rising_most, rising_length}
+use Rattle.option_eval.proofs.Walks.Staying.{jump_free}
 use Rattle.option_eval.proofs.next.places_after_jump.Goals as goal
 
 pub jump_places-requires-clause-inside : goal.jump_places-requires-clause-inside

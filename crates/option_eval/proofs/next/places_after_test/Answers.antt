@@ -3,9 +3,9 @@
 use Rattle.std.proofs.Common.{◌+◌, length, arith, sym, ◌∙◌}
 use Rattle.std.proofs.lemmas.Bool.{false≢true}
 use Rattle.option_eval.specs.Sets.{LeadsFrom}
-use Rattle.option_eval.proofs.Asking.{first_below, first_holds, first_fails}
-use Rattle.option_eval.proofs.Rising.{rising_length}
-use Rattle.option_eval.proofs.Staying.{test_stays, test_free}
+use Rattle.option_eval.proofs.Sets.Asking.{first_below, first_holds, first_fails}
+use Rattle.option_eval.proofs.Sets.Rising.{rising_length}
+use Rattle.option_eval.proofs.Walks.Staying.{test_stays, test_free}
 use Rattle.option_eval.proofs.next.places_after_test.Goals as goal
 
 pub returns-in_err-places_after_relative_test-clause-bounded : goal.returns-in_err-places_after_relative_test-clause-bounded

@@ -2,9 +2,9 @@
 -- rising; a test leads nowhere but to its own place, so these are all.
 use Rattle.std.proofs.Common.{◌+◌, length, arith}
 use Rattle.option_eval.specs.Sets.{LeadsFrom}
-use Rattle.option_eval.proofs.Asking.{kept_next, kept_all, rising_with, length_later, first_below}
-use Rattle.option_eval.proofs.Staying.{test_stays}
-use Rattle.option_eval.proofs.Rising.{rising_high, rising_length}
+use Rattle.option_eval.proofs.Sets.Asking.{kept_next, kept_all, rising_with, length_later, first_below}
+use Rattle.option_eval.proofs.Walks.Staying.{test_stays}
+use Rattle.option_eval.proofs.Sets.Rising.{rising_high, rising_length}
 use Rattle.option_eval.proofs.next.places_where_test_holds.Goals as goal
 
 pub test_holds-requires-clause-inside : goal.test_holds-requires-clause-inside

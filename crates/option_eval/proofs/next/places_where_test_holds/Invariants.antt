@@ -4,7 +4,7 @@ use Rattle.option_eval.specs.Ready.{pattern_of}
 use Rattle.option_eval.specs.RuleSet.{IsMade}
 use Rattle.option_eval.specs.Places.{Means}
 use Rattle.option_eval.specs.Sets.{IsRising, LeadsFrom}
-use Rattle.option_eval.proofs.Asking.{Kept}
+use Rattle.option_eval.proofs.Sets.Asking.{Kept}
 use Rattle.option_eval.proofs.next.places_where_test_holds.Given as goal
 
 abbrev pub invariant-loop-rest : goal.invariant-loop-rest

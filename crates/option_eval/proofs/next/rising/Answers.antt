@@ -1,6 +1,6 @@
 -- In a sorted list a place is new just if it is past the last one taken: so each is taken once, and those taken rise.
 use Rattle.std.proofs.Common.{arith, get_or, nat_le, refl}
-use Rattle.option_eval.proofs.Asking.{deduped_none, deduped_next, deduped_all, deduped_high, ascending_from, contains_head}
+use Rattle.option_eval.proofs.Sets.Asking.{deduped_none, deduped_next, deduped_all, deduped_high, ascending_from, contains_head}
 use Rattle.option_eval.proofs.next.rising.Goals as goal
 
 pub loop-rest-init : goal.loop-rest-init

@@ -1,7 +1,7 @@
 -- The sorted places before the rest are in the set, each once.
 use Rattle.std.proofs.Common.{◌-◌, length}
 use Rattle.option_eval.specs.Sets.{IsRising, IsAscending}
-use Rattle.option_eval.proofs.Asking.{Deduped}
+use Rattle.option_eval.proofs.Sets.Asking.{Deduped}
 use Rattle.option_eval.proofs.next.rising.Given as goal
 
 abbrev pub invariant-loop-rest : goal.invariant-loop-rest

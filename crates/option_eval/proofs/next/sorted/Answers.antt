@@ -2,7 +2,7 @@
 use Rattle.std.proofs.Common.{ℕ, ◌≡◌, length, ap, ◌∙◌}
 use Rattle.std.specs.List.{refill}
 use Rattle.std.proofs.lemmas.List.Sorted.{IsNonDecreasingBy-from_sort}
-use Rattle.option_eval.proofs.Asking.{refill_whole}
+use Rattle.option_eval.proofs.Sets.Asking.{refill_whole}
 use Rattle.option_eval.proofs.next.sorted.Goals as goal
 
 pub returns-clause-order : goal.returns-clause-order

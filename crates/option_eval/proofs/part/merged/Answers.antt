@@ -1,6 +1,6 @@
 -- To sort a state's places and drop those that come again leaves the same places, so they stay below 2 ^ 63.
 use Rattle.std.proofs.Common.{◌^◌, ℕ, List, Contains}
-use Rattle.option_eval.proofs.Stepping.{sorted_same}
+use Rattle.option_eval.proofs.Extractions.Stepping.{sorted_same}
 use Rattle.option_eval.proofs.part.merged.Goals as goal
 
 pub rising-requires-clause-small : goal.rising-requires-clause-small

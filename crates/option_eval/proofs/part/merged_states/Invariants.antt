@@ -4,8 +4,8 @@ use Rattle.std.specs.Prelude.{⊤}
 use Rattle.option_eval.specs.Numbers.{Standing}
 use Rattle.option_eval.specs.Sets.{standing}
 use Rattle.option_eval.specs.States.{EachState, state_count}
-use Rattle.option_eval.proofs.Parting.{MergedFrom, Listed}
-use Rattle.option_eval.proofs.Stepping.{IsLeft}
+use Rattle.option_eval.proofs.Extractions.Parting.{MergedFrom, Listed}
+use Rattle.option_eval.proofs.Extractions.Stepping.{IsLeft}
 use Rattle.option_eval.proofs.part.merged_states.Given as goal
 
 abbrev pub invariant-loop-state : goal.invariant-loop-state

@@ -8,10 +8,10 @@ use Rattle.option_eval.specs.Sets.{standing}
 use Rattle.option_eval.specs.States.{places_at, MatchesFromSome, HaveValues, AreAmong}
 use Rattle.option_eval.specs.Walks.{MatchesFrom, IsListed, HasValues, visits_of, visits_apart, part_standings, upto_extraction, behind_extraction}
 use Rattle.option_eval.specs.declared.states.States.{States}
-use Rattle.option_eval.proofs.Knowing.{known_nothing, rising_nothing}
-use Rattle.option_eval.proofs.Parting.{always, part_tried, owing_first, owing_walked, owing_parted, owing_spent, owing_end}
-use Rattle.option_eval.proofs.Stating.{left_was, some_among, each_among, nowhere_among, each_nowhere, each_weaker, among_nowhere}
-use Rattle.option_eval.proofs.Stepping.{Counted, match_true, match_false, gone_first, gone_next, gone_fewer, gone_all, some_here, counted_first, counted_next, counted_end, visits_split, apart_split, sum_of_lists, part_of_lists}
+use Rattle.option_eval.proofs.Extractions.Knowing.{known_nothing, rising_nothing}
+use Rattle.option_eval.proofs.Extractions.Parting.{always, part_tried, owing_first, owing_walked, owing_parted, owing_spent, owing_end}
+use Rattle.option_eval.proofs.Extractions.Stating.{left_was, some_among, each_among, nowhere_among, each_nowhere, each_weaker, among_nowhere}
+use Rattle.option_eval.proofs.Extractions.Stepping.{Counted, match_true, match_false, gone_first, gone_next, gone_fewer, gone_all, some_here, counted_first, counted_next, counted_end, visits_split, apart_split, sum_of_lists, part_of_lists}
 use Rattle.option_eval.proofs.passing.+parts.Goals as goal
 
 pub is_passed_behind-returns-clause-right : goal.is_passed_behind-returns-clause-right

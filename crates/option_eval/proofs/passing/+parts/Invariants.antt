@@ -8,8 +8,8 @@ use Rattle.option_eval.specs.Ready.{pattern_of}
 use Rattle.option_eval.specs.RuleSet.{IsMade}
 use Rattle.option_eval.specs.States.{places_at, AreWithin, HaveValues, state_count}
 use Rattle.option_eval.specs.Walks.{ExtractsNothing, visits_of, visits_apart, part_standings, upto_extraction, behind_extraction}
-use Rattle.option_eval.proofs.Parting.{Owing}
-use Rattle.option_eval.proofs.Stepping.{GoneOnFrom, IsLeft, Counted}
+use Rattle.option_eval.proofs.Extractions.Parting.{Owing}
+use Rattle.option_eval.proofs.Extractions.Stepping.{GoneOnFrom, IsLeft, Counted}
 use Rattle.option_eval.proofs.passing.+parts.Given as goal
 
 abbrev pub decreases-is_passed_behind : goal.decreases-is_passed_behind

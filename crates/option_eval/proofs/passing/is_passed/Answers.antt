@@ -8,10 +8,10 @@ use Rattle.option_eval.specs.Places.{start}
 use Rattle.option_eval.specs.Sets.{standing}
 use Rattle.option_eval.specs.States.{MatchesFromSome, Leaves}
 use Rattle.option_eval.specs.Walks.{MatchesFrom, MatchesFromOne, IsListed, HasValues, visits_of, upto_extraction, behind_extraction}
-use Rattle.option_eval.proofs.Extracting.{contains_one}
-use Rattle.option_eval.proofs.Knowing.{known_nothing, rising_nothing}
-use Rattle.option_eval.proofs.Stating.{some_nowhere, each_nowhere}
-use Rattle.option_eval.proofs.Stepping.{match_true, match_false, visits_split, apart_split, upto_nothing, sum_of_lists, one_of_lists}
+use Rattle.option_eval.proofs.Extractions.Extracting.{contains_one}
+use Rattle.option_eval.proofs.Extractions.Knowing.{known_nothing, rising_nothing}
+use Rattle.option_eval.proofs.Extractions.Stating.{some_nowhere, each_nowhere}
+use Rattle.option_eval.proofs.Extractions.Stepping.{match_true, match_false, visits_split, apart_split, upto_nothing, sum_of_lists, one_of_lists}
 use Rattle.option_eval.proofs.passing.is_passed.Goals as goal
 
 pub returns-in_err-is_walked-clause-bounded : goal.returns-in_err-is_walked-clause-bounded

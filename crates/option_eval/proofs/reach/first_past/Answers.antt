@@ -1,7 +1,7 @@
 -- Bytes of this size end within the room up to the start of the last that do, so the first place past it is one more.
 use Rattle.std.proofs.Common.{arith}
 use Rattle.std.proofs.lemmas.Int.{ints}
-use Rattle.option_eval.proofs.Spans.{past_the_room}
+use Rattle.option_eval.proofs.Sets.Spans.{past_the_room}
 use Rattle.option_eval.proofs.reach.first_past.Goals as goal
 
 pub returns-clause-end : goal.returns-clause-end

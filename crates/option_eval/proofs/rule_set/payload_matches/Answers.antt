@@ -8,7 +8,7 @@ use Rattle.option_eval.specs.Ready.{IsReady, pattern_of}
 use Rattle.option_eval.specs.RuleSet.{AreMade, Rules}
 use Rattle.option_eval.proofs.Chosen.{zip_length, zip_at, zip_map_at, same_at, way_start}
 use Rattle.option_eval.proofs.rule_set.payload_matches.Goals as goal
-use Rattle.option_eval.proofs.Visits.{visits_few}
+use Rattle.option_eval.proofs.Costs.Visits.{visits_few}
 
 pub index-made-requires : goal.index-made-requires
 index-made-requires g c =

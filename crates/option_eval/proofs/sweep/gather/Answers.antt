@@ -1,8 +1,8 @@
 -- Up to `at` all ends that are wanted were added, each or one; the next
 -- one found is past these, and ends the search where one is enough.
 use Rattle.std.proofs.Common.{length, arith}
-use Rattle.option_eval.proofs.Rising.{rising_high}
-use Rattle.option_eval.proofs.Sweeping.{begins, adds_next, adds_all, on_from_low, on_from_high, rising_next}
+use Rattle.option_eval.proofs.Sets.Rising.{rising_high}
+use Rattle.option_eval.proofs.Sets.Sweeping.{begins, adds_next, adds_all, on_from_low, on_from_high, rising_next}
 use Rattle.option_eval.proofs.sweep.gather.Goals as goal
 
 pub loop-start-init : goal.loop-start-init

@@ -2,7 +2,7 @@
 use Rattle.std.proofs.Common.{◌<◌, length, arith}
 use Rattle.std.proofs.lemmas.Bool.Decides.{nat_tests}
 use Rattle.std.proofs.lemmas.Result.{IfOk-weaker}
-use Rattle.option_eval.proofs.Sweeping.{apart_rising}
+use Rattle.option_eval.proofs.Sets.Sweeping.{apart_rising}
 use Rattle.option_eval.proofs.sweep.gather_apart.Goals as goal
 
 pub returns-then-done-low-clause-rising : goal.returns-then-done-low-clause-rising

@@ -2,8 +2,8 @@
 -- it if they touch, else it is searched first, so no place is compared twice.
 use Rattle.std.proofs.Common.{◌+◌, ◌-◌, ℕ, length, arith, ap, ◌∙◌, min, nat_lt, refl}
 use Rattle.std.proofs.lemmas.Result.{IfOk-weaker}
-use Rattle.option_eval.proofs.Rising.{rising_high}
-use Rattle.option_eval.proofs.Sweeping.{swept_next, swept_all}
+use Rattle.option_eval.proofs.Sets.Rising.{rising_high}
+use Rattle.option_eval.proofs.Sets.Sweeping.{swept_next, swept_all}
 use Rattle.option_eval.proofs.sweep.sweep.Goals as goal
 
 pub loop-rest-preserved : goal.loop-rest-preserved

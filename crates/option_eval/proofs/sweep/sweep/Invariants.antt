@@ -1,7 +1,7 @@
 -- The places before the rest were asked, and the window from `from` on and below `done` is still to be searched.
 use Rattle.std.proofs.Common.{◌+◌, ◌≤◌, length}
 use Rattle.option_eval.specs.Sets.{IsRising}
-use Rattle.option_eval.proofs.Sweeping.{Swept}
+use Rattle.option_eval.proofs.Sets.Sweeping.{Swept}
 use Rattle.option_eval.proofs.sweep.sweep.Given as goal
 
 abbrev pub invariant-loop-rest : goal.invariant-loop-rest

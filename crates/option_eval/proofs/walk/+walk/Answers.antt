@@ -8,9 +8,9 @@ use Rattle.option_eval.specs.Ready.{pattern_of}
 use Rattle.option_eval.specs.RuleSet.{IsMade}
 use Rattle.option_eval.specs.States.{Leaves}
 use Rattle.option_eval.specs.Walks.{MatchesFromOne, visits_of, upto_extraction}
-use Rattle.option_eval.proofs.Knowing.{known_taken, rising_taken, next_rises, turn_known, turn_rising, turn_others}
-use Rattle.option_eval.proofs.Walking.{passed_none, walk_step, behind_first, ready_behind, extracts_nothing, not_extract}
-use Rattle.option_eval.proofs.Stepping.{walked_by, leaves_plain, visits_upto}
+use Rattle.option_eval.proofs.Extractions.Knowing.{known_taken, rising_taken, next_rises, turn_known, turn_rising, turn_others}
+use Rattle.option_eval.proofs.Walks.Walking.{passed_none, walk_step, behind_first, ready_behind, extracts_nothing, not_extract}
+use Rattle.option_eval.proofs.Extractions.Stepping.{walked_by, leaves_plain, visits_upto}
 use Rattle.option_eval.proofs.walk.+walk.Goals as goal
 
 pub is_walked-returns-in_default-clause-right : goal.is_walked-returns-in_default-clause-right

@@ -4,7 +4,7 @@ use Rattle.std.proofs.Common.{◌+◌, ℕ, List, length, arith, sym, subst, ◌
 use Rattle.std.proofs.lemmas.Bool.{eqb-true}
 use Rattle.std.proofs.lemmas.Result.{IfOk-weaker}
 use Rattle.option_eval.specs.Sets.{IsRising}
-use Rattle.option_eval.proofs.Stepping.{walked_by, leaves_nowhere, leaves_same, one_same, sorted_same}
+use Rattle.option_eval.proofs.Extractions.Stepping.{walked_by, leaves_nowhere, leaves_same, one_same, sorted_same}
 use Rattle.option_eval.proofs.walk.is_state_walked.Goals as goal
 
 pub rising-requires-clause-small : goal.rising-requires-clause-small

@@ -5,9 +5,9 @@ use Rattle.overlap_core.specs.declared.segment.Bounds.{Bounds}
 use Rattle.overlap_core.specs.Overlap.{end_of}
 use Rattle.overlap_core.specs.Pieces.{IsRow}
 use Rattle.overlap_core.specs.Rows.{BeginBelow, BeginFrom, IsReady, laid}
-use Rattle.overlap_core.proofs.Standing.{parted}
-use Rattle.overlap_core.proofs.Telling.{rest-row}
-use Rattle.overlap_core.proofs.Overlaying.{IsLaidOver, laid_over-holds, laid_over-row}
+use Rattle.overlap_core.proofs.Rows.Standing.{parted}
+use Rattle.overlap_core.proofs.Rows.Telling.{rest-row}
+use Rattle.overlap_core.proofs.Rows.Overlaying.{IsLaidOver, laid_over-holds, laid_over-row}
 use Rattle.overlap_core.proofs.room.lay_among.Goals as goal
 
 pub lay-requires-clause-ready : goal.lay-requires-clause-ready

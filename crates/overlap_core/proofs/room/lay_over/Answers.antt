@@ -4,8 +4,8 @@ use Rattle.std.proofs.Common.{subst}
 use Rattle.overlap_core.specs.declared.room.Buffers.{Buffers}
 use Rattle.overlap_core.specs.Overlap.{bounds_of}
 use Rattle.overlap_core.specs.Rows.{IsRoomFor}
-use Rattle.overlap_core.proofs.Behind.{laid_behind, room_behind}
-use Rattle.overlap_core.proofs.Overlaying.{laid_over-holds, laid_over-row}
+use Rattle.overlap_core.proofs.Rows.Behind.{laid_behind, room_behind}
+use Rattle.overlap_core.proofs.Rows.Overlaying.{laid_over-holds, laid_over-row}
 use Rattle.overlap_core.proofs.room.lay_over.Goals as goal
 
 pub lay_behind-requires-clause-size : goal.lay_behind-requires-clause-size

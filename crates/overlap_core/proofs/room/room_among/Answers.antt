@@ -3,8 +3,8 @@
 use Rattle.std.proofs.Common.{◌≡◌, ◌++◌, max, ap, subst, sym, ◌∙◌, arith}
 use Rattle.overlap_core.specs.Pieces.{IsRow}
 use Rattle.overlap_core.specs.Rows.{BeginBelow, BeginFrom, gap_sizes, IsCutAt, StandsAt}
-use Rattle.overlap_core.proofs.Recut.{room-cuts}
-use Rattle.overlap_core.proofs.Telling.{rest-row}
+use Rattle.overlap_core.proofs.Rows.Recut.{room-cuts}
+use Rattle.overlap_core.proofs.Rows.Telling.{rest-row}
 use Rattle.overlap_core.proofs.room.room_among.Goals as goal
 
 pub returns-clause-room : goal.returns-clause-room

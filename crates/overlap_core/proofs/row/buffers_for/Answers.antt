@@ -1,8 +1,8 @@
 -- A turn makes the buffer for the gap before one more piece (`buffers_more`), and leaves fewer pieces; the last buffer is
 -- for the gap up to the segment's end (`buffers_end`).
 use Rattle.std.proofs.Common.{length, map, ap, ◌∙◌}
-use Rattle.overlap_core.proofs.Standing.{smaller_next}
-use Rattle.overlap_core.proofs.Laying.{buffers_end, buffers_more}
+use Rattle.overlap_core.proofs.Rows.Standing.{smaller_next}
+use Rattle.overlap_core.proofs.Rows.Laying.{buffers_end, buffers_more}
 use Rattle.overlap_core.specs.Rows.{gap_sizes}
 use Rattle.overlap_core.proofs.row.buffers_for.Goals as goal
 

@@ -2,7 +2,7 @@
 use Rattle.std.proofs.Common.{◌≡◌, ℕ, ◌-◌, List, ◌++◌, length, map}
 use Rattle.overlap_core.specs.Pieces.{IsRow, Piece}
 use Rattle.overlap_core.specs.Rows.{gap_sizes, StandsAt}
-use Rattle.overlap_core.proofs.Standing.{IsWalk}
+use Rattle.overlap_core.proofs.Rows.Standing.{IsWalk}
 use Rattle.overlap_core.proofs.row.buffers_for.Given as goal
 
 abbrev pub invariant-loop-next : goal.invariant-loop-next

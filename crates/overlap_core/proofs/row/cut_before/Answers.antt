@@ -1,7 +1,7 @@
 -- A piece that doesn't have the place inside is its own and only part (`uncut`); of one that does, both parts come to be
 -- where it was (`cut_last`).
 use Rattle.std.proofs.Common.{refl}
-use Rattle.overlap_core.proofs.Standing.{cut_last, parts-before, parts-behind, some_before, uncut}
+use Rattle.overlap_core.proofs.Rows.Standing.{cut_last, parts-before, parts-behind, some_before, uncut}
 use Rattle.overlap_core.proofs.row.cut_before.Goals as goal
 
 pub returns-in_default-clause-ok : goal.returns-in_default-clause-ok

@@ -4,7 +4,7 @@ use Rattle.std.proofs.Common.{◌≡◌, ◌++◌, ℕ, [], Some, ap, ◌∙◌,
 use Rattle.overlap_core.specs.declared.segment.Bounds.{Bounds}
 use Rattle.overlap_core.specs.Overlap.{end_of}
 use Rattle.overlap_core.specs.Rows.{gap_piece, gap_size, laid, NextBelow, StandsAt}
-use Rattle.overlap_core.proofs.Laying.{gap_sizes-end, laying-begins, laying_end, laying_more, laying_smaller, sizes_left}
+use Rattle.overlap_core.proofs.Rows.Laying.{gap_sizes-end, laying-begins, laying_end, laying_more, laying_smaller, sizes_left}
 use Rattle.overlap_core.proofs.row.lay.Goals as goal
 
 pub loop-next-init : goal.loop-next-init

@@ -2,7 +2,7 @@
 use Rattle.std.proofs.Common.{◌-◌, List, ◌++◌, length}
 use Rattle.overlap_core.specs.Pieces.{Piece}
 use Rattle.overlap_core.specs.Rows.{laid, StandsAt}
-use Rattle.overlap_core.proofs.Laying.{IsLaying}
+use Rattle.overlap_core.proofs.Rows.Laying.{IsLaying}
 use Rattle.overlap_core.proofs.row.lay.Given as goal
 
 abbrev pub invariant-loop-next : goal.invariant-loop-next

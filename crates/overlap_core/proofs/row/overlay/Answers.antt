@@ -2,7 +2,7 @@
 use Rattle.std.proofs.Common.{◌≡◌, [], ◌∷◌, ◌++◌, Some, None, ap, sym, subst, ◌∙◌}
 use Rattle.overlap_core.specs.Pieces.{Piece}
 use Rattle.overlap_core.specs.Rows.{overlaid, StandsAt}
-use Rattle.overlap_core.proofs.Standing.{slice_get-stands, stands-inserted, stands-next, stands-removed}
+use Rattle.overlap_core.proofs.Rows.Standing.{slice_get-stands, stands-inserted, stands-next, stands-removed}
 use Rattle.overlap_core.proofs.row.overlay.Goals as goal
 
 pub returns-in-Some-clause-list : goal.returns-in-Some-clause-list

@@ -2,7 +2,7 @@
 -- that this place has none (`none_here`).
 use Rattle.std.proofs.Common.{◌≡◌, ◌-◌, ◌++◌, length, min, take, ap, sym, subst, ◌∙◌, append_assoc, length-append, arith}
 use Rattle.std.proofs.lemmas.List.{length-take-le}
-use Rattle.overlap_core.proofs.Filling.{filling_appended, IsFilling, none_here, some_missing}
+use Rattle.overlap_core.proofs.Joined.Filling.{filling_appended, IsFilling, none_here, some_missing}
 use Rattle.overlap_core.proofs.runs.append_places.Goals as goal
 
 pub returns-then-start-place-clause-whole : goal.returns-then-start-place-clause-whole

@@ -1,7 +1,7 @@
 -- The places passed have bytes, and these stand behind what stood there.
 use Rattle.std.proofs.Common.{◌≡◌, ℕ, ◌+◌, ◌≤◌, List, ◌++◌, length, vec_len, vec_capacity}
 use Rattle.overlap_core.specs.Pieces.{IsRow}
-use Rattle.overlap_core.proofs.Filling.{IsFilling}
+use Rattle.overlap_core.proofs.Joined.Filling.{IsFilling}
 use Rattle.overlap_core.proofs.runs.append_places.Given as goal
 
 abbrev pub invariant-loop-done : goal.invariant-loop-done

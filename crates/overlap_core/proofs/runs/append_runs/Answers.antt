@@ -1,7 +1,7 @@
 -- Where `out` is empty, the runs that take its stead are its own, none, and then these (`no_runs`).
 use Rattle.std.proofs.Common.{◌≡◌, ◌==◌, true, length, vec_len, sym, ◌∙◌, arith}
 use Rattle.std.proofs.lemmas.Bool.Decides.{nat_tests}
-use Rattle.overlap_core.proofs.Single.{no_runs}
+use Rattle.overlap_core.proofs.Joined.Single.{no_runs}
 use Rattle.overlap_core.proofs.runs.append_runs.Goals as goal
 
 pub returns-then-is_empty-clause-ok : goal.returns-then-is_empty-clause-ok

@@ -3,7 +3,7 @@
 use Rattle.std.proofs.Common.{◌≡◌, ◌+◌, ◌-◌, length, min, take, get_or, rules, ap, subst, sym, ◌∙◌, arith}
 use borrow.Rule.Slice.PartMut.{put_mid}
 use Rattle.std.proofs.lemmas.List.{get_or-take, length-take-le, places}
-use Rattle.overlap_core.proofs.Filling.{filling_more, IsFilling, none_here, put_new, put_old, some_missing}
+use Rattle.overlap_core.proofs.Joined.Filling.{filling_more, IsFilling, none_here, put_new, put_old, some_missing}
 use Rattle.overlap_core.proofs.runs.filled.Goals as goal
 
 pub returns-then-start-floor-clause-whole : goal.returns-then-start-floor-clause-whole

@@ -1,7 +1,7 @@
 -- The places passed have bytes, and these are written.
 use Rattle.std.proofs.Common.{ℕ, ◌≤◌, length}
 use Rattle.overlap_core.specs.Pieces.{IsRow}
-use Rattle.overlap_core.proofs.Filling.{IsFilling}
+use Rattle.overlap_core.proofs.Joined.Filling.{IsFilling}
 use Rattle.overlap_core.proofs.runs.filled.Given as goal
 
 abbrev pub invariant-loop-done : goal.invariant-loop-done

@@ -1,7 +1,7 @@
 -- The first piece ends by the limit, and the next begins no earlier (`first-begins`), or there is none (`first-none`).
 use Rattle.std.proofs.Common.{◌≤◌, sym, subst, ◌∙◌, arith}
 use Rattle.std.proofs.lemmas.Bool.Decides.{nat_tests}
-use Rattle.overlap_core.proofs.Single.{first-begins, first-none}
+use Rattle.overlap_core.proofs.Joined.Single.{first-begins, first-none}
 use Rattle.overlap_core.proofs.runs.is_one_piece.Goals as goal
 
 pub returns-in-Some-next : goal.returns-in-Some-next

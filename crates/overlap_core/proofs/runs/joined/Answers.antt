@@ -2,7 +2,7 @@
 -- the last, the runs are whole (`joining_past`, `joining_out`).
 use Rattle.std.proofs.Common.{◌<◌, ◌≤◌, ap, subst, ◌∙◌}
 use Rattle.overlap_core.specs.Joined.{with_run}
-use Rattle.overlap_core.proofs.Joining.{IsJoining, joining_more, joining_out, joining_past}
+use Rattle.overlap_core.proofs.Joined.Joining.{IsJoining, joining_more, joining_out, joining_past}
 use Rattle.overlap_core.proofs.runs.joined.Goals as goal
 
 pub returns-then-below-start : goal.returns-then-below-start

@@ -1,7 +1,7 @@
 -- The runs so far are those of the pieces passed.
 use Rattle.std.proofs.Common.{ℕ, ◌≤◌}
 use Rattle.overlap_core.specs.Pieces.{IsRow}
-use Rattle.overlap_core.proofs.Joining.{IsJoining}
+use Rattle.overlap_core.proofs.Joined.Joining.{IsJoining}
 use Rattle.overlap_core.proofs.runs.joined.Given as goal
 
 abbrev pub invariant-loop-piece : goal.invariant-loop-piece

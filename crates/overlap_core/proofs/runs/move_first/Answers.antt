@@ -1,7 +1,7 @@
 -- With the place at the front, the piece that is taken out is the first, and the others are left (`first-out`).
 use Rattle.std.proofs.Common.{◌∷◌, [], ◌++◌, ap, ◌∙◌}
 use Rattle.overlap_core.specs.Joined.{run_of}
-use Rattle.overlap_core.proofs.Single.{first-out}
+use Rattle.overlap_core.proofs.Joined.Single.{first-out}
 use Rattle.overlap_core.proofs.runs.move_first.Goals as goal
 
 pub returns-in-Ok : goal.returns-in-Ok

@@ -1,7 +1,7 @@
 -- If the first piece is all that there is below the limit, it is the only run (`first-runs`), and raising the others is
 -- raising the whole list (`first-raised`).
 use Rattle.std.proofs.Common.{sym, ◌∙◌}
-use Rattle.overlap_core.proofs.Single.{first-raised, first-runs}
+use Rattle.overlap_core.proofs.Joined.Single.{first-raised, first-runs}
 use Rattle.overlap_core.proofs.runs.take_below.Goals as goal
 
 pub returns-then-is_one_piece-clause-runs : goal.returns-then-is_one_piece-clause-runs

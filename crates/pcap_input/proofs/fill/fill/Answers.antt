@@ -3,7 +3,7 @@ use Rattle.std.proofs.Common.{◌≡◌, ◌<◌, length, take}
 use Rattle.std.specs.Prelude.{IfOk, IfErr}
 use Rattle.edge_io.specs.Files.{IsUnopened}
 use Rattle.edge_io.specs.Told.{before, NothingLeft}
-use Rattle.edge_io.proofs.Seeing.{told}
+use Rattle.edge_io.proofs.Hosts.Seeing.{told}
 use Rattle.pcap_input.proofs.fill.fill.Goals as goal
 
 pub returns-clause-taken : goal.returns-clause-taken

@@ -5,8 +5,8 @@ use Rattle.std.proofs.lemmas.Grind.{common_steps}
 use Rattle.edge_io.specs.Files.{IsUnopened, left_by}
 use Rattle.edge_io.specs.Told.{before}
 use Rattle.edge_io.proofs.Told.{before-nil}
-use Rattle.edge_io.proofs.Seeing.{seen_taken, seen_earlier, seen_unopened}
-use Rattle.pcap_input.proofs.Filling.{before_filled}
+use Rattle.edge_io.proofs.Hosts.Seeing.{seen_taken, seen_earlier, seen_unopened}
+use Rattle.pcap_input.proofs.Pieces.Filling.{before_filled}
 use Rattle.pcap_input.proofs.fill.fill_seen.Goals as goal
 
 pub loop-done-preserved : goal.loop-done-preserved

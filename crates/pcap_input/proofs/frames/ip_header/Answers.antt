@@ -1,5 +1,5 @@
 -- The header's words have a sum above 0, as `checksum` asks: the version of IPv4 is among them.
-use Rattle.pcap_input.proofs.Words.{ip_positive}
+use Rattle.pcap_input.proofs.Made.Words.{ip_positive}
 use Rattle.pcap_input.proofs.frames.ip_header.Goals as goal
 
 pub checksum-requires : goal.checksum-requires

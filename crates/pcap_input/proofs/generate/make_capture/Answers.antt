@@ -2,7 +2,7 @@
 -- the next frame's record, and with no frame left nothing is to come.
 use Rattle.std.proofs.Common.{◌≡◌, ◌+◌, ◌-◌, List, ℕ, ◌++◌, ap, ◌∙◌, arith}
 use Rattle.pcap_input.specs.Generated.{header_bytes, frames, record_bytes, records_from, generated}
-use Rattle.pcap_input.proofs.Making.{records-first, records-step, records-end}
+use Rattle.pcap_input.proofs.Made.Making.{records-first, records-step, records-end}
 use Rattle.pcap_input.proofs.generate.make_capture.Goals as goal
 
 pub loop-millis-init : goal.loop-millis-init

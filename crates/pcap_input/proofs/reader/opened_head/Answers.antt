@@ -4,7 +4,7 @@ use Rattle.std.proofs.lemmas.List.{length-take-le, take_all}
 use Rattle.edge_io.specs.Told.{before}
 use Rattle.edge_io.specs.Files.{left_by}
 use Rattle.pcap_input.proofs.Told.{all_taken}
-use Rattle.pcap_input.proofs.Heads.{head_of_truncated, head_of_kinds, head_of_not_failed, header_reads, header_leaves}
+use Rattle.pcap_input.proofs.Pieces.Heads.{head_of_truncated, head_of_kinds, head_of_not_failed, header_reads, header_leaves}
 use Rattle.pcap_input.proofs.reader.opened_head.Goals as goal
 
 pub returns-then-count-lt-FILE_HEADER-clause-gives : goal.returns-then-count-lt-FILE_HEADER-clause-gives

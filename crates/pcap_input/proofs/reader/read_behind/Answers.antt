@@ -5,7 +5,7 @@ use Rattle.edge_io.specs.Told.{before}
 use Rattle.edge_io.specs.Files.{left_by}
 use Rattle.pcap_input.specs.Savefile.{captured_length}
 use Rattle.pcap_input.proofs.Laws.{behind_too_long}
-use Rattle.pcap_input.proofs.Steps.{too_long_fewer, less_gives, less_fewer, whole_gives, whole_takes, record_made}
+use Rattle.pcap_input.proofs.Pieces.Steps.{too_long_fewer, less_gives, less_fewer, whole_gives, whole_takes, record_made}
 use Rattle.pcap_input.proofs.reader.read_behind.Goals as goal
 
 pub returns-then-len-gt-LONGEST-clause-gives : goal.returns-then-len-gt-LONGEST-clause-gives

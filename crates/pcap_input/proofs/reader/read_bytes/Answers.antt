@@ -1,7 +1,7 @@
 -- Where the reservation fails, memory was wanted.
 use Rattle.std.proofs.lemmas.Result.{err_from_is_err_and}
 use Rattle.edge_io.specs.Files.{left_by}
-use Rattle.pcap_input.proofs.Steps.{lacking_less}
+use Rattle.pcap_input.proofs.Pieces.Steps.{lacking_less}
 use Rattle.pcap_input.proofs.reader.read_bytes.Goals as goal
 
 pub returns-in_err-bytes-clause-partial : goal.returns-in_err-bytes-clause-partial

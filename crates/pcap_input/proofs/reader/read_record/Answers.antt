@@ -5,7 +5,7 @@ use Rattle.std.proofs.lemmas.Result.{err_from_is_err_and}
 use Rattle.edge_io.specs.Told.{before}
 use Rattle.edge_io.specs.Files.{left_by}
 use Rattle.pcap_input.proofs.Laws.{next_of_too_many, next_of_truncated, next_of_few}
-use Rattle.pcap_input.proofs.Steps.{with_header, fewer_with_header, gives_with_header, refuses_with_header, none_gives, too_many_gives, truncated_gives}
+use Rattle.pcap_input.proofs.Pieces.Steps.{with_header, fewer_with_header, gives_with_header, refuses_with_header, none_gives, too_many_gives, truncated_gives}
 use Rattle.pcap_input.proofs.Told.{none_same}
 use Rattle.pcap_input.proofs.reader.read_record.Goals as goal
 

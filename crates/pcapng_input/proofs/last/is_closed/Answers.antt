@@ -2,7 +2,7 @@
 use Rattle.std.proofs.Common.{◌+◌, arith}
 use Rattle.std.proofs.lemmas.Result.{err_from_is_err_and}
 use Rattle.edge_io.specs.Files.{left_by}
-use Rattle.pcapng_input.proofs.Taking.{less_behind, last_behind}
+use Rattle.pcapng_input.proofs.Blocks.Taking.{less_behind, last_behind}
 use Rattle.pcapng_input.proofs.last.is_closed.Goals as goal
 
 pub returns-in_err-read_piece-clause-partial : goal.returns-in_err-read_piece-clause-partial

@@ -3,7 +3,7 @@ use Rattle.std.proofs.Common.{ℕ, ◌-◌, refl, ◌∙◌, arith}
 use Rattle.std.proofs.lemmas.List.{length-take}
 use Rattle.std.proofs.lemmas.Result.{err_from_is_err_and}
 use Rattle.edge_io.specs.Files.{left_by}
-use Rattle.pcapng_input.proofs.Taking.{less_behind, bytes_start, bytes_more}
+use Rattle.pcapng_input.proofs.Blocks.Taking.{less_behind, bytes_start, bytes_more}
 use Rattle.pcapng_input.proofs.piece.skip.Goals as goal
 
 pub loop-left-init : goal.loop-left-init

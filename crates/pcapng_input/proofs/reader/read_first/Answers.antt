@@ -3,15 +3,15 @@ use Rattle.std.proofs.Common.{◌≡◌, ℕ, length, take, refl, sym, ap, ◌�
 use Rattle.std.proofs.lemmas.List.{length-take-le, take_all}
 use Rattle.std.proofs.lemmas.Result.{err_from_is_err_and}
 use Rattle.edge_io.specs.Files.{left_by}
-use Rattle.edge_io.proofs.Seeing.{told_seen}
+use Rattle.edge_io.proofs.Hosts.Seeing.{told_seen}
 use Rattle.edge_io.specs.Told.{before}
-use Rattle.pcapng_input.proofs.Heads.{less_kind, known_kind}
-use Rattle.pcapng_input.proofs.Reading.{first_failed, first_short, first_other, first_cut, first_less, first_none, first_on, known_at}
+use Rattle.pcapng_input.proofs.Blocks.Heads.{less_kind, known_kind}
+use Rattle.pcapng_input.proofs.Blocks.Reading.{first_failed, first_short, first_other, first_cut, first_less, first_none, first_on, known_at}
 use Rattle.pcapng_input.specs.declared.block.Kind.TheVariants as kind
 use Rattle.pcapng_input.specs.declared.block.Block.{Block}
 use Rattle.pcapng_input.specs.declared.walk.Walk.{Walk}
 use Rattle.pcapng_input.specs.Blocks.{first_walk, new_section, section_block}
-use Rattle.pcapng_input.proofs.Begins.{number_front}
+use Rattle.pcapng_input.proofs.Blocks.Begins.{number_front}
 use Rattle.pcapng_input.proofs.reader.read_first.Goals as goal
 
 pub returns-in_default-clause-shows : goal.returns-in_default-clause-shows

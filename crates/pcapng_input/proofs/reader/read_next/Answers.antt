@@ -2,8 +2,8 @@
 use Rattle.std.proofs.Common.{refl, ◌∙◌, arith}
 use Rattle.std.proofs.lemmas.Result.{err_from_is_err_and}
 use Rattle.edge_io.specs.Files.{left_by}
-use Rattle.edge_io.proofs.Seeing.{told_seen}
-use Rattle.pcapng_input.proofs.Walking.{passed_start, passed_more, goes_given, goes_ended, goes_refused, skipped_moves, still_unopened, err_nothing}
+use Rattle.edge_io.proofs.Hosts.Seeing.{told_seen}
+use Rattle.pcapng_input.proofs.Captures.Walking.{passed_start, passed_more, goes_given, goes_ended, goes_refused, skipped_moves, still_unopened, err_nothing}
 use Rattle.pcapng_input.proofs.reader.read_next.Goals as goal
 
 pub each-init : goal.each-init

@@ -1,7 +1,7 @@
 -- A section header, or another block.
 use Rattle.std.proofs.Common.{sym, ◌∙◌}
 use Rattle.edge_io.specs.Files.{left_by}
-use Rattle.pcapng_input.proofs.Reading.{begun_on_section, begun_on_other}
+use Rattle.pcapng_input.proofs.Blocks.Reading.{begun_on_section, begun_on_other}
 use Rattle.pcapng_input.proofs.step.read_begun.Goals as goal
 
 pub returns-then-kind-eq-SECTION-clause-shows : goal.returns-then-kind-eq-SECTION-clause-shows

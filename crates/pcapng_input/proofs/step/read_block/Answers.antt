@@ -4,8 +4,8 @@ use Rattle.std.proofs.lemmas.List.{length-take-le, take_all}
 use Rattle.edge_io.specs.Files.{left_by}
 use Rattle.edge_io.specs.Told.{before}
 use Rattle.pcap_input.proofs.Told.{none_same}
-use Rattle.pcapng_input.proofs.Begins.{room_has}
-use Rattle.pcapng_input.proofs.Reading.{step_failed, step_ended, step_too_many, step_short, step_on}
+use Rattle.pcapng_input.proofs.Blocks.Begins.{room_has}
+use Rattle.pcapng_input.proofs.Blocks.Reading.{step_failed, step_ended, step_too_many, step_short, step_on}
 use Rattle.pcapng_input.proofs.step.read_block.Goals as goal
 
 pub returns-in_default-clause-shows : goal.returns-in_default-clause-shows

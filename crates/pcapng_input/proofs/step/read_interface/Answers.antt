@@ -5,9 +5,9 @@ use Rattle.edge_io.specs.Files.{left_by}
 use Rattle.pcapng_input.specs.declared.content.Content.TheVariants as content
 use Rattle.pcapng_input.specs.Blocks.{inner_length, behind_interface}
 use Rattle.pcapng_input.specs.Options.{resolution_told}
-use Rattle.pcapng_input.proofs.Taking.{last_same, less_behind}
-use Rattle.pcapng_input.proofs.Closing.{closing_less, closing_differs, closing_refused, closing_skipped, closing_lacking, given-interface, given-no_resolution}
-use Rattle.pcapng_input.proofs.Reading.{whole_front}
+use Rattle.pcapng_input.proofs.Blocks.Taking.{last_same, less_behind}
+use Rattle.pcapng_input.proofs.Blocks.Closing.{closing_less, closing_differs, closing_refused, closing_skipped, closing_lacking, given-interface, given-no_resolution}
+use Rattle.pcapng_input.proofs.Blocks.Reading.{whole_front}
 use Rattle.pcapng_input.proofs.step.read_interface.Goals as goal
 
 pub returns-in_err-options-clause-shows : goal.returns-in_err-options-clause-shows

@@ -4,8 +4,8 @@ use Rattle.std.proofs.lemmas.List.{length-take}
 use Rattle.std.proofs.lemmas.Result.{err_from_is_err_and}
 use Rattle.edge_io.specs.Files.{left_by}
 use Rattle.pcapng_input.specs.declared.capture.NgFault.TheVariants as fault
-use Rattle.pcapng_input.proofs.Sizes.{front_short}
-use Rattle.pcapng_input.proofs.Reading.{known_unsized, known_less, known_refused, known_closing}
+use Rattle.pcapng_input.proofs.Blocks.Sizes.{front_short}
+use Rattle.pcapng_input.proofs.Blocks.Reading.{known_unsized, known_less, known_refused, known_closing}
 use Rattle.pcapng_input.proofs.step.read_known.Goals as goal
 
 pub returns-then-not-sized-clause-shows : goal.returns-then-not-sized-clause-shows

@@ -4,8 +4,8 @@ use Rattle.std.proofs.lemmas.Result.{err_from_is_err_and}
 use Rattle.edge_io.specs.Files.{left_by}
 use Rattle.pcapng_input.specs.declared.content.Content.TheVariants as content
 use Rattle.pcapng_input.specs.Blocks.{inner_length}
-use Rattle.pcapng_input.proofs.Taking.{last_same, less_behind}
-use Rattle.pcapng_input.proofs.Closing.{whole, closing_less, closing_differs, closing_packet}
+use Rattle.pcapng_input.proofs.Blocks.Taking.{last_same, less_behind}
+use Rattle.pcapng_input.proofs.Blocks.Closing.{whole, closing_less, closing_differs, closing_packet}
 use Rattle.pcapng_input.proofs.step.read_packet.Goals as goal
 
 pub returns-in_err-bytes-clause-shows : goal.returns-in_err-bytes-clause-shows

@@ -2,7 +2,7 @@
 use Rattle.std.proofs.Common.{sym, arith}
 use Rattle.std.proofs.lemmas.Result.{err_from_is_err_and}
 use Rattle.edge_io.specs.Files.{left_by}
-use Rattle.pcapng_input.proofs.Reading.{section_less, section_refused, section_on}
+use Rattle.pcapng_input.proofs.Blocks.Reading.{section_less, section_refused, section_on}
 use Rattle.pcapng_input.proofs.step.read_section.Goals as goal
 
 pub returns-in_err-read_piece-clause-shows : goal.returns-in_err-read_piece-clause-shows

@@ -1,7 +1,7 @@
 -- What holds by whatever may be seen holds by what is told.
 use Rattle.std.proofs.Common.{ℕ, List}
 use Rattle.std.specs.Prelude.{IfOk}
-use Rattle.edge_io.proofs.Seeing.{told}
+use Rattle.edge_io.proofs.Hosts.Seeing.{told}
 use Rattle.pcap_input.specs.Reader.{Tells}
 use Rattle.pcapng_input.specs.Calls.{AreFirst}
 use Rattle.pcapng_input.specs.Whole.{IsHeld}

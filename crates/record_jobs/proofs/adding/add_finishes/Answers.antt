@@ -1,7 +1,7 @@
 -- One end more has the next number and goes to the end of the list (`finishes_more`), so the ends of all flows are numbered
 -- in their order.
 use Rattle.std.proofs.Common.{arith}
-use Rattle.record_jobs.proofs.Ending.{finishes_more}
+use Rattle.record_jobs.proofs.Fronts.Ending.{finishes_more}
 use Rattle.record_jobs.proofs.adding.add_finishes.Goals as goal
 
 pub loop-flow-preserved : goal.loop-flow-preserved

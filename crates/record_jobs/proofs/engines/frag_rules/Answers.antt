@@ -1,6 +1,6 @@
 -- The engine found and what the host table says of the address make the rules of `frag_rules` (`rules_by-engine`).
 use Rattle.std.proofs.Common.{◌∙◌}
-use Rattle.record_jobs.proofs.Bound.{rules_by-engine}
+use Rattle.record_jobs.proofs.Ways.Bound.{rules_by-engine}
 use Rattle.record_jobs.proofs.engines.frag_rules.Goals as goal
 
 pub returns-in-Some : goal.returns-in-Some

@@ -2,8 +2,8 @@
 -- address it gives what goes by the address (`toward_is`).
 use Rattle.std.proofs.Common.{ap, arith, length, ◌∙◌}
 use Rattle.record_jobs.specs.Way.{stream_place, way_of}
-use Rattle.record_jobs.proofs.Bound.{stream_place-within}
-use Rattle.record_jobs.proofs.OnePlace.{toward_is}
+use Rattle.record_jobs.proofs.Ways.Bound.{stream_place-within}
+use Rattle.record_jobs.proofs.Ways.OnePlace.{toward_is}
 use Rattle.record_jobs.proofs.engines.toward.Goals as goal
 
 pub toward_by-requires : goal.toward_by-requires

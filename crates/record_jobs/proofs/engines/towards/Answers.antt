@@ -2,7 +2,7 @@
 -- the one answer is both (`toward_one`).
 use Rattle.std.proofs.Common.{sym, ◌∙◌}
 use Rattle.record_jobs.specs.Way.{way_of}
-use Rattle.record_jobs.proofs.OnePlace.{toward_one}
+use Rattle.record_jobs.proofs.Ways.OnePlace.{toward_one}
 use Rattle.record_jobs.proofs.engines.towards.Goals as goal
 
 pub returns-then-alike-clause-dst : goal.returns-then-alike-clause-dst

@@ -1,7 +1,7 @@
 -- A part that has room for all keeps the flows, fragments and first moment of its own pairs, so its records' items are those
 -- in the whole (`same-items`), those at its end included (`part-items`).
-use Rattle.record_jobs.proofs.SplitClosed.{part-items}
-use Rattle.record_jobs.proofs.SplitItems.{same-items}
+use Rattle.record_jobs.proofs.Splits.Closed.{part-items}
+use Rattle.record_jobs.proofs.Splits.Items.{same-items}
 use Rattle.record_jobs.proofs.split_laws.parts_have_their_items.Goals as goal
 
 pub returns-clause-each : goal.returns-clause-each

@@ -3,7 +3,7 @@
 use Rattle.std.proofs.Common.{true, false}
 use Rattle.std.proofs.lemmas.Result.{err_from_is_err_and}
 use Rattle.rule_parser.proofs.Naming.{begins_begins}
-use Rattle.rule_parser.proofs.Parting.{options-next, options-stop, options-end}
+use Rattle.rule_parser.proofs.Lines.Parting.{options-next, options-stop, options-end}
 use Rattle.rule_parser.proofs.line.read_options.Goals as goal
 
 pub returns-in_err-rule_option-clause-gives : goal.returns-in_err-rule_option-clause-gives

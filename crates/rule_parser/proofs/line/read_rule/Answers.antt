@@ -2,8 +2,8 @@
 -- rule that is read is sound, as at most 1024 names were there before.
 use Rattle.std.proofs.Common.{◌≤◌, Ok, Err, length, ap, arith}
 use Rattle.rule_parser.specs.Faults.{stop_fault}
-use Rattle.rule_parser.proofs.Meaning.{answers-as}
-use Rattle.rule_parser.proofs.Reading.{line-sound, line-stopped}
+use Rattle.rule_parser.proofs.Lines.Meaning.{answers-as}
+use Rattle.rule_parser.proofs.Lines.Reading.{line-sound, line-stopped}
 use Rattle.rule_parser.proofs.line.read_rule.Goals as goal
 
 pub returns-in-Ok-clause-only : goal.returns-in-Ok-clause-only

@@ -1,5 +1,5 @@
 -- A class that the options of a rule name is one of the classes, as `finished` asks.
-use Rattle.rule_parser.proofs.Reading.{options-class}
+use Rattle.rule_parser.proofs.Lines.Reading.{options-class}
 use Rattle.rule_parser.proofs.line.rule_body.Goals as goal
 
 pub finished-requires : goal.finished-requires

@@ -4,7 +4,7 @@ use Rattle.std.proofs.Common.{ℕ, List, subst}
 use Rattle.std.proofs.lemmas.Result.{err_from_is_err_and}
 use Rattle.rule_parser.specs.Bits.{GivesWith}
 use Rattle.rule_parser.specs.RuleLine.{rule_body}
-use Rattle.rule_parser.proofs.Reading.{line-body, line-header}
+use Rattle.rule_parser.proofs.Lines.Reading.{line-body, line-header}
 use Rattle.rule_parser.proofs.line.rule_of.Goals as goal
 
 pub returns-in_err-header-clause-meant : goal.returns-in_err-header-clause-meant

@@ -1,7 +1,7 @@
 -- Options that are written one after another are cut into just these texts, so the fold over the text is the fold over them.
 use Rattle.std.proofs.Common.{◌+◌, length}
 use Rattle.rule_parser.specs.Drafts.{empty_draft}
-use Rattle.rule_parser.proofs.CuttingLaws.{options-read}
+use Rattle.rule_parser.proofs.Lines.CuttingLaws.{options-read}
 use Rattle.rule_parser.proofs.line.rule_options.Goals as goal
 
 pub returns-clause-written : goal.returns-clause-written

@@ -5,8 +5,8 @@ use Rattle.snort_engine.specs.declared.fault.ReadFault.{ReadFault}
 use Rattle.snort_engine.specs.declared.fault.ReadFault.TheVariants.{Failed, NoMemory}
 use Rattle.snort_engine.specs.declared.batch.Reached.TheVariants.{Fault}
 use Rattle.snort_engine.specs.Steps.Batch.{Place}
-use Rattle.snort_engine.proofs.Batches.{reads_record, reads_end, reads_fault, reads_lacking}
-use Rattle.snort_engine.proofs.Seeing.{told_may}
+use Rattle.snort_engine.proofs.Records.Batches.{reads_record, reads_end, reads_fault, reads_lacking}
+use Rattle.snort_engine.proofs.Headline.Seeing.{told_may}
 use Rattle.snort_engine.proofs.batch.read_one.Goals as goal
 
 pub returns-in-Err-clause-reads : goal.returns-in-Err-clause-reads

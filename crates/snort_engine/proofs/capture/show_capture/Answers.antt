@@ -4,7 +4,7 @@ use Rattle.std.proofs.Common.{refl, ap, ◌∙◌}
 use Rattle.snort_engine.specs.declared.plan.Source.{Source}
 use Rattle.snort_engine.specs.Steps.Sources.{way_from}
 use Rattle.snort_engine.specs.Steps.Showing.{plan_of}
-use Rattle.snort_engine.proofs.Quiet.{caused_since}
+use Rattle.snort_engine.proofs.Headline.Quiet.{caused_since}
 use Rattle.snort_engine.proofs.capture.show_capture.Goals as goal
 
 pub returns-in-File-clause-ends : goal.returns-in-File-clause-ends

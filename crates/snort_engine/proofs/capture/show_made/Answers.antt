@@ -7,8 +7,8 @@ use Rattle.edge_io.specs.Files.{Files}
 use Rattle.snort_engine.specs.Steps.Reader.{IsReadable}
 use Rattle.snort_engine.specs.Steps.Stop.{stop_text}
 use Rattle.snort_engine.specs.Steps.Showing.{plan_of}
-use Rattle.snort_engine.proofs.MadeCaptures.{generated_long, made_ends, unmade_ends, never_rose}
-use Rattle.snort_engine.proofs.Quiet.{caused_unseen}
+use Rattle.snort_engine.proofs.Showing.MadeCaptures.{generated_long, made_ends, unmade_ends, never_rose}
+use Rattle.snort_engine.proofs.Headline.Quiet.{caused_unseen}
 use Rattle.snort_engine.proofs.capture.show_made.Goals as goal
 
 pub new-made-requires : goal.new-made-requires

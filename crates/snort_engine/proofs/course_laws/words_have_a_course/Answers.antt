@@ -1,7 +1,7 @@
 -- Each step of a course has some outcome: a file is there or lacking, each rule line is a rule or has a fault, bytes begin
 -- with a longest list of records, and a test tells whatever is meant.
-use Rattle.snort_engine.proofs.SomeCourses.{some_answer, some_course}
-use Rattle.snort_engine.proofs.SomeSetups.{some_setup}
+use Rattle.snort_engine.proofs.Courses.SomeCourses.{some_answer, some_course}
+use Rattle.snort_engine.proofs.Courses.SomeSetups.{some_setup}
 use Rattle.snort_engine.proofs.course_laws.words_have_a_course.Goals as goal
 
 pub returns-clause-some : goal.returns-clause-some

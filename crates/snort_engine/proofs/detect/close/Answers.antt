@@ -5,7 +5,7 @@ use Rattle.std.proofs.lemmas.Result.{err_from_is_err_and}
 use Rattle.alert_lines.proofs.Emitting.{emits_nothing, emits_stopped, emits_told}
 use Rattle.snort_engine.specs.Trace.{jobs_way_by}
 use Rattle.snort_engine.specs.Steps.Showing.{plan_of}
-use Rattle.snort_engine.proofs.Detecting.{closed_nothing, closed_stopped, closed_whole, ready_closing}
+use Rattle.snort_engine.proofs.Lines.Detecting.{closed_nothing, closed_stopped, closed_whole, ready_closing}
 use Rattle.snort_engine.proofs.detect.close.Goals as goal
 
 pub returns-in_err-jobs-clause-closed : goal.returns-in_err-jobs-clause-closed

@@ -3,8 +3,8 @@
 use Rattle.std.proofs.Common.{◌≡◌, length, refl, take, arith}
 use Rattle.std.proofs.lemmas.List.{take_all}
 use Rattle.record_jobs.specs.Way.{way_of}
-use Rattle.snort_engine.proofs.Detecting.{makes_none, makes_step}
-use Rattle.snort_engine.proofs.Sourcing.{places_more, places_none}
+use Rattle.snort_engine.proofs.Lines.Detecting.{makes_none, makes_step}
+use Rattle.snort_engine.proofs.Lines.Sourcing.{places_more, places_none}
 use Rattle.snort_engine.proofs.detect.make_jobs.Goals as goal
 
 pub loop-record-init : goal.loop-record-init

@@ -7,7 +7,7 @@ use Rattle.alert_lines.proofs.Emitting.{any_then, emits_any, emits_nothing}
 use Rattle.snort_engine.specs.Trace.{detection_of}
 use Rattle.snort_engine.specs.Steps.Detecting.{jobs_stage}
 use Rattle.snort_engine.specs.Steps.Showing.{plan_of}
-use Rattle.snort_engine.proofs.Detecting.{advances_nothing, detects_by, has_run, runs_offered, runs_stopped}
+use Rattle.snort_engine.proofs.Lines.Detecting.{advances_nothing, detects_by, has_run, runs_offered, runs_stopped}
 use Rattle.snort_engine.proofs.detect.run_jobs.Goals as goal
 
 pub returns-in_err-search-clause-shown : goal.returns-in_err-search-clause-shown

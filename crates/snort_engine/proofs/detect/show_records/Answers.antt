@@ -6,7 +6,7 @@ use Rattle.alert_lines.proofs.Emitting.{emits_nothing, emits_told}
 use Rattle.snort_engine.specs.Trace.{jobs_way_by}
 use Rattle.snort_engine.specs.Steps.Detecting.{records_stage}
 use Rattle.snort_engine.specs.Steps.Showing.{plan_of}
-use Rattle.snort_engine.proofs.Detecting.{advances_nothing, known_records, ready_records, records_shown, records_stopped}
+use Rattle.snort_engine.proofs.Lines.Detecting.{advances_nothing, known_records, ready_records, records_shown, records_stopped}
 use Rattle.snort_engine.proofs.detect.show_records.Goals as goal
 
 pub returns-in_err-made-clause-shown : goal.returns-in_err-made-clause-shown

@@ -3,14 +3,14 @@
 use Rattle.std.proofs.Common.{refl, ◌∙◌, arith}
 use Rattle.edge_io.specs.Files.{left_by}
 use Rattle.edge_io.specs.Told.{Rose}
-use Rattle.edge_io.proofs.Seeing.{seen_left}
+use Rattle.edge_io.proofs.Hosts.Seeing.{seen_left}
 use Rattle.snort_engine.specs.Steps.Preparing.{task_way}
 use Rattle.snort_engine.specs.Steps.Showing.{plan_of}
 use Rattle.snort_engine.specs.declared.prepare.Task.TheVariants.{Show, Tell}
-use Rattle.snort_engine.proofs.FileWays.{listed_ends, no_host_stop, write_risen}
-use Rattle.snort_engine.proofs.Quiet.{written_quiet}
-use Rattle.snort_engine.proofs.Runs.{headline, stopped_run, shown_run, opens_made}
-use Rattle.snort_engine.proofs.Seeing.{seen_agree, seen_ends, capture_cause_by, stop_cause_by, told_headline}
+use Rattle.snort_engine.proofs.Courses.FileWays.{listed_ends, no_host_stop, write_risen}
+use Rattle.snort_engine.proofs.Headline.Quiet.{written_quiet}
+use Rattle.snort_engine.proofs.Headline.Runs.{headline, stopped_run, shown_run, opens_made}
+use Rattle.snort_engine.proofs.Headline.Seeing.{seen_agree, seen_ends, capture_cause_by, stop_cause_by, told_headline}
 use Rattle.snort_engine.proofs.detector.run.Goals as goal
 
 pub show_capture-outcome-requires-clause-plan : goal.show_capture-outcome-requires-clause-plan

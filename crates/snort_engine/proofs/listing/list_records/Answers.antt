@@ -4,9 +4,9 @@ use Rattle.std.proofs.Common.{ℕ, List, Some, Err, sym, ap, subst, ◌∙◌, a
 use Rattle.edge_io.specs.Told.{Rose}
 use Rattle.edge_io.specs.declared.host.LoadFault.{LoadFault}
 use Rattle.snort_engine.specs.Steps.Preparing.{StopsAtFile}
-use Rattle.snort_engine.proofs.Loaded.{file_listed, file_unloaded}
-use Rattle.snort_engine.proofs.Quiet.{file_uncut}
-use Rattle.snort_engine.proofs.Seeing.{cause_by, loaded_only}
+use Rattle.snort_engine.proofs.Courses.Loaded.{file_listed, file_unloaded}
+use Rattle.snort_engine.proofs.Headline.Quiet.{file_uncut}
+use Rattle.snort_engine.proofs.Headline.Seeing.{cause_by, loaded_only}
 use Rattle.snort_engine.proofs.listing.list_records.Goals as goal
 
 pub returns-in-Ok-clause-lists : goal.returns-in-Ok-clause-lists

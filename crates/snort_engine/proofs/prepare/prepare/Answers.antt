@@ -7,8 +7,8 @@ use Rattle.edge_io.specs.Told.{Rose}
 use Rattle.command_words.specs.CommandLine.{command_line}
 use Rattle.command_words.specs.Told.{run_of}
 use Rattle.snort_engine.specs.Steps.Preparing.{task_way, way_for}
-use Rattle.snort_engine.proofs.Named.{command_named, command_ranged}
-use Rattle.snort_engine.proofs.Prepared.{prepared_faulty, prepared_listed, prepared_unlisted, prepared_help, prepared_version, prepared_lacking, task_ready, task_stopped, fileless_faulty, fileless_help, fileless_lacking, fileless_version, not_fileless_file, not_fileless_run, ready_early, stopped_early}
+use Rattle.snort_engine.proofs.Preparing.Named.{command_named, command_ranged}
+use Rattle.snort_engine.proofs.Preparing.Prepared.{prepared_faulty, prepared_listed, prepared_unlisted, prepared_help, prepared_version, prepared_lacking, task_ready, task_stopped, fileless_faulty, fileless_help, fileless_lacking, fileless_version, not_fileless_file, not_fileless_run, ready_early, stopped_early}
 use Rattle.snort_engine.proofs.prepare.prepare.Goals as goal
 
 pub prepare_run-requires-clause-named : goal.prepare_run-requires-clause-named

@@ -5,8 +5,8 @@ use Rattle.command_words.specs.Told.{run_of}
 use Rattle.snort_setup.specs.declared.setup.Setup.{Setup}
 use Rattle.snort_setup.specs.Whole.{ready_of}
 use Rattle.snort_engine.specs.Steps.Preparing.{way_for}
-use Rattle.snort_engine.proofs.Prepared.{setup_stopped, setup_ready, setup_cause, kept_early, kept_ready, stopped_early}
-use Rattle.snort_engine.proofs.Quiet.{setup_uncut}
+use Rattle.snort_engine.proofs.Preparing.Prepared.{setup_stopped, setup_ready, setup_cause, kept_early, kept_ready, stopped_early}
+use Rattle.snort_engine.proofs.Headline.Quiet.{setup_uncut}
 use Rattle.snort_engine.proofs.prepare.prepare_run.Goals as goal
 
 pub returns-in_err-setup-clause-prepared : goal.returns-in_err-setup-clause-prepared

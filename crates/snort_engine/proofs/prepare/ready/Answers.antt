@@ -4,7 +4,7 @@ use Rattle.std.proofs.Common.{refl}
 use Rattle.command_words.specs.Told.{run_of}
 use Rattle.snort_setup.specs.Whole.{ready_of}
 use Rattle.snort_engine.specs.Steps.Stop.{stop_text}
-use Rattle.snort_engine.proofs.Prepared.{no_source, ready_way, source_made}
+use Rattle.snort_engine.proofs.Preparing.Prepared.{no_source, ready_way, source_made}
 use Rattle.snort_engine.proofs.prepare.ready.Goals as goal
 
 pub returns-then-wanted-clause-way : goal.returns-then-wanted-clause-way

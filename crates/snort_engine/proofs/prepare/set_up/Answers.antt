@@ -1,6 +1,6 @@
 -- What `read_setup` gives is the setup of the words that `setup_words` takes over, and the warnings that are told are
 -- those that `told_of` leaves.
-use Rattle.snort_engine.proofs.Prepared.{ready_setup}
+use Rattle.snort_engine.proofs.Preparing.Prepared.{ready_setup}
 use Rattle.snort_engine.proofs.prepare.set_up.Goals as goal
 
 pub returns-clause-set_up : goal.returns-clause-set_up

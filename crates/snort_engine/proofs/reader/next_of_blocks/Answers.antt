@@ -1,7 +1,7 @@
 -- What stands next, by the answer of the reader of blocks.
-use Rattle.snort_engine.proofs.Reading.{blocks_give, blocks_ended, blocks_stop}
-use Rattle.snort_engine.proofs.Quiet.{blocks_unfailed}
-use Rattle.snort_engine.proofs.Stops.{blocks_keep}
+use Rattle.snort_engine.proofs.Records.Reading.{blocks_give, blocks_ended, blocks_stop}
+use Rattle.snort_engine.proofs.Headline.Quiet.{blocks_unfailed}
+use Rattle.snort_engine.proofs.Records.Stops.{blocks_keep}
 use Rattle.snort_engine.proofs.reader.next_of_blocks.Goals as goal
 
 pub returns-in-Ok-Some-clause-gives : goal.returns-in-Ok-Some-clause-gives

@@ -1,7 +1,7 @@
 -- What stands next, by the answer of the savefile's reader.
-use Rattle.snort_engine.proofs.Reading.{savefile_gives, savefile_ended, savefile_stops}
-use Rattle.snort_engine.proofs.Quiet.{savefile_unfailed}
-use Rattle.snort_engine.proofs.Stops.{savefile_keeps}
+use Rattle.snort_engine.proofs.Records.Reading.{savefile_gives, savefile_ended, savefile_stops}
+use Rattle.snort_engine.proofs.Headline.Quiet.{savefile_unfailed}
+use Rattle.snort_engine.proofs.Records.Stops.{savefile_keeps}
 use Rattle.snort_engine.proofs.reader.next_of_savefile.Goals as goal
 
 pub returns-in-Ok-Some-clause-gives : goal.returns-in-Ok-Some-clause-gives

@@ -4,7 +4,7 @@ use Rattle.std.proofs.Common.{ℕ, List, ◌++◌, ap, ◌∙◌}
 use Rattle.snort_engine.specs.Counts.{with_counts}
 use Rattle.snort_engine.specs.Steps.Stop.{outcome_text}
 use Rattle.snort_engine.specs.Messages.{no_memory_text}
-use Rattle.snort_engine.proofs.Reported.{reports_told, reports_untold}
+use Rattle.snort_engine.proofs.Headline.Reported.{reports_told, reports_untold}
 use Rattle.snort_engine.proofs.report.report.Goals as goal
 
 pub returns-in-Ok-clause-reports : goal.returns-in-Ok-clause-reports

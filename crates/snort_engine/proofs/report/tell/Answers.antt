@@ -2,7 +2,7 @@
 -- first part, and its count of faults rose.
 use Rattle.std.proofs.Common.{◌≡◌, true, false, rules, arith}
 use Rattle.alert_lines.proofs.Prefixes.{WritesPart-take}
-use Rattle.snort_engine.proofs.Reported.{tells_nothing, tells_whole, tells_part}
+use Rattle.snort_engine.proofs.Headline.Reported.{tells_nothing, tells_whole, tells_part}
 use Rattle.snort_engine.proofs.report.tell.Goals as goal
 
 pub returns-then-not-well-clause-tells : goal.returns-then-not-well-clause-tells

@@ -1,7 +1,7 @@
 -- The texts so far were told as one joined text, of which a sink that failed has a part; the next text is told after them,
 -- or not at all (`tells_step`).
 use Rattle.std.proofs.Common.{arith}
-use Rattle.snort_engine.proofs.Reported.{tells_none, tells_step}
+use Rattle.snort_engine.proofs.Headline.Reported.{tells_none, tells_step}
 use Rattle.snort_engine.proofs.report.tell_all.Goals as goal
 
 pub loop-text-init : goal.loop-text-init

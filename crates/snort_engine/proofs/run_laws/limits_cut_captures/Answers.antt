@@ -1,7 +1,7 @@
 -- Records are read one by one, so that a limit stops where the shortest beginning that holds as many ends
 -- (`limited_records`); and an answer goes by the limit only through the records that are read.
-use Rattle.snort_engine.proofs.CutCaptures.{exists_cut, cut_place}
-use Rattle.snort_engine.proofs.CutAnswers.{limited_records, limited_clean, limited_answer, unreached_answer}
+use Rattle.snort_engine.proofs.Cuts.Captures.{exists_cut, cut_place}
+use Rattle.snort_engine.proofs.Cuts.Answers.{limited_records, limited_clean, limited_answer, unreached_answer}
 use Rattle.snort_engine.proofs.run_laws.limits_cut_captures.Goals as goal
 
 pub returns-clause-records : goal.returns-clause-records

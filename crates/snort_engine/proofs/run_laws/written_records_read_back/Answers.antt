@@ -1,8 +1,8 @@
 -- The numbers of an alert's two records fit their bytes where the rules' numbers do and the capture holds bytes, so that
 -- they can be read back; and no bytes are of two lists of records.
 use Rattle.unified2_out.proofs.Laws.{records_of-one}
-use Rattle.snort_engine.proofs.FitRecords.{records_fit}
-use Rattle.snort_engine.proofs.ReadBack.{are_entries, answer_entries, first_entries, tells_entries}
+use Rattle.snort_engine.proofs.Fits.Records.{records_fit}
+use Rattle.snort_engine.proofs.Fits.ReadBack.{are_entries, answer_entries, first_entries, tells_entries}
 use Rattle.snort_engine.proofs.run_laws.written_records_read_back.Goals as goal
 
 pub returns-clause-written : goal.returns-clause-written

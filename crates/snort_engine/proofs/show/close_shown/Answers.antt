@@ -4,7 +4,7 @@ use Rattle.std.proofs.Common.{Err, refl, sym, ap, ◌∙◌, inl, inr, arith}
 use Rattle.std.proofs.lemmas.Result.{err_from_is_err_and}
 use Rattle.alert_lines.specs.declared.fault.WriteFault.{WriteFault}
 use Rattle.snort_engine.specs.Steps.Showing.{ClosesShown}
-use Rattle.snort_engine.proofs.Quiet.{closes_same, closes_unwritten}
+use Rattle.snort_engine.proofs.Headline.Quiet.{closes_same, closes_unwritten}
 use Rattle.snort_engine.proofs.show.close_shown.Goals as goal
 
 pub returns-then-not-is_whole-clause-closes : goal.returns-then-not-is_whole-clause-closes

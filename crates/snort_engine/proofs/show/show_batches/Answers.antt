@@ -5,8 +5,8 @@ use Rattle.std.proofs.lemmas.Result.{err_from_is_err_and}
 use Rattle.edge_io.specs.Told.{Rose}
 use Rattle.snort_engine.specs.Steps.Showing.{plan_of}
 use Rattle.snort_engine.proofs.Prefixes.{read_not, read_on, read_rose}
-use Rattle.snort_engine.proofs.Quiet.{caused_done, caused_since}
-use Rattle.snort_engine.proofs.Shown.{under_way-start, comes_since}
+use Rattle.snort_engine.proofs.Headline.Quiet.{caused_done, caused_since}
+use Rattle.snort_engine.proofs.Showing.Shown.{under_way-start, comes_since}
 use Rattle.snort_engine.proofs.show.show_batches.Goals as goal
 
 pub batches-init : goal.batches-init

@@ -6,10 +6,10 @@ use Rattle.edge_io.specs.Told.{Rose}
 use Rattle.snort_engine.specs.declared.reader.RecordReader.{RecordReader}
 use Rattle.snort_engine.specs.Steps.Showing.{plan_of}
 use Rattle.snort_engine.proofs.Prefixes.{opened_read, rose_since}
-use Rattle.snort_engine.proofs.Captures.{open_stops, capture_ends}
-use Rattle.snort_engine.proofs.Opening.{opens_later}
-use Rattle.snort_engine.proofs.Quiet.{caused_fault, caused_since}
-use Rattle.snort_engine.proofs.Seeing.{cause_by}
+use Rattle.snort_engine.proofs.Showing.Captures.{open_stops, capture_ends}
+use Rattle.snort_engine.proofs.Records.Opening.{opens_later}
+use Rattle.snort_engine.proofs.Headline.Quiet.{caused_fault, caused_since}
+use Rattle.snort_engine.proofs.Headline.Seeing.{cause_by}
 use Rattle.snort_engine.proofs.show.show_file.Goals as goal
 
 pub show_opened-requires-clause-readable : goal.show_opened-requires-clause-readable

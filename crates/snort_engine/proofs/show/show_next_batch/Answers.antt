@@ -9,9 +9,9 @@ use Rattle.alert_lines.specs.declared.fault.WriteFault.{WriteFault}
 use Rattle.snort_engine.specs.declared.reader.RecordReader.{RecordReader}
 use Rattle.snort_engine.specs.Steps.Reader.{number_of}
 use Rattle.snort_engine.specs.Steps.Showing.{plan_of, most_at, room_behind, MayGoFurther, Standing}
-use Rattle.snort_engine.proofs.Batches.{more_reached, showing_cuts, within_batch}
-use Rattle.snort_engine.proofs.Quiet.{caused_reached, caused_unwritten}
-use Rattle.snort_engine.proofs.Shown.{nothing_left, batch_lacks, batch_shown, batch_stops, part_shown}
+use Rattle.snort_engine.proofs.Records.Batches.{more_reached, showing_cuts, within_batch}
+use Rattle.snort_engine.proofs.Headline.Quiet.{caused_reached, caused_unwritten}
+use Rattle.snort_engine.proofs.Showing.Shown.{nothing_left, batch_lacks, batch_shown, batch_stops, part_shown}
 use Rattle.snort_engine.proofs.show.show_next_batch.Goals as goal
 
 pub read_batch-reached-requires-clause-fresh : goal.read_batch-reached-requires-clause-fresh

@@ -5,8 +5,8 @@ use Rattle.std.proofs.lemmas.Result.{err_from_is_err_and}
 use Rattle.alert_lines.proofs.Prefixes.{WritesPart-none}
 use Rattle.snort_engine.specs.Steps.Stop.{outcome_status}
 use Rattle.snort_engine.specs.Steps.Showing.{plan_of}
-use Rattle.snort_engine.proofs.Quiet.{caused_closed}
-use Rattle.snort_engine.proofs.Shown.{close-start, closed_show, closed_behind}
+use Rattle.snort_engine.proofs.Headline.Quiet.{caused_closed}
+use Rattle.snort_engine.proofs.Showing.Shown.{close-start, closed_show, closed_behind}
 use Rattle.snort_engine.proofs.show.show_opened.Goals as goal
 
 pub show_batches-shown-requires-clause-ready : goal.show_batches-shown-requires-clause-ready

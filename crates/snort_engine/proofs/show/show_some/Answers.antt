@@ -1,6 +1,6 @@
 -- However `show_records` ends, what it wrote is the lines of the records or a part of them: the lemma `part_shown`.
 use Rattle.snort_engine.specs.Steps.Showing.{plan_of}
-use Rattle.snort_engine.proofs.Shown.{part_shown}
+use Rattle.snort_engine.proofs.Showing.Shown.{part_shown}
 use Rattle.snort_engine.proofs.show.show_some.Goals as goal
 
 pub returns-clause-part : goal.returns-clause-part

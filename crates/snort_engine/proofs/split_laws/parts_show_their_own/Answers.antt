@@ -1,7 +1,7 @@
 -- Alerts go by a record's items and by what is counted under their keys; where both are the same after the part's earlier
 -- records as after all, the part shows its own alerts of the whole.
-use Rattle.snort_engine.proofs.SplitCaptures.{part-shows}
-use Rattle.snort_engine.proofs.SplitClosed.{part-shows-all}
+use Rattle.snort_engine.proofs.Splits.Captures.{part-shows}
+use Rattle.snort_engine.proofs.Splits.Closed.{part-shows-all}
 use Rattle.snort_engine.proofs.split_laws.parts_show_their_own.Goals as goal
 
 pub returns-clause-going : goal.returns-clause-going

@@ -4,7 +4,7 @@ use Rattle.std.proofs.Common.{Some, Ok, Err, refl, ◌∙◌}
 use Rattle.std.proofs.lemmas.Result.{err_from_is_err_and}
 use Rattle.edge_io.specs.Told.{Rose}
 use Rattle.edge_io.proofs.Told.{rose-since}
-use Rattle.conf_parser.proofs.Seeing.{told_before}
+use Rattle.conf_parser.proofs.Readings.Seeing.{told_before}
 use Rattle.conf_parser.specs.Reading.{told}
 use Rattle.snort_setup.specs.Words.{words_of}
 use Rattle.snort_setup.specs.Setup.{conf_read}

@@ -5,7 +5,7 @@ use Rattle.std.specs.Map.{lookup}
 use Rattle.stream5_sessions.specs.Keys.{same_key}
 use Rattle.stream5_sessions.specs.Caches.{found_by, kept_by}
 use Rattle.stream5_sessions.specs.Indexed.{LivesState, lives_with}
-use Rattle.stream5_sessions.proofs.CacheSteps.{promoted-some, unpromoted}
+use Rattle.stream5_sessions.proofs.Trees.CacheSteps.{promoted-some, unpromoted}
 use Rattle.stream5_sessions.proofs.flows.touched.Goals as goal
 
 pub begun-requires : goal.begun-requires

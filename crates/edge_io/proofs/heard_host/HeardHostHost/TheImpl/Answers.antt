@@ -2,7 +2,7 @@
 -- notes had just these next, and none if no file of theirs was open.
 use Rattle.std.proofs.Common.{rules}
 use Rattle.edge_io.specs.Told.{before}
-use Rattle.edge_io.proofs.Hearing.{taken_by, unopened_by}
+use Rattle.edge_io.proofs.Hosts.Hearing.{taken_by, unopened_by}
 use Rattle.edge_io.proofs.heard_host.HeardHostHost.TheImpl.Goals as goal
 
 -- what a read noted is what it took

@@ -2,7 +2,7 @@
 -- are the hits (`covers-all`).
 use Rattle.std.proofs.Common.{List, ℕ, length, sym, subst, arith}
 use Rattle.fast_pattern.specs.Finding.{Covers}
-use Rattle.fast_pattern.proofs.Covering.{covers-none, covers-all}
+use Rattle.fast_pattern.proofs.Finding.Covering.{covers-none, covers-all}
 use Rattle.fast_pattern.proofs.automaton.Automaton.hits.Goals as goal
 
 pub returns : goal.returns

@@ -2,7 +2,7 @@
 -- each turn covers up to where its walk ended.
 use Rattle.std.proofs.Common.{◌≡◌, ℕ, length, subst, arith}
 use Rattle.fast_pattern.specs.Finding.{Covers}
-use Rattle.fast_pattern.proofs.Covering.{covers-skipped}
+use Rattle.fast_pattern.proofs.Finding.Covering.{covers-skipped}
 use Rattle.fast_pattern.proofs.automaton.Automaton.mark_all.Goals as goal
 
 pub loop-done-preserved : goal.loop-done-preserved

@@ -2,7 +2,7 @@
 use Rattle.std.proofs.Common.{◌≡◌, ℕ, ◌<◌, List, slice_index, ap, subst, ◌∙◌}
 use Rattle.fast_pattern.specs.Rows.{state_of}
 use Rattle.fast_pattern.specs.Finding.{Follows}
-use Rattle.fast_pattern.proofs.Hitting.{marks-chain}
+use Rattle.fast_pattern.proofs.Finding.Hitting.{marks-chain}
 use Rattle.fast_pattern.proofs.automaton.Automaton.mark_ended.Goals as goal
 
 pub returns : goal.returns

@@ -1,8 +1,8 @@
 -- Each byte goes on with the walk by `step` and `note` (`walks-more`), and at the end of the payload no pattern is left
 -- unended, so all are covered (`covers-whole`).
 use Rattle.std.proofs.Common.{slice_index, refl}
-use Rattle.fast_pattern.proofs.Walking.{walks-none, walks-more}
-use Rattle.fast_pattern.proofs.Covering.{covers-whole}
+use Rattle.fast_pattern.proofs.Finding.Walking.{walks-none, walks-more}
+use Rattle.fast_pattern.proofs.Finding.Covering.{covers-whole}
 use Rattle.fast_pattern.proofs.automaton.Automaton.mark_in_one_walk.Goals as goal
 
 pub loop-byte-init : goal.loop-byte-init

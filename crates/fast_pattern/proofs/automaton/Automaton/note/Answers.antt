@@ -1,7 +1,7 @@
 -- An even move goes to a state whose chain is empty, so nothing is to be marked; an odd one, halved, is the place whose
 -- chain `mark_ended` marks.
 use Rattle.std.proofs.Common.{arith}
-use Rattle.fast_pattern.proofs.Hitting.{notes-none, notes-some}
+use Rattle.fast_pattern.proofs.Finding.Hitting.{notes-none, notes-some}
 use Rattle.fast_pattern.proofs.automaton.Automaton.note.Goals as goal
 
 pub returns-then-entry-eq0 : goal.returns-then-entry-eq0

@@ -3,7 +3,7 @@ use Rattle.std.proofs.Common.{◌≡◌, ℕ, ◌+◌, List, length, subst, arit
 use Rattle.fast_pattern.specs.declared.automaton.Automaton.{Automaton}
 use Rattle.fast_pattern.specs.Outputs.{AreOwned, IsLinking, AreNexts}
 use Rattle.fast_pattern.specs.Rows.{IsLayout}
-use Rattle.fast_pattern.proofs.Making.{finds-made}
+use Rattle.fast_pattern.proofs.Finding.Making.{finds-made}
 use Rattle.fast_pattern.proofs.automaton.Automaton.of.Goals as goal
 
 pub returns : goal.returns

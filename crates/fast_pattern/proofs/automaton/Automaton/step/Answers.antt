@@ -2,7 +2,7 @@
 -- `step_back` has its move (`step-sparse`).
 use Rattle.std.proofs.Common.{◌+◌, ◌<◌, ◌≤◌, length, ◌∙◌, arith}
 use Rattle.std.proofs.lemmas.List.{get_or_default}
-use Rattle.fast_pattern.proofs.Stepping.{step-row, step-sparse}
+use Rattle.fast_pattern.proofs.States.Stepping.{step-row, step-sparse}
 use Rattle.fast_pattern.proofs.automaton.Automaton.step.Goals as goal
 
 pub returns-then-place-len : goal.returns-then-place-len

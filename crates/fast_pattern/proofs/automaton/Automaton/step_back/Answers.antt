@@ -2,7 +2,7 @@
 -- with a row, which has the move (`back-row`).
 use Rattle.std.proofs.Common.{ℕ, ◌+◌, ◌*◌, List, slice_index, ap, subst, ◌∙◌, arith}
 use Rattle.fast_pattern.specs.Moves.{Reaches}
-use Rattle.fast_pattern.proofs.Stepping.{back-child, back-row}
+use Rattle.fast_pattern.proofs.States.Stepping.{back-child, back-row}
 use Rattle.fast_pattern.proofs.automaton.Automaton.step_back.Goals as goal
 
 pub returns-then-reached-ne0 : goal.returns-then-reached-ne0

@@ -3,8 +3,8 @@
 use Rattle.std.proofs.Common.{◌≡◌, ℕ, ◌+◌, ◌-◌, ◌/◌, ◌≤◌, inl, inr, slice_index, take, drop, refl, subst, arith}
 use Rattle.fast_pattern.specs.Words.{word_of}
 use Rattle.fast_pattern.specs.Finding.{Walks}
-use Rattle.fast_pattern.proofs.Walking.{walks-none}
-use Rattle.fast_pattern.proofs.Covering.{walks-on, covers-walked}
+use Rattle.fast_pattern.proofs.Finding.Walking.{walks-none}
+use Rattle.fast_pattern.proofs.Finding.Covering.{walks-on, covers-walked}
 use Rattle.fast_pattern.proofs.automaton.Automaton.walk.Goals as goal
 
 pub loop-done-init : goal.loop-done-init

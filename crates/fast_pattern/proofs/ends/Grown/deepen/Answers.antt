@@ -3,7 +3,7 @@ use Rattle.std.proofs.Common.{ℕ, ◌+◌, List, [], sym, refl, subst, ◌∙�
 use Rattle.std.proofs.lemmas.List.{get_or_read}
 use Rattle.fast_pattern.specs.Growing.{AreBetween}
 use Rattle.fast_pattern.specs.Words.{words_of}
-use Rattle.fast_pattern.proofs.Growing.{between-none, between-more}
+use Rattle.fast_pattern.proofs.States.Growing.{between-none, between-more}
 use Rattle.fast_pattern.proofs.ends.Grown.deepen.Goals as goal
 
 pub loop-place-init : goal.loop-place-init

@@ -1,7 +1,7 @@
 -- The word at the pattern's end so far has `depth` letters (`end-depth`), so `child` may add one that is a letter longer,
 -- which is the pattern's next end.
 use Rattle.std.proofs.Common.{slice_index, get_or, refl}
-use Rattle.fast_pattern.proofs.Growing.{advance-some, trie-at}
+use Rattle.fast_pattern.proofs.States.Growing.{advance-some, trie-at}
 use Rattle.fast_pattern.proofs.ends.Grown.next_end.Goals as goal
 
 pub child-requires-clause-trie : goal.child-requires-clause-trie

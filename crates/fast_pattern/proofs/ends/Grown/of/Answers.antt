@@ -3,7 +3,7 @@
 use Rattle.std.proofs.Common.{◌≡◌, ℕ, ◌+◌, List, length, replicate, subst, sym, arith}
 use Rattle.fast_pattern.specs.Words.{words_of}
 use Rattle.fast_pattern.specs.Growing.{AreAt}
-use Rattle.fast_pattern.proofs.Growing.{at-none, deeper, grown-all}
+use Rattle.fast_pattern.proofs.States.Growing.{at-none, deeper, grown-all}
 use Rattle.fast_pattern.proofs.ends.Grown.of.Goals as goal
 
 pub loop-depth-init : goal.loop-depth-init

@@ -3,7 +3,7 @@
 use Rattle.std.proofs.Common.{ℕ, List, ◌++◌, sym, ap, ◌∙◌}
 use Rattle.std.proofs.lemmas.List.{append-nil}
 use Rattle.fast_pattern.specs.Doors.{lets_in}
-use Rattle.fast_pattern.proofs.Opening.{none-let-in}
+use Rattle.fast_pattern.proofs.Ports.Opening.{none-let-in}
 use Rattle.fast_pattern.proofs.groups.Groups.find_candidates.Goals as goal
 
 pub returns-then-not-lets_in-clause-appended : goal.returns-then-not-lets_in-clause-appended

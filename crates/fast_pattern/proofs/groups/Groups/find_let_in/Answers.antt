@@ -5,7 +5,7 @@ use Rattle.std.specs.List.{filter, dedup}
 use Rattle.std.proofs.lemmas.List.{get_or_default}
 use Rattle.std.proofs.lemmas.List.Filters.{dedup_is}
 use Rattle.fast_pattern.specs.Grouping.{fits_at}
-use Rattle.fast_pattern.proofs.Selecting.{candidates-are}
+use Rattle.fast_pattern.proofs.Candidates.Selecting.{candidates-are}
 use Rattle.fast_pattern.proofs.groups.Groups.find_let_in.Goals as goal
 
 pub returns-clause-appended : goal.returns-clause-appended

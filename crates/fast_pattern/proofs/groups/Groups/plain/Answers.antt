@@ -2,7 +2,7 @@
 -- (`numbers-skip`).
 use Rattle.std.proofs.Common.{sym, ap, ◌∙◌}
 use Rattle.fast_pattern.specs.Kinds.{is_plain}
-use Rattle.fast_pattern.proofs.Ordering.{numbers-start, numbers-more, numbers-skip}
+use Rattle.fast_pattern.proofs.Candidates.Ordering.{numbers-start, numbers-more, numbers-skip}
 use Rattle.fast_pattern.proofs.groups.Groups.plain.Goals as goal
 use Rattle.fast_pattern.proofs.groups.Groups.plain.Goals.{then-is_plain+in_ok-push, else-is_plain}
 

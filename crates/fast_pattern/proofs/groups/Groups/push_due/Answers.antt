@@ -7,7 +7,7 @@ use Rattle.fast_pattern.specs.Blocks.{has}
 use Rattle.fast_pattern.specs.Grouping.{texts_of, is_due_at}
 use Rattle.fast_pattern.specs.declared.groups.Groups.{Groups}
 use Rattle.rule_types.specs.declared.rule.Rule.{Rule}
-use Rattle.fast_pattern.proofs.Selecting.{list-due, sides-due}
+use Rattle.fast_pattern.proofs.Candidates.Selecting.{list-due, sides-due}
 use Rattle.fast_pattern.proofs.groups.Groups.push_due.Goals as goal
 
 -- a place is there afterwards, for an item that carries this

@@ -3,8 +3,8 @@
 use Rattle.std.proofs.Common.{◌≡◌, ℕ, ◌+◌, ◌-◌, ◌*◌, ◌^◌, ◌<◌, ◌≤◌, ◌==◌, suc, sym, ap, subst, ◌∙◌, arith, ⊎_elim}
 use Rattle.std.proofs.lemmas.Bool.{cases_lt}
 use Rattle.fast_pattern.specs.Blocks.{number, lies_in, AddFiled}
-use Rattle.fast_pattern.proofs.Blocking.{doubled, half-low, half-high}
-use Rattle.fast_pattern.proofs.Filing.{within-one, within-part}
+use Rattle.fast_pattern.proofs.Ports.Blocking.{doubled, half-low, half-high}
+use Rattle.fast_pattern.proofs.Ports.Filing.{within-one, within-part}
 use Rattle.fast_pattern.proofs.index.PortIndex.+push_within.Goals as goal
 
 halved : (bits : ℕ) → 0 < bits → 2 ^ bits ≡ 2 * 2 ^ (bits - 1)

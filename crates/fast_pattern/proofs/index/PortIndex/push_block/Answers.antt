@@ -3,7 +3,7 @@
 use Rattle.std.proofs.Common.{◌≡◌, ℕ, ◌-◌, List, [], ◌∷◌, ◌++◌, min, slice_index, ap, subst, ◌∙◌, arith}
 use Rattle.fast_pattern.specs.declared.index.Entry.{Entry}
 use Rattle.fast_pattern.specs.Blocks.{entry_at, IsFollowed}
-use Rattle.fast_pattern.proofs.Filing.{followed-none, followed-more, followed-all}
+use Rattle.fast_pattern.proofs.Ports.Filing.{followed-none, followed-more, followed-all}
 use Rattle.fast_pattern.proofs.index.PortIndex.push_block.Goals as goal
 
 pub loop-at-init : goal.loop-at-init

@@ -3,7 +3,7 @@
 use Rattle.std.proofs.Common.{◌≡◌, ℕ, List, slice_index, ap, subst, ◌∙◌}
 use Rattle.fast_pattern.specs.Moves.{FailsTo}
 use Rattle.fast_pattern.specs.Outputs.{either}
-use Rattle.fast_pattern.proofs.Filling.{linking-more}
+use Rattle.fast_pattern.proofs.States.Filling.{linking-more}
 use Rattle.fast_pattern.proofs.links.Links.of.Goals as goal
 
 pub loop-state-preserved : goal.loop-state-preserved

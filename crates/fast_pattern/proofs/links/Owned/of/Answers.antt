@@ -2,7 +2,7 @@
 -- gives back just that (`lent-back`).
 use Rattle.std.proofs.Common.{◌≡◌, ℕ, ◌+◌, List, ◌∷◌, [], ◌++◌, length, slice_index, sym, ap, subst, ◌∙◌}
 use Rattle.fast_pattern.specs.Outputs.{AreOwned, owned_by}
-use Rattle.fast_pattern.proofs.Filling.{owned-more, lent-back}
+use Rattle.fast_pattern.proofs.States.Filling.{owned-more, lent-back}
 use Rattle.fast_pattern.proofs.links.Owned.of.Goals as goal
 
 pub loop-place-preserved : goal.loop-place-preserved

@@ -1,5 +1,5 @@
 -- `insert` answers whether the place is new to the set (`answer-is`), and adds it alone (`marks-added`).
-use Rattle.fast_pattern.proofs.Marking.{answer-is, marks-added}
+use Rattle.fast_pattern.proofs.Finding.Marking.{answer-is, marks-added}
 use Rattle.fast_pattern.proofs.seen.Seen.mark.Goals as goal
 
 pub returns-clause-answer : goal.returns-clause-answer

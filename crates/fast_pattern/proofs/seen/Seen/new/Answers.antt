@@ -1,5 +1,5 @@
 -- A set that is empty has no place (`none-marked`).
-use Rattle.fast_pattern.proofs.Marking.{none-marked}
+use Rattle.fast_pattern.proofs.Finding.Marking.{none-marked}
 use Rattle.fast_pattern.proofs.seen.Seen.new.Goals as goal
 
 pub returns : goal.returns

@@ -1,5 +1,5 @@
 -- A port is below 65536, so each side's index adds the rules sought at it; both calls add those of both (`sought-both`).
-use Rattle.fast_pattern.proofs.Siding.{sought-both}
+use Rattle.fast_pattern.proofs.Ports.Siding.{sought-both}
 use Rattle.std.proofs.Common.{arith}
 use Rattle.fast_pattern.proofs.sides.Sides.push_places.Goals as goal
 

@@ -1,7 +1,7 @@
 -- A child that is found has the word already (`has-child`); one that is added is the last word, and no word is longer, so
 -- words keep the order of their lengths (`adds-child`).
 use Rattle.std.proofs.Common.{arith}
-use Rattle.fast_pattern.proofs.Tries.{has-child, adds-child}
+use Rattle.fast_pattern.proofs.States.Tries.{has-child, adds-child}
 use Rattle.fast_pattern.proofs.trie.Trie.child.Goals as goal
 
 pub returns-then-child-ne0 : goal.returns-then-child-ne0

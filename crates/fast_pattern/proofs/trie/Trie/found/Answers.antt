@@ -3,7 +3,7 @@
 use Rattle.std.proofs.Common.{◌≡◌, ◌-◌, min, List, sym, ap, ◌∙◌, arith}
 use Rattle.fast_pattern.specs.declared.trie.Step.{Step}
 use Rattle.fast_pattern.specs.Words.{step_at}
-use Rattle.fast_pattern.proofs.Children.{seek-more, seek-found, seek-end}
+use Rattle.fast_pattern.proofs.States.Children.{seek-more, seek-found, seek-end}
 use Rattle.fast_pattern.proofs.trie.Trie.found.Goals as goal
 
 pub returns-then-step-letter : goal.returns-then-step-letter

@@ -2,7 +2,7 @@
 use Rattle.std.proofs.Common.{List, ℕ, ◌∷◌, [], ◌++◌, sym, ap, subst, ◌∙◌}
 use Rattle.fast_pattern.specs.declared.trie.Trie.{Trie}
 use Rattle.fast_pattern.specs.Words.{words_of, IsTrieOf}
-use Rattle.fast_pattern.proofs.Tries.{words-none, empty-trie}
+use Rattle.fast_pattern.proofs.States.Tries.{words-none, empty-trie}
 use Rattle.fast_pattern.proofs.trie.Trie.new.Goals as goal
 
 pub returns-clause-trie : goal.returns-clause-trie

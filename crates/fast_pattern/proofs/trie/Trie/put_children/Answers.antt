@@ -3,7 +3,7 @@
 use Rattle.std.proofs.Common.{◌≡◌, ◌-◌, min, set, List, ap, ◌∙◌, arith}
 use Rattle.fast_pattern.specs.declared.trie.Step.{Step}
 use Rattle.fast_pattern.specs.Words.{step_at}
-use Rattle.fast_pattern.proofs.Children.{filling-more, filling-end}
+use Rattle.fast_pattern.proofs.States.Children.{filling-more, filling-end}
 use Rattle.fast_pattern.proofs.trie.Trie.put_children.Goals as goal
 
 pub loop-at-preserved : goal.loop-at-preserved

@@ -1,7 +1,7 @@
 -- A sound configuration has the limits of each engine in their ranges, as the engine without settings has, and the flush
 -- point is at least 1: the lemma `limits-are`.
 use Rattle.flow_lanes.specs.Given.{making_of}
-use Rattle.flow_lanes.proofs.Sessions.LimitsTo.{limits-are}
+use Rattle.flow_lanes.proofs.Engines.LimitsTo.{limits-are}
 use Rattle.flow_lanes.proofs.settings.Settings.limits_to.Goals as goal
 
 pub returns-clause-sound : goal.returns-clause-sound

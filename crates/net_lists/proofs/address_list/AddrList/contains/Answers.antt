@@ -3,7 +3,7 @@
 use Rattle.std.proofs.Common.{◌∙◌, ap}
 use Rattle.net_lists.specs.Membership.{HasAddress}
 use Rattle.net_lists.specs.Verdicts.{has_address, is_listed}
-use Rattle.net_lists.proofs.Listed.{listed, address_yes, address_no}
+use Rattle.net_lists.proofs.Membership.Listed.{listed, address_yes, address_no}
 use Rattle.net_lists.proofs.address_list.AddrList.contains.Goals as goal
 
 pub returns-clause-listed : goal.returns-clause-listed

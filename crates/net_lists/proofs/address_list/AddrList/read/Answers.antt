@@ -2,8 +2,8 @@
 -- a bad text spells none, and one too long has more than 1024 parts.
 use Rattle.net_lists.specs.Addresses.{address_bounds}
 use Rattle.net_lists.specs.Compact.{parts_of}
-use Rattle.net_lists.proofs.Starts.{address_parts}
-use Rattle.net_lists.proofs.ListParts.{spelled, answer_ok, answer_bad, answer_long, is_too_long}
+use Rattle.net_lists.proofs.Lists.Starts.{address_parts}
+use Rattle.net_lists.proofs.Lists.Parts.{spelled, answer_ok, answer_bad, answer_long, is_too_long}
 use Rattle.net_lists.proofs.address_list.AddrList.read.Goals as goal
 
 pub returns-in-Ok-clause-spelled : goal.returns-in-Ok-clause-spelled

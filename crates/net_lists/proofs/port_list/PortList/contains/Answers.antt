@@ -3,8 +3,8 @@
 use Rattle.std.proofs.Common.{◌∙◌, ap}
 use Rattle.net_lists.specs.Membership.{Has}
 use Rattle.net_lists.specs.Verdicts.{is_within, is_listed}
-use Rattle.net_lists.proofs.Listed.{listed, within_yes, within_no}
-use Rattle.net_lists.proofs.Ports.{has_port-is}
+use Rattle.net_lists.proofs.Membership.Listed.{listed, within_yes, within_no}
+use Rattle.net_lists.proofs.Membership.Ports.{has_port-is}
 use Rattle.net_lists.proofs.port_list.PortList.contains.Goals as goal
 
 pub returns-clause-listed : goal.returns-clause-listed

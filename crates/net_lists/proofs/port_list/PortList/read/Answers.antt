@@ -1,8 +1,8 @@
 -- What is read is the one list of ports that the text spells; where the reader
 -- finds it bad there is none, and where too long that one has more than 1024 parts.
 use Rattle.net_lists.specs.Parts.{port_bounds}
-use Rattle.net_lists.proofs.Starts.{port_parts}
-use Rattle.net_lists.proofs.ListParts.{spelled, answer_ok, answer_bad, answer_long, is_too_long}
+use Rattle.net_lists.proofs.Lists.Starts.{port_parts}
+use Rattle.net_lists.proofs.Lists.Parts.{spelled, answer_ok, answer_bad, answer_long, is_too_long}
 use Rattle.net_lists.proofs.port_list.PortList.read.Goals as goal
 
 pub returns-in-Ok-clause-spelled : goal.returns-in-Ok-clause-spelled

@@ -2,7 +2,7 @@
 -- room left: one that is too long, a variable that lacks or the text's end decides it.
 use Rattle.std.proofs.Common.{◌≡◌, ◌∙◌, ◌++◌, ◌-◌, length, drop, vec_len, sym, ap, arith}
 use Rattle.net_lists.specs.Expansion.{expansion, with_front, put_together, pieces}
-use Rattle.net_lists.proofs.Appended.{fits_behind, long_at, missing_at, ends_at, front_behind, kept_behind}
+use Rattle.net_lists.proofs.Variables.Appended.{fits_behind, long_at, missing_at, ends_at, front_behind, kept_behind}
 use Rattle.net_lists.proofs.vars.Vars.append.Goals as goal
 
 pub returns-then-bytes-room-clause-expanded : goal.returns-then-bytes-room-clause-expanded

@@ -1,6 +1,6 @@
 -- The code's insertion of an entry is the definition of the variable, as none of this name is fixed.
 use Rattle.std.proofs.Common.{sym, ◌∙◌}
-use Rattle.net_lists.proofs.Entries.{from_entries-insert}
+use Rattle.net_lists.proofs.Variables.Entries.{from_entries-insert}
 use Rattle.net_lists.proofs.vars.Vars.define.Goals as goal
 
 pub returns-clause-defined : goal.returns-clause-defined

@@ -1,5 +1,5 @@
 -- The entry that the code finds is the variable of this name, fixed or not; where it finds none, none is fixed.
-use Rattle.net_lists.proofs.Entries.{is_fixed-found, is_fixed-lacking}
+use Rattle.net_lists.proofs.Variables.Entries.{is_fixed-found, is_fixed-lacking}
 use Rattle.net_lists.proofs.vars.Vars.is_fixed.Goals as goal
 
 pub returns-in-Some : goal.returns-in-Some

@@ -2,7 +2,7 @@
 -- for one that is undefined; any other byte is a piece of its own.
 use Rattle.std.proofs.Common.{arith, ap}
 use Rattle.net_lists.specs.Found.{form_of, otherwise_of_kept}
-use Rattle.net_lists.proofs.Pieces.{pieces-value, pieces-otherwise, pieces-plain, pieces-lone}
+use Rattle.net_lists.proofs.Variables.Pieces.{pieces-value, pieces-otherwise, pieces-plain, pieces-lone}
 use Rattle.net_lists.proofs.vars.Vars.piece_at.Goals as goal
 use Rattle.net_lists.proofs.vars.Vars.piece_at.Goals.{then-text-place-eq36+in_default, else-text-place-eq36}
 

@@ -1,5 +1,5 @@
 -- A name has the value of the entry that the code finds for it, and none where it finds no entry.
-use Rattle.net_lists.proofs.Entries.{value_of-found, value_of-lacking}
+use Rattle.net_lists.proofs.Variables.Entries.{value_of-found, value_of-lacking}
 use Rattle.net_lists.proofs.vars.Vars.value.Goals as goal
 
 pub returns-in-Some : goal.returns-in-Some

@@ -2,9 +2,9 @@
 -- alone leaves the states of all; places that rise are no more than the payload has.
 use Rattle.std.proofs.Common.{◌+◌, arith, length}
 use Rattle.std.proofs.lemmas.Result.{IfOk-weaker}
-use Rattle.option_eval.proofs.Asking.{length-asked}
-use Rattle.option_eval.proofs.Rising.{rising_length}
-use Rattle.option_eval.proofs.Extracting.{leaves_asked}
+use Rattle.option_eval.proofs.Sets.Asking.{length-asked}
+use Rattle.option_eval.proofs.Sets.Rising.{rising_length}
+use Rattle.option_eval.proofs.Extractions.Extracting.{leaves_asked}
 use Rattle.option_eval.proofs.extract.Extraction.extract.Goals as goal
 
 pub returns-clause-right : goal.returns-clause-right

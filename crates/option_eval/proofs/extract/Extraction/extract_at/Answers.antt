@@ -4,8 +4,8 @@ use Rattle.std.proofs.Common.{◌∙◌, ap, slice_set, arith, length}
 use Rattle.std.specs.Prelude.{⊤, ◌≤◌}
 use Rattle.std.proofs.lemmas.Result.{IfOk-weaker}
 use Rattle.option_eval.specs.Kept.{kept_values}
-use Rattle.option_eval.proofs.Extracting.{leaves_none, leaves_some}
-use Rattle.option_eval.proofs.Stating.{each_added}
+use Rattle.option_eval.proofs.Extractions.Extracting.{leaves_none, leaves_some}
+use Rattle.option_eval.proofs.Extractions.Stating.{each_added}
 use Rattle.option_eval.proofs.extract.Extraction.extract_at.Goals as goal
 
 pub returns-in-None-clause-right : goal.returns-in-None-clause-right

@@ -1,7 +1,7 @@
 -- The places before `rest` have added their states, and one place more adds its own: at the end all places have.
 use Rattle.std.proofs.Common.{◌∷◌}
 use Rattle.option_eval.specs.Extractions.{extract_option}
-use Rattle.option_eval.proofs.Extracting.{asked_none, asked_next, asked_all}
+use Rattle.option_eval.proofs.Extractions.Extracting.{asked_none, asked_next, asked_all}
 use Rattle.option_eval.proofs.extract.Extraction.extract_each.Goals as goal
 
 pub loop-rest-init : goal.loop-rest-init

@@ -5,7 +5,7 @@ use Rattle.option_eval.specs.Extractions.{extract_option}
 use Rattle.option_eval.specs.Kept.{names_read}
 use Rattle.option_eval.specs.Places.{Means}
 use Rattle.option_eval.specs.States.{AreWithin}
-use Rattle.option_eval.proofs.Extracting.{AskedFrom}
+use Rattle.option_eval.proofs.Extractions.Extracting.{AskedFrom}
 use Rattle.option_eval.proofs.extract.Extraction.extract_each.Given as goal
 
 abbrev pub invariant-loop-rest : goal.invariant-loop-rest

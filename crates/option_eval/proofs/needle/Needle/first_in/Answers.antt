@@ -1,7 +1,7 @@
 -- Folding case, the answer is that of `first_folded`; else the finder seeks
 -- the same bytes, and a place below `end` is one whose bytes end by the stop.
 use Rattle.std.proofs.Common.{arith}
-use Rattle.option_eval.proofs.Occurrences.{found_exact}
+use Rattle.option_eval.proofs.Sets.Occurrences.{found_exact}
 use Rattle.option_eval.proofs.needle.Needle.first_in.Goals as goal
 
 pub returns-then-self : goal.returns-then-self

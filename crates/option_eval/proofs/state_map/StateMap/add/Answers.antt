@@ -1,7 +1,7 @@
 -- The places of these values are taken out, get one more at their end and are put back: no other values' places change.
 use Rattle.std.proofs.Common.{ℕ, List, ◌++◌, ◌∷◌, [], unwrap_or, ap, ◌∙◌}
 use Rattle.option_eval.specs.States.{map_at}
-use Rattle.option_eval.proofs.Stating.{get_put}
+use Rattle.option_eval.proofs.Extractions.Stating.{get_put}
 use Rattle.option_eval.proofs.state_map.StateMap.add.Goals as goal
 
 pub returns : goal.returns

@@ -1,6 +1,6 @@
 -- One insertion into an empty map leaves one state: its places at its values, and nothing at others.
 use Rattle.option_eval.specs.States.{map_at}
-use Rattle.option_eval.proofs.Stating.{get_one}
+use Rattle.option_eval.proofs.Extractions.Stating.{get_one}
 use Rattle.option_eval.proofs.state_map.StateMap.of.Goals as goal
 
 pub returns : goal.returns

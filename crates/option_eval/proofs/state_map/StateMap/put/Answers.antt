@@ -1,7 +1,7 @@
 -- An insertion gives the state's values its places, and leaves what other values have.
 use Rattle.std.proofs.Common.{Some, refl}
 use Rattle.option_eval.specs.States.{map_at}
-use Rattle.option_eval.proofs.Stating.{get_updated}
+use Rattle.option_eval.proofs.Extractions.Stating.{get_updated}
 use Rattle.option_eval.proofs.state_map.StateMap.put.Goals as goal
 
 pub returns : goal.returns

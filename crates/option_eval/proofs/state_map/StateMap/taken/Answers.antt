@@ -1,6 +1,6 @@
 -- To remove one key leaves the places of all other values.
 use Rattle.option_eval.specs.States.{map_at}
-use Rattle.option_eval.proofs.Stating.{get_taken}
+use Rattle.option_eval.proofs.Extractions.Stating.{get_taken}
 use Rattle.option_eval.proofs.state_map.StateMap.taken.Goals as goal
 
 pub returns-in-Some-clause-others : goal.returns-in-Some-clause-others

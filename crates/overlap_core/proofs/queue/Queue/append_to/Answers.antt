@@ -3,7 +3,7 @@
 use Rattle.std.proofs.Common.{true}
 use Rattle.overlap_core.specs.Joined.{byte_in}
 use Rattle.overlap_core.specs.Overlap.{chosen_byte}
-use Rattle.overlap_core.proofs.Chosen.{appends_bytes-along, byte_in-chosen, whole-along}
+use Rattle.overlap_core.proofs.Joined.Chosen.{appends_bytes-along, byte_in-chosen, whole-along}
 use Rattle.overlap_core.proofs.queue.Queue.append_to.Goals as goal
 
 pub returns-then-append_places-clause-whole : goal.returns-then-append_places-clause-whole

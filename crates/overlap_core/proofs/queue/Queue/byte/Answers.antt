@@ -2,8 +2,8 @@
 -- covers the place.
 use Rattle.std.proofs.Common.{◌∙◌}
 use Rattle.overlap_core.specs.Overlap.{chosen_byte}
-use Rattle.overlap_core.proofs.Chosen.{byte_from, byte_in-chosen}
-use Rattle.overlap_core.proofs.Covered.{byte-is_some}
+use Rattle.overlap_core.proofs.Joined.Chosen.{byte_from, byte_in-chosen}
+use Rattle.overlap_core.proofs.Segments.Covered.{byte-is_some}
 use Rattle.overlap_core.proofs.queue.Queue.byte.Goals as goal
 
 pub returns-clause-value : goal.returns-clause-value

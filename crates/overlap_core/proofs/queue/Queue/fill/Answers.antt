@@ -2,7 +2,7 @@
 use Rattle.std.proofs.Common.{length}
 use Rattle.overlap_core.specs.Joined.{byte_in}
 use Rattle.overlap_core.specs.Overlap.{chosen_byte}
-use Rattle.overlap_core.proofs.Chosen.{byte_in-chosen, bytes-along, whole-along}
+use Rattle.overlap_core.proofs.Joined.Chosen.{byte_in-chosen, bytes-along, whole-along}
 use Rattle.overlap_core.proofs.queue.Queue.fill.Goals as goal
 
 pub returns-clause-whole : goal.returns-clause-whole

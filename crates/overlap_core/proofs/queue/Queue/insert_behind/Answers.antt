@@ -6,9 +6,9 @@ use Rattle.overlap_core.specs.Overlap.{covered_end, end_of}
 use Rattle.overlap_core.specs.Pieces.{HoldChosen, IsRow}
 use Rattle.overlap_core.specs.QueueState.{QueueState}
 use Rattle.overlap_core.specs.Segments.{Segment}
-use Rattle.overlap_core.proofs.Behind.{laid_behind}
-use Rattle.overlap_core.proofs.Ends.{covered_end-snoc}
-use Rattle.overlap_core.proofs.Overlaying.{laid_over-holds, laid_over-row}
+use Rattle.overlap_core.proofs.Rows.Behind.{laid_behind}
+use Rattle.overlap_core.proofs.Segments.Ends.{covered_end-snoc}
+use Rattle.overlap_core.proofs.Rows.Overlaying.{laid_over-holds, laid_over-row}
 use Rattle.overlap_core.proofs.queue.Queue.insert_behind.Goals as goal
 
 pub invariant_of-self-2 : goal.invariant_of-self-2

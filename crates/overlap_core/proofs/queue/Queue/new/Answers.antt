@@ -3,8 +3,8 @@ use Rattle.std.proofs.Common.{ap, sym, ◌∙◌, rules, arith}
 use Rattle.std.specs.Option.{option_map}
 use Rattle.overlap_core.specs.Pieces.{kept_at, kept_in}
 use Rattle.overlap_core.specs.Overlap.{chosen_segment, covered_end}
-use Rattle.overlap_core.proofs.Arrivals.{chosen_segment-none}
-use Rattle.overlap_core.proofs.Ends.{covered_end-none}
+use Rattle.overlap_core.proofs.Segments.Arrivals.{chosen_segment-none}
+use Rattle.overlap_core.proofs.Segments.Ends.{covered_end-none}
 use Rattle.overlap_core.proofs.queue.Queue.new.Goals as goal
 
 pub invariant_of-result : goal.invariant_of-result

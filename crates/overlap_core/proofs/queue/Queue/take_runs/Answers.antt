@@ -5,9 +5,9 @@ use Rattle.overlap_core.specs.Joined.{byte_in}
 use Rattle.overlap_core.specs.Overlap.{chosen_byte}
 use Rattle.overlap_core.specs.Pieces.{IsRow, kept_in}
 use Rattle.overlap_core.specs.QueueState.{QueueState}
-use Rattle.overlap_core.proofs.Chosen.{appends-along, byte_in-chosen}
-use Rattle.overlap_core.proofs.Ends.{covered_end-raised}
-use Rattle.overlap_core.proofs.Telling.{IsRow-higher, raised-row, raised-tells}
+use Rattle.overlap_core.proofs.Joined.Chosen.{appends-along, byte_in-chosen}
+use Rattle.overlap_core.proofs.Segments.Ends.{covered_end-raised}
+use Rattle.overlap_core.proofs.Rows.Telling.{IsRow-higher, raised-row, raised-tells}
 use Rattle.overlap_core.proofs.queue.Queue.take_runs.Goals as goal
 
 pub invariant_of-self-2 : goal.invariant_of-self-2

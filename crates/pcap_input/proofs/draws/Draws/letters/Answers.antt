@@ -2,7 +2,7 @@
 -- is left to draw, so the text and the state are the definition's.
 use Rattle.std.proofs.Common.{◌+◌, ◌-◌, arith}
 use Rattle.pcap_input.specs.Generated.{letters, steps}
-use Rattle.pcap_input.proofs.Making.{letters-step, letters-end, steps-step, steps-end}
+use Rattle.pcap_input.proofs.Made.Making.{letters-step, letters-end, steps-step, steps-end}
 use Rattle.pcap_input.proofs.draws.Draws.letters.Goals as goal
 
 pub loop-number-preserved : goal.loop-number-preserved

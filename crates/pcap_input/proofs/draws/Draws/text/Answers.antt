@@ -1,5 +1,5 @@
 -- A number below 1000 has three digits at most, so its text is far below 100 bytes.
-use Rattle.pcap_input.proofs.Making.{text-short}
+use Rattle.pcap_input.proofs.Made.Making.{text-short}
 use Rattle.pcap_input.proofs.draws.Draws.text.Goals as goal
 
 pub returns-clause-short : goal.returns-clause-short

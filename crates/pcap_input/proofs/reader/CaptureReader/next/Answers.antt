@@ -2,7 +2,7 @@
 use Rattle.std.proofs.Common.{◌≡◌, ℕ, List, Some, None}
 use Rattle.std.specs.Prelude.{IfOk, IfErr, IfSome, IfNone}
 use Rattle.edge_io.specs.Files.{IsUnopened}
-use Rattle.edge_io.proofs.Seeing.{told}
+use Rattle.edge_io.proofs.Hosts.Seeing.{told}
 use Rattle.pcap_input.specs.Cut.{Clean}
 use Rattle.pcap_input.specs.Savefile.{Ends, next_of}
 use Rattle.pcap_input.specs.Reader.{Gives, TakesRecord, TakesNone}

@@ -1,7 +1,7 @@
 -- What holds by whatever may be seen holds by what is told.
 use Rattle.std.proofs.Common.{◌≡◌, ℕ, List, Some, None, drop}
 use Rattle.std.specs.Prelude.{OnOk, IsErrOf, ◌⊎◌}
-use Rattle.edge_io.proofs.Seeing.{told}
+use Rattle.edge_io.proofs.Hosts.Seeing.{told}
 use Rattle.pcap_input.specs.declared.capture.CaptureFault.TheVariants as fault
 use Rattle.pcap_input.specs.Savefile.{file_header, head_of}
 use Rattle.pcap_input.specs.Reader.{Opens, Tells, TakesHead}

@@ -2,11 +2,11 @@
 use Rattle.std.proofs.Common.{ap, inl, Ok, Err}
 use Rattle.std.proofs.lemmas.Result.{err_from_is_err_and}
 use Rattle.edge_io.specs.Files.{left_by}
-use Rattle.edge_io.proofs.Seeing.{seen_opened}
+use Rattle.edge_io.proofs.Hosts.Seeing.{seen_opened}
 use Rattle.pcap_input.specs.Reader.{reader_of}
 use Rattle.pcap_input.specs.Savefile.{head_of}
-use Rattle.pcap_input.proofs.Heads.{tells_opened}
-use Rattle.pcap_input.proofs.Opened.{opens_from, takes_from}
+use Rattle.pcap_input.proofs.Pieces.Heads.{tells_opened}
+use Rattle.pcap_input.proofs.Pieces.Opened.{opens_from, takes_from}
 use Rattle.pcap_input.proofs.reader.CaptureReader.open_seen.Goals as goal
 
 pub returns-clause-gives : goal.returns-clause-gives

@@ -1,6 +1,6 @@
 -- Two draws, the last number of the source and then the text, are what the definition of a datagram draws, in its order.
 use Rattle.std.proofs.Common.{◌∙◌, ap, ◌+◌}
-use Rattle.pcap_input.proofs.Making.{datagram-made}
+use Rattle.pcap_input.proofs.Made.Making.{datagram-made}
 use Rattle.pcap_input.proofs.traffic.Traffic.datagram.Goals as goal
 
 pub returns-clause-made : goal.returns-clause-made

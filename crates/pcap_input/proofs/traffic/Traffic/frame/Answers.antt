@@ -1,5 +1,5 @@
 -- The draw below four decides as in the definition: a datagram on 0, a segment on any other.
-use Rattle.pcap_input.proofs.Making.{made-datagram, made-segment}
+use Rattle.pcap_input.proofs.Made.Making.{made-datagram, made-segment}
 use Rattle.pcap_input.proofs.traffic.Traffic.frame.Goals as goal
 
 pub returns-in_ok-frame-clause-made : goal.returns-in_ok-frame-clause-made

@@ -2,7 +2,7 @@
 use Rattle.std.proofs.Common.{refl, arith, ◌∙◌, length-set}
 use Rattle.std.proofs.lemmas.List.FromFn.{fill_by_all}
 use Rattle.pcap_input.specs.Generated.{first_session}
-use Rattle.pcap_input.proofs.Making.{sessions-step}
+use Rattle.pcap_input.proofs.Made.Making.{sessions-step}
 use Rattle.pcap_input.proofs.traffic.Traffic.new.Goals as goal
 
 pub loop-number-preserved : goal.loop-number-preserved

@@ -4,7 +4,7 @@ use Rattle.std.proofs.Common.{◌∙◌, ap}
 use Rattle.pcap_input.specs.declared.traffic.Session.{Session}
 use Rattle.pcap_input.specs.declared.traffic.Traffic.{Traffic}
 use Rattle.pcap_input.specs.Frames.{tcp_frame}
-use Rattle.pcap_input.proofs.Making.{segment-made}
+use Rattle.pcap_input.proofs.Made.Making.{segment-made}
 use Rattle.pcap_input.proofs.traffic.Traffic.segment.Goals as goal
 
 pub returns-clause-made : goal.returns-clause-made

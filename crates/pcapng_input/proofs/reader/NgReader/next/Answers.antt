@@ -2,7 +2,7 @@
 use Rattle.std.proofs.Common.{◌≡◌, ℕ, List, Some, None}
 use Rattle.std.specs.Prelude.{IfOk, IfErr, IfSome, IfNone}
 use Rattle.edge_io.specs.Files.{IsUnopened}
-use Rattle.edge_io.proofs.Seeing.{told}
+use Rattle.edge_io.proofs.Hosts.Seeing.{told}
 use Rattle.pcap_input.specs.Cut.{Clean}
 use Rattle.pcapng_input.specs.Blocks.{Ends, next_of}
 use Rattle.pcapng_input.specs.Reader.{Answers, TakesRecord, TakesBlocks, TakesNone}

@@ -1,7 +1,7 @@
 -- What the walk answers is what the reader does.
 use Rattle.std.proofs.Common.{◌≡◌, Ok, Err, None, rules}
 use Rattle.edge_io.specs.Files.{left_by}
-use Rattle.pcapng_input.proofs.Walking.{goes_answers, goes_none, takes_by, ended_by, none_refused}
+use Rattle.pcapng_input.proofs.Captures.Walking.{goes_answers, goes_none, takes_by, ended_by, none_refused}
 use Rattle.pcapng_input.proofs.reader.NgReader.next_seen.Goals as goal
 
 pub returns-in-Ok-clause-gives : goal.returns-in-Ok-clause-gives

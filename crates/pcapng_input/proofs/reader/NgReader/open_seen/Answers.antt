@@ -2,8 +2,8 @@
 use Rattle.std.proofs.Common.{inl}
 use Rattle.std.proofs.lemmas.Result.{err_from_is_err_and}
 use Rattle.edge_io.specs.Files.{left_by}
-use Rattle.edge_io.proofs.Seeing.{seen_opened}
-use Rattle.pcapng_input.proofs.Heads.{ok_opens, ok_takes, err_opens, err_takes}
+use Rattle.edge_io.proofs.Hosts.Seeing.{seen_opened}
+use Rattle.pcapng_input.proofs.Blocks.Heads.{ok_opens, ok_takes, err_opens, err_takes}
 use Rattle.pcapng_input.proofs.reader.NgReader.open_seen.Goals as goal
 
 pub returns-in_err-read_first-clause-gives : goal.returns-in_err-read_first-clause-gives

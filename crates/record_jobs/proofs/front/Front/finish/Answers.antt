@@ -5,7 +5,7 @@ use Rattle.stream5_sessions.specs.Liveness.{live_flows}
 use Rattle.record_jobs.specs.Fronts.{FrontState, StandsFor}
 use Rattle.record_jobs.specs.Inside.{front_of}
 use Rattle.record_jobs.specs.Touches.{touches}
-use Rattle.record_jobs.proofs.Ending.{finishes-are}
+use Rattle.record_jobs.proofs.Fronts.Ending.{finishes-are}
 use Rattle.record_jobs.proofs.front.Front.finish.Goals as goal
 
 pub returns-in-Ok-clause-ok : goal.returns-in-Ok-clause-ok

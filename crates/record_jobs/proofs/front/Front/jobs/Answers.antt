@@ -1,7 +1,7 @@
 -- A step of a front that stands for some records makes one that stands for these and the one taken, and adds the jobs of
 -- that record (`takes`).
 use Rattle.record_jobs.specs.Way.{linked, way_of}
-use Rattle.record_jobs.proofs.Taking.{takes}
+use Rattle.record_jobs.proofs.Fronts.Taking.{takes}
 use Rattle.record_jobs.proofs.front.Front.jobs.Goals as goal
 
 pub returns-in-Ok-clause-takes : goal.returns-in-Ok-clause-takes

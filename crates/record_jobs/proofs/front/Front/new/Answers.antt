@@ -1,7 +1,7 @@
 -- A front that has taken nothing keeps no fragments and no flows, with the configured limits, as the definitions say of no
 -- records (`stands_none`).
 use Rattle.record_jobs.specs.Way.{way_of}
-use Rattle.record_jobs.proofs.Ending.{stands_none}
+use Rattle.record_jobs.proofs.Fronts.Ending.{stands_none}
 use Rattle.record_jobs.proofs.front.Front.new.Goals as goal
 
 pub returns-clause-stands : goal.returns-clause-stands

@@ -10,7 +10,7 @@ use Rattle.record_jobs.specs.Inside.{front_of}
 use Rattle.record_jobs.specs.Jobs.{works_by}
 use Rattle.record_jobs.specs.Steps.{Adds, FindsTouch, SeesKey, Steps, one_if, read_item}
 use Rattle.record_jobs.specs.Way.{linked, way_of}
-use Rattle.record_jobs.proofs.Straight.{from_bool-one_if, said-four, straight}
+use Rattle.record_jobs.proofs.Fronts.Straight.{from_bool-one_if, said-four, straight}
 use Rattle.record_jobs.proofs.front.Front.step.Goals as goal
 
 pub returns-clause-steps : goal.returns-clause-steps

@@ -8,7 +8,7 @@ use Rattle.record_jobs.specs.Inside.{front_of}
 use Rattle.record_jobs.specs.Jobs.{works_by}
 use Rattle.record_jobs.specs.Steps.{Adds, FindsTouch, SeesKey, Steps}
 use Rattle.record_jobs.specs.Way.{linked, way_of}
-use Rattle.record_jobs.proofs.Straight.{by_content}
+use Rattle.record_jobs.proofs.Fronts.Straight.{by_content}
 use Rattle.record_jobs.proofs.front.Front.step_seldom.Goals as goal
 
 pub returns-clause-steps : goal.returns-clause-steps

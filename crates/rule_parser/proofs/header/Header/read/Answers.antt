@@ -1,7 +1,7 @@
 -- The words are read from left to right, so the first that is wrong is the
 -- header's fault: at each way out all readers before it answered well.
 use Rattle.std.proofs.lemmas.Result.{err_from_is_err_and}
-use Rattle.rule_parser.proofs.Heading.{header_src, header_sports, header_both, header_dst, header_dports, header_whole}
+use Rattle.rule_parser.proofs.Lines.Heading.{header_src, header_sports, header_both, header_dst, header_dports, header_whole}
 use Rattle.rule_parser.proofs.header.Header.read.Goals as goal
 
 pub returns-in_err-src : goal.returns-in_err-src

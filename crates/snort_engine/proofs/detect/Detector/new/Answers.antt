@@ -1,6 +1,6 @@
 -- A new front and a new inspection were given nothing, so that the detector is the one after no record, and
 -- its lanes know of no job.
-use Rattle.snort_engine.proofs.Detecting.{inspection_stands-new, known-new}
+use Rattle.snort_engine.proofs.Lines.Detecting.{inspection_stands-new, known-new}
 use Rattle.snort_engine.proofs.detect.Detector.new.Goals as goal
 
 pub returns-clause-stands : goal.returns-clause-stands

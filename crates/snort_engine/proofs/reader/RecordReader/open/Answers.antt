@@ -3,9 +3,9 @@ use Rattle.std.proofs.Common.{Some, Err, ap, ◌∙◌, ⊎_elim}
 use Rattle.std.proofs.lemmas.Result.{err_from_is_err_and}
 use Rattle.edge_io.specs.Files.{left_by}
 use Rattle.edge_io.specs.Told.{Rose}
-use Rattle.snort_engine.proofs.Opening.{savefile_opens, blocks_open, blocks_refused, savefile_refused, blocks_number, once_opened, once_refused, opened_again}
-use Rattle.snort_engine.proofs.Quiet.{savefile_unfailed, blocks_unfailed, otherwise_unfailed}
-use Rattle.snort_engine.proofs.Seeing.{cause_by}
+use Rattle.snort_engine.proofs.Records.Opening.{savefile_opens, blocks_open, blocks_refused, savefile_refused, blocks_number, once_opened, once_refused, opened_again}
+use Rattle.snort_engine.proofs.Headline.Quiet.{savefile_unfailed, blocks_unfailed, otherwise_unfailed}
+use Rattle.snort_engine.proofs.Headline.Seeing.{cause_by}
 use Rattle.snort_engine.proofs.reader.RecordReader.open.Goals as goal
 
 pub returns-in-Ok-clause-opens : goal.returns-in-Ok-clause-opens

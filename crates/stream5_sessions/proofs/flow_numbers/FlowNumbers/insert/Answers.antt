@@ -5,7 +5,7 @@ use Rattle.std.specs.BTreeMap.{is_at}
 use Rattle.std.specs.Map.{lookup}
 use Rattle.stream5_sessions.specs.declared.flow_numbers.TreeKey.{TreeKey}
 use Rattle.stream5_sessions.specs.Trees.{tree_key_of, tree_cmp, number_in, KeepsNumbers}
-use Rattle.stream5_sessions.proofs.TreeLaws.{tree_puts}
+use Rattle.stream5_sessions.proofs.Trees.Laws.{tree_puts}
 use Rattle.stream5_sessions.proofs.flow_numbers.FlowNumbers.insert.Goals as goal
 
 on_err : {A E : Type 0} (r : Result A E) (P : Type 0) → P → OnErr r P

@@ -1,7 +1,7 @@
 -- A removal leaves nothing at the key's place and each other place as it was (`tree_puts`).
 use Rattle.std.proofs.Common.{None}
 use Rattle.stream5_sessions.specs.Trees.{number_in}
-use Rattle.stream5_sessions.proofs.TreeLaws.{tree_puts}
+use Rattle.stream5_sessions.proofs.Trees.Laws.{tree_puts}
 use Rattle.stream5_sessions.proofs.flow_numbers.FlowNumbers.remove.Goals as goal
 
 pub returns : goal.returns

@@ -2,7 +2,7 @@
 -- with its flow's number and no two have the same.
 use Rattle.std.proofs.Common.{ℕ, List, ◌++◌, ap, ◌∙◌}
 use Rattle.std.proofs.lemmas.List.Sorted.{IsNonDecreasingBy-from_sort}
-use Rattle.stream5_sessions.proofs.Numbers.{live_flows-sorted}
+use Rattle.stream5_sessions.proofs.Liveness.Numbers.{live_flows-sorted}
 use Rattle.stream5_sessions.proofs.flows.Flows.live.Goals as goal
 
 pub returns-clause-ok : goal.returns-clause-ok

@@ -2,7 +2,7 @@
 -- recent keys with their numbers, as many as may live.
 use Rattle.stream5_sessions.proofs.Bounds.{bounded_of}
 use Rattle.stream5_sessions.proofs.Standing.{found_of, seen_of, looked_up-known}
-use Rattle.stream5_sessions.proofs.Numbers.{live_count-le}
+use Rattle.stream5_sessions.proofs.Liveness.Numbers.{live_count-le}
 use Rattle.stream5_sessions.proofs.flows.Flows.touch.Goals as goal
 
 pub returns-clause-found : goal.returns-clause-found

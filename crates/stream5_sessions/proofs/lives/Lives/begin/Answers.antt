@@ -8,7 +8,7 @@ use Rattle.stream5_sessions.specs.declared.lives.Numbered.{Numbered}
 use Rattle.stream5_sessions.specs.Caches.{kept_by}
 use Rattle.stream5_sessions.specs.Indexed.{LivesState, lives_with, entries_of, IsIndexed}
 use Rattle.stream5_sessions.specs.Keys.{same_key}
-use Rattle.stream5_sessions.proofs.Living.{others, put_is, displaced_is, entries-take, evicted-flow, indexed-alike, indexed-undone, indexed-begun}
+use Rattle.stream5_sessions.proofs.Trees.Living.{others, put_is, displaced_is, entries-take, evicted-flow, indexed-alike, indexed-undone, indexed-begun}
 use Rattle.stream5_sessions.proofs.lives.Lives.begin.Goals as goal
 
 pub invariant_of-self : goal.invariant_of-self

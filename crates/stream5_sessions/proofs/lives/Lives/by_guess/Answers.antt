@@ -4,7 +4,7 @@ use Rattle.std.proofs.Common.{ℕ, sym, subst, ◌∙◌}
 use Rattle.lru.specs.LruCache.{LruCache}
 use Rattle.stream5_sessions.specs.declared.lives.Numbered.{Numbered}
 use Rattle.stream5_sessions.specs.Indexed.{IsIndexed}
-use Rattle.stream5_sessions.proofs.Guessed.{indexed-guessed, by_guess-value, by_guess-after}
+use Rattle.stream5_sessions.proofs.Trees.Guessed.{indexed-guessed, by_guess-value, by_guess-after}
 use Rattle.stream5_sessions.proofs.lives.Lives.by_guess.Goals as goal
 
 pub invariant_of-self : goal.invariant_of-self

@@ -8,9 +8,9 @@ use Rattle.stream5_sessions.specs.declared.lives.Numbered.{Numbered}
 use Rattle.stream5_sessions.specs.Indexed.{LivesState, lives_with, entries_of, IsIndexed}
 use Rattle.stream5_sessions.specs.Keys.{same_key}
 use Rattle.stream5_sessions.specs.Trees.{number_in}
-use Rattle.stream5_sessions.proofs.CacheSteps.{promoted-none}
-use Rattle.stream5_sessions.proofs.Living.{numbered, named, alike, missing, indexed-promoted}
-use Rattle.stream5_sessions.proofs.Numbered.{lookup-plain, promoted-plain}
+use Rattle.stream5_sessions.proofs.Trees.CacheSteps.{promoted-none}
+use Rattle.stream5_sessions.proofs.Trees.Living.{numbered, named, alike, missing, indexed-promoted}
+use Rattle.stream5_sessions.proofs.Trees.Numbered.{lookup-plain, promoted-plain}
 use Rattle.stream5_sessions.proofs.lives.Lives.by_tree.Goals as goal
 
 pub returns-in-Some-clause-value : goal.returns-in-Some-clause-value

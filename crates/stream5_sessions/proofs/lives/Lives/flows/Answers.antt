@@ -2,7 +2,7 @@
 use Rattle.std.proofs.Common.{◌≡◌, ℕ, List, IfOk, sym, ap, subst, ◌∙◌}
 use Rattle.std.specs.Map.{values_of}
 use Rattle.stream5_sessions.specs.Indexed.{LivesState}
-use Rattle.stream5_sessions.proofs.Living.{values-entries}
+use Rattle.stream5_sessions.proofs.Trees.Living.{values-entries}
 use Rattle.stream5_sessions.proofs.lives.Lives.flows.Goals as goal
 
 pub returns : goal.returns

@@ -2,7 +2,7 @@
 use Rattle.std.proofs.Common.{ap}
 use Rattle.lru.specs.LruCache.{LruCache}
 use Rattle.stream5_sessions.specs.declared.lives.Numbered.{Numbered}
-use Rattle.stream5_sessions.proofs.Living.{indexed-none}
+use Rattle.stream5_sessions.proofs.Trees.Living.{indexed-none}
 use Rattle.stream5_sessions.proofs.lives.Lives.new.Goals as goal
 
 pub invariant_of-result : goal.invariant_of-result

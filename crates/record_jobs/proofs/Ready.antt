@@ -1,0 +1,5 @@
+-- The jobs of a capture are sound, and lanes may run them in order.
+pub mod Knowing
+pub mod Sounding
+pub mod Running
+pub mod Learning

@@ -1,0 +1,11 @@
+-- A rule that is read is sound, option by option.
+pub mod Steps
+pub mod Drafts
+pub mod Values
+pub mod Texts
+pub mod Contents
+pub mod Fields
+pub mod Flags
+pub mod Patterns
+pub mod Bytes
+pub mod Options

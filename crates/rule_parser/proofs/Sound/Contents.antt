@@ -1,0 +1,307 @@
+-- Contents and their modifiers keep a rule sound.
+use Rattle.std.proofs.Common.{◌≡◌, ℕ, ◌+◌, ◌≤◌, ◌==◌, ◌&&◌, ◌||◌, Bool, true, false, not, cond, ℤ, pos, negsuc, ◌≤ℤ◌, Option, Some, None, Result, Ok, Err, List, [], ◌∷◌, length, take, nat_le, is_some, bytes_eq, codes, refl, sym, ap, subst, ◌∙◌, arith, IfSome, IfOk, count_by, length-take}
+use Rattle.std.proofs.lemmas.Bool.Decides.{nat_tests}
+use Rattle.std.proofs.lemmas.Int.{ints}
+use Rattle.std.proofs.lemmas.List.{take_all}
+use Rattle.edge_io.specs.OnResult.{◌>>=◌}
+use Rattle.net_lists.specs.Cutting.{comma_parts}
+use Rattle.net_lists.specs.Numbers.{number_in}
+use Rattle.net_lists.specs.Stops.{or_kind}
+use Rattle.rule_parser.specs.declared.draft.Draft.{Draft}
+use Rattle.rule_parser.specs.declared.draft.Held.{Held}
+use Rattle.rule_parser.specs.declared.fault.Fault.{Fault}
+use Rattle.rule_parser.specs.declared.fault.Fault.TheVariants.{OptionValue, Misplaced, Limit}
+use Rattle.rule_types.specs.declared.option.Content.{Content}
+use Rattle.rule_types.specs.declared.option.FastMode.{FastMode}
+use Rattle.rule_types.specs.declared.option.FastMode.TheVariants as fast
+use Rattle.rule_types.specs.declared.option.Num.{Num}
+use Rattle.rule_types.specs.declared.option.Num.TheVariants as num
+use Rattle.rule_types.specs.declared.option.Opt.{Opt}
+use Rattle.rule_parser.specs.declared.quoted.Style.TheVariants.{Bytes}
+use Rattle.rule_parser.specs.declared.quoted.Place.TheVariants.{Plain}
+use Rattle.rule_parser.specs.Contents.{negation, plain_content, with_content, with_bytes, content_option, apart, with_last, nocase, nocase_option, rawbytes, rawbytes_option, bars_from, bars_room, place_text, known_before, with_from, from_option, room_of, with_room, room_option, fast_part, fast_mode, is_only, fast_on, has_room, bars_fast, fast_pattern_option}
+use Rattle.rule_parser.specs.Drafts.{kept_count, settled}
+use Rattle.rule_parser.specs.Names.{signed_or_named}
+use Rattle.rule_parser.specs.Quotes.{meaning}
+use Rattle.rule_types.specs.Sound.{IsFast, IsContent, is_chosen, is_fast}
+use Rattle.rule_parser.specs.Texts.{quoted_whole}
+use Rattle.rule_parser.proofs.Sound.Drafts.{AreNamed, AreKept, IsHeld, IsSoundDraft, names_after, fast_held, count_held, settled-options, settled-names, settled-length, settled-fast}
+use Rattle.rule_parser.proofs.Sound.Steps.{then_ok, any_ok, kind_ok, if_ok}
+use Rattle.rule_parser.proofs.Sound.Values.{IsIn, IsNumBelow, number_in-within, signed_or_named-below, named-below, num-named}
+
+-- a new content stands behind all options that stand
+held-new : (classes : ℕ) (draft : Draft) (content : Content) → IsSoundDraft classes draft → ((names : List ℕ) → IsContent names content) → content.fast ≡ fast.No → IsHeld (settled draft) (record { content = content; place = length (settled draft); known = length draft.names; raw = false; placeless = false })
+unfolding settled
+held-new classes draft content sound is_content plain =
+    let all = settled draft in
+    let whole : take (length all) all ≡ all = take_all (length all) all (omega arith) in
+    let names : names_after [] (take (length all) all) ≡ names_after [] draft.opts = ap (names_after []) whole ∙ settled-names draft.opts draft.held in
+    let At : List ℕ → Type 0 = λ found. AreNamed found (length draft.names) in
+    record {
+      place = omega arith;
+      known = subst At (sym names) sound.kept.named;
+      content = is_content (names_after [] (take (length all) all));
+      placeless = λ _. ap is_only plain;
+    }
+
+-- the options with the last content in its place, and this one apart
+kept-new : (classes : ℕ) (draft : Draft) (content : Content) → IsSoundDraft classes draft → ((names : List ℕ) → IsContent names content) → content.fast ≡ fast.No → nat_le 64 (kept_count draft) ≡ false
+    → AreKept (settled draft) (Some (record { content = content; place = length (settled draft); known = length draft.names; raw = false; placeless = false })) draft.names draft.fast
+unfolding settled
+kept-new classes draft content sound is_content plain room =
+    let At : List ℕ → Type 0 = λ found. AreNamed found (length draft.names) in
+    record {
+      options = settled-options draft.opts draft.held sound.kept.options sound.kept.held;
+      named = subst At (sym (settled-names draft.opts draft.held)) sound.kept.named;
+      few = sound.kept.few;
+      held = held-new classes draft content sound is_content plain;
+      count = fits (length draft.opts) (count_held draft.held) (length (settled draft)) (settled-length draft.opts draft.held sound.kept.held) room;
+      chosen = same (count_by is_fast draft.opts) (count_by is_fast (settled draft)) (fast_held draft.held) (cond draft.fast 1 0) (is_chosen content.fast) (settled-fast draft.opts draft.held) (ap is_chosen plain) sound.kept.chosen;
+    }
+  where
+    fits : (len held all : ℕ) → all ≡ len + held → nat_le 64 (len + held) ≡ false → all + 1 ≤ 64
+    fits len held all e room = grind (arith, nat_tests)
+
+    same : (counted all held most : ℕ) (chosen : Bool) → all ≡ counted + held → chosen ≡ false → counted + held ≤ most → all + cond chosen 1 0 ≤ most
+    same counted all held most true e plain h = cc
+    same counted all held most false e plain h = omega arith
+
+with_bytes-sound : (classes : ℕ) (draft : Draft) → IsSoundDraft classes draft → (negated : Bool) (bytes : List ℕ) → IfOk (with_bytes draft negated bytes) (IsSoundDraft classes)
+with_bytes-sound classes draft sound negated bytes =
+    if_ok (IsSoundDraft classes) (length bytes == 0) _ _ (λ _. tt) (λ some.
+    if_ok (IsSoundDraft classes) (nat_le (length bytes) 2048 && not (nat_le 64 (kept_count draft))) (Ok (with_content draft (plain_content negated bytes))) (Err Limit) (λ room. record {
+      kept = kept-new classes draft (plain_content negated bytes) sound (λ names. (sized (length bytes) (kept_count draft) some room, tt, tt, tt)) refl (free (length bytes) (kept_count draft) room);
+      msg = sound.msg;
+      gid = sound.gid;
+      sid = sound.sid;
+      class = sound.class;
+      period = sound.period;
+    }) (λ _. tt))
+  where
+    sized : (len count : ℕ) → (len == 0) ≡ false → (nat_le len 2048 && not (nat_le 64 count)) ≡ true → (1 ≤ len) × (len ≤ 2048)
+    sized len count some room = (grind (arith, nat_tests), grind (arith, nat_tests))
+
+    free : (len count : ℕ) → (nat_le len 2048 && not (nat_le 64 count)) ≡ true → nat_le 64 count ≡ false
+    free len count room = grind (arith, nat_tests)
+
+pub content-sound : (classes : ℕ) (draft : Draft) → IsSoundDraft classes draft → (value : List ℕ) → IfOk (content_option draft value) (IsSoundDraft classes)
+unfolding content_option
+content-sound classes draft sound value =
+    then_ok (λ _. Unit {0}) (IsSoundDraft classes) (quoted_whole (negation value).1) _ (any_ok (quoted_whole (negation value).1)) (λ inside _.
+    then_ok (λ _. Unit {0}) (IsSoundDraft classes) (or_kind OptionValue (meaning Bytes Plain inside)) _ (any_ok (or_kind OptionValue (meaning Bytes Plain inside))) (λ bytes _.
+    with_bytes-sound classes draft sound (negation value).0 bytes))
+
+-- the last content, and the draft without it
+abbrev IsApart : Draft → Held × Draft → Type 0
+IsApart draft parts = (draft.held ≡ Some parts.0) × (parts.1 ≡ record draft { held = None })
+
+apart_ok : (draft : Draft) → IfOk (apart draft) (IsApart draft)
+unfolding apart
+apart_ok draft = then_ok (λ held. draft.held ≡ Some held) (IsApart draft) (or_kind Misplaced draft.held) _ (go draft.held) (λ held e. (e, refl))
+  where
+    go : (o : Option Held) → IfOk (or_kind Misplaced o) (λ held. o ≡ Some held)
+    go None = tt
+    go (Some held) = refl
+
+-- what a modifier makes of the last content stands where that stands, and is a fast pattern where that is one
+record IsModified (opts : List Opt) (held next : Held) : Type 0 where
+  keeps : IsHeld opts held → IsHeld opts next
+  same : is_chosen next.content.fast ≡ is_chosen held.content.fast
+
+-- a draft with its last content changed
+last-sound : (classes : ℕ) (draft rest : Draft) (held next : Held) → IsSoundDraft classes draft → draft.held ≡ Some held → rest ≡ record draft { held = None } → IsModified draft.opts held next → IsSoundDraft classes (with_last rest next)
+last-sound classes draft rest held next sound e r modified =
+    let Kept : Option Held → Type 0 = λ o. AreKept draft.opts o draft.names draft.fast in
+    let Sound : Draft → Type 0 = λ d. IsSoundDraft classes (with_last d next) in
+    let before : AreKept draft.opts (Some held) draft.names draft.fast = subst Kept e sound.kept in
+    subst Sound (sym r) (record {
+      kept = record {
+        options = before.options;
+        named = before.named;
+        few = before.few;
+        held = modified.keeps before.held;
+        count = before.count;
+        chosen = as_many (count_by is_fast draft.opts) (is_chosen next.content.fast) (is_chosen held.content.fast) (cond draft.fast 1 0) modified.same before.chosen;
+      };
+      msg = sound.msg;
+      gid = sound.gid;
+      sid = sound.sid;
+      class = sound.class;
+      period = sound.period;
+    })
+  where
+    as_many : (count : ℕ) (b before : Bool) (most : ℕ) → b ≡ before → count + cond before 1 0 ≤ most → count + cond b 1 0 ≤ most
+    as_many count b before most e h = let number : Bool → ℕ = λ b. cond b 1 0 in omega (arith, ap number e)
+
+-- a modifier, by what it makes of the last content among these names
+modified-sound : (classes : ℕ) (draft : Draft) → IsSoundDraft classes draft → (modify : Held → List (List ℕ) → Result Held Fault) → ((held : Held) → IfOk (modify held draft.names) (IsModified draft.opts held))
+    → IfOk (apart draft >>= λ parts. modify parts.0 parts.1.names >>= λ held. Ok (with_last parts.1 held)) (IsSoundDraft classes)
+modified-sound classes draft sound modify h =
+    then_ok (IsApart draft) (IsSoundDraft classes) (apart draft) _ (apart_ok draft) (λ parts e.
+    let names : Draft → List (List ℕ) = λ d. d.names in
+    let Modifies : List (List ℕ) → Type 0 = λ names. IfOk (modify parts.0 names) (IsModified draft.opts parts.0) in
+    then_ok (IsModified draft.opts parts.0) (IsSoundDraft classes) (modify parts.0 parts.1.names) _ (subst Modifies (sym (ap names e.1)) (h parts.0)) (λ next modified.
+    last-sound classes draft parts.1 parts.0 next sound e.0 e.1 modified))
+
+pub nocase-sound : (classes : ℕ) (draft : Draft) → IsSoundDraft classes draft → (value : Option (List ℕ)) → IfOk (nocase_option draft value) (IsSoundDraft classes)
+unfolding nocase_option nocase
+nocase-sound classes draft sound value = modified-sound classes draft sound (λ held names. nocase held value) (λ held.
+    if_ok (IsModified draft.opts held) held.content.nocase _ _ (λ _. tt) (λ _.
+    if_ok (IsModified draft.opts held) (is_some value) (Err OptionValue) _ (λ _. tt) (λ _.
+    record { keeps = λ h. record { place = h.place; known = h.known; content = h.content; placeless = h.placeless }; same = refl })))
+
+pub rawbytes-sound : (classes : ℕ) (draft : Draft) → IsSoundDraft classes draft → (value : Option (List ℕ)) → IfOk (rawbytes_option draft value) (IsSoundDraft classes)
+unfolding rawbytes_option rawbytes
+rawbytes-sound classes draft sound value = modified-sound classes draft sound (λ held names. rawbytes held value) (λ held.
+    if_ok (IsModified draft.opts held) held.raw _ _ (λ _. tt) (λ _.
+    if_ok (IsModified draft.opts held) (is_some value) (Err OptionValue) _ (λ _. tt) (λ _.
+    record { keeps = λ h. record { place = h.place; known = h.known; content = h.content; placeless = h.placeless }; same = refl })))
+
+-- a place stands with any fast pattern but `only`
+fast-placed : (content : Content) (relative : Bool) (from room : Option Num) (mode : FastMode) → is_only mode ≡ false → IsFast content mode → IsFast (record content { relative = relative; from = from; room = room }) mode
+fast-placed content relative from room fast.No other h = tt
+fast-placed content relative from room fast.Yes other h = h
+fast-placed content relative from room fast.Only other h = absurd (true≢ other)
+  where
+    true≢ : true ≡ false → ⊥
+    true≢ e = cc
+fast-placed content relative from room (fast.Part start len) other h = h
+
+-- the value of a modifier that tells a place stands where a fast pattern excludes none
+place_text-ok : (bars placeless : Bool) (value : Option (List ℕ)) → IfOk (place_text bars placeless value) (λ _. placeless ≡ false)
+place_text-ok true placeless value = tt
+place_text-ok false true value = tt
+place_text-ok false false None = tt
+place_text-ok false false (Some text) = refl
+
+-- a name among the first ones is among those before the content
+below-known : (known : List (List ℕ)) (count : ℕ) (least most : ℤ) (number : Num) → IsNumBelow (length (take count known)) least most number → IsNumBelow count least most number
+below-known known count least most (num.Value number) h = h
+below-known known count least most (num.Name place) h = omega (arith, length-take count known)
+
+pub from-sound : (classes : ℕ) (relative : Bool) (draft : Draft) → IsSoundDraft classes draft → (left : ℕ) (value : Option (List ℕ)) → IfOk (from_option relative draft left value) (IsSoundDraft classes)
+unfolding from_option with_from
+from-sound classes relative draft sound left value = modified-sound classes draft sound (λ held names. with_from relative held names left value) (λ held.
+    then_ok (λ _. held.placeless ≡ false) (IsModified draft.opts held) (place_text (bars_from relative held.content) held.placeless value) _ (place_text-ok (bars_from relative held.content) held.placeless value) (λ text placed.
+    then_ok (IsNumBelow (length (known_before draft.names held)) (negsuc 65534) (pos 65535)) (IsModified draft.opts held) (signed_or_named (negsuc 65534) (pos 65535) (known_before draft.names held) left text) _ (signed_or_named-below (negsuc 65534) (pos 65535) (known_before draft.names held) left text) (λ from below.
+    let names = names_after [] (take held.place draft.opts) in
+    record {
+      keeps = λ h. record {
+        place = h.place;
+        known = h.known;
+        content = (h.content.0, num-named names held.known (negsuc 65534) (pos 65535) from h.known (below-known draft.names held.known (negsuc 65534) (pos 65535) from below), h.content.2, fast-placed held.content relative (Some from) held.content.room held.content.fast (h.placeless placed) h.content.3);
+        placeless = h.placeless;
+      };
+      same = refl;
+    })))
+
+room_of-below : (size : ℕ) (known : List (List ℕ)) (left : ℕ) (text : List ℕ) (o : Option ℕ) → IfSome o (IsIn 0 65535) → IfOk (room_of size known left text o) (IsNumBelow (length known) (pos size) (pos 65535))
+room_of-below size known left text None h = named-below (pos size) (pos 65535) known left text
+room_of-below size known left text (Some number) h = if_ok (IsNumBelow (length known) (pos size) (pos 65535)) (nat_le size number) (Ok (num.Value (pos number))) (Err OptionValue) (λ e. (least e, omega (arith, ints))) (λ _. tt)
+  where
+    least : nat_le size number ≡ true → pos size ≤ℤ pos number
+    least e = let le : size ≤ number = grind (arith, nat_tests) in omega (arith, ints)
+
+pub room-sound : (classes : ℕ) (relative : Bool) (draft : Draft) → IsSoundDraft classes draft → (left : ℕ) (value : Option (List ℕ)) → IfOk (room_option relative draft left value) (IsSoundDraft classes)
+unfolding room_option with_room
+room-sound classes relative draft sound left value = modified-sound classes draft sound (λ held names. with_room relative held names left value) (λ held.
+    then_ok (λ _. held.placeless ≡ false) (IsModified draft.opts held) (place_text (bars_room relative held.content) held.placeless value) _ (place_text-ok (bars_room relative held.content) held.placeless value) (λ text placed.
+    let size = length held.content.bytes in
+    then_ok (IsNumBelow (length (known_before draft.names held)) (pos size) (pos 65535)) (IsModified draft.opts held) (room_of size (known_before draft.names held) left text (number_in 0 65535 text)) _ (room_of-below size (known_before draft.names held) left text (number_in 0 65535 text) (number_in-within 0 65535 text)) (λ room below.
+    let names = names_after [] (take held.place draft.opts) in
+    record {
+      keeps = λ h. record {
+        place = h.place;
+        known = h.known;
+        content = (h.content.0, h.content.1, num-named names held.known (pos size) (pos 65535) room h.known (below-known draft.names held.known (pos size) (pos 65535) room below), fast-placed held.content relative held.content.from (Some room) held.content.fast (h.placeless placed) h.content.3);
+        placeless = h.placeless;
+      };
+      same = refl;
+    })))
+
+-- a form of fast pattern for a content of so many bytes: its part lies within them
+abbrev IsMode : ℕ → FastMode → Type 0
+IsMode size fast.No = Unit {0}
+IsMode size fast.Yes = Unit {0}
+IsMode size fast.Only = Unit {0}
+IsMode size (fast.Part from len) = (1 ≤ len) × (from + len ≤ size)
+
+fast_part-ok : (size : ℕ) (parts : List (List ℕ)) → IfOk (fast_part size parts) (IsMode size)
+unfolding fast_part
+fast_part-ok size [] = tt
+fast_part-ok size (only ∷ []) = tt
+fast_part-ok size (first ∷ second ∷ []) =
+    then_ok (IsIn 0 2048) (IsMode size) (or_kind OptionValue (number_in 0 2048 first)) _ (kind_ok (IsIn 0 2048) OptionValue (number_in 0 2048 first) (number_in-within 0 2048 first)) (λ from _.
+    then_ok (IsIn 1 2048) (IsMode size) (or_kind OptionValue (number_in 1 2048 second)) _ (kind_ok (IsIn 1 2048) OptionValue (number_in 1 2048 second) (number_in-within 1 2048 second)) (λ len within.
+    if_ok (IsMode size) (nat_le (from + len) size) (Ok (fast.Part from len)) (Err OptionValue) (λ fits. (within.0, below (from + len) fits)) (λ _. tt)))
+  where
+    below : (end : ℕ) → nat_le end size ≡ true → end ≤ size
+    below end fits = grind (arith, nat_tests)
+fast_part-ok size (first ∷ second ∷ third ∷ more) = tt
+
+fast_mode-ok : (size : ℕ) (value : Option (List ℕ)) → IfOk (fast_mode size value) (IsMode size)
+unfolding fast_mode
+fast_mode-ok size None = tt
+fast_mode-ok size (Some value) = if_ok (IsMode size) (bytes_eq value (codes "only")) (Ok fast.Only) (fast_part size (comma_parts value)) (λ _. tt) (λ _. fast_part-ok size (comma_parts value))
+
+-- neither a place nor a room is told
+unplaced : (from room : Option Num) → (is_some from || is_some room) ≡ false → (from ≡ None) × (room ≡ None)
+unplaced None None e = (refl, refl)
+unplaced None (Some room) e = cc
+unplaced (Some from) room e = cc
+
+-- a fast pattern that may stand on a content
+fast-on : (content : Content) (mode : FastMode) (negated : Bool) → content.negated ≡ negated → IsMode (length content.bytes) mode → ((is_only mode && negated) || ((is_only mode || negated) && has_room content)) ≡ false → IsFast (record content { fast = fast_on negated mode }) (fast_on negated mode)
+fast-on content mode true e h bars = tt
+fast-on content fast.No false e h bars = tt
+fast-on content fast.Yes false e h bars = e
+fast-on content fast.Only false e h bars = let free = unplaced content.from content.room bars in (free.0, free.1, e)
+fast-on content (fast.Part from len) false e h bars = (h.0, h.1, e)
+
+only-on : (mode : FastMode) (negated : Bool) → (is_only mode || negated) ≡ false → is_only (fast_on negated mode) ≡ false
+only-on fast.No true e = refl
+only-on fast.Yes true e = refl
+only-on fast.Only true e = refl
+only-on (fast.Part from len) true e = refl
+only-on fast.No false e = refl
+only-on fast.Yes false e = refl
+only-on fast.Only false e = e
+only-on (fast.Part from len) false e = refl
+
+pub fast_pattern-sound : (classes : ℕ) (draft : Draft) → IsSoundDraft classes draft → (value : Option (List ℕ)) → IfOk (fast_pattern_option draft value) (IsSoundDraft classes)
+unfolding fast_pattern_option
+fast_pattern-sound classes draft sound value =
+    then_ok (λ held. (draft.fast ≡ false) × (draft.held ≡ Some held)) (IsSoundDraft classes) (cond draft.fast (Err Misplaced) (or_kind Misplaced draft.held)) _ (first draft.fast draft.held) (λ held found.
+    then_ok (IsMode (length held.content.bytes)) (IsSoundDraft classes) (fast_mode (length held.content.bytes) value) _ (fast_mode-ok (length held.content.bytes) value) (λ mode fits.
+    if_ok (IsSoundDraft classes) (bars_fast mode held.content) (Err OptionValue) _ (λ _. tt) (λ stands.
+    let Kept : Option Held → Type 0 = λ o. AreKept draft.opts o draft.names draft.fast in
+    let before : AreKept draft.opts (Some held) draft.names draft.fast = subst Kept found.1 sound.kept in
+    record {
+      kept = record {
+        options = before.options;
+        named = before.named;
+        few = before.few;
+        held = record {
+          place = before.held.place;
+          known = before.held.known;
+          content = (before.held.content.0, before.held.content.1, before.held.content.2, fast-on held.content mode held.content.negated refl fits stands);
+          placeless = only-on mode held.content.negated;
+        };
+        count = before.count;
+        chosen = one (count_by is_fast draft.opts) (is_chosen held.content.fast) (is_chosen (fast_on held.content.negated mode)) draft.fast found.0 before.chosen;
+      };
+      msg = sound.msg;
+      gid = sound.gid;
+      sid = sound.sid;
+      class = sound.class;
+      period = sound.period;
+    })))
+  where
+    first : (stands : Bool) (o : Option Held) → IfOk (cond stands (Err Misplaced) (or_kind Misplaced o)) (λ held. (stands ≡ false) × (o ≡ Some held))
+    first true o = tt
+    first false None = tt
+    first false (Some held) = (refl, refl)
+
+    one : (count : ℕ) (before after stands : Bool) → stands ≡ false → count + cond before 1 0 ≤ cond stands 1 0 → count + cond after 1 0 ≤ 1
+    one count before true stands e h = let number : Bool → ℕ = λ b. cond b 1 0 in omega (arith, ap number e)
+    one count before false stands e h = let number : Bool → ℕ = λ b. cond b 1 0 in omega (arith, ap number e)

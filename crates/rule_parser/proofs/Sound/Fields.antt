@@ -1,0 +1,193 @@
+-- Options on numbers of a header keep a rule sound.
+use Rattle.std.proofs.Common.{ℕ, ◌+◌, ◌≤◌, ◌≡◌, ◌==◌, ◌&&◌, ◌||◌, Bool, true, false, cond, Option, Some, None, Ok, Err, List, [], length, take, drop, is_some, refl, arith, inl, inr, IfSome, IfOk, IsTrue}
+use Rattle.net_lists.specs.Numbers.{number_in}
+use Rattle.net_lists.specs.Stops.{or_kind}
+use Rattle.rule_parser.specs.declared.draft.Draft.{Draft}
+use Rattle.rule_parser.specs.declared.fault.Fault.TheVariants.{OptionValue}
+use Rattle.rule_parser.specs.declared.fields.Sign.{Sign}
+use Rattle.rule_parser.specs.declared.fields.Sign.TheVariants.{Plain, Equal, Not, Below, Above, UpTo, From}
+use Rattle.rule_types.specs.declared.option.Cmp.{Cmp}
+use Rattle.rule_types.specs.declared.option.Cmp.TheVariants as cmp
+use Rattle.rule_types.specs.declared.option.Field.{Field}
+use Rattle.rule_types.specs.declared.option.Field.TheVariants as field
+use Rattle.rule_types.specs.declared.option.Opt.{Opt}
+use Rattle.rule_types.specs.declared.option.Opt.TheVariants as opt
+use Rattle.rule_parser.specs.Drafts.{kept}
+use Rattle.rule_parser.specs.Fields.{sign_of, cmp_of, is_plain, is_not, is_strict, allows, signed_compare, end_of, ttl_range, dsize_range, place_of, ttl_to, behind_above, dsize_to, dsize_at, protocol_of, protocol_to, compare_of, field_option, dsize_option, sameip_option}
+use Rattle.rule_types.specs.Sound.{most_of, is_equal, is_unequal, compares, AreEnds, IsOption}
+use Rattle.rule_types.specs.Sound as ranges
+use Rattle.rule_parser.proofs.Sound.Drafts.{IsSoundDraft, IsPlain, names_after, kept-sound}
+use Rattle.rule_parser.proofs.Sound.Steps.{then_ok, kind_ok, if_ok, some_weaken}
+use Rattle.rule_parser.proofs.Sound.Values.{IsIn, number_in-within}
+
+-- an option that stands anywhere, and is no fast pattern
+pub IsAnywhere : Opt → Type 0
+IsAnywhere option = ((names : List ℕ) → IsOption names option) × IsPlain option
+
+-- what any such option keeps
+pub anywhere-sound : (classes : ℕ) (draft : Draft) (option : Opt) → IsSoundDraft classes draft → IsAnywhere option → IfOk (kept draft option) (IsSoundDraft classes)
+unfolding IsAnywhere
+anywhere-sound classes draft option sound h = kept-sound classes draft option sound (h.0 (names_after [] draft.opts)) h.1
+
+pub anywhere : (option : Opt) → ((names : List ℕ) → IsOption names option) → IsPlain option → IsAnywhere option
+unfolding IsAnywhere
+anywhere option h plain = (h, plain)
+
+compare-anywhere : (field : Field) (how : Cmp) (low high : ℕ) → low ≤ most_of field → high ≤ most_of field → IsTrue (compares field how) → AreEnds how low high → IsAnywhere (opt.Compare field how low high)
+compare-anywhere field how low high least most has ends = anywhere (opt.Compare field how low high) (λ names. (least, most, has, ends)) (refl, λ names. refl)
+
+-- what a sign compares by is among the comparisons of a field that has the sign
+plain-compares : (sign : Sign) → is_plain sign ≡ true → IsTrue (is_equal (cmp_of sign))
+plain-compares Plain e = refl
+plain-compares Equal e = cc
+plain-compares Not e = cc
+plain-compares Below e = cc
+plain-compares Above e = cc
+plain-compares UpTo e = cc
+plain-compares From e = cc
+
+not-compares : (sign : Sign) → (is_plain sign || is_not sign) ≡ true → IsTrue (is_equal (cmp_of sign) || is_unequal (cmp_of sign))
+not-compares Plain e = refl
+not-compares Equal e = cc
+not-compares Not e = refl
+not-compares Below e = cc
+not-compares Above e = cc
+not-compares UpTo e = cc
+not-compares From e = cc
+
+strict-compares : (sign : Sign) → (is_plain sign || is_strict sign) ≡ true → IsTrue (is_equal (cmp_of sign) || ranges.is_strict (cmp_of sign))
+strict-compares Plain e = refl
+strict-compares Equal e = cc
+strict-compares Not e = cc
+strict-compares Below e = refl
+strict-compares Above e = refl
+strict-compares UpTo e = cc
+strict-compares From e = cc
+
+any-compares : (sign : Sign) → ((is_plain sign || is_not sign) || is_strict sign) ≡ true → IsTrue ((is_equal (cmp_of sign) || is_unequal (cmp_of sign)) || ranges.is_strict (cmp_of sign))
+any-compares Plain e = refl
+any-compares Equal e = cc
+any-compares Not e = refl
+any-compares Below e = refl
+any-compares Above e = refl
+any-compares UpTo e = cc
+any-compares From e = cc
+
+ttl-compares : (sign : Sign) → allows field.Ttl sign ≡ true → IsTrue (compares field.Ttl (cmp_of sign))
+ttl-compares Plain e = refl
+ttl-compares Equal e = refl
+ttl-compares Not e = cc
+ttl-compares Below e = refl
+ttl-compares Above e = refl
+ttl-compares UpTo e = refl
+ttl-compares From e = refl
+
+dsize-compares : (sign : Sign) → (is_plain sign || is_strict sign) ≡ true → IsTrue (compares field.Dsize (cmp_of sign))
+dsize-compares Plain e = refl
+dsize-compares Equal e = cc
+dsize-compares Not e = cc
+dsize-compares Below e = refl
+dsize-compares Above e = refl
+dsize-compares UpTo e = cc
+dsize-compares From e = cc
+
+allowed-compares : (field : Field) (sign : Sign) → allows field sign ≡ true → IsTrue (compares field (cmp_of sign))
+allowed-compares field.Ttl sign e = ttl-compares sign e
+allowed-compares field.Tos sign e = not-compares sign e
+allowed-compares field.Window sign e = not-compares sign e
+allowed-compares field.FragOffset sign e = any-compares sign e
+allowed-compares field.IpProto sign e = any-compares sign e
+allowed-compares field.Itype sign e = strict-compares sign e
+allowed-compares field.Icode sign e = strict-compares sign e
+allowed-compares field.Dsize sign e = dsize-compares sign e
+allowed-compares field.Id sign e = plain-compares sign e
+allowed-compares field.Seq sign e = plain-compares sign e
+allowed-compares field.Ack sign e = plain-compares sign e
+allowed-compares field.IcmpId sign e = plain-compares sign e
+allowed-compares field.IcmpSeq sign e = plain-compares sign e
+
+signed-anywhere : (field : Field) (text : List ℕ) → IfOk (signed_compare field text) IsAnywhere
+unfolding signed_compare
+signed-anywhere field text =
+    let Fits : ℕ → Type 0 = λ number. IsIn 0 (most_of field) number × (allows field (sign_of text).0 ≡ true) in
+    let number = number_in 0 (most_of field) (sign_of text).1 in
+    then_ok Fits IsAnywhere (cond (allows field (sign_of text).0) (or_kind OptionValue number) (Err OptionValue)) _
+    (if_ok Fits (allows field (sign_of text).0) _ (Err OptionValue) (λ e. kind_ok Fits OptionValue number (some_weaken (IsIn 0 (most_of field)) Fits number (λ _ within. (within, e)) (number_in-within 0 (most_of field) (sign_of text).1))) (λ _. tt))
+    (λ found fits. compare-anywhere field (cmp_of (sign_of text).0) found found fits.0.1 fits.0.1 (allowed-compares field (sign_of text).0 fits.1) (inr refl))
+
+end_of-most : (lacking : ℕ) (text : List ℕ) → lacking ≤ 4294967295 → IfSome (end_of lacking text) (λ number. number ≤ 4294967295)
+end_of-most lacking text h = go (length text == 0)
+  where
+    weaker : (o : Option ℕ) → IfSome o (IsIn 0 4294967295) → IfSome o (λ number. number ≤ 4294967295)
+    weaker None h = tt
+    weaker (Some number) h = h.1
+
+    go : (b : Bool) → IfSome (cond b (Some lacking) (number_in 0 4294967295 text)) (λ number. number ≤ 4294967295)
+    go true = h
+    go false = weaker (number_in 0 4294967295 text) (number_in-within 0 4294967295 text)
+
+ttl_range-anywhere : (low high : List ℕ) → IfOk (ttl_range low high) IsAnywhere
+unfolding ttl_range
+ttl_range-anywhere low high =
+    then_ok (λ number. number ≤ 4294967295) IsAnywhere (or_kind OptionValue (end_of 0 low)) _ (kind_ok (λ number. number ≤ 4294967295) OptionValue (end_of 0 low) (end_of-most 0 low (omega arith))) (λ least first.
+    then_ok (λ number. number ≤ 4294967295) IsAnywhere (or_kind OptionValue (end_of 4294967295 high)) _ (kind_ok (λ number. number ≤ 4294967295) OptionValue (end_of 4294967295 high) (end_of-most 4294967295 high (omega arith))) (λ most last.
+    if_ok IsAnywhere (length low == 0 && length high == 0) (Err OptionValue) (Ok (opt.Compare field.Ttl cmp.Within least most)) (λ _. tt) (λ _. compare-anywhere field.Ttl cmp.Within least most first last refl (inl refl))))
+
+dsize_range-anywhere : (low high : List ℕ) → IfOk (dsize_range low high) IsAnywhere
+unfolding dsize_range
+dsize_range-anywhere low high =
+    then_ok (IsIn 0 65535) IsAnywhere (or_kind OptionValue (number_in 0 65535 low)) _ (kind_ok (IsIn 0 65535) OptionValue (number_in 0 65535 low) (number_in-within 0 65535 low)) (λ least first.
+    then_ok (IsIn 0 65535) IsAnywhere (or_kind OptionValue (number_in 0 65535 high)) _ (kind_ok (IsIn 0 65535) OptionValue (number_in 0 65535 high) (number_in-within 0 65535 high)) (λ most last.
+    compare-anywhere field.Dsize cmp.Within least most first.1 last.1 refl (inl refl)))
+
+ttl_to-anywhere : (text : List ℕ) (place : Option ℕ) → IfOk (ttl_to text place) IsAnywhere
+ttl_to-anywhere text None = signed-anywhere field.Ttl text
+ttl_to-anywhere text (Some place) = ttl_range-anywhere (take place text) (drop (place + 1) text)
+
+dsize_to-anywhere : (text low : List ℕ) (high : Option (List ℕ)) → IfOk (dsize_to text low high) IsAnywhere
+dsize_to-anywhere text low None = signed-anywhere field.Dsize text
+dsize_to-anywhere text low (Some high) = dsize_range-anywhere low high
+
+dsize_at-anywhere : (text : List ℕ) (place : Option ℕ) → IfOk (dsize_at text place) IsAnywhere
+dsize_at-anywhere text None = signed-anywhere field.Dsize text
+dsize_at-anywhere text (Some place) = dsize_to-anywhere text (take place text) (behind_above (drop (place + 1) text))
+
+protocol_of-most : (name : List ℕ) → IfSome (protocol_of name) (λ number. number ≤ 4294967295)
+protocol_of-most name = grind arith
+
+protocol_to-anywhere : (text : List ℕ) (number : Option ℕ) → IfSome number (λ number. number ≤ 4294967295) → IfOk (protocol_to text number) IsAnywhere
+protocol_to-anywhere text None h = signed-anywhere field.IpProto text
+protocol_to-anywhere text (Some number) h = compare-anywhere field.IpProto cmp.Eq number number h h refl (inr refl)
+
+compare_of-anywhere : (which : Field) (text : List ℕ) → IfOk (compare_of which text) IsAnywhere
+unfolding compare_of
+compare_of-anywhere field.Ttl text = ttl_to-anywhere text (place_of 45 text)
+compare_of-anywhere field.Dsize text = dsize_at-anywhere text (place_of 60 text)
+compare_of-anywhere field.IpProto text = protocol_to-anywhere text (protocol_of text) (protocol_of-most text)
+compare_of-anywhere field.Tos text = signed-anywhere field.Tos text
+compare_of-anywhere field.Window text = signed-anywhere field.Window text
+compare_of-anywhere field.FragOffset text = signed-anywhere field.FragOffset text
+compare_of-anywhere field.Itype text = signed-anywhere field.Itype text
+compare_of-anywhere field.Icode text = signed-anywhere field.Icode text
+compare_of-anywhere field.Id text = signed-anywhere field.Id text
+compare_of-anywhere field.Seq text = signed-anywhere field.Seq text
+compare_of-anywhere field.Ack text = signed-anywhere field.Ack text
+compare_of-anywhere field.IcmpId text = signed-anywhere field.IcmpId text
+compare_of-anywhere field.IcmpSeq text = signed-anywhere field.IcmpSeq text
+
+pub field-sound : (classes : ℕ) (which : Field) (draft : Draft) → IsSoundDraft classes draft → (value : List ℕ) → IfOk (field_option which draft value) (IsSoundDraft classes)
+unfolding field_option
+field-sound classes which draft sound value =
+    then_ok IsAnywhere (IsSoundDraft classes) (compare_of which value) (kept draft) (compare_of-anywhere which value) (λ option h. anywhere-sound classes draft option sound h)
+
+pub dsize-sound : (classes : ℕ) (draft : Draft) → IsSoundDraft classes draft → (value : List ℕ) → IfOk (dsize_option draft value) (IsSoundDraft classes)
+unfolding dsize_option
+dsize-sound classes draft sound value =
+    then_ok IsAnywhere (IsSoundDraft classes) (compare_of field.Dsize value) _ (compare_of-anywhere field.Dsize value) (λ option h.
+    if_ok (IsSoundDraft classes) draft.dsize (Err OptionValue) (kept (record draft { dsize = true }) option) (λ _. tt) (λ _.
+    anywhere-sound classes (record draft { dsize = true }) option (record { kept = sound.kept; msg = sound.msg; gid = sound.gid; sid = sound.sid; class = sound.class; period = sound.period }) h))
+
+pub sameip-sound : (classes : ℕ) (draft : Draft) → IsSoundDraft classes draft → (value : Option (List ℕ)) → IfOk (sameip_option draft value) (IsSoundDraft classes)
+unfolding sameip_option
+sameip-sound classes draft sound value =
+    if_ok (IsSoundDraft classes) (is_some value) (Err OptionValue) (kept draft opt.SameIp) (λ _. tt) (λ _. kept-sound classes draft opt.SameIp sound tt (refl, λ names. refl))
