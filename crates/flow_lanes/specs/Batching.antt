@@ -5,19 +5,18 @@
 -- matches.
 -- To try it on: of two lanes and jobs of the flows 0, 1, 0, lane 0 does the first and the third, and lane 1
 -- the second. In turn, the lanes 0, 1 and 0 do them one after another, and what is found needs no order.
-use Rattle.std.specs.Prelude.{◌≡◌, ℕ, ◌<◌, Bool, true, List, [], ◌∷◌, ◌++◌, Option, Some, IfOk, filter, length, map, slice_get, slice_index_or}
-use Rattle.edge_io.specs.declared.pattern.Span.{Span}
+use Rattle.std.specs.Prelude.{◌≡◌, ℕ, ◌<◌, Bool, true, List, [], ◌∷◌, ◌++◌, Some, IfOk, filter, length, map, slice_get, slice_index_or}
 use Rattle.edge_io.specs.Along.{along_from, within}
-use Rattle.conf_types.specs.declared.config.StreamConfig.{StreamConfig}
 use Rattle.option_eval.specs.Places.{Means}
-use Rattle.option_eval.specs.RuleSet.{Rules}
 use Rattle.ordered_merge.specs.declared.numbered.Numbered.{Numbered}
 use Rattle.flow_lanes.specs.declared.answer.BatchOut.{BatchOut}
 use Rattle.flow_lanes.specs.declared.answer.JobFound.{JobFound}
 use Rattle.flow_lanes.specs.declared.answer.Matches.{Matches}
 use Rattle.flow_lanes.specs.declared.job.Job.{Job}
+use Rattle.flow_lanes.specs.declared.worker.Share.{Share}
 use Rattle.flow_lanes.specs.declared.worker.Worker.{Worker}
 use Rattle.flow_lanes.specs.Flows.{Detection, answer, answer_tries, items, same_flow}
+use Rattle.flow_lanes.specs.Given.{Inspection}
 use Rattle.flow_lanes.specs.ItemHits.{told_entry}
 use Rattle.flow_lanes.specs.Sound.{IsSoundFor, facts_after}
 use Rattle.flow_lanes.specs.Standing.{AnswersBatch, AreShort, DetectsBy, LaneState, LanesStand, LanesState, LearnsJob, SearchesBatch, Stands, is_in_lane, known_in, known_of}
@@ -48,11 +47,10 @@ pub record IsSearched (all : Bool) (d : Detection) (before : List Job) (job : Jo
   pub short : AreShort job (within same_flow (items d) before job)
   pub stands : Stands d new (before ++ job ∷ [])
 
-abbrev pub SearchesJob : {P : Type 0} → (P → List ℕ → Option Span) → StreamConfig → Rules P → Bool → LaneState → Job → JobFound
-    → LaneState → Type 0
-SearchesJob finds stream set all old job found new =
-    (means : Means) (d : Detection) (before : List Job) → DetectsBy finds means stream set d → Stands d old before
-    → IsSearched all d before job found new
+abbrev pub SearchesJob : {P : Type 0} → Inspection P → LaneState → Job → JobFound → LaneState → Type 0
+SearchesJob by old job found new =
+    (means : Means) (d : Detection) (before : List Job) → DetectsBy by.finds means by.stream by.set d → Stands d old before
+    → IsSearched by.all d before job found new
 
 -- the same with the job's number
 abbrev pub numbered_out : Bool → Detection → List Job → Job → Numbered JobFound
@@ -66,38 +64,37 @@ pub record HasDoneJobs (all : Bool) (d : Detection) (before jobs : List Job) (ou
 
 -- a lane has gone on with these jobs: whatever it stood for, its answers are the definition's; it has learnt
 -- of the jobs; and the answers bear the numbers of the jobs
-pub record GoesOn {P : Type 0} (finds : P → List ℕ → Option Span) (stream : StreamConfig) (set : Rules P) (all : Bool)
-    (old : LaneState) (jobs : List Job) (outs : List (Numbered JobFound)) (new : LaneState) : Type 0 where
-  pub right : (means : Means) (d : Detection) (before : List Job) → DetectsBy finds means stream set d → Stands d old before
-      → HasDoneJobs all d before jobs outs new
+pub record GoesOn {P : Type 0} (by : Inspection P) (old : LaneState) (jobs : List Job) (outs : List (Numbered JobFound))
+    (new : LaneState) : Type 0 where
+  pub right : (means : Means) (d : Detection) (before : List Job) → DetectsBy by.finds means by.stream by.set d
+      → Stands d old before → HasDoneJobs by.all d before jobs outs new
   pub known : (other : Job) → known_of new other ≡ facts_after (known_of old other) (filter (same_flow other) jobs)
   pub numbers : map (λ (out : Numbered JobFound). out.number) outs ≡ map (λ (job : Job). job.number) jobs
 
 -- a lane searches a job more, of which something is found: with the job's number it stands behind what was found
 -- before
-pub record AddsFound {P : Type 0} (finds : P → List ℕ → Option Span) (stream : StreamConfig) (set : Rules P) (all : Bool)
-    (job : Job) (old : LaneState) (outs : List (Numbered JobFound)) (new : LaneState)
-    (more : List (Numbered JobFound)) : Type 0 where
+pub record AddsFound {P : Type 0} (by : Inspection P) (job : Job) (old : LaneState) (outs : List (Numbered JobFound))
+    (new : LaneState) (more : List (Numbered JobFound)) : Type 0 where
   pub found : JobFound
   pub added : more ≡ outs ++ record { number = job.number; value = found } ∷ []
-  pub searches : SearchesJob finds stream set all old job found new
+  pub searches : SearchesJob by old job found new
   pub learns : LearnsJob old job new
 
 -- a job of a batch is looked at by a lane among so many, with which only its own jobs go on
-abbrev pub AddsOwn : {P : Type 0} → (P → List ℕ → Option Span) → StreamConfig → Rules P → Bool → ℕ → ℕ → Job → LaneState
-    → List (Numbered JobFound) → LaneState → List (Numbered JobFound) → Type 0
-AddsOwn finds stream set all count place job old outs new more =
-    (start : LaneState) (front : List Job) → GoesOn finds stream set all start (own_jobs count place front) outs old
-    → GoesOn finds stream set all start (own_jobs count place (front ++ job ∷ [])) more new
+abbrev pub AddsOwn : {P : Type 0} → Inspection P → Share → Job → LaneState → List (Numbered JobFound) → LaneState
+    → List (Numbered JobFound) → Type 0
+AddsOwn by share job old outs new more =
+    (start : LaneState) (front : List Job) → GoesOn by start (own_jobs share.count share.place front) outs old
+    → GoesOn by start (own_jobs share.count share.place (front ++ job ∷ [])) more new
 
 -- the lanes have gone on with the jobs of a batch, each with its own: a part of the answers for each lane
-pub record AreParts {P : Type 0} (finds : P → List ℕ → Option Span) (stream : StreamConfig) (set : Rules P) (all : Bool)
-    (olds : List LaneState) (jobs : List Job) (parts : List (List (Numbered JobFound))) (news : List LaneState) : Type 0 where
+pub record AreParts {P : Type 0} (by : Inspection P) (olds : List LaneState) (jobs : List Job)
+    (parts : List (List (Numbered JobFound))) (news : List LaneState) : Type 0 where
   pub news_count : length news ≡ length olds
   pub parts_count : length parts ≡ length olds
   pub each : (place : ℕ) (old new : LaneState) (part : List (Numbered JobFound)) → slice_get olds place ≡ Some old
       → slice_get parts place ≡ Some part → slice_get news place ≡ Some new
-      → GoesOn finds stream set all old (own_jobs (length olds) place jobs) part new
+      → GoesOn by old (own_jobs (length olds) place jobs) part new
 
 -- the lanes of workers
 abbrev pub lanes_of : List Worker → List LaneState
@@ -110,12 +107,11 @@ AreSoundAmong engines workers jobs =
     (slice_index_or workers place d).lane jobs
 
 -- each worker has gone on with its own jobs, where it has answers
-abbrev pub AllGoOn : {P : Type 0} → (P → List ℕ → Option Span) → StreamConfig → Rules P → Bool → List Worker → List Job
-    → List Worker → Type 0
-AllGoOn finds stream set all olds jobs news =
+abbrev pub AllGoOn : {P : Type 0} → Inspection P → List Worker → List Job → List Worker → Type 0
+AllGoOn by olds jobs news =
     (place : ℕ) (d : Worker) → place < length olds
     → IfOk (slice_index_or news place d).outs
-    (λ outs. GoesOn finds stream set all (slice_index_or olds place d).lane (own_jobs (length olds) place jobs) outs.items
+    (λ outs. GoesOn by (slice_index_or olds place d).lane (own_jobs (length olds) place jobs) outs.items
     (slice_index_or news place d).lane)
 
 -- the jobs of a batch are searched: what is found of each is the definition's, in the order of the jobs, and the
@@ -126,23 +122,23 @@ pub record AreSearched (all : Bool) (d : Detection) (before jobs : List Job) (fo
   pub stands : LanesStand d new (before ++ jobs)
 
 -- lanes have searched a batch, whatever else is known of them: what is found is the definition's
-abbrev pub HaveSearched : {P : Type 0} → (P → List ℕ → Option Span) → StreamConfig → Rules P → Bool → List LaneState → List Job
-    → List (Numbered JobFound) → List LaneState → Type 0
-HaveSearched finds stream set all olds jobs found news =
+abbrev pub HaveSearched : {P : Type 0} → Inspection P → List LaneState → List Job → List (Numbered JobFound) → List LaneState
+    → Type 0
+HaveSearched by olds jobs found news =
     (old new : LanesState) → old.lanes ≡ olds → new.lanes ≡ news
-    → (means : Means) (d : Detection) (before : List Job) → DetectsBy finds means stream set d → LanesStand d old before
-    → AreSearched all d before jobs found new
+    → (means : Means) (d : Detection) (before : List Job) → DetectsBy by.finds means by.stream by.set d
+    → LanesStand d old before → AreSearched by.all d before jobs found new
 
 -- so the batch is answered, or its matches are told
-abbrev pub HaveAnswered : {P : Type 0} → (P → List ℕ → Option Span) → StreamConfig → Rules P → List LaneState → List Job
-    → BatchOut → List LaneState → Type 0
-HaveAnswered finds stream set olds jobs out news =
-    (old new : LanesState) → old.lanes ≡ olds → new.lanes ≡ news → AnswersBatch finds stream set old jobs out new
+abbrev pub HaveAnswered : {P : Type 0} → Inspection P → List LaneState → List Job → BatchOut → List LaneState → Type 0
+HaveAnswered by olds jobs out news =
+    (old new : LanesState) → old.lanes ≡ olds → new.lanes ≡ news
+    → AnswersBatch by.finds by.stream by.set old jobs out new
 
-abbrev pub HaveMatched : {P : Type 0} → (P → List ℕ → Option Span) → StreamConfig → Rules P → List LaneState → List Job → Matches
-    → List LaneState → Type 0
-HaveMatched finds stream set olds jobs out news =
-    (old new : LanesState) → old.lanes ≡ olds → new.lanes ≡ news → SearchesBatch finds stream set old jobs out new
+abbrev pub HaveMatched : {P : Type 0} → Inspection P → List LaneState → List Job → Matches → List LaneState → Type 0
+HaveMatched by olds jobs out news =
+    (old new : LanesState) → old.lanes ≡ olds → new.lanes ≡ news
+    → SearchesBatch by.finds by.stream by.set old jobs out new
 
 -- lanes have learnt of the jobs of a batch, whatever else is known of them
 pub record HaveLearnt (olds : List LaneState) (jobs : List Job) (news : List LaneState) : Type 0 where

@@ -4,7 +4,7 @@
 -- a port two (RFC 9293, section 3.1; RFC 768), and the type and the code of a control message one each (RFC 792).
 -- To try it on: a head from 10.0.0.1 to 10.0.0.2 of UDP, from port 1000 to port 2000, fits; one from 10.0.0.1 to ::1
 -- doesn't, nor does one from port 65536.
-use Rattle.std.specs.Prelude.{◌≡◌, ◌<◌, ◌^◌, ℕ, ⊤}
+use Rattle.std.specs.Prelude.{◌≡◌, ◌<◌, ◌^◌, ⊤}
 use Rattle.edge_io.specs.declared.address.Addr.{Addr}
 use Rattle.edge_io.specs.declared.address.Addr.TheVariants.{V4, V6}
 use Rattle.packet_decode.specs.declared.item.ItemHead.{ItemHead}

@@ -4,7 +4,7 @@
 -- (stream5_reassembly specs/Segments). Its limits are `max_queued_bytes` and `max_queued_segs` of the engine of the host
 -- that it sends to (Snort Users Manual 2.9, section 2.2.3).
 -- To try it on: of "ab" at the base and "c" two places after it three bytes wait.
-use Rattle.std.specs.Prelude.{ℕ, ◌+◌, ◌≤◌, ◌||◌, Bool, true, false, ⊤, List, count_by, fold, sum_by, is_some, if◌then◌else◌}
+use Rattle.std.specs.Prelude.{ℕ, ◌+◌, ◌≤◌, ◌||◌, Bool, false, ⊤, List, count_by, fold, sum_by, is_some, if◌then◌else◌}
 use Rattle.std.specs.Option.{option_map_or}
 use Rattle.stream5_reassembly.specs.Segments.{DirectionState, top}
 use Rattle.flow_lanes.specs.declared.job.Job.{Job}

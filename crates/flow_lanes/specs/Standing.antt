@@ -6,6 +6,8 @@
 -- for any number of lanes and any cut of the list into batches.
 -- To try it on: of two lanes, which stand for jobs of the flows 0, 1 and 2, lane 0 keeps the flows 0 and 2.
 use Rattle.std.specs.Prelude.{◌≡◌, ℕ, ◌%◌, ◌<◌, ◌≤◌, ◌==◌, Bool, true, false, List, [], ◌∷◌, ◌++◌, Option, Some, None, All, IfSome, filter, fold, length, replicate, map, option_map, option_and_then, slice_get, slice_index_or, sum, sum_by, IsSome, if◌then◌else◌}
+use Rattle.std.specs.List.{flat_map}
+use Rattle.std.specs.List.Sorted.{IsPermutation}
 use Rattle.std.specs.Map.{lookup}
 use Rattle.edge_io.specs.declared.pattern.Span.{Span}
 use Rattle.edge_io.specs.Along.{AscendsBy, along_from, told, within}
@@ -214,6 +216,11 @@ HasFailed lanes = lanes.failed ≡ true
 -- the answers to the jobs of one flow, among those to all jobs
 abbrev pub answers_of_flow : Detection → ℕ → List Job → List JobHits
 answers_of_flow d flow jobs = map (λ p. p.1) (filter (λ p. is_of_flow flow p.0) (along_from (told (answer d)) [] jobs))
+
+-- parts are put together: one list of all their entries, in the order of their numbers
+pub record ArePutTogether (parts : List (List JobHits)) (merged : List JobHits) : Type 0 where
+  pub whole : IsPermutation (flat_map (λ part. part) parts) merged
+  pub ascend : AscendsBy (λ (entry : JobHits). entry.number) merged
 
 -- a part for each lane, which has the answers to the jobs of that lane alone
 abbrev pub AreLaneAnswers : Detection → List Job → List Job → List (List JobHits) → Type 0

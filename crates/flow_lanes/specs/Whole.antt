@@ -1,23 +1,18 @@
 -- One job, by what is kept of flows before it and behind it.
 --
 -- To try it on: the end of a flow gives the streams of its session, and nothing is kept of the flow then.
-use Rattle.std.specs.Prelude.{◌≡◌, ℕ, Bool, List, Option, Some, length, option_and_then, option_map, if◌then◌else◌}
+use Rattle.std.specs.Prelude.{◌≡◌, ℕ, List, Option, Some, option_and_then, option_map, if◌then◌else◌}
 use Rattle.edge_io.specs.declared.moment.Moment.{Moment}
-use Rattle.edge_io.specs.declared.pattern.Span.{Span}
-use Rattle.option_eval.specs.Places.{Means}
-use Rattle.option_eval.specs.RuleSet.{Rules}
 use Rattle.rule_eval.specs.Hits.{Trying}
-use Rattle.flow_lanes.specs.declared.answer.Hits.{Hits}
 use Rattle.flow_lanes.specs.declared.job.Work.{Work}
-use Rattle.flow_lanes.specs.declared.tally.Tally.{Tally}
 use Rattle.flow_lanes.specs.Engines.{Making}
-use Rattle.flow_lanes.specs.Flows.{FlowState, all_items, flow_of_work, hits_in, same_number, session_at_hand, state_after, work_items}
+use Rattle.flow_lanes.specs.Flows.{FlowState, flow_of_work, same_number, session_at_hand, state_after, work_items}
+use Rattle.flow_lanes.specs.Given.{Inspection}
 use Rattle.flow_lanes.specs.Items.{JobItems}
-use Rattle.flow_lanes.specs.ItemHits.{told}
 use Rattle.flow_lanes.specs.Kept.{kept_in}
 use Rattle.flow_lanes.specs.Sound.{FlowFacts, facts_behind_work}
 use Rattle.flow_lanes.specs.Standing.{KeptFlow, facts_kept, state_kept}
-use Rattle.flow_lanes.specs.Tried.{TriesBy, candidates_of}
+use Rattle.flow_lanes.specs.Tried.{ByTest, Gain, SoFar, Tallied, of_job}
 
 -- what a job finds of its flow
 abbrev pub found_for : List (ℕ × KeptFlow) → Work → Option FlowState
@@ -38,21 +33,22 @@ kept_by making trying moment w kept =
       found = state_after trying (work_items making moment w (session_at_hand (state_kept kept))) (state_kept kept);
     }) (facts_behind_work (facts_kept kept) moment w)
 
--- the job is done with these rules: its items that are told, and what is then kept of each flow
-pub record IsDoneBy (all : Bool) (making : Making) (trying : Trying) (moment : Moment) (w : Work) (old new : List (ℕ × KeptFlow))
-    (given : List Hits) : Type 0 where
-  pub hits : given ≡ told all (hits_in trying (items_for making moment w old) (found_for old w))
-  pub flows : (flow : ℕ) → kept_in new flow ≡ (if same_number (Some flow) (flow_of_work w)
-      then kept_by making trying moment w (kept_in old flow) else kept_in old flow)
+-- what the job's items give
+abbrev pub gain_for : Making → Moment → Work → List (ℕ × KeptFlow) → Gain
+gain_for making moment w flows = of_job (items_for making moment w flows) (found_for flows w)
 
--- the job is done: by any rules that tell what the set's patterns find; its items and their candidates are
--- counted; and it is known what the job says of its flow
-pub record IsDone {P : Type 0} (finds : P → List ℕ → Option Span) (set : Rules P) (all : Bool) (making : Making) (moment : Moment)
-    (w : Work) (old new : List (ℕ × KeptFlow)) (tally : Tally) : Type 0 where
-  pub done : (means : Means) (trying : Trying) → TriesBy finds means set trying
-      → IsDoneBy all making trying moment w old new tally.hits.items
-  pub items : tally.items ≡ length (all_items (items_for making moment w old))
-  pub tries : tally.tries ≡ candidates_of set.rules (all_items (items_for making moment w old))
+-- with these rules this is then kept of each flow
+abbrev pub KeepsBy : Trying → Making → Moment → Work → List (ℕ × KeptFlow) → List (ℕ × KeptFlow) → Type 0
+KeepsBy trying making moment w old new =
+    (flow : ℕ) → kept_in new flow ≡ (if same_number (Some flow) (flow_of_work w)
+    then kept_by making trying moment w (kept_in old flow) else kept_in old flow)
+
+-- the job is done: what is found of its items, what is then kept of each flow, by any rules that tell what the set's
+-- patterns find, and what is known of each flow
+pub record IsDone {P : Type 0} (by : Inspection P) (making : Making) (moment : Moment) (w : Work)
+    (old new : List (ℕ × KeptFlow)) (given : SoFar) : Type 0 where
+  pub tallied : Tallied by (gain_for making moment w old) given
+  pub flows : ByTest by (λ trying. KeepsBy trying making moment w old new)
   pub facts : (flow : ℕ) → facts_kept (kept_in new flow)
       ≡ (if same_number (Some flow) (flow_of_work w) then facts_behind_work (facts_kept (kept_in old flow)) moment w
       else facts_kept (kept_in old flow))

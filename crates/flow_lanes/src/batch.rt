@@ -7,6 +7,7 @@ ghost use Rattle.fast_pattern.specs.Grouping.{StandFor};
 ghost use Rattle.rule_types.specs.Sound.{IsTriable};
 ghost use Rattle.flow_lanes.specs.declared.job.Job.{Job};
 ghost use Rattle.flow_lanes.specs.Standing.{AnswersBatch, AreNew, AreNext, AreSoundFor, HasFailed, LearnsBatch, SearchesBatch, new_lane};
+ghost use Rattle.flow_lanes.specs.Given.{inspection_of};
 ghost use Rattle.flow_lanes.specs.Batching.{AllGoOn, AreSoundAmong, AreSoundIn, GoesOn, HaveAnswered, HaveLearnt, HaveMatched, HaveSearched, lanes_of, own_jobs};
 
 use crate::answer::{BatchFault, BatchOut, JobFound, Matches};
@@ -66,7 +67,7 @@ fn run_all<P: Pattern, G: Gate, R: Threads + Sync>(
     requires some { 0 < length workers.old }
     requires few { length workers.old ≤ 64 }
     requires sound { AreSoundAmong (length inspector.now.stream.now.engines) workers.old jobs.now }
-    ensures { AllGoOn P.finds inspector.now.stream.now inspector.now.set.now inspector.now.all workers.old jobs.now workers.new }
+    ensures { AllGoOn (inspection_of P.finds inspector.now) workers.old jobs.now workers.new }
 {
     let count = workers.len();
     let busy = busy_lanes(count, jobs);
@@ -79,8 +80,8 @@ fn run_all<P: Pattern, G: Gate, R: Threads + Sync>(
         &|place: usize, worker: &mut Worker|
             requires { (0 < count) × (place < 2 ^ 32)
                 × AreSoundIn (length inspector.now.stream.now.engines) count place worker.old.lane jobs.now }
-            ensures { IfOk worker.new.outs (λ outs. GoesOn P.finds inspector.entry.now.stream.now inspector.entry.now.set.now
-                inspector.entry.now.all worker.old.lane (own_jobs count place jobs.entry.now) outs.items worker.new.lane) }
+            ensures { IfOk worker.new.outs (λ outs. GoesOn (inspection_of P.finds inspector.entry.now)
+                worker.old.lane (own_jobs count place jobs.entry.now) outs.items worker.new.lane) }
         { worker.run(Share { count, place }, jobs, inspector, gate) },
     );
 }
@@ -129,8 +130,8 @@ fn search_beside<P: Pattern, G: Gate, R: Threads + Sync>(
     requires few { length workers.old ≤ 64 }
     requires ascend { AscendsBy (λ (job : Job). job.number) jobs.now }
     requires sound { AreSoundAmong (length inspector.now.stream.now.engines) workers.old jobs.now }
-    ensures finds { IfOk result (λ found. HaveSearched P.finds inspector.now.stream.now inspector.now.set.now
-        inspector.now.all (lanes_of workers.old) jobs.now found.items (lanes_of workers.new)) }
+    ensures finds { IfOk result (λ found. HaveSearched (inspection_of P.finds inspector.now)
+        (lanes_of workers.old) jobs.now found.items (lanes_of workers.new)) }
     ensures learns { OnOk result (HaveLearnt (lanes_of workers.old) jobs.now (lanes_of workers.new)) }
 {
     run_all(runner, threads, workers, jobs, inspector);
@@ -150,8 +151,8 @@ fn search_batch<P: Pattern, G: Gate, R: Threads + Sync>(
     requires few { length workers.old ≤ 64 }
     requires ascend { AscendsBy (λ (job : Job). job.number) jobs.now }
     requires sound { AreSoundAmong (length inspector.now.stream.now.engines) workers.old jobs.now }
-    ensures finds { IfOk result (λ found. HaveSearched P.finds inspector.now.stream.now inspector.now.set.now
-        inspector.now.all (lanes_of workers.old) jobs.now found.items (lanes_of workers.new)) }
+    ensures finds { IfOk result (λ found. HaveSearched (inspection_of P.finds inspector.now)
+        (lanes_of workers.old) jobs.now found.items (lanes_of workers.new)) }
     ensures learns { OnOk result (HaveLearnt (lanes_of workers.old) jobs.now (lanes_of workers.new)) }
 {
     let threads = runner.threads(workers.len(), jobs);
@@ -174,7 +175,7 @@ fn answer_batch<P: Pattern, G: Gate, R: Threads + Sync>(
     requires few { length workers.old ≤ 64 }
     requires ascend { AscendsBy (λ (job : Job). job.number) jobs.now }
     requires sound { AreSoundAmong (length inspector.now.stream.now.engines) workers.old jobs.now }
-    ensures answers { IfOk result (λ out. HaveAnswered P.finds inspector.now.stream.now inspector.now.set.now
+    ensures answers { IfOk result (λ out. HaveAnswered (inspection_of P.finds inspector.now)
         (lanes_of workers.old) jobs.now out (lanes_of workers.new)) }
     ensures learns { OnOk result (HaveLearnt (lanes_of workers.old) jobs.now (lanes_of workers.new)) }
 {
@@ -196,7 +197,7 @@ fn match_batch<P: Pattern, G: Gate, R: Threads + Sync>(
     requires few { length workers.old ≤ 64 }
     requires ascend { AscendsBy (λ (job : Job). job.number) jobs.now }
     requires sound { AreSoundAmong (length inspector.now.stream.now.engines) workers.old jobs.now }
-    ensures finds { OnOk result (HaveMatched P.finds inspector.now.stream.now inspector.now.set.now
+    ensures finds { OnOk result (HaveMatched (inspection_of P.finds inspector.now)
         (lanes_of workers.old) jobs.now out.new (lanes_of workers.new)) }
     ensures learns { OnOk result (HaveLearnt (lanes_of workers.old) jobs.now (lanes_of workers.new)) }
 {

@@ -1,15 +1,12 @@
 //! All rules that match the items of a job, and what the flow's next job finds, in its place.
 
-ghost use Rattle.std.specs.Prelude.{◌≡◌, ◌+◌, ◌≤◌, ◌++◌, drop, length, None, OnOk, option_map, Some, unwrap_or, if◌then◌else◌};
+ghost use Rattle.std.specs.Prelude.{◌≡◌, ◌≤◌, ◌++◌, drop, length, None, OnOk, option_map, Some, unwrap_or, if◌then◌else◌};
 ghost use Rattle.std.specs.FinSet.{empty};
-ghost use Rattle.option_eval.specs.Places.{Means};
-ghost use Rattle.rule_eval.specs.Hits.{Trying};
-ghost use Rattle.flow_lanes.specs.Detecting.{SettlesBy};
+ghost use Rattle.flow_lanes.specs.Detecting.{Settles, bits_now};
 ghost use Rattle.flow_lanes.specs.Flows.{bits_at_hand, session_at_hand, steered};
-ghost use Rattle.flow_lanes.specs.Given.{packet_of};
-ghost use Rattle.flow_lanes.specs.ItemHits.{hits_of, told};
+ghost use Rattle.flow_lanes.specs.Given.{inspection_of, packet_of};
 ghost use Rattle.flow_lanes.specs.Kept.{KeepsFound};
-ghost use Rattle.flow_lanes.specs.Tried.{TriesAll, TriesBy, candidates_of};
+ghost use Rattle.flow_lanes.specs.Tried.{ByTest, Tallies, Tries, of_session, so_far};
 ghost use Rattle.flow_lanes.specs.Working.{own_item};
 
 use crate::answer::Hits;
@@ -67,14 +64,8 @@ fn try_current<P: Pattern>(
     bits: &mut Option<Bits>,
     tally: &mut Tally,
 ) -> Result<(), NoMemory>
-    ensures hits { (means : Means) (trying : Trying) → TriesBy P.finds means inspector.now.set.now trying
-        → OnOk result (TriesAll inspector.now.all trying (streams.now ++ own_item (packet_of p.now) own.now)
-        bits.old bits.new tally.old.hits.items tally.new.hits.items) }
-    ensures items { OnOk result (tally.new.items
-        ≡ tally.old.items + length (streams.now ++ own_item (packet_of p.now) own.now)) }
-    ensures tries { OnOk result (tally.new.tries
-        ≡ tally.old.tries + candidates_of inspector.now.set.now.rules (streams.now ++ own_item (packet_of p.now) own.now)) }
-    ensures more { OnOk result (length tally.old.hits.items ≤ length tally.new.hits.items) }
+    ensures { OnOk result (Tries (inspection_of P.finds inspector.now) (streams.now ++ own_item (packet_of p.now) own.now)
+        bits.old bits.new (so_far tally.old) (so_far tally.new)) }
 {
     try_items(inspector, streams, bits, tally)?;
     try_own(inspector, own, p, bits, tally)?;
@@ -132,12 +123,8 @@ pub(crate) fn try_at_end<P: Pattern>(
     found: &mut Option<FlowState>,
     tally: &mut Tally,
 ) -> Result<(), NoMemory>
-    ensures hits { (means : Means) (trying : Trying) → TriesBy P.finds means inspector.now.set.now trying
-        → OnOk result (tally.new.hits.items
-        ≡ tally.old.hits.items ++ told inspector.now.all (hits_of trying (bits_at_hand found.old) items.now)) }
-    ensures items { OnOk result (tally.new.items ≡ tally.old.items + length items.now) }
-    ensures tries { OnOk result (tally.new.tries
-        ≡ tally.old.tries + candidates_of inspector.now.set.now.rules items.now) }
+    ensures tallies { OnOk result (Tallies (inspection_of P.finds inspector.now)
+        (of_session (bits_at_hand found.old) items.now) (so_far tally.old) (so_far tally.new)) }
     ensures found { found.new ≡ None }
 {
     let mut bits = take_bits_at_hand(found);
@@ -159,13 +146,11 @@ pub(crate) fn try_and_settle<P: Pattern>(
     found: &mut Option<FlowState>,
     tally: &mut Tally,
 ) -> Result<(), NoMemory>
-    ensures hits { (means : Means) (trying : Trying) → TriesBy P.finds means inspector.now.set.now trying
-        → OnOk result (SettlesBy inspector.now.all trying (streams.now ++ own_item (packet_of p.now) own.now)
-        step.now.tracked step.now.ends found.old found.new tally.old.hits.items tally.new.hits.items) }
-    ensures items { OnOk result (tally.new.items
-        ≡ tally.old.items + length (streams.now ++ own_item (packet_of p.now) own.now)) }
-    ensures tries { OnOk result (tally.new.tries
-        ≡ tally.old.tries + candidates_of inspector.now.set.now.rules (streams.now ++ own_item (packet_of p.now) own.now)) }
+    ensures tallies { OnOk result (Tallies (inspection_of P.finds inspector.now)
+        (of_session (bits_now step.now.tracked found.old) (streams.now ++ own_item (packet_of p.now) own.now))
+        (so_far tally.old) (so_far tally.new)) }
+    ensures settles { OnOk result (ByTest (inspection_of P.finds inspector.now) (λ trying. Settles trying
+        (streams.now ++ own_item (packet_of p.now) own.now) step.now found.old found.new)) }
     ensures keeps { KeepsFound found.old found.new }
 {
     let first = tally.hits.len();

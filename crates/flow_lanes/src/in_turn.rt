@@ -6,6 +6,7 @@
 ghost use Rattle.std.specs.Prelude.{◌≡◌, ◌<◌, ◌≤◌, IfOk, OnOk, length};
 ghost use Rattle.flow_lanes.specs.Flows.{flow_of};
 ghost use Rattle.flow_lanes.specs.Standing.{lane_of};
+ghost use Rattle.flow_lanes.specs.Given.{inspection_of};
 ghost use Rattle.flow_lanes.specs.Batching.{AreSoundAmong, HaveLearnt, HaveSearched, lanes_of};
 
 use crate::answer::JobFound;
@@ -50,8 +51,8 @@ pub(crate) fn search_in_turn<P: Pattern, G: Gate>(
     requires some { 0 < length workers.old }
     requires few { length workers.old ≤ 64 }
     requires sound { AreSoundAmong (length inspector.now.stream.now.engines) workers.old jobs.now }
-    ensures finds { IfOk result (λ found. HaveSearched P.finds inspector.now.stream.now inspector.now.set.now
-        inspector.now.all (lanes_of workers.old) jobs.now found.items (lanes_of workers.new)) }
+    ensures finds { IfOk result (λ found. HaveSearched (inspection_of P.finds inspector.now)
+        (lanes_of workers.old) jobs.now found.items (lanes_of workers.new)) }
     ensures learns { OnOk result (HaveLearnt (lanes_of workers.old) jobs.now (lanes_of workers.new)) }
 {
     let count = workers.len();

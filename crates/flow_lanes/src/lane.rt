@@ -4,6 +4,7 @@ ghost use Rattle.std.specs.Prelude.{◌≡◌, ◌≤◌, All, IfOk, OnOk, lengt
 ghost use Rattle.conf_types.specs.Sound.{IsStreamConfig};
 ghost use Rattle.fast_pattern.specs.Grouping.{StandFor};
 ghost use Rattle.rule_types.specs.Sound.{IsTriable};
+ghost use Rattle.flow_lanes.specs.Given.{inspection_of};
 ghost use Rattle.flow_lanes.specs.Sound.{IsSoundFor};
 ghost use Rattle.flow_lanes.specs.Standing.{AnswersJob, CountsTries, LearnsJob, known_of, new_lane};
 ghost use Rattle.flow_lanes.specs.Batching.{SearchesJob};
@@ -138,8 +139,7 @@ impl Lane {
         inspector: &Inspector<'_, P>,
     ) -> Result<JobFound, NoMemory>
         requires { IsSoundFor (length inspector.now.stream.now.engines) (known_of self.old job.now) job.now }
-        ensures finds { IfOk result (λ found. SearchesJob P.finds inspector.now.stream.now inspector.now.set.now
-            inspector.now.all self.old job.now found self.new) }
+        ensures finds { IfOk result (λ found. SearchesJob (inspection_of P.finds inspector.now) self.old job.now found self.new) }
         ensures learns { OnOk result (LearnsJob self.old job.now self.new) }
     {
         let settings = Settings {

@@ -1,8 +1,6 @@
 //! Laws about the answers to jobs, for callers.
 
 ghost use Rattle.std.specs.Prelude.{◌≡◌, ℕ, ◌*◌, ◌<◌, ◌≤◌, ◌==◌, ◌&&◌, All, List, Option, Some, filter, length, slice_get, if◌then◌else◌};
-ghost use Rattle.std.specs.List.{flat_map};
-ghost use Rattle.std.specs.List.Sorted.{IsPermutation};
 ghost use Rattle.std.specs.Option.{is_some};
 ghost use Rattle.edge_io.specs.Along.{AscendsBy, along_from, within};
 ghost use Rattle.flow_lanes.specs.declared.answer.JobHits.{JobHits};
@@ -12,7 +10,7 @@ ghost use Rattle.flow_lanes.specs.Flows.{Detection, answer, items, same_flow};
 ghost use Rattle.flow_lanes.specs.Holding.{IsLimitedJob, held_bytes, held_segments, is_seen};
 ghost use Rattle.flow_lanes.specs.Open.{is_open};
 ghost use Rattle.flow_lanes.specs.Sound.{FlowFacts, IsSoundFor};
-ghost use Rattle.flow_lanes.specs.Standing.{AreLaneAnswers, AreShort, LaneState, LanesStand, LanesState, answers_of_flow, is_of_flow, kept_of, lane_of};
+ghost use Rattle.flow_lanes.specs.Standing.{AreLaneAnswers, ArePutTogether, AreShort, LaneState, LanesStand, LanesState, answers_of_flow, is_of_flow, kept_of, lane_of};
 
 /// The stream items of a sound job of a flow have at most 16384 bytes, whatever jobs stand before it.
 pub fn stream_items_are_short()
@@ -31,8 +29,7 @@ pub fn other_flows_change_nothing()
 pub fn lanes_change_nothing()
     ensures { (d : Detection) (before jobs : List Job) (parts : List (List JobHits)) (merged : List JobHits)
         → 0 < length parts → AreLaneAnswers d before jobs parts → AscendsBy (λ job. job.number) jobs
-        → IsPermutation (flat_map (λ part. part) parts) merged → AscendsBy (λ entry. entry.number) merged
-        → merged ≡ along_from (answer d) before jobs }
+        → ArePutTogether parts merged → merged ≡ along_from (answer d) before jobs }
 {}
 
 /// Lanes that stand for some jobs keep of these the flows that are open, each in its own lane, and nothing of any other

@@ -1,21 +1,18 @@
 //! One job of a flow, in the flow's place: its items, the rules that match them, and what is then kept.
 
-ghost use Rattle.std.specs.Prelude.{◌≡◌, ◌+◌, ◌-◌, ◌^◌, ◌≤◌, ◌++◌, [], ℕ, Bool, true, Option};
+ghost use Rattle.std.specs.Prelude.{◌≡◌, ◌+◌, ◌-◌, ◌^◌, ◌≤◌, ◌++◌, ℕ, Bool, true, Option};
 ghost use Rattle.std.specs.Prelude.{IfOk, OnOk, None, Some, length};
-ghost use Rattle.option_eval.specs.Places.{Means};
-ghost use Rattle.rule_eval.specs.Hits.{Trying};
-ghost use Rattle.flow_lanes.specs.Detecting.{DetectsOn, GoesOn};
-ghost use Rattle.flow_lanes.specs.Flows.{FlowState as Found, all_items, bits_at_hand, hits_in, session_at_hand};
-ghost use Rattle.flow_lanes.specs.Given.{making_of, packet_of};
-ghost use Rattle.flow_lanes.specs.ItemHits.{hits_of, told};
-ghost use Rattle.flow_lanes.specs.Items.{finish_items, packet_items};
+ghost use Rattle.flow_lanes.specs.Detecting.{GoesAt, GoesOn, Leaves, gain_at, gain_of, gain_on};
+ghost use Rattle.flow_lanes.specs.Flows.{FlowState as Found, bits_at_hand, session_at_hand};
+ghost use Rattle.flow_lanes.specs.Given.{inspection_of, making_of, packet_of};
+ghost use Rattle.flow_lanes.specs.Items.{finish_items};
 ghost use Rattle.flow_lanes.specs.Kept.{GrowsFound, IsFound, KeepsFound};
 ghost use Rattle.flow_lanes.specs.Reach.{IsWithin};
-ghost use Rattle.flow_lanes.specs.Sessions.{is_tcp, state_of};
+ghost use Rattle.flow_lanes.specs.Sessions.{is_tcp};
 ghost use Rattle.flow_lanes.specs.Sound.{HasSessions, IsSoundPacket};
 ghost use Rattle.flow_lanes.specs.Staying.{StaysAt};
-ghost use Rattle.flow_lanes.specs.Tried.{TriesBy, candidates_of};
-ghost use Rattle.flow_lanes.specs.Working.{ended_items, items_on, unless_ended};
+ghost use Rattle.flow_lanes.specs.Tried.{ByTest, Tallied, Tallies, of_job, of_session, so_far};
+ghost use Rattle.flow_lanes.specs.Working.{ended_items, unless_ended};
 
 use crate::arrival::Arrival;
 use crate::detecting::{try_and_settle, try_at_end};
@@ -57,14 +54,8 @@ pub(crate) fn end_session<P: Pattern>(
     tally: &mut Tally,
 ) -> Result<(), NoMemory>
     requires { IsWithin (session_at_hand found.old) (2 ^ 63) }
-    ensures hits { (means : Means) (trying : Trying) → TriesBy P.finds means inspector.now.set.now trying
-        → OnOk result (tally.new.hits.items ≡ tally.old.hits.items
-        ++ told inspector.now.all (hits_of trying (bits_at_hand found.old)
-        (ended_items moment true (session_at_hand found.old)))) }
-    ensures items { OnOk result (tally.new.items ≡ tally.old.items
-        + length (ended_items moment true (session_at_hand found.old))) }
-    ensures tries { OnOk result (tally.new.tries ≡ tally.old.tries
-        + candidates_of inspector.now.set.now.rules (ended_items moment true (session_at_hand found.old))) }
+    ensures tallies { OnOk result (Tallies (inspection_of P.finds inspector.now) (of_session (bits_at_hand found.old)
+        (ended_items moment true (session_at_hand found.old))) (so_far tally.old) (so_far tally.new)) }
     ensures found { OnOk result (found.new ≡ None) }
     ensures keeps { KeepsFound found.old found.new }
 {
@@ -83,14 +74,8 @@ fn end_before<P: Pattern>(
     tally: &mut Tally,
 ) -> Result<(), NoMemory>
     requires { IsWithin (session_at_hand found.old) (2 ^ 63) }
-    ensures hits { (means : Means) (trying : Trying) → TriesBy P.finds means inspector.now.set.now trying
-        → OnOk result (tally.new.hits.items ≡ tally.old.hits.items
-        ++ told inspector.now.all (hits_of trying (bits_at_hand found.old)
-        (ended_items moment ended (session_at_hand found.old)))) }
-    ensures items { OnOk result (tally.new.items ≡ tally.old.items
-        + length (ended_items moment ended (session_at_hand found.old))) }
-    ensures tries { OnOk result (tally.new.tries ≡ tally.old.tries
-        + candidates_of inspector.now.set.now.rules (ended_items moment ended (session_at_hand found.old))) }
+    ensures tallies { OnOk result (Tallies (inspection_of P.finds inspector.now) (of_session (bits_at_hand found.old)
+        (ended_items moment ended (session_at_hand found.old))) (so_far tally.old) (so_far tally.new)) }
     ensures found { OnOk result (found.new ≡ unless_ended ended found.old) }
     ensures keeps { KeepsFound found.old found.new }
 {
@@ -112,13 +97,10 @@ fn go_on<P: Pattern>(
 ) -> Result<(), NoMemory>
     requires within { IsWithin (session_at_hand found.old) (2 ^ 63 - 2 ^ 31) }
     requires size { length p.now.payload.now ≤ 65535 }
-    ensures hits { (means : Means) (trying : Trying) → TriesBy P.finds means inspector.now.set.now trying
-        → OnOk result (GoesOn inspector.now.all trying (making_of settings.now) (packet_of p.now) step.now state
-        found.old found.new tally.old.hits.items tally.new.hits.items) }
-    ensures items { OnOk result (tally.new.items ≡ tally.old.items + length
-        (items_on (making_of settings.now) (packet_of p.now) step.now state (session_at_hand found.old))) }
-    ensures tries { OnOk result (tally.new.tries ≡ tally.old.tries + candidates_of inspector.now.set.now.rules
-        (items_on (making_of settings.now) (packet_of p.now) step.now state (session_at_hand found.old))) }
+    ensures tallies { OnOk result (Tallies (inspection_of P.finds inspector.now)
+        (gain_on (making_of settings.now) (packet_of p.now) step.now state found.old) (so_far tally.old) (so_far tally.new)) }
+    ensures goes { OnOk result (ByTest (inspection_of P.finds inspector.now) (λ trying. GoesOn trying
+        (making_of settings.now) (packet_of p.now) step.now state found.old found.new)) }
     ensures grows { (tcp : Bool) (places : ℕ) → state.tcp ≡ tcp → IsFound tcp places (session_at_hand found.old)
         → IsFound tcp (places + 2 ^ 31) (session_at_hand found.new) }
 {
@@ -141,19 +123,12 @@ fn packet_stays<P: Pattern>(
 ) -> Result<(), NoMemory>
     requires within { IsWithin (session_at_hand found.old) (2 ^ 63 - 2 ^ 31) }
     requires size { length p.now.payload.now ≤ 65535 }
-    ensures hits { (means : Means) (trying : Trying) → TriesBy P.finds means inspector.now.set.now trying
-        → (before : Option Found) → StaysAt (making_of settings.now) (packet_of p.now) before step.now found.old
-        → OnOk result (GoesOn inspector.now.all trying (making_of settings.now) (packet_of p.now) step.now
-        (state_of (making_of settings.now) (packet_of p.now) (session_at_hand before))
-        before found.new tally.old.hits.items tally.new.hits.items) }
-    ensures items { (before : Option Found) → StaysAt (making_of settings.now) (packet_of p.now) before step.now found.old
-        → OnOk result (tally.new.items ≡ tally.old.items + length
-        (items_on (making_of settings.now) (packet_of p.now) step.now
-        (state_of (making_of settings.now) (packet_of p.now) (session_at_hand before)) (session_at_hand before))) }
-    ensures tries { (before : Option Found) → StaysAt (making_of settings.now) (packet_of p.now) before step.now found.old
-        → OnOk result (tally.new.tries ≡ tally.old.tries + candidates_of inspector.now.set.now.rules
-        (items_on (making_of settings.now) (packet_of p.now) step.now
-        (state_of (making_of settings.now) (packet_of p.now) (session_at_hand before)) (session_at_hand before))) }
+    ensures tallies { (before : Option Found) → StaysAt (making_of settings.now) (packet_of p.now) before step.now found.old
+        → OnOk result (Tallies (inspection_of P.finds inspector.now)
+        (gain_at (making_of settings.now) (packet_of p.now) step.now before) (so_far tally.old) (so_far tally.new)) }
+    ensures goes { (before : Option Found) → StaysAt (making_of settings.now) (packet_of p.now) before step.now found.old
+        → OnOk result (ByTest (inspection_of P.finds inspector.now) (λ trying. GoesAt trying
+        (making_of settings.now) (packet_of p.now) step.now before found.new)) }
     ensures grows { GrowsFound found.old found.new }
 {
     let mut items = Vec::new(inspector.alloc);
@@ -176,14 +151,10 @@ fn packet_on<P: Pattern>(
     requires protocol { HasSessions p.now.head.now.body }
     requires found { IsFound (is_tcp p.now.head.now.body) (2 ^ 63 - 2 ^ 31) (session_at_hand found.old) }
     requires size { length p.now.payload.now ≤ 65535 }
-    ensures detects { (means : Means) (trying : Trying) → TriesBy P.finds means inspector.now.set.now trying
-        → tally.old.hits.items ≡ []
-        → OnOk result (DetectsOn inspector.now.all trying (packet_items (making_of settings.now) (packet_of p.now)
-        (session_at_hand found.old)) found.old tally.new.hits.items found.new) }
-    ensures items { OnOk result (tally.new.items ≡ tally.old.items + length
-        (all_items (packet_items (making_of settings.now) (packet_of p.now) (session_at_hand found.old)))) }
-    ensures tries { OnOk result (tally.new.tries ≡ tally.old.tries + candidates_of inspector.now.set.now.rules
-        (all_items (packet_items (making_of settings.now) (packet_of p.now) (session_at_hand found.old)))) }
+    ensures tallies { OnOk result (Tallies (inspection_of P.finds inspector.now)
+        (gain_of (making_of settings.now) (packet_of p.now) found.old) (so_far tally.old) (so_far tally.new)) }
+    ensures leaves { OnOk result (ByTest (inspection_of P.finds inspector.now) (λ trying. Leaves trying
+        (making_of settings.now) (packet_of p.now) found.old found.new)) }
     ensures grows { (places : ℕ) → IsFound (is_tcp p.now.head.now.body) places (session_at_hand found.old)
         → IsFound (is_tcp p.now.head.now.body) (places + 2 ^ 31) (session_at_hand found.new) }
 {
@@ -206,14 +177,10 @@ fn packet_found<P: Pattern>(
     requires protocol { HasSessions p.now.head.now.body }
     requires found { IsFound (is_tcp p.now.head.now.body) (2 ^ 63 - 2 ^ 31) (session_at_hand found.old) }
     requires size { length p.now.payload.now ≤ 65535 }
-    ensures detects { (means : Means) (trying : Trying) → TriesBy P.finds means inspector.now.set.now trying
-        → tally.old.hits.items ≡ []
-        → OnOk result (DetectsOn inspector.now.all trying (packet_items (making_of settings.now) (packet_of p.now)
-        (session_at_hand found.old)) found.old tally.new.hits.items found.new) }
-    ensures items { OnOk result (tally.new.items ≡ tally.old.items + length
-        (all_items (packet_items (making_of settings.now) (packet_of p.now) (session_at_hand found.old)))) }
-    ensures tries { OnOk result (tally.new.tries ≡ tally.old.tries + candidates_of inspector.now.set.now.rules
-        (all_items (packet_items (making_of settings.now) (packet_of p.now) (session_at_hand found.old)))) }
+    ensures tallies { OnOk result (Tallies (inspection_of P.finds inspector.now)
+        (gain_of (making_of settings.now) (packet_of p.now) found.old) (so_far tally.old) (so_far tally.new)) }
+    ensures leaves { OnOk result (ByTest (inspection_of P.finds inspector.now) (λ trying. Leaves trying
+        (making_of settings.now) (packet_of p.now) found.old found.new)) }
     ensures grows { (places : ℕ) → IsFound (is_tcp p.now.head.now.body) places (session_at_hand found.old)
         → IsFound (is_tcp p.now.head.now.body) (places + 2 ^ 31) (session_at_hand found.new) }
 {
@@ -238,14 +205,10 @@ impl Flow {
     ) -> Result<Tally, NoMemory>
         requires { IsSoundPacket (length settings.now.stream.now.engines) (Some self.old.facts)
             (packet_of p.now) }
-        ensures detects { (means : Means) (trying : Trying) → TriesBy P.finds means inspector.now.set.now trying
-            → IfOk result (λ tally. DetectsOn inspector.now.all trying
-            (packet_items (making_of settings.now) (packet_of p.now) (session_at_hand self.old.found))
-            self.old.found tally.hits.items self.new.found) }
-        ensures items { IfOk result (λ tally. tally.items ≡ length
-            (all_items (packet_items (making_of settings.now) (packet_of p.now) (session_at_hand self.old.found)))) }
-        ensures tries { IfOk result (λ tally. tally.tries ≡ candidates_of inspector.now.set.now.rules
-            (all_items (packet_items (making_of settings.now) (packet_of p.now) (session_at_hand self.old.found)))) }
+        ensures tallied { IfOk result (λ tally. Tallied (inspection_of P.finds inspector.now)
+            (gain_of (making_of settings.now) (packet_of p.now) self.old.found) (so_far tally)) }
+        ensures leaves { OnOk result (ByTest (inspection_of P.finds inspector.now) (λ trying. Leaves trying
+            (making_of settings.now) (packet_of p.now) self.old.found self.new.found)) }
         ensures facts { self.new.facts ≡ record { ends = self.old.facts.ends; packets = self.old.facts.packets + 1 } }
     {
         self.facts.packets += 1;
@@ -261,13 +224,8 @@ impl Flow {
         inspector: &Inspector<'_, P>,
         moment: Moment,
     ) -> Result<Tally, NoMemory>
-        ensures hits { (means : Means) (trying : Trying) → TriesBy P.finds means inspector.now.set.now trying
-            → IfOk result (λ tally. tally.hits.items
-            ≡ told inspector.now.all (hits_in trying (finish_items moment (session_at_hand self.old.found)) self.old.found)) }
-        ensures items { IfOk result (λ tally. tally.items ≡ length
-            (all_items (finish_items moment (session_at_hand self.old.found)))) }
-        ensures tries { IfOk result (λ tally. tally.tries ≡ candidates_of inspector.now.set.now.rules
-            (all_items (finish_items moment (session_at_hand self.old.found)))) }
+        ensures { IfOk result (λ tally. Tallied (inspection_of P.finds inspector.now)
+            (of_job (finish_items moment (session_at_hand self.old.found)) self.old.found) (so_far tally)) }
     {
         let mut tally = Tally::new(inspector.alloc);
         end_session(inspector, moment, &mut self.found, &mut tally)?;

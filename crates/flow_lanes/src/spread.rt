@@ -9,7 +9,7 @@
 ghost use Rattle.std.specs.Prelude.{◌≡◌, ℕ, ◌+◌, ◌-◌, ◌*◌, ◌^◌, ◌<◌, ◌≤◌, length, slice_index_or};
 ghost use Rattle.std.specs.Fork.{AcceptsAt, AcceptsEach, ChangesAt, ChangesEach};
 ghost use denote.Param.Send.{IsSync, IsSend};
-ghost use Rattle.flow_lanes.specs.Spread.{AcceptsFrom, ChangesFrom};
+ghost use Rattle.flow_lanes.specs.Spread.{AcceptsFrom, ChangesFrom, IsReady};
 
 use std::thread::{Threads, join_mut};
 
@@ -74,9 +74,7 @@ fn spread<R: Threads + Sync, T: Send, F: Fn(usize, &mut T) + Sync>(
     part: Part<'_>,
     s: &mut [T],
 )
-    requires room { part.base + length s.old < 2 ^ 64 }
-    requires same { length part.busy.now ≡ length s.old }
-    requires accepts { AcceptsFrom (AcceptsAt F.Fn f.now) part.base s.old }
+    requires { IsReady (AcceptsAt F.Fn f.now) part s.old }
     ensures { ChangesFrom (ChangesAt F.Fn f.now) part.entry.base s.old s.new }
 {
     let Part { base, busy, .. } = part;
@@ -112,25 +110,18 @@ fn both<R: Threads + Sync, T: Send, F: Fn(usize, &mut T) + Sync>(
     up: Part<'_>,
     back: &mut [T],
 )
-    requires front_room { low.base + length front.old < 2 ^ 64 }
-    requires back_room { up.base + length back.old < 2 ^ 64 }
-    requires front_some { 0 < length front.old }
-    requires back_some { 0 < length back.old }
-    requires front_same { length low.busy.now ≡ length front.old }
-    requires back_same { length up.busy.now ≡ length back.old }
-    requires front { AcceptsFrom (AcceptsAt F.Fn f.now) low.base front.old }
-    requires back { AcceptsFrom (AcceptsAt F.Fn f.now) up.base back.old }
+    requires some { (0 < length front.old) × (0 < length back.old) }
+    requires front { IsReady (AcceptsAt F.Fn f.now) low front.old }
+    requires back { IsReady (AcceptsAt F.Fn f.now) up back.old }
     ensures front { ChangesFrom (ChangesAt F.Fn f.now) low.entry.base front.old front.new }
     ensures back { ChangesFrom (ChangesAt F.Fn f.now) up.entry.base back.old back.new }
 {
     let mut one = ||
-        requires { IsSync R.row × IsSync F.row × IsSend T.row × (low.base + length front.now < 2 ^ 64)
-            × (length low.busy.now ≡ length front.now) × AcceptsFrom (AcceptsAt F.Fn f.now) low.base front.now }
+        requires { IsSync R.row × IsSync F.row × IsSend T.row × IsReady (AcceptsAt F.Fn f.now) low front.now }
         ensures { ChangesFrom (ChangesAt F.Fn f.entry.now) low.entry.base front.entry.now front.exit.now }
     { spread(rt, f, low, front) };
     let mut other = ||
-        requires { IsSync R.row × IsSync F.row × IsSend T.row × (up.base + length back.now < 2 ^ 64)
-            × (length up.busy.now ≡ length back.now) × AcceptsFrom (AcceptsAt F.Fn f.now) up.base back.now }
+        requires { IsSync R.row × IsSync F.row × IsSend T.row × IsReady (AcceptsAt F.Fn f.now) up back.now }
         ensures { ChangesFrom (ChangesAt F.Fn f.entry.now) up.entry.base back.entry.now back.exit.now }
     { spread(rt, f, up, back) };
     join_mut(rt, &mut one, &mut other);

@@ -2,12 +2,10 @@
 
 ghost use Rattle.std.specs.Prelude.{◌≡◌, ◌+◌, ◌≤◌, ◌++◌, [], ◌∷◌, length, IfOk, OnOk};
 ghost use Rattle.fast_pattern.specs.Candidates.{candidates};
-ghost use Rattle.option_eval.specs.Places.{Means};
-ghost use Rattle.rule_eval.specs.Hits.{Trying};
-ghost use Rattle.flow_lanes.specs.Given.{packet_of};
+ghost use Rattle.flow_lanes.specs.Given.{inspection_of, packet_of};
 ghost use Rattle.flow_lanes.specs.ItemHits.{told};
+ghost use Rattle.flow_lanes.specs.Tried.{Tries, so_far};
 ghost use Rattle.flow_lanes.specs.Working.{item_with, own_item};
-ghost use Rattle.flow_lanes.specs.Tried.{TriesAll, TriesBy, TriesOne, candidates_of};
 
 use crate::answer::Hits;
 use crate::arrival::Arrival;
@@ -51,8 +49,7 @@ impl Tally {
     /// One item more, of so many candidates, whose options cost about so much. A job of which the items or the
     /// candidates cannot be counted has more items than memory holds.
     fn count(&mut self, tries: usize, cost: u64) -> Result<(), NoMemory>
-        ensures items { OnOk result (self.new.items ≡ self.old.items + 1) }
-        ensures tries { OnOk result (self.new.tries ≡ self.old.tries + tries) }
+        ensures counts { OnOk result ((self.new.items ≡ self.old.items + 1) × (self.new.tries ≡ self.old.tries + tries)) }
         ensures hits { self.new.hits.items ≡ self.old.hits.items }
     {
         self.cost = self.cost.saturating_add(item_cost(tries, cost));
@@ -117,13 +114,8 @@ fn try_candidates<P: Pattern>(
     tally: &mut Tally,
 ) -> Result<(), NoMemory>
     requires { places.now ≡ candidates inspector.now.set.now.rules head.now.body payload.now }
-    ensures hits { (means : Means) (trying : Trying) → TriesBy P.finds means inspector.now.set.now trying
-        → OnOk result (TriesOne inspector.now.all trying (record { head = head.now; payload = payload.now })
-        bits.old bits.new tally.old.hits.items tally.new.hits.items) }
-    ensures items { OnOk result (tally.new.items ≡ tally.old.items + 1) }
-    ensures tries { OnOk result (tally.new.tries
-        ≡ tally.old.tries + length (candidates inspector.now.set.now.rules head.now.body payload.now)) }
-    ensures more { OnOk result (length tally.old.hits.items ≤ length tally.new.hits.items) }
+    ensures { OnOk result (Tries (inspection_of P.finds inspector.now) (record { head = head.now; payload = payload.now } ∷ [])
+        bits.old bits.new (so_far tally.old) (so_far tally.new)) }
 {
     let rules = matching_among(inspector.alloc, inspector.set, places, head, payload, bits)?;
     let cost = cost_of_options(inspector.set, places, payload.len());
@@ -140,13 +132,8 @@ pub(crate) fn try_item<P: Pattern>(
     bits: &mut Option<Bits>,
     tally: &mut Tally,
 ) -> Result<(), NoMemory>
-    ensures hits { (means : Means) (trying : Trying) → TriesBy P.finds means inspector.now.set.now trying
-        → OnOk result (TriesOne inspector.now.all trying (record { head = head.now; payload = payload.now })
-        bits.old bits.new tally.old.hits.items tally.new.hits.items) }
-    ensures items { OnOk result (tally.new.items ≡ tally.old.items + 1) }
-    ensures tries { OnOk result (tally.new.tries
-        ≡ tally.old.tries + length (candidates inspector.now.set.now.rules head.now.body payload.now)) }
-    ensures more { OnOk result (length tally.old.hits.items ≤ length tally.new.hits.items) }
+    ensures { OnOk result (Tries (inspection_of P.finds inspector.now) (record { head = head.now; payload = payload.now } ∷ [])
+        bits.old bits.new (so_far tally.old) (so_far tally.new)) }
 {
     let places = item_candidates(inspector, head, payload, &mut tally.cost)?;
     try_candidates(inspector, &places, head, payload, bits, tally)
@@ -164,13 +151,8 @@ fn try_with_facts<P: Pattern>(
     tally: &mut Tally,
 ) -> Result<(), NoMemory>
     requires { places.now ≡ candidates inspector.now.set.now.rules p.now.head.now.body p.now.payload.now }
-    ensures hits { (means : Means) (trying : Trying) → TriesBy P.finds means inspector.now.set.now trying
-        → OnOk result (TriesOne inspector.now.all trying (item_with (packet_of p.now) facts) bits.old bits.new
-        tally.old.hits.items tally.new.hits.items) }
-    ensures items { OnOk result (tally.new.items ≡ tally.old.items + 1) }
-    ensures tries { OnOk result (tally.new.tries
-        ≡ tally.old.tries + length (candidates inspector.now.set.now.rules p.now.head.now.body p.now.payload.now)) }
-    ensures more { OnOk result (length tally.old.hits.items ≤ length tally.new.hits.items) }
+    ensures { OnOk result (Tries (inspection_of P.finds inspector.now) (item_with (packet_of p.now) facts ∷ [])
+        bits.old bits.new (so_far tally.old) (so_far tally.new)) }
 {
     let head = ItemHead {
         session: facts,
@@ -190,13 +172,8 @@ fn try_packet<P: Pattern>(
     bits: &mut Option<Bits>,
     tally: &mut Tally,
 ) -> Result<(), NoMemory>
-    ensures hits { (means : Means) (trying : Trying) → TriesBy P.finds means inspector.now.set.now trying
-        → OnOk result (TriesOne inspector.now.all trying (item_with (packet_of p.now) facts) bits.old bits.new
-        tally.old.hits.items tally.new.hits.items) }
-    ensures items { OnOk result (tally.new.items ≡ tally.old.items + 1) }
-    ensures tries { OnOk result (tally.new.tries
-        ≡ tally.old.tries + length (candidates inspector.now.set.now.rules p.now.head.now.body p.now.payload.now)) }
-    ensures more { OnOk result (length tally.old.hits.items ≤ length tally.new.hits.items) }
+    ensures { OnOk result (Tries (inspection_of P.finds inspector.now) (item_with (packet_of p.now) facts ∷ [])
+        bits.old bits.new (so_far tally.old) (so_far tally.new)) }
 {
     let places = item_candidates(inspector, p.head, p.payload, &mut tally.cost)?;
     if places.is_empty() && !inspector.all {
@@ -214,14 +191,8 @@ pub(crate) fn try_own<P: Pattern>(
     bits: &mut Option<Bits>,
     tally: &mut Tally,
 ) -> Result<(), NoMemory>
-    ensures hits { (means : Means) (trying : Trying) → TriesBy P.finds means inspector.now.set.now trying
-        → OnOk result (TriesAll inspector.now.all trying (own_item (packet_of p.now) own.now) bits.old bits.new
-        tally.old.hits.items tally.new.hits.items) }
-    ensures items { OnOk result (tally.new.items
-        ≡ tally.old.items + length (own_item (packet_of p.now) own.now)) }
-    ensures tries { OnOk result (tally.new.tries
-        ≡ tally.old.tries + candidates_of inspector.now.set.now.rules (own_item (packet_of p.now) own.now)) }
-    ensures more { OnOk result (length tally.old.hits.items ≤ length tally.new.hits.items) }
+    ensures { OnOk result (Tries (inspection_of P.finds inspector.now) (own_item (packet_of p.now) own.now)
+        bits.old bits.new (so_far tally.old) (so_far tally.new)) }
 {
     match own {
         None => Ok(()),
@@ -236,13 +207,8 @@ pub(crate) fn try_items<P: Pattern>(
     bits: &mut Option<Bits>,
     tally: &mut Tally,
 ) -> Result<(), NoMemory>
-    ensures hits { (means : Means) (trying : Trying) → TriesBy P.finds means inspector.now.set.now trying
-        → OnOk result (TriesAll inspector.now.all trying items.now bits.old bits.new
-        tally.old.hits.items tally.new.hits.items) }
-    ensures items { OnOk result (tally.new.items ≡ tally.old.items + length items.now) }
-    ensures tries { OnOk result (tally.new.tries
-        ≡ tally.old.tries + candidates_of inspector.now.set.now.rules items.now) }
-    ensures more { OnOk result (length tally.old.hits.items ≤ length tally.new.hits.items) }
+    ensures { OnOk result (Tries (inspection_of P.finds inspector.now) items.now
+        bits.old bits.new (so_far tally.old) (so_far tally.new)) }
 {
     for item in items {
         try_item(inspector, &item.head, item.payload.bytes(), bits, tally)?;

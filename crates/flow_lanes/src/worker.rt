@@ -5,6 +5,7 @@ ghost use Rattle.flow_lanes.specs.declared.job.Job.{Job};
 ghost use Rattle.flow_lanes.specs.Flows.{flow_of};
 ghost use Rattle.flow_lanes.specs.Sound.{IsSoundFor};
 ghost use Rattle.flow_lanes.specs.Standing.{LaneState, is_in_lane, known_of, lane_of, new_lane};
+ghost use Rattle.flow_lanes.specs.Given.{inspection_of};
 ghost use Rattle.flow_lanes.specs.Batching.{AddsFound, AddsOwn, AreSoundIn, GoesOn, own_jobs};
 
 use crate::answer::JobFound;
@@ -53,8 +54,8 @@ fn answer<P: Pattern>(
     outs: &mut Vec<Numbered<JobFound>>,
 ) -> Result<(), NoMemory>
     requires { IsSoundFor (length inspector.now.stream.now.engines) (known_of lane.old job.now) job.now }
-    ensures { OnOk result (AddsFound P.finds inspector.now.stream.now inspector.now.set.now inspector.now.all job.now
-        lane.old outs.old.items lane.new outs.new.items) }
+    ensures { OnOk result (AddsFound (inspection_of P.finds inspector.now)
+        job.now lane.old outs.old.items lane.new outs.new.items) }
 {
     let value = lane.search(job, inspector)?;
     outs.push(Numbered {
@@ -75,8 +76,8 @@ fn answer_own<P: Pattern>(
     requires some { 0 < share.count }
     requires sound { is_in_lane share.count share.place job.now ≡ true
         → IsSoundFor (length inspector.now.stream.now.engines) (known_of lane.old job.now) job.now }
-    ensures { OnOk result (AddsOwn P.finds inspector.now.stream.now inspector.now.set.now inspector.now.all
-        share.count share.place job.now lane.old outs.old.items lane.new outs.new.items) }
+    ensures { OnOk result (AddsOwn (inspection_of P.finds inspector.now)
+        share job.now lane.old outs.old.items lane.new outs.new.items) }
 {
     if lane_of(share.count, flow_of(job)) == share.place {
         answer(lane, job, inspector, outs)?;
@@ -93,7 +94,7 @@ fn own_outs<P: Pattern>(
 ) -> Result<Vec<Numbered<JobFound>>, NoMemory>
     requires some { 0 < share.count }
     requires sound { AreSoundIn (length inspector.now.stream.now.engines) share.count share.place lane.old jobs.now }
-    ensures { IfOk result (λ outs. GoesOn P.finds inspector.now.stream.now inspector.now.set.now inspector.now.all
+    ensures { IfOk result (λ outs. GoesOn (inspection_of P.finds inspector.now)
         lane.old (own_jobs share.count share.place jobs.now) outs.items lane.new) }
 {
     let mut outs = Vec::new(inspector.alloc);
@@ -143,8 +144,8 @@ impl Worker {
         found: &mut Vec<Numbered<JobFound>>,
     ) -> Result<(), NoMemory>
         requires { IsSoundFor (length inspector.now.stream.now.engines) (known_of self.old.lane job.now) job.now }
-        ensures { OnOk result (AddsFound P.finds inspector.now.stream.now inspector.now.set.now inspector.now.all job.now
-            self.old.lane found.old.items self.new.lane found.new.items) }
+        ensures { OnOk result (AddsFound (inspection_of P.finds inspector.now)
+            job.now self.old.lane found.old.items self.new.lane found.new.items) }
     {
         answer(&mut self.lane, job, inspector, found)
     }
@@ -161,7 +162,7 @@ impl Worker {
         requires place { share.place < 2 ^ 32 }
         requires sound { AreSoundIn (length inspector.now.stream.now.engines) share.count share.place
             self.old.lane jobs.now }
-        ensures { IfOk self.new.outs (λ outs. GoesOn P.finds inspector.now.stream.now inspector.now.set.now inspector.now.all
+        ensures { IfOk self.new.outs (λ outs. GoesOn (inspection_of P.finds inspector.now)
             self.old.lane (own_jobs share.count share.place jobs.now) outs.items self.new.lane) }
     {
         if has_work(share, jobs) {

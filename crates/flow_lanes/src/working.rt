@@ -3,10 +3,11 @@
 ghost use Rattle.std.specs.Prelude.{◌≡◌, IfOk, None, length};
 ghost use Rattle.flow_lanes.specs.declared.job.Work.TheVariants as works;
 ghost use Rattle.flow_lanes.specs.Engines.{Making};
-ghost use Rattle.flow_lanes.specs.Given.{making_of, packet_of};
+ghost use Rattle.flow_lanes.specs.Given.{inspection_of, making_of, packet_of};
 ghost use Rattle.flow_lanes.specs.Kept.{kept_in};
 ghost use Rattle.flow_lanes.specs.Sound.{IsSoundPacket, IsSoundWork};
 ghost use Rattle.flow_lanes.specs.Standing.{facts_kept};
+ghost use Rattle.flow_lanes.specs.Tried.{so_far};
 ghost use Rattle.flow_lanes.specs.Whole.{IsDone, known_for};
 
 use crate::arrival::Arrival;
@@ -29,9 +30,9 @@ fn do_packet<P: Pattern>(
 ) -> Result<Tally, NoMemory>
     requires { IsSoundPacket (length settings.now.stream.now.engines)
         (facts_kept (kept_in flows.old.entries flow)) (packet_of p.now) }
-    ensures { IfOk result (IsDone P.finds inspector.now.set.now inspector.now.all (making_of settings.now) p.now.moment
+    ensures { IfOk result (λ tally. IsDone (inspection_of P.finds inspector.now) (making_of settings.now) p.now.moment
         (works.Packet flow p.now.head.now p.now.payload.now p.now.to_dst p.now.to_src)
-        flows.old.entries flows.new.entries) }
+        flows.old.entries flows.new.entries (so_far tally)) }
 {
     match flows.get_mut(&flow) {
         Some(kept) => {
@@ -54,9 +55,9 @@ fn first_packet<P: Pattern>(
 ) -> Result<Tally, NoMemory>
     requires first { kept_in flows.old.entries flow ≡ None }
     requires sound { IsSoundPacket (length settings.now.stream.now.engines) None (packet_of p.now) }
-    ensures { IfOk result (IsDone P.finds inspector.now.set.now inspector.now.all (making_of settings.now) p.now.moment
+    ensures { IfOk result (λ tally. IsDone (inspection_of P.finds inspector.now) (making_of settings.now) p.now.moment
         (works.Packet flow p.now.head.now p.now.payload.now p.now.to_dst p.now.to_src)
-        flows.old.entries flows.new.entries) }
+        flows.old.entries flows.new.entries (so_far tally)) }
 {
     let kept = flows.entry(flow)?.or_insert(Flow::new(p));
     let tally = kept.packet(inspector, settings, p)?;
@@ -70,8 +71,8 @@ fn do_finish<P: Pattern>(
     flow: u64,
     flows: &mut Flows,
 ) -> Result<Tally, NoMemory>
-    ensures { (making : Making) → IfOk result (IsDone P.finds inspector.now.set.now inspector.now.all making moment
-        (works.Finish flow) flows.old.entries flows.new.entries) }
+    ensures { (making : Making) → IfOk result (λ tally. IsDone (inspection_of P.finds inspector.now) making moment
+        (works.Finish flow) flows.old.entries flows.new.entries (so_far tally)) }
 {
     match flows.get_mut(&flow) {
         Some(kept) => {
@@ -91,8 +92,8 @@ fn do_alone<P: Pattern>(
     payload: &[u8],
     flows: &Flows,
 ) -> Result<Tally, NoMemory>
-    ensures { (making : Making) → IfOk result (IsDone P.finds inspector.now.set.now inspector.now.all making moment
-        (works.Alone head.now payload.now) flows.now.entries flows.now.entries) }
+    ensures { (making : Making) → IfOk result (λ tally. IsDone (inspection_of P.finds inspector.now) making moment
+        (works.Alone head.now payload.now) flows.now.entries flows.now.entries (so_far tally)) }
 {
     let mut tally = Tally::new(inspector.alloc);
     try_item(inspector, head, payload, &mut None, &mut tally)?;
@@ -110,8 +111,8 @@ pub(crate) fn do_work<P: Pattern>(
 ) -> Result<Tally, NoMemory>
     requires { IsSoundWork (length settings.now.stream.now.engines) (known_for flows.old.entries work.now)
         moment work.now }
-    ensures { IfOk result (IsDone P.finds inspector.now.set.now inspector.now.all (making_of settings.now) moment work.now
-        flows.old.entries flows.new.entries) }
+    ensures { IfOk result (λ tally. IsDone (inspection_of P.finds inspector.now) (making_of settings.now) moment work.now
+        flows.old.entries flows.new.entries (so_far tally)) }
 {
     match work {
         Work::Alone { head, payload } => {

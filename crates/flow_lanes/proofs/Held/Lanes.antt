@@ -1,6 +1,6 @@
 -- What all lanes hold of one flow: nothing unless TCP was seen of it, and then no more than two sides may.
 use Rattle.std.proofs.Common.{◌≡◌, ℕ, zero, suc, ◌+◌, ◌*◌, ◌≤◌, Bool, true, false, cond, ◌==◌, List, [], ◌∷◌, Option, Some, None, filter, fold, length, refl, sym, ap, subst, ◌∙◌, arith}
-use Rattle.std.specs.Prelude.{slice_get, sum_by, IfSome}
+use Rattle.std.specs.Prelude.{slice_get, sum_by}
 use Rattle.std.specs.List.{All}
 use Rattle.std.specs.Option.{option_map_or}
 use Rattle.std.proofs.lemmas.Bool.{eq-eqb, eqb-true, false≢true}
@@ -10,7 +10,7 @@ use Rattle.std.proofs.lemmas.List.Sums.{sum_by-cons}
 use Rattle.stream5_reassembly.specs.Segments.{DirectionState}
 use Rattle.flow_lanes.specs.declared.job.Job.{Job}
 use Rattle.flow_lanes.specs.Flows.{Detection, FlowState, flow_of, same_number}
-use Rattle.flow_lanes.specs.Standing.{KeptFlow, LaneState, LanesStand, LanesState, is_in_lane, is_of_flow, kept_after, kept_behind, kept_of, lane_of, state_kept}
+use Rattle.flow_lanes.specs.Standing.{KeptFlow, LaneState, LanesStand, LanesState, is_in_lane, is_of_flow, kept_after, kept_of, lane_of, state_kept}
 use Rattle.flow_lanes.specs.Holding.{IsLimitedJob, counted_segments, held_bytes, held_segments, in_lanes, is_seen, of_sides, seen_after, seen_of, waiting_bytes}
 use Rattle.flow_lanes.proofs.Held.Sides.{IsFew, IsIdle, counted-few, counted-idle, waiting-few, waiting-idle}
 use Rattle.flow_lanes.proofs.Held.Sessions.{HoldsFew, HoldsState, kept-after}

@@ -1,7 +1,7 @@
 -- What the session of a flow holds stays within the limits of the engines, job by job; a session that isn't of TCP holds
 -- nothing.
-use Rattle.std.proofs.Common.{◌≡◌, ℕ, ◌≤◌, Bool, true, false, cond, not, ◌&&◌, ◌||◌, List, [], ◌∷◌, Option, Some, None, fold, length, unwrap_or, refl, sym, ap, subst, ◌∙◌}
-use Rattle.std.specs.Prelude.{IfSome, ⊤}
+use Rattle.std.proofs.Common.{◌≡◌, ℕ, Bool, true, false, cond, not, ◌||◌, List, [], ◌∷◌, Option, Some, None, fold, length, unwrap_or, refl, sym, ap, ◌∙◌}
+use Rattle.std.specs.Prelude.{IfSome}
 use Rattle.std.specs.FinSet.{empty}
 use Rattle.std.specs.List.{All}
 use Rattle.std.specs.Option.{option_map}

@@ -1,5 +1,5 @@
 -- What a side holds stays within the limits of the engines, whatever comes.
-use Rattle.std.proofs.Common.{◌≡◌, ℕ, ◌-◌, ◌<◌, ◌≤◌, Bool, true, false, cond, ◌&&◌, ltb, leb, List, [], ◌∷◌, length, max, refl, sym, ap, subst, ◌∙◌, arith, Option, Some, None, is_some}
+use Rattle.std.proofs.Common.{◌≡◌, ℕ, ◌-◌, ◌≤◌, Bool, true, false, cond, ◌&&◌, ltb, leb, List, [], ◌∷◌, length, max, refl, sym, ap, subst, ◌∙◌, arith, Option, Some, None, is_some}
 use Rattle.std.specs.List.{range_with_len}
 use Rattle.std.proofs.lemmas.Bool.{and_parts, ltb-true}
 use Rattle.std.proofs.lemmas.Bool.Decides.{nat_tests}
@@ -15,7 +15,7 @@ use Rattle.stream5_reassembly.specs.declared.limits.Added.TheVariants.{Queued, O
 use Rattle.stream5_reassembly.specs.declared.limits.Limits.{Limits}
 use Rattle.stream5_reassembly.specs.Segments.{DirectionState, IsWithinLimits, ack_flushes, ack_place, after_fate, fate_at, first_place, flushed_bytes, flushed_to, idle, place_in, segment_at, segment_fate, started_at, top, with_segment}
 use Rattle.stream5_reassembly.proofs.Steps.{idle-top, queued-room}
-use Rattle.flow_lanes.specs.Sides.{Side, direction_after_data, side_after_ack, side_after_data, started_by, with_base, with_data, without_left}
+use Rattle.flow_lanes.specs.Sides.{Side, side_after_ack, side_after_data, started_by, with_base, with_data, without_left}
 use Rattle.flow_lanes.specs.Streams.{places_below}
 use Rattle.flow_lanes.specs.Holding.{counted_segments, waiting_bytes}
 

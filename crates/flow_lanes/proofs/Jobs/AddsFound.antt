@@ -8,15 +8,13 @@ use Rattle.std.proofs.lemmas.List.{append-nil, length-map, length-set, map-set}
 use Rattle.std.proofs.lemmas.List.Elements.{filter-append}
 use Rattle.std.proofs.lemmas.List.Sums.{fold-append}
 use Rattle.std.proofs.lemmas.Option.{same_Some, slice_get-get_or, slice_get-map, slice_get_within}
-use Rattle.edge_io.specs.declared.pattern.Span.{Span}
 use Rattle.edge_io.proofs.Along.{along_from-append}
-use Rattle.conf_types.specs.declared.config.StreamConfig.{StreamConfig}
-use Rattle.option_eval.specs.RuleSet.{Rules}
 use Rattle.ordered_merge.specs.declared.numbered.Numbered.{Numbered}
 use Rattle.flow_lanes.specs.declared.answer.JobFound.{JobFound}
 use Rattle.flow_lanes.specs.declared.job.Job.{Job}
 use Rattle.flow_lanes.specs.declared.worker.Worker.{Worker}
 use Rattle.flow_lanes.specs.Flows.{Detection, flow_of, same_flow}
+use Rattle.flow_lanes.specs.Given.{Inspection}
 use Rattle.flow_lanes.specs.Sound.{FlowFacts, IsSoundFor, facts_after, facts_behind}
 use Rattle.flow_lanes.specs.Standing.{LaneState, LanesStand, LanesState, LearnsJob, Stands, is_in_lane, known_in, known_of, lane_of}
 use Rattle.flow_lanes.specs.Batching.{AddsFound, AreSearched, AreSoundAmong, HaveLearnt, HaveSearched, IsSearched, SearchesJob, lanes_of, numbered_out, own_jobs}
@@ -86,9 +84,9 @@ stand-more d lanes place mid next job before here is_mid stand done = record {
         subst (λ (js : List Job). Stands d lane js) (sym (own_jobs-more (length lanes) p before job false other ∙ append-nil (own_jobs (length lanes) p before)))
         (stand.each p lane (sym (slice_get-set_other lanes place p next apart) ∙ is))
 
-module _ {P : Type 0} (finds : P → List ℕ → Option Span) (stream : StreamConfig) (rules : Rules P) (all : Bool) where
+module _ {P : Type 0} (by : Inspection P) where
   -- no job
-  pub searched-none : (lanes : List LaneState) → HaveSearched finds stream rules all lanes [] [] lanes
+  pub searched-none : (lanes : List LaneState) → HaveSearched by lanes [] [] lanes
   searched-none lanes old new is_old is_new means d before detects stand = record {
     right = refl;
     stands = subst (λ (jobs : List Job). LanesStand d new jobs) (sym (append-nil before)) (LanesStand-same d old new before (is_old ∙ sym is_new) stand);
@@ -96,40 +94,40 @@ module _ {P : Type 0} (finds : P → List ℕ → Option Span) (stream : StreamC
 
   -- a job, by its own lane
   searched-one : (lanes : List LaneState) (place : ℕ) (mid next : LaneState) (job : Job) (out : JobFound) → place ≡ lane_of (length lanes) (flow_of job) → slice_get lanes place ≡ Some mid
-      → SearchesJob finds stream rules all mid job out next
-      → HaveSearched finds stream rules all lanes (job ∷ []) (record { number = job.number; value = out } ∷ []) (set lanes place next)
+      → SearchesJob by mid job out next
+      → HaveSearched by lanes (job ∷ []) (record { number = job.number; value = out } ∷ []) (set lanes place next)
   searched-one lanes place mid next job out is_place is_mid searches old new is_old is_new means d before detects stand =
       let here : is_in_lane (length lanes) place job ≡ true = eq-eqb (lane_of (length lanes) (flow_of job)) place (sym is_place) in
       let stood : LanesStand d (among lanes) before = LanesStand-same d old (among lanes) before is_old stand in
       let own : List Job = own_jobs (length lanes) place before in
-      let done : IsSearched all d own job out next = searches means d own detects (stood.each place mid is_mid) in
-      let last : record { number = job.number; value = out } ≡ numbered_out all d own job = ap (λ (found : JobFound). record { number = job.number; value = found }) done.right in
+      let done : IsSearched by.all d own job out next = searches means d own detects (stood.each place mid is_mid) in
+      let last : record { number = job.number; value = out } ≡ numbered_out by.all d own job = ap (λ (found : JobFound). record { number = job.number; value = found }) done.right in
       record {
-        right = ap (λ (o : Numbered JobFound). o ∷ []) (last ∙ numbered_out-own all d (length lanes) place job before here);
+        right = ap (λ (o : Numbered JobFound). o ∷ []) (last ∙ numbered_out-own by.all d (length lanes) place job before here);
         stands = LanesStand-same d (among (set lanes place next)) new (before ++ job ∷ []) (sym is_new) (stand-more d lanes place mid next job before here is_mid stood done.stands);
       }
 
   -- more jobs
-  searched-more : (olds mids news : List LaneState) (front jobs : List Job) (found more : List (Numbered JobFound)) → HaveSearched finds stream rules all olds front found mids
-      → HaveSearched finds stream rules all mids jobs more news → HaveSearched finds stream rules all olds (front ++ jobs) (found ++ more) news
+  searched-more : (olds mids news : List LaneState) (front jobs : List Job) (found more : List (Numbered JobFound)) → HaveSearched by olds front found mids
+      → HaveSearched by mids jobs more news → HaveSearched by olds (front ++ jobs) (found ++ more) news
   searched-more olds mids news front jobs found more one two old new is_old is_new means d before detects stand =
-      let first : AreSearched all d before front found (among mids) = one old (among mids) is_old refl means d before detects stand in
-      let second : AreSearched all d (before ++ front) jobs more new = two (among mids) new refl is_new means d (before ++ front) detects first.stands in
+      let first : AreSearched by.all d before front found (among mids) = one old (among mids) is_old refl means d before detects stand in
+      let second : AreSearched by.all d (before ++ front) jobs more new = two (among mids) new refl is_new means d (before ++ front) detects first.stands in
       record {
-        right = (λ i. first.right i ++ second.right i) ∙ sym (along_from-append (numbered_out all d) before front jobs);
+        right = (λ i. first.right i ++ second.right i) ∙ sym (along_from-append (numbered_out by.all d) before front jobs);
         stands = subst (λ (js : List Job). LanesStand d new js) (append_assoc before front jobs) second.stands;
       }
 
   -- one job more
   pub turn_searched : (olds mids : List Worker) (place : ℕ) (other worker : Worker) (front : List Job) (job : Job) (found more : List (Numbered JobFound)) → place < length mids → place ≡ lane_of (length mids) (flow_of job)
-      → HaveSearched finds stream rules all (lanes_of olds) front found (lanes_of mids) → AddsFound finds stream rules all job (get_or mids place other).lane found worker.lane more
-      → HaveSearched finds stream rules all (lanes_of olds) (front ++ job ∷ []) more (lanes_of (set mids place worker))
+      → HaveSearched by (lanes_of olds) front found (lanes_of mids) → AddsFound by job (get_or mids place other).lane found worker.lane more
+      → HaveSearched by (lanes_of olds) (front ++ job ∷ []) more (lanes_of (set mids place worker))
   turn_searched olds mids place other worker front job found more within is_place so_far adds =
       let is_mid : slice_get (lanes_of mids) place ≡ Some (get_or mids place other).lane =
       slice_get-map (λ (w : Worker). w.lane) mids place ∙ ap (option_map (λ (w : Worker). w.lane)) (slice_get-get_or mids place other within) in
       let at : place ≡ lane_of (length (lanes_of mids)) (flow_of job) = is_place ∙ ap (λ (count : ℕ). lane_of count (flow_of job)) (sym (length-map mids (λ (w : Worker). w.lane))) in
-      subst (λ (outs : List (Numbered JobFound)). HaveSearched finds stream rules all (lanes_of olds) (front ++ job ∷ []) outs (lanes_of (set mids place worker))) (sym adds.added)
-      (subst (λ (lanes : List LaneState). HaveSearched finds stream rules all (lanes_of olds) (front ++ job ∷ []) (found ++ record { number = job.number; value = adds.found } ∷ []) lanes)
+      subst (λ (outs : List (Numbered JobFound)). HaveSearched by (lanes_of olds) (front ++ job ∷ []) outs (lanes_of (set mids place worker))) (sym adds.added)
+      (subst (λ (lanes : List LaneState). HaveSearched by (lanes_of olds) (front ++ job ∷ []) (found ++ record { number = job.number; value = adds.found } ∷ []) lanes)
       (sym (map-set (λ (w : Worker). w.lane) mids place worker))
       (searched-more (lanes_of olds) (lanes_of mids) (set (lanes_of mids) place worker.lane) front (job ∷ []) found (record { number = job.number; value = adds.found } ∷ []) so_far
       (searched-one (lanes_of mids) place (get_or mids place other).lane worker.lane job adds.found at is_mid adds.searches)))

@@ -4,6 +4,12 @@ use Rattle.std.proofs.lemmas.Bool.{cases_lt}
 use Rattle.std.proofs.lemmas.List.{get_or_append_left, get_or-append-add}
 use Rattle.flow_lanes.specs.Spread.{AcceptsFrom, ChangesFrom}
 
+pub accepts_front : {X : Type 0} (P : ℕ → X → Type 0) (base : ℕ) (xs front back : List X) → xs ≡ front ++ back → AcceptsFrom P base xs → AcceptsFrom P base front
+accepts_front {X} P base xs front back is all = λ k d within.
+    let size = ap length is ∙ length-append front back in
+    let there : get_or xs k d ≡ get_or front k d = ap (λ (l : List X). get_or l k d) is ∙ get_or_append_left front back d k within in
+    subst (λ (x : X). P (base + k) x) there (all k d (omega (arith, size, within)))
+
 pub accepts_back : {X : Type 0} (P : ℕ → X → Type 0) (base mid : ℕ) (xs front back : List X) → xs ≡ front ++ back → length front ≡ mid → AcceptsFrom P base xs → AcceptsFrom P (base + mid) back
 accepts_back {X} P base mid xs front back is cut all = λ k d within.
     let size = ap length is ∙ length-append front back in

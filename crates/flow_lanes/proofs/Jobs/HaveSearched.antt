@@ -10,13 +10,10 @@ use Rattle.std.proofs.lemmas.List.Elements.{filter-append}
 use Rattle.std.proofs.lemmas.List.Kept.{AllPairs-filter, AllPairs-from_increasing}
 use Rattle.std.proofs.lemmas.List.Sums.{sum-map}
 use Rattle.std.proofs.lemmas.Option.{slice_get-get_or, slice_get_within}
-use Rattle.edge_io.specs.declared.pattern.Span.{Span}
 use Rattle.edge_io.specs.Along.{AscendsBy, IsLocal, along_from}
 use Rattle.edge_io.proofs.Along.{map-along_from}
 use Rattle.edge_io.proofs.AlongClasses.{joined_classes}
-use Rattle.conf_types.specs.declared.config.StreamConfig.{StreamConfig}
 use Rattle.option_eval.specs.Places.{Means}
-use Rattle.option_eval.specs.RuleSet.{Rules}
 use Rattle.ordered_merge.specs.declared.numbered.Numbered.{Numbered}
 use Rattle.flow_lanes.specs.declared.answer.BatchOut.{BatchOut}
 use Rattle.flow_lanes.specs.declared.answer.JobFound.{JobFound}
@@ -24,6 +21,7 @@ use Rattle.flow_lanes.specs.declared.answer.JobHits.{JobHits}
 use Rattle.flow_lanes.specs.declared.answer.Matches.{Matches}
 use Rattle.flow_lanes.specs.declared.job.Job.{Job}
 use Rattle.flow_lanes.specs.Flows.{Detection, answer, flow_of, same_flow}
+use Rattle.flow_lanes.specs.Given.{Inspection}
 use Rattle.flow_lanes.specs.Sound.{FlowFacts, IsSoundFor, facts_after}
 use Rattle.flow_lanes.specs.ItemHits.{matched_entry, told_entry}
 use Rattle.flow_lanes.specs.Standing.{AreSoundFor, DetectsBy, LaneState, LanesState, Stands, is_in_lane, known_in, known_of, lane_of, new_lane}
@@ -88,10 +86,10 @@ AreSoundFor-in engines place lanes lane jobs sound is front job rest whole here 
     ap (λ at. option_and_then (λ (l : LaneState). known_of l job) (slice_get lanes.lanes at)) same ∙ ap (option_and_then (λ (l : LaneState). known_of l job)) is in
     subst (λ facts. IsSoundFor engines (facts_after facts (filter (same_flow job) front)) job) known (sound front job rest whole)
 
-module _ {P : Type 0} (finds : P → List ℕ → Option Span) (stream : StreamConfig) (set : Rules P) (all : Bool) (olds : List LaneState) (jobs : List Job) (parts : List (List (Numbered JobFound))) (news : List LaneState)
-    (are : AreParts finds stream set all olds jobs parts news) where
+module _ {P : Type 0} (by : Inspection P) (olds : List LaneState) (jobs : List Job) (parts : List (List (Numbered JobFound))) (news : List LaneState)
+    (are : AreParts by olds jobs parts news) where
   -- the lane and the part at a place
-  at_place : (place : ℕ) → place < length olds → GoesOn finds stream set all (get_or olds place idle) (own_jobs (length olds) place jobs) (get_or parts place []) (get_or news place idle)
+  at_place : (place : ℕ) → place < length olds → GoesOn by (get_or olds place idle) (own_jobs (length olds) place jobs) (get_or parts place []) (get_or news place idle)
   at_place place within =
       are.each place (get_or olds place idle) (get_or news place idle) (get_or parts place [])
       (slice_get-get_or olds place idle within)
@@ -122,7 +120,7 @@ module _ {P : Type 0} (finds : P → List ℕ → Option Span) (stream : StreamC
   parts_know old new is_old is_new some other =
       let place : ℕ = lane_of (length olds) (flow_of other) in
       let within : place < length olds = below_count (length olds) (flow_of other) some in
-      let here = GoesOn-known finds stream set all (length olds) place (get_or olds place idle) (get_or news place idle) jobs (get_or parts place []) other (in_own_lane (length olds) (flow_of other)) (at_place place within) in
+      let here = GoesOn-known by (length olds) place (get_or olds place idle) (get_or news place idle) jobs (get_or parts place []) other (in_own_lane (length olds) (flow_of other)) (at_place place within) in
       let known : List LaneState → ℕ → Option FlowFacts = λ lanes count. option_and_then (λ (lane : LaneState). known_of lane other) (slice_get lanes (lane_of count (flow_of other))) in
       let after : known_in new other ≡ known_of (get_or news place idle) other =
       ap (λ lanes. known lanes (length lanes)) is_new ∙ ap (known news) are.news_count ∙ ap (option_and_then (λ (lane : LaneState). known_of lane other)) (slice_get-get_or news place idle (omega (arith, are.news_count))) in
@@ -130,7 +128,7 @@ module _ {P : Type 0} (finds : P → List ℕ → Option Span) (stream : StreamC
       ap (λ lanes. known lanes (length lanes)) is_old ∙ ap (option_and_then (λ (lane : LaneState). known_of lane other)) (slice_get-get_or olds place idle within) in
       after ∙ here ∙ ap (λ facts. facts_after facts (filter (same_flow other) jobs)) (sym before)
 
-  module _ (means : Means) (d : Detection) (before : List Job) (detects : DetectsBy finds means stream set d)
+  module _ (means : Means) (d : Detection) (before : List Job) (detects : DetectsBy by.finds means by.stream by.set d)
       (stand : (place : ℕ) (lane : LaneState) → slice_get olds place ≡ Some lane → Stands d lane (own_jobs (length olds) place before)) where
     -- the lanes stand for the batch too
     pub parts_stand : (place : ℕ) (lane : LaneState) → slice_get news place ≡ Some lane → Stands d lane (own_jobs (length news) place (before ++ jobs))
@@ -144,26 +142,26 @@ module _ {P : Type 0} (finds : P → List ℕ → Option Span) (stream : StreamC
 
     -- an ascending list of all answers is that of the jobs taken one by one
     pub parts_answer : 0 < length olds → AscendsBy (λ (job : Job). job.number) jobs → (merged : List (Numbered JobFound)) → IsPermutation (flat_map (λ part. part) parts) merged
-        → AscendsBy (λ (out : Numbered JobFound). out.number) merged → merged ≡ along_from (numbered_out all d) before jobs
+        → AscendsBy (λ (out : Numbered JobFound). out.number) merged → merged ≡ along_from (numbered_out by.all d) before jobs
     parts_answer some ascend merged whole ascending =
-        answers_joined same_flow (λ (job : Job). lane_of (length parts) (flow_of job)) (λ (job : Job). job.number) (λ (out : Numbered JobFound). out.number) (numbered_out all d)
-        (numbered_out-local all d) (is_in_lane-by_class (length parts)) (λ b job. refl) before jobs parts
+        answers_joined same_flow (λ (job : Job). lane_of (length parts) (flow_of job)) (λ (job : Job). job.number) (λ (out : Numbered JobFound). out.number) (numbered_out by.all d)
+        (numbered_out-local by.all d) (is_in_lane-by_class (length parts)) (λ b job. refl) before jobs parts
         (λ job. below_count (length parts) (flow_of job) (omega (arith, are.parts_count)))
         answers_at ascend merged whole ascending
       where
         answers_at : (place : ℕ) (part : List (Numbered JobFound)) → place < length parts
-            → get_or parts place part ≡ along_from (numbered_out all d) (own_jobs (length parts) place before) (own_jobs (length parts) place jobs)
+            → get_or parts place part ≡ along_from (numbered_out by.all d) (own_jobs (length parts) place before) (own_jobs (length parts) place jobs)
         answers_at place part within =
             let inside : place < length olds = omega (arith, are.parts_count) in
             let stands = stand place (get_or olds place idle) (slice_get-get_or olds place idle inside) in
             get_or_default parts place part [] within
             ∙ ((at_place place inside).right means d (own_jobs (length olds) place before) detects stands).right
-            ∙ ap (λ count. along_from (numbered_out all d) (own_jobs count place before) (own_jobs count place jobs)) (sym are.parts_count)
+            ∙ ap (λ count. along_from (numbered_out by.all d) (own_jobs count place before) (own_jobs count place jobs)) (sym are.parts_count)
 
   -- so the batch is searched
   pub parts_searched : 0 < length olds → AscendsBy (λ (job : Job). job.number) jobs
       → (merged : List (Numbered JobFound)) → IsPermutation (flat_map (λ part. part) parts) merged → AscendsBy (λ (out : Numbered JobFound). out.number) merged
-      → HaveSearched finds stream set all olds jobs merged news
+      → HaveSearched by olds jobs merged news
   parts_searched some ascend merged whole ascending old new is_old is_new means d before detects stand =
       let each : (place : ℕ) (lane : LaneState) → slice_get olds place ≡ Some lane → Stands d lane (own_jobs (length olds) place before) =
       subst (λ (lanes : List LaneState). (place : ℕ) (lane : LaneState) → slice_get lanes place ≡ Some lane → Stands d lane (own_jobs (length lanes) place before)) is_old stand.each in
@@ -186,12 +184,12 @@ hits-found : (all : Bool) (d : Detection) (before jobs : List Job) (found : List
     → map (λ (o : Numbered JobFound). o.value.hits) found ≡ along_from (λ (b : List Job) (job : Job). told_entry all (answer d b job)) before jobs
 hits-found all d before jobs found is = ap (map (λ (o : Numbered JobFound). o.value.hits)) is ∙ map-along_from (λ (o : Numbered JobFound). o.value.hits) (numbered_out all d) before jobs
 
-module _ {P : Type 0} (finds : P → List ℕ → Option Span) (stream : StreamConfig) (set : Rules P) (olds news : List LaneState) (jobs : List Job) (found : List (Numbered JobFound)) where
+module _ {P : Type 0} (by : Inspection P) (olds news : List LaneState) (jobs : List Job) (found : List (Numbered JobFound)) where
   -- a search that tells all items answers the batch
-  pub answered : (all : Bool) → all ≡ true → HaveSearched finds stream set all olds jobs found news
+  pub answered : by.all ≡ true → HaveSearched by olds jobs found news
       → (out : BatchOut) → out.hits ≡ map (λ (o : Numbered JobFound). o.value.hits) found → out.tries ≡ sum_by (λ (o : Numbered JobFound). o.value.tries) found
-      → HaveAnswered finds stream set olds jobs out news
-  answered all is searched out hits tries old new is_old is_new means d before detects stand =
+      → HaveAnswered by olds jobs out news
+  answered is searched out hits tries old new is_old is_new means d before detects stand =
       let done : AreSearched true d before jobs found new = subst (λ (b : Bool). AreSearched b d before jobs found new) is (searched old new is_old is_new means d before detects stand) in
       record {
         hits = hits ∙ hits-found true d before jobs found done.right;
@@ -200,10 +198,10 @@ module _ {P : Type 0} (finds : P → List ℕ → Option Span) (stream : StreamC
       }
 
   -- and one that tells those that a rule matches gives its matches
-  pub told_matches : (all : Bool) → all ≡ false → HaveSearched finds stream set all olds jobs found news
+  pub told_matches : by.all ≡ false → HaveSearched by olds jobs found news
       → (out : Matches) → out.hits.items ≡ map (λ (o : Numbered JobFound). o.value.hits) found → out.items ≡ sum_by (λ (o : Numbered JobFound). o.value.items) found
-      → out.tries ≡ sum_by (λ (o : Numbered JobFound). o.value.tries) found → HaveMatched finds stream set olds jobs out news
-  told_matches all is searched out hits items tries old new is_old is_new means d before detects stand =
+      → out.tries ≡ sum_by (λ (o : Numbered JobFound). o.value.tries) found → HaveMatched by olds jobs out news
+  told_matches is searched out hits items tries old new is_old is_new means d before detects stand =
       let done : AreSearched false d before jobs found new = subst (λ (b : Bool). AreSearched b d before jobs found new) is (searched old new is_old is_new means d before detects stand) in
       record {
         hits = hits ∙ hits-found false d before jobs found done.right ∙ sym (map-along_from matched_entry (answer d) before jobs);

@@ -10,25 +10,24 @@ use Rattle.option_eval.specs.Places.{Means}
 use Rattle.option_eval.specs.RuleSet.{Rules}
 use Rattle.packet_decode.specs.declared.item.ItemHead.{ItemHead}
 use Rattle.rule_eval.specs.Hits.{Trying}
-use Rattle.flow_lanes.specs.declared.answer.Hits.{Hits}
 use Rattle.flow_lanes.specs.declared.answer.JobFound.{JobFound}
 use Rattle.flow_lanes.specs.declared.job.Job.{Job}
 use Rattle.flow_lanes.specs.declared.job.Toward.{Toward}
 use Rattle.flow_lanes.specs.declared.job.Work.{Work}
 use Rattle.flow_lanes.specs.declared.job.Work.TheVariants as work
-use Rattle.flow_lanes.specs.declared.tally.Tally.{Tally}
-use Rattle.flow_lanes.specs.Detecting.{DetectsOn}
+use Rattle.flow_lanes.specs.Batching.{SearchesJob}
+use Rattle.flow_lanes.specs.Detecting.{Leaves, gain_of}
 use Rattle.flow_lanes.specs.Engines.{Making}
 use Rattle.flow_lanes.specs.Flows.{Detection, FlowState, all_items, flow_of, flow_state, hits, hits_in, items, same_flow, same_number, session_at_hand, state_behind, tries, work_items, bits_at_hand, bits_found}
-use Rattle.flow_lanes.specs.Items.{JobItems, alone_items, finish_items, packet_items}
+use Rattle.flow_lanes.specs.Given.{Inspection}
+use Rattle.flow_lanes.specs.Items.{JobItems, alone_items, finish_items}
 use Rattle.flow_lanes.specs.ItemHits.{hits_of, told}
 use Rattle.flow_lanes.specs.Kept.{Sets, facts_after_packet, kept_in}
 use Rattle.flow_lanes.specs.Sessions.{Packet}
 use Rattle.flow_lanes.specs.Sound.{FlowFacts, IsSoundFor, facts_behind, facts_behind_work}
-use Rattle.flow_lanes.specs.Standing.{AnswersJob, CountsTries, DetectsBy, HasDone, KeptFlow, LaneState, LearnsJob, Stands, facts_kept, kept_of, state_kept}
-use Rattle.flow_lanes.specs.Tried.{TriesBy, candidates_of}
-use Rattle.flow_lanes.specs.Batching.{SearchesJob}
-use Rattle.flow_lanes.specs.Whole.{IsDone, IsDoneBy, found_for, items_for, kept_by}
+use Rattle.flow_lanes.specs.Standing.{AnswersJob, CountsTries, DetectsBy, KeptFlow, LaneState, LearnsJob, Stands, facts_kept, kept_of, state_kept}
+use Rattle.flow_lanes.specs.Tried.{ByTest, SoFar, Tallied, TriesBy, candidates_of, of_job}
+use Rattle.flow_lanes.specs.Whole.{IsDone, KeepsBy, found_for, kept_by}
 use Rattle.flow_lanes.proofs.Jobs.Stands.{HasDone-stands, Stands-finds}
 use Rattle.flow_lanes.proofs.Sessions.AreShort.{job_short}
 use Rattle.flow_lanes.proofs.ItemHits.Tried.{length-hits_of}
@@ -53,84 +52,64 @@ sets_facts flow kept by old new sets is other =
     apart true x y = refl
     apart false x y = refl
 
--- a packet of a flow is done
-pub packet-done : (all : Bool) (making : Making) (trying : Trying) (moment : Moment) (flow : ℕ) (head : ItemHead) (payload : List ℕ) (to_dst to_src : Toward) (old new : List (ℕ × KeptFlow)) (kept : KeptFlow) (tally : Tally)
-    → Sets flow (Some kept) old new
-    → DetectsOn all trying (packet_items making (record { head = head; payload = payload; moment = moment; to_dst = to_dst; to_src = to_src }) (session_at_hand (state_kept (kept_in old flow)))) (state_kept (kept_in old flow)) tally.hits.items kept.found
-    → kept.facts ≡ facts_after_packet (record { head = head; payload = payload; moment = moment; to_dst = to_dst; to_src = to_src }) (facts_kept (kept_in old flow))
-    → IsDoneBy all making trying moment (work.Packet flow head payload to_dst to_src) old new tally.hits.items
-packet-done all making trying moment flow head payload to_dst to_src old new kept tally sets detects facts = record {
-  hits = detects.hits_are;
-  flows = sets_flows flow (Some kept) (kept_by making trying moment (work.Packet flow head payload to_dst to_src)) old new sets (λ i. Some (record { facts = facts i; found = detects.state_is i }));
-}
+-- the packet of a job
+abbrev packet_at : Moment → ItemHead → List ℕ → Toward → Toward → Packet
+packet_at moment head payload to_dst to_src = record { head = head; payload = payload; moment = moment; to_dst = to_dst; to_src = to_src }
 
-pub packet-facts : (moment : Moment) (flow : ℕ) (head : ItemHead) (payload : List ℕ) (to_dst to_src : Toward) (old new : List (ℕ × KeptFlow)) (kept : KeptFlow)
+-- a packet of a flow is done
+packet-done : (making : Making) (trying : Trying) (moment : Moment) (flow : ℕ) (head : ItemHead) (payload : List ℕ) (to_dst to_src : Toward) (old new : List (ℕ × KeptFlow)) (kept : KeptFlow)
     → Sets flow (Some kept) old new
-    → kept.facts ≡ facts_after_packet (record { head = head; payload = payload; moment = moment; to_dst = to_dst; to_src = to_src }) (facts_kept (kept_in old flow))
-    → (other : ℕ) → facts_kept (kept_in new other) ≡ cond (same_number (Some other) (Some flow)) (facts_behind_work (facts_kept (kept_in old other)) moment (work.Packet flow head payload to_dst to_src)) (facts_kept (kept_in old other))
+    → Leaves trying making (packet_at moment head payload to_dst to_src) (state_kept (kept_in old flow)) kept.found
+    → kept.facts ≡ facts_after_packet (packet_at moment head payload to_dst to_src) (facts_kept (kept_in old flow))
+    → KeepsBy trying making moment (work.Packet flow head payload to_dst to_src) old new
+packet-done making trying moment flow head payload to_dst to_src old new kept sets leaves facts =
+    sets_flows flow (Some kept) (kept_by making trying moment (work.Packet flow head payload to_dst to_src)) old new sets
+    (λ i. Some (record { facts = facts i; found = leaves i }))
+
+packet-facts : (moment : Moment) (flow : ℕ) (head : ItemHead) (payload : List ℕ) (to_dst to_src : Toward) (old new : List (ℕ × KeptFlow)) (kept : KeptFlow)
+    → Sets flow (Some kept) old new
+    → kept.facts ≡ facts_after_packet (packet_at moment head payload to_dst to_src) (facts_kept (kept_in old flow))
+    → (other : ℕ) → facts_kept (kept_in new other)
+    ≡ cond (same_number (Some other) (Some flow)) (facts_behind_work (facts_kept (kept_in old other)) moment (work.Packet flow head payload to_dst to_src)) (facts_kept (kept_in old other))
 packet-facts moment flow head payload to_dst to_src old new kept sets facts =
     sets_facts flow (Some kept) (λ f. facts_behind_work f moment (work.Packet flow head payload to_dst to_src)) old new sets (ap Some facts)
 
--- the end of a flow is done
-pub finish-done : (all : Bool) (making : Making) (trying : Trying) (moment : Moment) (flow : ℕ) (old new : List (ℕ × KeptFlow)) (hits : List Hits)
-    → Sets flow None old new → hits ≡ told all (hits_in trying (items_for making moment (work.Finish flow) old) (state_kept (kept_in old flow)))
-    → IsDoneBy all making trying moment (work.Finish flow) old new hits
-finish-done all making trying moment flow old new hits sets are = record {
-  hits = are;
-  flows = sets_flows flow None (kept_by making trying moment (work.Finish flow)) old new sets refl;
-}
-
-pub finish-facts : (moment : Moment) (flow : ℕ) (old new : List (ℕ × KeptFlow)) → Sets flow None old new
-    → (other : ℕ) → facts_kept (kept_in new other) ≡ cond (same_number (Some other) (Some flow)) (facts_behind_work (facts_kept (kept_in old other)) moment (work.Finish flow)) (facts_kept (kept_in old other))
+finish-facts : (moment : Moment) (flow : ℕ) (old new : List (ℕ × KeptFlow)) → Sets flow None old new
+    → (other : ℕ) → facts_kept (kept_in new other)
+    ≡ cond (same_number (Some other) (Some flow)) (facts_behind_work (facts_kept (kept_in old other)) moment (work.Finish flow)) (facts_kept (kept_in old other))
 finish-facts moment flow old new sets = sets_facts flow None (λ f. facts_behind_work f moment (work.Finish flow)) old new sets refl
 
 -- the parts of what is done are those of the definition
-module _ {P : Type 0} (finds : P → List ℕ → Option Span) (set : Rules P) (all : Bool) (making : Making) (moment : Moment) where
-  pub do-packet : (flow : ℕ) (head : ItemHead) (payload : List ℕ) (to_dst to_src : Toward) (old new : List (ℕ × KeptFlow)) (found : Option KeptFlow) (kept : KeptFlow) (tally : Tally)
+module _ {P : Type 0} (by : Inspection P) (making : Making) (moment : Moment) where
+  pub do-packet : (flow : ℕ) (head : ItemHead) (payload : List ℕ) (to_dst to_src : Toward) (old new : List (ℕ × KeptFlow)) (found : Option KeptFlow) (kept : KeptFlow) (given : SoFar)
       → found ≡ kept_in old flow → Sets flow (Some kept) old new
-      → ((means : Means) (trying : Trying) → TriesBy finds means set trying
-      → DetectsOn all trying (packet_items making (record { head = head; payload = payload; moment = moment; to_dst = to_dst; to_src = to_src }) (session_at_hand (state_kept found))) (state_kept found) tally.hits.items kept.found)
-      → tally.items ≡ length (all_items (packet_items making (record { head = head; payload = payload; moment = moment; to_dst = to_dst; to_src = to_src }) (session_at_hand (state_kept found))))
-      → tally.tries ≡ candidates_of set.rules (all_items (packet_items making (record { head = head; payload = payload; moment = moment; to_dst = to_dst; to_src = to_src }) (session_at_hand (state_kept found))))
-      → kept.facts ≡ facts_after_packet (record { head = head; payload = payload; moment = moment; to_dst = to_dst; to_src = to_src }) (facts_kept found)
-      → IsDone finds set all making moment (work.Packet flow head payload to_dst to_src) old new tally
-  do-packet flow head payload to_dst to_src old new found kept tally is sets detects counted tries facts =
-      let p : Packet = record { head = head; payload = payload; moment = moment; to_dst = to_dst; to_src = to_src } in
+      → Tallied by (gain_of making (packet_at moment head payload to_dst to_src) (state_kept found)) given
+      → ByTest by (λ trying. Leaves trying making (packet_at moment head payload to_dst to_src) (state_kept found) kept.found)
+      → kept.facts ≡ facts_after_packet (packet_at moment head payload to_dst to_src) (facts_kept found)
+      → IsDone by making moment (work.Packet flow head payload to_dst to_src) old new given
+  do-packet flow head payload to_dst to_src old new found kept given is sets tallied leaves facts =
+      let p : Packet = packet_at moment head payload to_dst to_src in
       let facts_are : kept.facts ≡ facts_after_packet p (facts_kept (kept_in old flow)) = facts ∙ ap (λ (f : Option KeptFlow). facts_after_packet p (facts_kept f)) is in
       record {
-        done = λ means trying by.
-            packet-done all making trying moment flow head payload to_dst to_src old new kept tally sets
-            (subst (λ (f : Option KeptFlow). DetectsOn all trying (packet_items making p (session_at_hand (state_kept f))) (state_kept f) tally.hits.items kept.found) is (detects means trying by)) facts_are;
-        items = counted ∙ ap (λ (f : Option KeptFlow). length (all_items (packet_items making p (session_at_hand (state_kept f))))) is;
-        tries = tries ∙ ap (λ (f : Option KeptFlow). candidates_of set.rules (all_items (packet_items making p (session_at_hand (state_kept f))))) is;
+        tallied = subst (λ (f : Option KeptFlow). Tallied by (gain_of making p (state_kept f)) given) is tallied;
+        flows = λ means trying tried.
+            packet-done making trying moment flow head payload to_dst to_src old new kept sets
+            (subst (λ (f : Option KeptFlow). Leaves trying making p (state_kept f) kept.found) is (leaves means trying tried)) facts_are;
         facts = packet-facts moment flow head payload to_dst to_src old new kept sets facts_are;
       }
 
-  pub do-finish : (flow : ℕ) (old new : List (ℕ × KeptFlow)) (found : Option KeptFlow) (tally : Tally) → found ≡ kept_in old flow → Sets flow None old new
-      → ((means : Means) (trying : Trying) → TriesBy finds means set trying → tally.hits.items ≡ told all (hits_in trying (finish_items moment (session_at_hand (state_kept found))) (state_kept found)))
-      → tally.items ≡ length (all_items (finish_items moment (session_at_hand (state_kept found))))
-      → tally.tries ≡ candidates_of set.rules (all_items (finish_items moment (session_at_hand (state_kept found))))
-      → IsDone finds set all making moment (work.Finish flow) old new tally
-  do-finish flow old new found tally is sets hits_are counted tries = record {
-    done = λ means trying by.
-        finish-done all making trying moment flow old new tally.hits.items sets
-        (hits_are means trying by ∙ ap (λ (f : Option KeptFlow). told all (hits_in trying (finish_items moment (session_at_hand (state_kept f))) (state_kept f))) is);
-    items = counted ∙ ap (λ (f : Option KeptFlow). length (all_items (finish_items moment (session_at_hand (state_kept f))))) is;
-    tries = tries ∙ ap (λ (f : Option KeptFlow). candidates_of set.rules (all_items (finish_items moment (session_at_hand (state_kept f))))) is;
+  pub do-finish : (flow : ℕ) (old new : List (ℕ × KeptFlow)) (found : Option KeptFlow) (given : SoFar) → found ≡ kept_in old flow → Sets flow None old new
+      → Tallied by (of_job (finish_items moment (session_at_hand (state_kept found))) (state_kept found)) given
+      → IsDone by making moment (work.Finish flow) old new given
+  do-finish flow old new found given is sets tallied = record {
+    tallied = subst (λ (f : Option KeptFlow). Tallied by (of_job (finish_items moment (session_at_hand (state_kept f))) (state_kept f)) given) is tallied;
+    flows = λ means trying tried. sets_flows flow None (kept_by making trying moment (work.Finish flow)) old new sets refl;
     facts = finish-facts moment flow old new sets;
   }
 
-  pub do-alone : (head : ItemHead) (payload : List ℕ) (flows : List (ℕ × KeptFlow)) (tally : Tally)
-      → ((means : Means) (trying : Trying) → TriesBy finds means set trying → tally.hits.items ≡ told all (hits_in trying (alone_items head payload) None))
-      → tally.items ≡ length (all_items (alone_items head payload))
-      → tally.tries ≡ candidates_of set.rules (all_items (alone_items head payload))
-      → IsDone finds set all making moment (work.Alone head payload) flows flows tally
-  do-alone head payload flows tally hits_are counted tries = record {
-    done = λ means trying by. record { hits = hits_are means trying by; flows = λ flow. refl };
-    items = counted;
-    tries = tries;
-    facts = λ flow. refl;
-  }
+  pub do-alone : (head : ItemHead) (payload : List ℕ) (flows : List (ℕ × KeptFlow)) (given : SoFar)
+      → Tallied by (of_job (alone_items head payload) None) given → IsDone by making moment (work.Alone head payload) flows flows given
+  do-alone head payload flows given tallied = record { tallied = tallied; flows = λ means trying tried flow. refl; facts = λ flow. refl }
 
 -- no job of a flow stands before an item by itself
 no_flow : (before : List Job) → filter (λ other. same_number None (flow_of other)) before ≡ []
@@ -156,53 +135,53 @@ length-hits_in trying given state =
     ∙ sym (length-append given.ended given.current)
 
 -- a search that tells all items answers the job, and counts its candidates
-pub answers-job : {P : Type 0} (finds : P → List ℕ → Option Span) (stream : StreamConfig) (set : Rules P) (old new : LaneState) (job : Job) (found : JobFound)
-    → SearchesJob finds stream set true old job found new → AnswersJob finds stream set old job found.hits new
-answers-job finds stream set old new job found searches means d before by stands =
-    let is = searches means d before by stands in
-    record { right = ap (λ (f : JobFound). f.hits) is.right; short = is.short; stands = is.stands }
+module _ {P : Type 0} (finds : P → List ℕ → Option Span) (stream : StreamConfig) (set : Rules P) (old new : LaneState) (job : Job) (found : JobFound)
+    (searches : SearchesJob (record { finds = finds; stream = stream; set = set; all = true }) old job found new) where
+  pub answers-job : AnswersJob finds stream set old job found.hits new
+  answers-job means d before detects stands =
+      let is = searches means d before detects stands in
+      record { right = ap (λ (f : JobFound). f.hits) is.right; short = is.short; stands = is.stands }
 
-pub counts-tries : {P : Type 0} (finds : P → List ℕ → Option Span) (stream : StreamConfig) (set : Rules P) (old new : LaneState) (job : Job) (found : JobFound)
-    → SearchesJob finds stream set true old job found new → CountsTries finds stream set old job found.tries
-counts-tries finds stream set old new job found searches means d before by stands = ap (λ (f : JobFound). f.tries) (searches means d before by stands).right
+  pub counts-tries : CountsTries finds stream set old job found.tries
+  counts-tries means d before detects stands = ap (λ (f : JobFound). f.tries) (searches means d before detects stands).right
 
-module _ {P : Type 0} (finds : P → List ℕ → Option Span) (stream : StreamConfig) (set : Rules P) (all : Bool) (old new : LaneState) (job : Job) (tally : Tally)
-    (done : IsDone finds set all (record { flush = old.flush; inserts = old.inserts; stream = stream }) job.moment job.work old.flows new.flows tally) where
-  -- the lane makes items by what the definition makes them by
+-- the lane makes items by what the definition makes them by
+abbrev making_by : LaneState → StreamConfig → Making
+making_by old stream = record { flush = old.flush; inserts = old.inserts; stream = stream }
+
+module _ {P : Type 0} (by : Inspection P) (old new : LaneState) (job : Job) (given : SoFar) (done : IsDone by (making_by old by.stream) job.moment job.work old.flows new.flows given) where
   abbrev making : Making
-  making = record { flush = old.flush; inserts = old.inserts; stream = stream }
+  making = making_by old by.stream
 
-  one_making : (means : Means) (d : Detection) (before : List Job) → DetectsBy finds means stream set d → Stands d old before → making ≡ d.making
-  one_making means d before by stands = λ i. record { flush = stands.flush i; inserts = stands.inserts i; stream = sym by.config i }
+  one_making : (means : Means) (d : Detection) (before : List Job) → DetectsBy by.finds means by.stream by.set d → Stands d old before → making ≡ d.making
+  one_making means d before detects stands = λ i. record { flush = stands.flush i; inserts = stands.inserts i; stream = sym detects.config i }
 
   pub searches-job : (engines : ℕ) (facts : Option FlowFacts) (found : JobFound) → IsSoundFor engines facts job → new.flush ≡ old.flush → new.inserts ≡ old.inserts
-      → found.hits.number ≡ job.number → found.hits.items ≡ tally.hits.items → found.items ≡ tally.items → found.tries ≡ tally.tries
-      → SearchesJob finds stream set all old job found new
+      → found.hits.number ≡ job.number → found.hits.items ≡ given.hits → found.items ≡ given.items → found.tries ≡ given.tries → SearchesJob by old job found new
   unfolding hits tries items state_behind
-  searches-job engines facts found sound flush inserts number told_are items_are tries_are = λ means d before by stands.
-      let tried : TriesBy finds means set d.trying = record { rules = by.rules; made = by.made; told = by.told } in
-      let same : making ≡ d.making = one_making means d before by stands in
-      let did : IsDoneBy all d.making d.trying job.moment job.work old.flows new.flows tally.hits.items = subst (λ (m : Making). IsDoneBy all m d.trying job.moment job.work old.flows new.flows tally.hits.items) same (done.done means d.trying tried) in
+  searches-job engines facts found sound flush inserts number told_are items_are tries_are = λ means d before detects stands.
+      let tried : TriesBy by.finds means by.set d.trying = record { rules = detects.rules; made = detects.made; told = detects.told } in
+      let same : making ≡ d.making = one_making means d before detects stands in
+      let keeps : KeepsBy d.trying d.making job.moment job.work old.flows new.flows =
+      subst (λ (m : Making). KeepsBy d.trying m job.moment job.work old.flows new.flows) same (done.flows means d.trying tried) in
       let at_hand = found-is d old before job.number job.moment job.work stands in
       let state : Option FlowState = flow_state d (filter (same_flow job) before) in
-      let given : JobItems = work_items d.making job.moment job.work (session_at_hand state) in
-      let counted : found.items ≡ length (hits_in d.trying given state) =
-      items_are ∙ done.items ∙ (λ i. length (all_items (work_items (same i) job.moment job.work (session_at_hand (at_hand i))))) ∙ sym (length-hits_in d.trying given state) in
+      let given_items : JobItems = work_items d.making job.moment job.work (session_at_hand state) in
+      let hits_are : found.hits.items ≡ told by.all (hits_in d.trying given_items state) =
+      told_are ∙ done.tallied.hits means d.trying tried
+      ∙ (λ i. told by.all (hits_in d.trying (work_items (same i) job.moment job.work (session_at_hand (at_hand i))) (at_hand i))) in
+      let counted : found.items ≡ length (hits_in d.trying given_items state) =
+      items_are ∙ done.tallied.items ∙ (λ i. length (all_items (work_items (same i) job.moment job.work (session_at_hand (at_hand i))))) ∙ sym (length-hits_in d.trying given_items state) in
       record {
         right = λ i. record {
-          hits = record {
-            number = number i;
-            items = (told_are ∙ did.hits ∙ ap (λ (f : Option FlowState). told all (hits_in d.trying (work_items d.making job.moment job.work (session_at_hand f)) f)) at_hand) i;
-          };
+          hits = record { number = number i; items = hits_are i };
           items = counted i;
-          tries = (tries_are ∙ done.tries ∙ (λ j. candidates_of (sym by.rules j) (all_items (work_items (same j) job.moment job.work (session_at_hand (at_hand j)))))) i;
+          tries = (tries_are ∙ done.tallied.tries
+              ∙ (λ j. candidates_of (sym detects.rules j) (all_items (work_items (same j) job.moment job.work (session_at_hand (at_hand j)))))) i;
         };
         short = job_short d engines facts before job sound;
-        stands = HasDone-stands d old job new before (has_done d did) stands;
+        stands = HasDone-stands d old job new before (record { flush = flush; inserts = inserts; flows = keeps }) stands;
       }
-    where
-      has_done : (d : Detection) → IsDoneBy all d.making d.trying job.moment job.work old.flows new.flows tally.hits.items → HasDone d old job new
-      has_done d did = record { flush = flush; inserts = inserts; flows = did.flows }
 
   pub learns-job : LearnsJob old job new
   learns-job other = by_flow (flow_of other)

@@ -5,15 +5,14 @@ use Rattle.std.proofs.Math.Seq.{drop-cons}
 use Rattle.std.proofs.lemmas.List.{append-nil, map-append, take-append-drop, take_more}
 use Rattle.std.proofs.lemmas.List.Elements.{filter-append}
 use Rattle.std.proofs.lemmas.List.Sums.{fold-append}
-use Rattle.edge_io.specs.declared.pattern.Span.{Span}
 use Rattle.edge_io.specs.Along.{along_from}
 use Rattle.edge_io.proofs.Along.{along_from-append}
-use Rattle.conf_types.specs.declared.config.StreamConfig.{StreamConfig}
-use Rattle.option_eval.specs.RuleSet.{Rules}
 use Rattle.ordered_merge.specs.declared.numbered.Numbered.{Numbered}
 use Rattle.flow_lanes.specs.declared.answer.JobFound.{JobFound}
 use Rattle.flow_lanes.specs.declared.job.Job.{Job}
+use Rattle.flow_lanes.specs.declared.worker.Share.{Share}
 use Rattle.flow_lanes.specs.Flows.{flow_of, same_flow}
+use Rattle.flow_lanes.specs.Given.{Inspection}
 use Rattle.flow_lanes.specs.Sound.{IsSoundFor, facts_after, facts_behind}
 use Rattle.flow_lanes.specs.Standing.{LaneState, LearnsJob, Stands, is_in_lane, known_of, lane_of}
 use Rattle.flow_lanes.specs.Batching.{AddsFound, AddsOwn, AreSoundIn, GoesOn, SearchesJob, numbered_out, own_jobs}
@@ -58,9 +57,9 @@ own_jobs-of_flow count place other is (job ∷ jobs) = by_flow (same_flow other 
 pub own_jobs-more : (count place : ℕ) (front : List Job) (job : Job) (b : Bool) → is_in_lane count place job ≡ b → own_jobs count place (front ++ job ∷ []) ≡ own_jobs count place front ++ cond b (job ∷ []) []
 own_jobs-more count place front job b is = filter-append (is_in_lane count place) front (job ∷ []) ∙ ap (λ c. own_jobs count place front ++ cond c (job ∷ []) []) is
 
-module _ {P : Type 0} (finds : P → List ℕ → Option Span) (stream : StreamConfig) (set : Rules P) (all : Bool) where
+module _ {P : Type 0} (by : Inspection P) where
   -- a lane that has done no job
-  pub GoesOn-none : (lane : LaneState) → GoesOn finds stream set all lane [] [] lane
+  pub GoesOn-none : (lane : LaneState) → GoesOn by lane [] [] lane
   GoesOn-none lane = record {
     right = λ means d before detects stands. record { right = refl; stands = subst (λ jobs. Stands d lane jobs) (sym (append-nil before)) stands };
     known = λ other. refl;
@@ -68,16 +67,18 @@ module _ {P : Type 0} (finds : P → List ℕ → Option Span) (stream : StreamC
   }
 
   -- one more job is answered
-  pub GoesOn-more : (old mid new : LaneState) (jobs : List Job) (outs : List (Numbered JobFound)) (job : Job) (out : JobFound) → GoesOn finds stream set all old jobs outs mid
-      → SearchesJob finds stream set all mid job out new → LearnsJob mid job new
-      → GoesOn finds stream set all old (jobs ++ job ∷ []) (outs ++ record { number = job.number; value = out } ∷ []) new
+  pub GoesOn-more : (old mid new : LaneState) (jobs : List Job) (outs : List (Numbered JobFound)) (job : Job) (out : JobFound) → GoesOn by old jobs outs mid
+      → SearchesJob by mid job out new → LearnsJob mid job new
+      → GoesOn by old (jobs ++ job ∷ []) (outs ++ record { number = job.number; value = out } ∷ []) new
   GoesOn-more old mid new jobs outs job out done searches learns = record {
     right = λ means d before detects stands.
         let so_far = done.right means d before detects stands in
         let searched = searches means d (before ++ jobs) detects so_far.stands in
-        let last : record { number = job.number; value = out } ≡ numbered_out all d (before ++ jobs) job = ap (λ (found : JobFound). record { number = job.number; value = found }) searched.right in
+        let last : record { number = job.number; value = out } ≡ numbered_out by.all d (before ++ jobs) job = ap (λ (found : JobFound). record { number = job.number; value = found }) searched.right in
         record {
-          right = ap (λ front. front ++ record { number = job.number; value = out } ∷ []) so_far.right ∙ ap (λ o. along_from (numbered_out all d) before jobs ++ o ∷ []) last ∙ sym (along_from-append (numbered_out all d) before jobs (job ∷ []));
+          right =
+              ap (λ front. front ++ record { number = job.number; value = out } ∷ []) so_far.right ∙ ap (λ o. along_from (numbered_out by.all d) before jobs ++ o ∷ []) last
+              ∙ sym (along_from-append (numbered_out by.all d) before jobs (job ∷ []));
           stands = subst (λ (js : List Job). Stands d new js) (append_assoc before jobs (job ∷ [])) searched.stands;
         };
     known = λ other.
@@ -91,25 +92,25 @@ module _ {P : Type 0} (finds : P → List ℕ → Option Span) (stream : StreamC
   }
 
   -- a job of the lane goes on with it, and a job of another lane changes nothing
-  pub AddsOwn-own : (count place : ℕ) (job : Job) (old new : LaneState) (outs more : List (Numbered JobFound)) → is_in_lane count place job ≡ true
-      → AddsFound finds stream set all job old outs new more → AddsOwn finds stream set all count place job old outs new more
-  AddsOwn-own count place job old new outs more is adds start front done =
-      subst (λ jobs. GoesOn finds stream set all start jobs more new) (sym (own_jobs-more count place front job true is))
-      (subst (λ (all_outs : List (Numbered JobFound)). GoesOn finds stream set all start (own_jobs count place front ++ job ∷ []) all_outs new) (sym adds.added)
-      (GoesOn-more start old new (own_jobs count place front) outs job adds.found done adds.searches adds.learns))
+  pub AddsOwn-own : (share : Share) (job : Job) (old new : LaneState) (outs more : List (Numbered JobFound)) → is_in_lane share.count share.place job ≡ true
+      → AddsFound by job old outs new more → AddsOwn by share job old outs new more
+  AddsOwn-own share job old new outs more is adds start front done =
+      subst (λ jobs. GoesOn by start jobs more new) (sym (own_jobs-more share.count share.place front job true is))
+      (subst (λ (all_outs : List (Numbered JobFound)). GoesOn by start (own_jobs share.count share.place front ++ job ∷ []) all_outs new) (sym adds.added)
+      (GoesOn-more start old new (own_jobs share.count share.place front) outs job adds.found done adds.searches adds.learns))
 
-  pub AddsOwn-other : (count place : ℕ) (job : Job) (lane : LaneState) (outs : List (Numbered JobFound)) → is_in_lane count place job ≡ false → AddsOwn finds stream set all count place job lane outs lane outs
-  AddsOwn-other count place job lane outs is start front done =
-      subst (λ jobs. GoesOn finds stream set all start jobs outs lane) (sym (own_jobs-more count place front job false is ∙ append-nil (own_jobs count place front))) done
+  pub AddsOwn-other : (share : Share) (job : Job) (lane : LaneState) (outs : List (Numbered JobFound)) → is_in_lane share.count share.place job ≡ false → AddsOwn by share job lane outs lane outs
+  AddsOwn-other share job lane outs is start front done =
+      subst (λ jobs. GoesOn by start jobs outs lane) (sym (own_jobs-more share.count share.place front job false is ∙ append-nil (own_jobs share.count share.place front))) done
 
   -- what the lane knows of a job's flow behind its own jobs of the batch's front
   pub GoesOn-known : (count place : ℕ) (old new : LaneState) (jobs : List Job) (outs : List (Numbered JobFound)) (other : Job) → is_in_lane count place other ≡ true
-      → GoesOn finds stream set all old (own_jobs count place jobs) outs new → known_of new other ≡ facts_after (known_of old other) (filter (same_flow other) jobs)
+      → GoesOn by old (own_jobs count place jobs) outs new → known_of new other ≡ facts_after (known_of old other) (filter (same_flow other) jobs)
   GoesOn-known count place old new jobs outs other is done = done.known other ∙ ap (facts_after (known_of old other)) (own_jobs-of_flow count place other is jobs)
 
   -- so its next job is sound
   pub GoesOn-sound : (engines count place : ℕ) (old mid : LaneState) (jobs front : List Job) (job : Job) (rest : List Job) (outs : List (Numbered JobFound))
-      → AreSoundIn engines count place old jobs → jobs ≡ front ++ job ∷ rest → GoesOn finds stream set all old (own_jobs count place front) outs mid
+      → AreSoundIn engines count place old jobs → jobs ≡ front ++ job ∷ rest → GoesOn by old (own_jobs count place front) outs mid
       → is_in_lane count place job ≡ true → IsSoundFor engines (known_of mid job) job
   GoesOn-sound engines count place old mid jobs front job rest outs sound whole done is =
       subst (λ facts. IsSoundFor engines facts job) (sym (GoesOn-known count place old mid front outs job is done)) (sound front job rest whole is)

@@ -1,9 +1,8 @@
 -- A packet that leaves the session at hand as it is: its items, taken in place, are those of the definition.
-use Rattle.std.proofs.Common.{◌≡◌, ℕ, ◌+◌, Bool, true, false, cond, not, List, [], ◌++◌, length, Option, Some, None, refl, sym, ap, ◌∙◌, add-zero}
+use Rattle.std.proofs.Common.{◌≡◌, Bool, true, false, cond, not, List, [], ◌++◌, length, Option, Some, None, refl, sym, ap, subst, ◌∙◌}
 use Rattle.std.proofs.lemmas.Bool.{false≢true}
 use Rattle.std.specs.FinSet.{empty}
 use Rattle.packet_decode.specs.declared.item.SessionFacts.{SessionFacts}
-use Rattle.rule_types.specs.declared.rule.Rule.{Rule}
 use Rattle.stream5_sessions.specs.declared.state.State.{State}
 use Rattle.stream5_sessions.specs.declared.step.SessionRules.{SessionRules}
 use Rattle.stream5_sessions.specs.declared.step.Step.{Step}
@@ -12,21 +11,20 @@ use Rattle.stream5_sessions.specs.Staying.{staying_step, stays_as_is}
 use Rattle.stream5_sessions.proofs.StayLaws.{stays-tells, told-state, told-step}
 use Rattle.rule_eval.specs.declared.item.Item.{Item}
 use Rattle.rule_eval.specs.Hits.{Bits, Trying}
-use Rattle.flow_lanes.specs.declared.answer.Hits.{Hits}
 use Rattle.flow_lanes.specs.declared.session.Stretches.{Stretches}
-use Rattle.flow_lanes.specs.Detecting.{DetectsOn, GoesOn, SettlesBy}
+use Rattle.flow_lanes.specs.Detecting.{GoesAt, Leaves, Settles, bits_now, gain_at, gain_of}
 use Rattle.flow_lanes.specs.Engines.{Making}
-use Rattle.flow_lanes.specs.Flows.{FlowState, all_items, bits_at_hand, session_at_hand}
-use Rattle.flow_lanes.specs.ItemHits.{hits_of, told}
-use Rattle.flow_lanes.specs.Items.{is_queued, packet_items, session_behind}
+use Rattle.flow_lanes.specs.Flows.{FlowState, bits_at_hand, session_at_hand}
+use Rattle.flow_lanes.specs.Given.{Inspection}
+use Rattle.flow_lanes.specs.Items.{is_queued, session_behind}
 use Rattle.flow_lanes.specs.Sessions.{Packet, Session, session_of, session_rules, settled, state_of, step_of, with_bases, begun_session}
 use Rattle.flow_lanes.specs.Sides.{with_base}
 use Rattle.flow_lanes.specs.Staying.{StaysAt, StaysIn}
-use Rattle.flow_lanes.specs.Tried.{candidates_of}
+use Rattle.flow_lanes.specs.Tried.{SoFar, Tallies, of_session}
 use Rattle.flow_lanes.specs.Working.{HasNoneLeft, ended_items, items_on, own_facts, own_item, streams_of, unless_ended}
-use Rattle.flow_lanes.proofs.Sessions.DetectsOn.{goes-on, told-items, told-on, told-tries}
+use Rattle.flow_lanes.proofs.ItemHits.Tried.{tallies-none}
+use Rattle.flow_lanes.proofs.Sessions.DetectsOn.{gains-on, goes-on, told-gain, told-on}
 use Rattle.flow_lanes.proofs.Sessions.ItemsOn.{items-on, none-told}
-use Rattle.flow_lanes.proofs.ItemHits.Tried.{tries-none}
 
 -- what the table of phases tells of the packet
 pub stays-in : (making : Making) (p : Packet) (old : Session) (rules : SessionRules) (step : Step) (state : State)
@@ -97,14 +95,20 @@ module _ (making : Making) (p : Packet) (before found : Option FlowState) (step 
   bits_kept : (tracked begun : Bool) (bits : Option Bits) → tracked ≡ true → begun ≡ false → bits ≡ cond tracked (cond begun (Some empty) bits) None
   bits_kept tracked begun bits on same = λ i. cond {A = Option Bits} (sym on i) (cond (sym same i) (Some empty) bits) None
 
-  -- the session goes on
-  pub staying-on : (all : Bool) (trying : Trying) (tried : List Item) (mid new : Option FlowState) (hits_old hits_new : List Hits) → tried ≡ items
-      → bits_at_hand mid ≡ bits_at_hand found → (step.ends ≡ false → session_at_hand mid ≡ session_behind p step (session_at_hand found))
-      → SettlesBy all trying tried step.tracked step.ends mid new hits_old hits_new → GoesOn all trying making p step state before new hits_old hits_new
-  staying-on all trying tried mid new hits_old hits_new are bits session settles =
-      goes-on all trying making p step state tried before mid new hits_old hits_new are
-      (bits ∙ stays.bits ∙ bits_kept step.tracked step.begun (bits_at_hand before) stays.kind.tracked stays.kind.begun)
-      (λ on. session on ∙ ap (session_behind p step) stays.session_is) settles
+  module _ (tried : List Item) (mid : Option FlowState) (are : tried ≡ items) (bits : bits_at_hand mid ≡ bits_at_hand found) where
+    bits_are : bits_at_hand mid ≡ cond step.tracked (cond step.begun (Some empty) (bits_at_hand before)) None
+    bits_are = bits ∙ stays.bits ∙ bits_kept step.tracked step.begun (bits_at_hand before) stays.kind.tracked stays.kind.begun
+
+    -- what is gained of these
+    pub staying-gain : {P : Type 0} (by : Inspection P) (one two : SoFar) → Tallies by (of_session (bits_now step.tracked mid) tried) one two
+        → Tallies by (gain_at making p step before) one two
+    staying-gain by one two = gains-on making p step state tried before mid are bits_are by one two
+
+    -- the session goes on
+    pub staying-on : (trying : Trying) (new : Option FlowState) → (step.ends ≡ false → session_at_hand mid ≡ session_behind p step (session_at_hand found))
+        → Settles trying tried step mid new → GoesAt trying making p step before new
+    staying-on trying new session settles =
+        goes-on making p step state tried before mid are bits_are trying new (λ on. session on ∙ ap (session_behind p step) stays.session_is) settles
 
   -- no session ended before the packet
   none_ended : before ≡ unless_ended step.ended_before before
@@ -117,19 +121,10 @@ module _ (making : Making) (p : Packet) (before found : Option FlowState) (step 
   nothing_ended = ap (λ (b : Bool). ended_items p.moment b (session_at_hand before)) stays.kind.ended_before
 
   -- so these are all the items of the packet
-  pub stayed-on : (all : Bool) (trying : Trying) (new : Option FlowState) (hits_old hits_new : List Hits) → hits_old ≡ []
-      → GoesOn all trying making p step state before new hits_old hits_new → DetectsOn all trying (packet_items making p (session_at_hand before)) before hits_new new
-  stayed-on all trying new hits_old hits_new none on =
-      told-on making p before before step state stays.step_is refl anew none_ended all trying new hits_old hits_old hits_new none
-      ((tries-none all trying (bits_at_hand before) hits_old).hits ∙ ap (λ (xs : List Item). hits_old ++ told all (hits_of trying (bits_at_hand before) xs)) (sym nothing_ended)) on
+  pub stayed-gain : {P : Type 0} (by : Inspection P) (one two : SoFar) → Tallies by (gain_at making p step before) one two → Tallies by (gain_of making p before) one two
+  stayed-gain by one two =
+      told-gain making p before before step state stays.step_is refl anew none_ended by one one two
+      (subst (λ (xs : List Item). Tallies by (of_session (bits_at_hand before) xs) one one) (sym nothing_ended) (tallies-none by (bits_at_hand before) one))
 
-  pub stayed-items : (old new : ℕ) → new ≡ old + length items → new ≡ old + length (all_items (packet_items making p (session_at_hand before)))
-  stayed-items old new are =
-      told-items making p before before step state stays.step_is refl anew none_ended old old new
-      (sym (add-zero old) ∙ ap (λ (xs : List Item). old + length xs) (sym nothing_ended)) are
-
-  pub stayed-tries : (rules : List Rule) (old new : ℕ) → new ≡ old + candidates_of rules items
-      → new ≡ old + candidates_of rules (all_items (packet_items making p (session_at_hand before)))
-  stayed-tries rules old new are =
-      told-tries making p before before step state stays.step_is refl anew none_ended rules old old new
-      (sym (add-zero old) ∙ ap (λ (xs : List Item). old + candidates_of rules xs) (sym nothing_ended)) are
+  pub stayed-on : (trying : Trying) (new : Option FlowState) → GoesAt trying making p step before new → Leaves trying making p before new
+  stayed-on = told-on making p before before step state stays.step_is refl anew none_ended

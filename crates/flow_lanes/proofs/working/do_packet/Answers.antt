@@ -1,10 +1,11 @@
 -- The map lends the flow's own entry, which alone changes as `packet` changes it (`do-packet`); where it has none, the
 -- packet is the flow's first.
 use Rattle.std.proofs.Common.{◌+◌, Option, Some, length, ap, subst, sym, ◌∙◌, rules}
-use Rattle.flow_lanes.specs.Given.{making_of, packet_of}
+use Rattle.flow_lanes.specs.Given.{inspection_of, making_of, packet_of}
 use Rattle.flow_lanes.specs.Kept.{kept_in}
 use Rattle.flow_lanes.specs.Sound.{FlowEnds, IsSoundPacket}
 use Rattle.flow_lanes.specs.Standing.{KeptFlow, facts_kept}
+use Rattle.flow_lanes.specs.Tried.{so_far}
 use Rattle.flow_lanes.proofs.Jobs.IsDone.{do-packet}
 use Rattle.flow_lanes.proofs.Jobs.KeptIn.{looked_up, sets-from}
 use Rattle.flow_lanes.proofs.working.do_packet.Goals as goal
@@ -32,7 +33,8 @@ returns-in_ok-tally-in-Some g c =
     let updates = (c.get_mut.follows.holds c.packet.new.self).3 (search rules) in
     let is = c.in-Some.ensures.value ∙ looked_up c.args.flow old in
     let sound = subst (λ (f : Option KeptFlow). IsSoundPacket (length c.args.settings.now.stream.now.engines) (facts_kept f) (packet_of p)) (sym is) c.requires in
-    do-packet g.P.Pattern.finds c.args.inspector.now.set.now c.args.inspector.now.all (making_of c.args.settings.now) p.moment c.args.flow p.head.now p.payload.now p.to_dst p.to_src old new (Some kept) c.packet.new.self c.in_ok-tally-in-Some.tally
+    do-packet (inspection_of g.P.Pattern.finds c.args.inspector.now) (making_of c.args.settings.now) p.moment c.args.flow p.head.now p.payload.now p.to_dst p.to_src old new (Some kept)
+    c.packet.new.self (so_far c.in_ok-tally-in-Some.tally)
     is (sets-from c.args.flow (Some c.packet.new.self) old new (λ other. updates.0 other))
-    c.in_ok-tally-in-Some.ensures.detects c.in_ok-tally-in-Some.ensures.items c.in_ok-tally-in-Some.ensures.tries
+    c.in_ok-tally-in-Some.ensures.tallied c.in_ok-tally-in-Some.ensures.leaves
     (c.packet.ensures.facts ∙ ap (λ (e : FlowEnds). record { ends = e; packets = kept.facts.packets + 1 }) sound.same_ends)

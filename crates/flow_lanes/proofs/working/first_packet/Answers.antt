@@ -3,13 +3,12 @@
 use Rattle.std.proofs.Common.{ℕ, List, ◌+◌, Option, Some, None, length, ap, subst, sym, ◌∙◌, rules}
 use Rattle.std.specs.HashMap.Entry.{entry_value, map_with_value}
 use Rattle.flow_lanes.specs.declared.job.Work.TheVariants as works
-use Rattle.flow_lanes.specs.Detecting.{DetectsOn}
-use Rattle.flow_lanes.specs.Flows.{FlowState, all_items, session_at_hand}
-use Rattle.flow_lanes.specs.Given.{making_of, packet_of}
-use Rattle.flow_lanes.specs.Items.{packet_items}
+use Rattle.flow_lanes.specs.Detecting.{Leaves, gain_of}
+use Rattle.flow_lanes.specs.Flows.{FlowState}
+use Rattle.flow_lanes.specs.Given.{inspection_of, making_of, packet_of}
 use Rattle.flow_lanes.specs.Sound.{FlowFacts}
 use Rattle.flow_lanes.specs.Standing.{KeptFlow}
-use Rattle.flow_lanes.specs.Tried.{candidates_of}
+use Rattle.flow_lanes.specs.Tried.{Tallied, so_far}
 use Rattle.flow_lanes.specs.Whole.{IsDone}
 use Rattle.flow_lanes.proofs.Jobs.IsDone.{do-packet}
 use Rattle.flow_lanes.proofs.Jobs.KeptIn.{put-new, sets-from}
@@ -24,22 +23,20 @@ packet-requires-after_bounds g c κs within =
 pub returns : goal.returns
 returns g c =
     let p = c.args.p.now in
-    let set = c.args.inspector.now.set.now in
-    let all = c.args.inspector.now.all in
+    let by = inspection_of g.P.Pattern.finds c.args.inspector.now in
     let making = making_of c.args.settings.now in
     let old = c.args.flows.now.entries in
     let kept = c.packet.new.self in
     let put = (map_with_value c.in_ok-flows.field-0 kept).entries in
-    let tally = c.in_ok-tally.tally in
+    let given = so_far c.in_ok-tally.tally in
     let empty = put-new c.args.flow old (entry_value c.in_ok-flows.field-0) c.new.result c.or_insert-kept.result.now c.in_ok-flows.ensures.value c.requires.first c.or_insert-kept.ensures.value in
     let none = ap (λ (k : KeptFlow). k.found) empty ∙ c.new.ensures.found in
-    let done = do-packet g.P.Pattern.finds set all making p.moment c.args.flow p.head.now p.payload.now p.to_dst p.to_src old put None kept tally
+    let done = do-packet by making p.moment c.args.flow p.head.now p.payload.now p.to_dst p.to_src old put None kept given
     (sym c.requires.first)
     (sets-from c.args.flow (Some kept) old put (λ other. (c.in_ok-flows.ensures.update.0 kept).0 other))
-    (λ means trying by. subst (λ (f : Option FlowState). DetectsOn all trying (packet_items making (packet_of p) (session_at_hand f)) f tally.hits.items kept.found) none (c.in_ok-tally.ensures.detects means trying by))
-    (c.in_ok-tally.ensures.items ∙ ap (λ (f : Option FlowState). length (all_items (packet_items making (packet_of p) (session_at_hand f)))) none)
-    (c.in_ok-tally.ensures.tries ∙ ap (λ (f : Option FlowState). candidates_of set.rules (all_items (packet_items making (packet_of p) (session_at_hand f)))) none)
+    (subst (λ (f : Option FlowState). Tallied by (gain_of making (packet_of p) f) given) none c.in_ok-tally.ensures.tallied)
+    (λ means trying tried. subst (λ (f : Option FlowState). Leaves trying making (packet_of p) f kept.found) none (c.in_ok-tally.ensures.leaves means trying tried))
     (c.packet.ensures.facts ∙ ap (λ (f : FlowFacts). record { ends = f.ends; packets = f.packets + 1 }) (ap (λ (k : KeptFlow). k.facts) empty ∙ c.new.ensures.facts)) in
     subst
-    (λ (new : List (ℕ × KeptFlow)). IsDone g.P.Pattern.finds set all making p.moment (works.Packet c.args.flow p.head.now p.payload.now p.to_dst p.to_src) old new tally)
+    (λ (new : List (ℕ × KeptFlow)). IsDone by making p.moment (works.Packet c.args.flow p.head.now p.payload.now p.to_dst p.to_src) old new given)
     (search rules) done

@@ -1,12 +1,13 @@
 -- A flow has fewer than 2^32 packets before this one, and each moves its session on by 2^31 places at most: so the session
 -- is found within reach, and the packet keeps the invariant.
 use Rattle.std.proofs.Common.{Some, length, subst, sym}
-use Rattle.flow_lanes.specs.Detecting.{DetectsOn}
+use Rattle.flow_lanes.specs.Detecting.{Leaves, gain_of}
 use Rattle.flow_lanes.specs.Flows.{session_at_hand}
-use Rattle.flow_lanes.specs.Given.{making_of, packet_of}
-use Rattle.flow_lanes.specs.Items.{packet_items}
+use Rattle.flow_lanes.specs.Given.{inspection_of, making_of, packet_of}
 use Rattle.flow_lanes.specs.Sound.{IsSoundPacket}
 use Rattle.flow_lanes.specs.Standing.{KeptFlow}
+use Rattle.flow_lanes.specs.Tried.{Tallied, so_far}
+use Rattle.flow_lanes.proofs.ItemHits.Tried.{tallied-new}
 use Rattle.flow_lanes.proofs.Sessions.IsKeptBy.{found-sound, kept-more}
 use Rattle.flow_lanes.proofs.keeping.Flow.packet.Goals as goal
 
@@ -28,8 +29,16 @@ invariant_of-self-2 g c =
     let sound = subst (λ (k : KeptFlow). IsSoundPacket (length c.args.settings.now.stream.now.engines) (Some k.facts) p) (sym c.self.view_is) c.requires in
     kept-more p c.self.inside.facts (session_at_hand c.self.inside.found) (session_at_hand c.packet_found.new.found) c.self.invariant sound.same_ends sound.few c.packet_found.ensures.grows
 
-pub returns-clause-detects : goal.returns-clause-detects
-returns-clause-detects g c = λ means trying by.
-    subst
-    (λ (k : KeptFlow). DetectsOn c.args.inspector.now.all trying (packet_items (making_of c.args.settings.now) (packet_of c.args.p.now) (session_at_hand k.found)) k.found c.packet_found.new.tally.hits.items c.packet_found.new.found)
-    c.self.view_is (c.in_ok-packet_found.ensures.detects means trying by c.new-tally.ensures.hits)
+pub returns-clause-tallied : goal.returns-clause-tallied
+returns-clause-tallied g c =
+    let by = inspection_of g.P.Pattern.finds c.args.inspector.now in
+    let making = making_of c.args.settings.now in
+    let p = packet_of c.args.p.now in
+    subst (λ (k : KeptFlow). Tallied by (gain_of making p k.found) (so_far c.packet_found.new.tally)) c.self.view_is
+    (tallied-new by (gain_of making p c.self.inside.found) (so_far c.new-tally.result) (so_far c.packet_found.new.tally) c.new-tally.ensures.hits c.new-tally.ensures.items
+    c.new-tally.ensures.tries c.in_ok-packet_found.ensures.tallies)
+
+pub returns-clause-leaves : goal.returns-clause-leaves
+returns-clause-leaves g c = λ means trying tried.
+    subst (λ (k : KeptFlow). Leaves trying (making_of c.args.settings.now) (packet_of c.args.p.now) k.found c.packet_found.new.found) c.self.view_is
+    (c.in_ok-packet_found.ensures.leaves means trying tried)
