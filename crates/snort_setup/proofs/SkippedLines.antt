@@ -10,7 +10,7 @@ use Rattle.rule_parser.specs.declared.fault.RuleKind.TheVariants as kind
 use Rattle.rule_parser.specs.Faults.{plain}
 use Rattle.rule_types.specs.declared.rule.Rule.{Rule}
 use Rattle.snort_setup.specs.Rules.{Frame, IsFaulty, LineGives, RulesEnd, RulesGive, Standing, Verdict, behind_fault, behind_line, end_at, is_among, is_skippable, is_taken, judged, most_rules, rule_error, rule_warning}
-use Rattle.snort_setup.specs.SkippedLines.{AreMoved, HasOneMore, IsRefusedRule, IsSkipped}
+use Rattle.snort_setup.specs.SkippedLines.{AreMoved, HasOneMore, IsRefusedRule, IsSkipped, OnlyWarns}
 use Rattle.snort_setup.proofs.One.{verdict-one}
 
 -- what stands, with these warnings
@@ -201,11 +201,10 @@ alike frame refused moved place names rules before warning later (line ∷ rest)
     (λ next known told goes. alike frame refused moved (place + 1) next known before warning told rest all (moved_on place refused moved are) goes)
     gives.0.names gives.0.rule here gives.2
 
-pub skipped : (frame : Frame) (refused moved : List ℕ) (place : ℕ) (standing : Standing) (line : Line) (fault : RuleFault) (rest : List Line) (all : RulesEnd)
-    → IsSkipped frame standing (is_among refused place) line fault → AreMoved place refused moved → RulesGive frame refused place standing (line ∷ rest) all
-    → (less : RulesEnd) × RulesGive frame moved place standing rest less × HasOneMore standing.warnings (rule_warning frame line fault) all less
+-- a line that is skipped, and the lines behind it
+pub skipped : (frame : Frame) (standing : Standing) (line : Line) (fault : RuleFault) → OnlyWarns frame standing line fault
 unfolding RulesGive
-skipped frame refused moved place standing line fault rest all is are gives =
+skipped frame standing line fault = λ refused moved place rest all is are gives.
     let told = rule_warning frame line fault in
     let own : Verdict = record { rule = Err fault; names = standing.names } in
     let same : gives.0 ≡ own = verdict-one frame standing (is_among refused place) line.text gives.0 own gives.1 is.gives in

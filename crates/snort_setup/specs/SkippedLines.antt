@@ -9,7 +9,7 @@ use Rattle.std.specs.Prelude.{◌≡◌, ◌<◌, ℕ, ◌+◌, Bool, false, tru
 use Rattle.conf_parser.specs.declared.line.Line.{Line}
 use Rattle.rule_parser.specs.declared.fault.RuleFault.{RuleFault}
 use Rattle.rule_types.specs.declared.rule.Rule.{Rule}
-use Rattle.snort_setup.specs.Rules.{Frame, IsRule, LineGives, RulesEnd, Standing, is_among, is_skippable, is_taken, most_rules}
+use Rattle.snort_setup.specs.Rules.{Frame, IsRule, LineGives, RulesEnd, RulesGive, Standing, is_among, is_skippable, is_taken, most_rules, rule_warning}
 
 -- behind what stands, a line gives a fault that is skipped, and no new name of a flowbit
 pub record IsSkipped (frame : Frame) (standing : Standing) (is_refused : Bool) (line : Line) (fault : RuleFault) : Type 0 where
@@ -36,3 +36,13 @@ pub record HasOneMore (before : List (List ℕ)) (warning : List ℕ) (all less 
   pub later : List (List ℕ)
   pub with_it : all.warnings ≡ before ++ warning ∷ later
   pub without : less.warnings ≡ before ++ later
+
+-- a line, where it is skipped for a fault, only warns: whatever lines follow, they end as they do without it, with the same
+-- rules and the same refusal, but for its warning
+abbrev pub OnlyWarns : Frame → Standing → Line → RuleFault → Type 0
+OnlyWarns frame standing line fault =
+    (refused moved : List ℕ) (place : ℕ) (rest : List Line) (all : RulesEnd)
+    → IsSkipped frame standing (is_among refused place) line fault → AreMoved place refused moved
+    → RulesGive frame refused place standing (line ∷ rest) all
+    → (less : RulesEnd) × RulesGive frame moved place standing rest less
+    × HasOneMore standing.warnings (rule_warning frame line fault) all less

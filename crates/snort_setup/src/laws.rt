@@ -1,22 +1,19 @@
 //! A law about rule lines, for callers.
 
-ghost use Rattle.std.specs.Prelude.{◌≡◌, ℕ, Bool, true, List, ◌∷◌};
+ghost use Rattle.std.specs.Prelude.{◌≡◌, Bool, true};
 ghost use Rattle.conf_parser.specs.declared.line.Line.{Line};
 ghost use Rattle.rule_parser.specs.declared.fault.RuleFault.{RuleFault};
 ghost use Rattle.rule_parser.specs.declared.fault.RuleKind.TheVariants.{OutsideProfile, PatternRefused};
 ghost use Rattle.rule_parser.specs.Faults.{plain};
-ghost use Rattle.snort_setup.specs.Rules.{Frame, IsFaulty, RulesEnd, RulesGive, Standing, is_among, rule_warning};
-ghost use Rattle.snort_setup.specs.SkippedLines.{AreMoved, HasOneMore, IsRefusedRule, IsSkipped};
+ghost use Rattle.snort_setup.specs.Rules.{Frame, IsFaulty, Standing};
+ghost use Rattle.snort_setup.specs.SkippedLines.{IsRefusedRule, IsSkipped, OnlyWarns};
 
 /// Behind whatever stands, rule lines the first of which is skipped end as they do without that line, but for its
 /// warning: with the same rules, and the same refusal if there is one (`only`). Lines outside the profile are skipped
 /// (`outside`), and rules whose pattern is refused (`refused`), where the words say so.
 pub fn skipped_lines_only_warn()
-    ensures only { (frame : Frame) (refused moved : List ℕ) (place : ℕ) (standing : Standing) (line : Line) (fault : RuleFault)
-        (rest : List Line) (all : RulesEnd) → IsSkipped frame standing (is_among refused place) line fault
-        → AreMoved place refused moved → RulesGive frame refused place standing (line ∷ rest) all
-        → (less : RulesEnd) × RulesGive frame moved place standing rest less
-        × HasOneMore standing.warnings (rule_warning frame line fault) all less }
+    ensures only { (frame : Frame) (standing : Standing) (line : Line) (fault : RuleFault)
+        → OnlyWarns frame standing line fault }
     ensures outside { (frame : Frame) (standing : Standing) (is_refused : Bool) (line : Line) (fault : RuleFault)
         → frame.skips ≡ true → fault.kind ≡ OutsideProfile → IsFaulty frame standing.names line.text fault
         → IsSkipped frame standing is_refused line fault }
