@@ -227,7 +227,7 @@ fn push_step(out: &mut Vec<u8>, step: Step) -> Result<(), AllocError>
 pub(crate) fn meaning(alloc: Global, style: Style, text: &[u8]) -> Result<Text, Stop<Fault>>
     ensures { Gives result (or_kind Fault.OptionValue (meaning style Place.Plain text.now)) }
 {
-    let mut out = Vec::new(alloc);
+    let mut out = Vec::with_capacity(alloc, text.len())?;
     let mut place = Place::Plain;
     for byte in text {
         let Some(step) = step_at(style, place, *byte) else {
