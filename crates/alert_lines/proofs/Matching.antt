@@ -27,7 +27,7 @@ use Rattle.alert_lines.specs.Showing.{EventsStand, Showing, Shows, SourcedItem, 
 use Rattle.alert_lines.specs.Sourcing.{sourced_items}
 use Rattle.alert_lines.specs.Events.{event_at, filtered_item, item_events}
 use Rattle.alert_lines.proofs.Emitting.{emits_nothing, emits_stopped, emits_told}
-use Rattle.alert_lines.proofs.Showing.{same_tally}
+use Rattle.alert_lines.proofs.Showing.{same_tally, shown_in}
 
 -- ---- items that no rule matches
 
@@ -207,7 +207,7 @@ matches_lines form config rules source found before jobs are =
     items_lines-matched form config rules before (sourced_items (by_place source 0 jobs)) ∙ ap (items_lines form config rules before) (sym (few_of_all source found jobs are))
 
 pub shows_matches : (form : Form) (config : Config) (rules : List Rule) (source : ℕ → LinkedRecord) (found : Matches) (old new : Showing) (done : Unit {0}) (count : ℕ) → count ≡ old.writer.tally.items + found.items
-    → Shows form config rules (sourced_items (by_place source 0 found.hits.items)) old new (Ok done) → ShowsMatches {A = Unit {0}} form config rules source found old (with_items new count) (Ok tt)
+    → Shows (shown_in form config rules) (sourced_items (by_place source 0 found.hits.items)) old new (Ok done) → ShowsMatches {A = Unit {0}} (shown_in form config rules) source found old (with_items new count) (Ok tt)
 shows_matches form config rules source found old new done count counted shows = record {
   stands = λ jobs are before stands.
       let all : List SourcedItem = sourced_items (by_place source 0 jobs) in
@@ -217,12 +217,12 @@ shows_matches form config rules source found old new done count counted shows = 
 }
 
 pub matches_part : (form : Form) (config : Config) (rules : List Rule) (source : ℕ → LinkedRecord) (found : Matches) (old new : Showing) (why : WriteFault)
-    → Shows {A = Unit {0}} form config rules (sourced_items (by_place source 0 found.hits.items)) old new (Err why) → ShowsMatches {A = Unit {0}} form config rules source found old new (Err why)
+    → Shows {A = Unit {0}} (shown_in form config rules) (sourced_items (by_place source 0 found.hits.items)) old new (Err why) → ShowsMatches {A = Unit {0}} (shown_in form config rules) source found old new (Err why)
 matches_part form config rules source found old new why shows = record {
   stands = tt;
   emits = emits_stopped shows.emits (λ known. (known.before, matches_lines form config rules source found known.before.items known.jobs known.are));
 }
 
 pub matches_nothing : (form : Form) (config : Config) (rules : List Rule) (source : ℕ → LinkedRecord) (found : Matches) (old : Showing)
-    → ShowsMatches {A = Unit {0}} form config rules source found old old (Err write.NoMemory)
+    → ShowsMatches {A = Unit {0}} (shown_in form config rules) source found old old (Err write.NoMemory)
 matches_nothing form config rules source found old = record { stands = tt; emits = emits_nothing _ (sending_of old) (sending_of old) refl refl }

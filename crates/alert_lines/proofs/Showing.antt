@@ -31,7 +31,7 @@ use Rattle.alert_lines.specs.Events.{Alert, Event, event_of, event_at, filtered_
 use Rattle.alert_lines.specs.Lines.{text_of, texts_from}
 use Rattle.alert_lines.specs.Events.{hit_count}
 use Rattle.alert_lines.specs.Gathering.{Sending, Emits}
-use Rattle.alert_lines.specs.Showing.{Subject, SourcedItem, places_lines, places_count, ShowsPlaces, items_lines, tally_of, EventsStand, Earlier, Showing, sending_of, Shows}
+use Rattle.alert_lines.specs.Showing.{Subject, SourcedItem, places_lines, places_count, ShowsPlaces, items_lines, tally_of, EventsStand, Earlier, Showing, Shown, sending_of, Shows}
 use Rattle.alert_lines.specs.Sourcing.{sourced_items}
 use Rattle.alert_lines.proofs.Emitting.{emits_both, emits_lacking, emits_longer, emits_none, emits_nothing, emits_stopped, emits_then, emits_told}
 use Rattle.alert_lines.proofs.Texts.{texts_from-append}
@@ -188,6 +188,10 @@ items_lines-append form config rules before front back =
 abbrev pub subject_for : Form → Config → List Rule → LinkedRecord → Hits → Subject
 subject_for form config rules source hits = record { form = form; classes = config.classes; rules = rules; source = source; head = hits.head }
 
+-- by what they are shown
+abbrev pub shown_in : Form → Config → List Rule → Shown
+shown_in form config rules = record { form = form; config = config; rules = rules }
+
 -- the lines of an item are those of the rules whose events are kept
 items_lines-one : (form : Form) (config : Config) (rules : List Rule) (before : List Hits) (source : LinkedRecord) (hits : Hits)
     → items_lines form config rules before (beside source hits ∷ [])
@@ -250,7 +254,7 @@ pub shows_one : (form : Form) (config : Config) (rules : List Rule) (source : Li
     → Passes config rules old.writer.filters [] (filtered_item hits) new.writer.filters places
     → ShowsPlaces (subject_for form config rules source hits) old.writer.tally.alerts places (sending_of old) (sending_of new) (Ok count)
     → new.writer.tally ≡ record { items = old.writer.tally.items + 1; hits = old.writer.tally.hits + size; alerts = old.writer.tally.alerts + count } → size ≡ length hits.rules
-    → Shows {A = Unit {0}} form config rules (beside source hits ∷ []) old new (Ok tt)
+    → Shows {A = Unit {0}} (shown_in form config rules) (beside source hits ∷ []) old new (Ok tt)
 shows_one form config rules source hits old new places count size passes shown tally is = record {
   stands = λ before stands.
       let passed = passes (map filtered_item before) stands.given in record {
@@ -264,14 +268,14 @@ shows_one form config rules source hits old new places count size passes shown t
 
 -- memory was lacking before it was shown
 pub shows_nothing : (form : Form) (config : Config) (rules : List Rule) (items : List SourcedItem) (old new : Showing) → new.written ≡ old.written → new.faults ≡ old.faults
-    → Shows {A = Unit {0}} form config rules items old new (Err write.NoMemory)
+    → Shows {A = Unit {0}} (shown_in form config rules) items old new (Err write.NoMemory)
 shows_nothing form config rules items old new written faults = record { stands = tt; emits = emits_nothing _ (sending_of old) (sending_of new) written faults }
 
 -- it was stopped
 pub shows_part_of : (form : Form) (config : Config) (rules : List Rule) (source : LinkedRecord) (hits : Hits) (old new : Showing) (after : FiltersState) (places : List ℕ) (why : WriteFault)
     → Passes config rules old.writer.filters [] (filtered_item hits) after places
     → ShowsPlaces (subject_for form config rules source hits) old.writer.tally.alerts places (sending_of old) (sending_of new) (Err why)
-    → Shows {A = Unit {0}} form config rules (beside source hits ∷ []) old new (Err why)
+    → Shows {A = Unit {0}} (shown_in form config rules) (beside source hits ∷ []) old new (Err why)
 shows_part_of form config rules source hits old new after places why passes shown = record {
   stands = tt;
   emits = emits_stopped shown.emits (λ before. (tt, item_lines_by form config rules source hits old.writer after places passes before));
@@ -281,7 +285,7 @@ shows_part_of form config rules source hits old new after places why passes show
 pub shows_uncounted : (form : Form) (config : Config) (rules : List Rule) (source : LinkedRecord) (hits : Hits) (old new : Showing) (after : FiltersState) (places : List ℕ) (count : ℕ)
     → Passes config rules old.writer.filters [] (filtered_item hits) after places
     → ShowsPlaces (subject_for form config rules source hits) old.writer.tally.alerts places (sending_of old) (sending_of new) (Ok count)
-    → Shows {A = Unit {0}} form config rules (beside source hits ∷ []) old new (Err write.NoMemory)
+    → Shows {A = Unit {0}} (shown_in form config rules) (beside source hits ∷ []) old new (Err write.NoMemory)
 shows_uncounted form config rules source hits old new after places count passes shown = record {
   stands = tt;
   emits = emits_lacking shown.emits (λ before. (tt, [], item_lines_by form config rules source hits old.writer after places passes before ∙ sym (append-nil _)));
@@ -292,7 +296,7 @@ items_lines-none : (form : Form) (config : Config) (rules : List Rule) (before :
 unfolding items_lines
 items_lines-none form config rules before = refl
 
-pub shows_none : (form : Form) (config : Config) (rules : List Rule) (old : Showing) → Shows {A = Unit {0}} form config rules [] old old (Ok tt)
+pub shows_none : (form : Form) (config : Config) (rules : List Rule) (old : Showing) → Shows {A = Unit {0}} (shown_in form config rules) [] old old (Ok tt)
 shows_none form config rules old = record {
   stands = λ before stands. subst (λ (x : List Hits). EventsStand config rules x old.writer) (sym (append-nil before)) stands;
   emits = emits_none (sending_of old) (λ before. items_lines-none form config rules before.items);
@@ -300,7 +304,7 @@ shows_none form config rules old = record {
 
 -- items came, and then others, or a part of their lines
 pub shows_then : (form : Form) (config : Config) (rules : List Rule) (front back : List SourcedItem) (old middle new : Showing) (done : Unit {0}) (outcome : Result (Unit {0}) WriteFault)
-    → Shows form config rules front old middle (Ok done) → Shows form config rules back middle new outcome → Shows form config rules (front ++ back) old new outcome
+    → Shows (shown_in form config rules) front old middle (Ok done) → Shows (shown_in form config rules) back middle new outcome → Shows (shown_in form config rules) (front ++ back) old new outcome
 shows_then form config rules front back old middle new done outcome one two = record {
   stands = by_outcome outcome two.stands;
   emits = emits_then one.emits two.emits (λ before. (before, record { items = before.items ++ whats front; stand = one.stands before.items before.stand }, items_lines-append form config rules before.items front back));
@@ -317,7 +321,7 @@ shows_then form config rules front back old middle new done outcome one two = re
 
 -- a part of the lines of items is one of those of more items
 shows_longer : (form : Form) (config : Config) (rules : List Rule) (front back : List SourcedItem) (old new : Showing) (why : WriteFault)
-    → Shows {A = Unit {0}} form config rules front old new (Err why) → Shows {A = Unit {0}} form config rules (front ++ back) old new (Err why)
+    → Shows {A = Unit {0}} (shown_in form config rules) front old new (Err why) → Shows {A = Unit {0}} (shown_in form config rules) (front ++ back) old new (Err why)
 shows_longer form config rules front back old new why one = record {
   stands = tt;
   emits = emits_longer one.emits (λ before. (before, items_lines form config rules (before.items ++ whats front) back, items_lines-append form config rules before.items front back));
@@ -334,18 +338,18 @@ items_more source items i hits lt is =
 -- the items so far came, and then the next one
 pub items_step : (form : Form) (config : Config) (rules : List Rule) (source : LinkedRecord) (items : List Hits) (i : ℕ) (hits : Hits) (old middle new : Showing) (done : Unit {0}) (outcome : Result (Unit {0}) WriteFault)
     → i < length items → hits ≡ get_or items i hits
-    → Shows form config rules (map (beside source) (take i items)) old middle (Ok done) → Shows form config rules (beside source hits ∷ []) middle new outcome
-    → Shows form config rules (map (beside source) (take (i + 1) items)) old new outcome
+    → Shows (shown_in form config rules) (map (beside source) (take i items)) old middle (Ok done) → Shows (shown_in form config rules) (beside source hits ∷ []) middle new outcome
+    → Shows (shown_in form config rules) (map (beside source) (take (i + 1) items)) old new outcome
 items_step form config rules source items i hits old middle new done outcome lt is so_far more =
-    subst (λ (x : List SourcedItem). Shows form config rules x old new outcome) (items_more source items i hits lt is)
+    subst (λ (x : List SourcedItem). Shows (shown_in form config rules) x old new outcome) (items_more source items i hits lt is)
     (shows_then form config rules (map (beside source) (take i items)) (beside source hits ∷ []) old middle new done outcome so_far more)
 
 pub items_part : (form : Form) (config : Config) (rules : List Rule) (source : LinkedRecord) (items : List Hits) (i : ℕ) (hits : Hits) (old middle new : Showing) (done : Unit {0}) (why : WriteFault)
     → i < length items → hits ≡ get_or items i hits
-    → Shows form config rules (map (beside source) (take i items)) old middle (Ok done) → Shows {A = Unit {0}} form config rules (beside source hits ∷ []) middle new (Err why)
-    → Shows {A = Unit {0}} form config rules (map (beside source) items) old new (Err why)
+    → Shows (shown_in form config rules) (map (beside source) (take i items)) old middle (Ok done) → Shows {A = Unit {0}} (shown_in form config rules) (beside source hits ∷ []) middle new (Err why)
+    → Shows {A = Unit {0}} (shown_in form config rules) (map (beside source) items) old new (Err why)
 items_part form config rules source items i hits old middle new done why lt is so_far part =
-    subst (λ (x : List SourcedItem). Shows {A = Unit {0}} form config rules x old new (Err why))
+    subst (λ (x : List SourcedItem). Shows {A = Unit {0}} (shown_in form config rules) x old new (Err why))
     (sym (map-append (beside source) (take (i + 1) items) (drop (i + 1) items)) ∙ ap (map (beside source)) (take-append-drop (i + 1) items))
     (shows_longer form config rules (map (beside source) (take (i + 1) items)) (map (beside source) (drop (i + 1) items)) old new why
     (items_step form config rules source items i hits old middle new done (Err why) lt is so_far part))
@@ -372,21 +376,21 @@ told_more source jobs i job lt is =
 
 pub jobs_step : (form : Form) (config : Config) (rules : List Rule) (source : ℕ → LinkedRecord) (jobs : List JobHits) (i : ℕ) (job : JobHits) (old middle new : Showing) (done : Unit {0}) (outcome : Result (Unit {0}) WriteFault)
     → i < length jobs → job ≡ get_or jobs i job
-    → Shows form config rules (sourced_items (by_place source 0 (take i jobs))) old middle (Ok done) → Shows form config rules (map (beside (source i)) job.items) middle new outcome
-    → Shows form config rules (sourced_items (by_place source 0 (take (i + 1) jobs))) old new outcome
+    → Shows (shown_in form config rules) (sourced_items (by_place source 0 (take i jobs))) old middle (Ok done) → Shows (shown_in form config rules) (map (beside (source i)) job.items) middle new outcome
+    → Shows (shown_in form config rules) (sourced_items (by_place source 0 (take (i + 1) jobs))) old new outcome
 jobs_step form config rules source jobs i job old middle new done outcome lt is so_far more =
-    subst (λ (x : List SourcedItem). Shows form config rules x old new outcome) (told_more source jobs i job lt is)
+    subst (λ (x : List SourcedItem). Shows (shown_in form config rules) x old new outcome) (told_more source jobs i job lt is)
     (shows_then form config rules (told_of source (take i jobs)) (map (beside (source i)) job.items) old middle new done outcome so_far more)
 
 pub jobs_part : (form : Form) (config : Config) (rules : List Rule) (source : ℕ → LinkedRecord) (jobs : List JobHits) (i : ℕ) (job : JobHits) (old middle new : Showing) (done : Unit {0}) (why : WriteFault)
     → i < length jobs → job ≡ get_or jobs i job
-    → Shows form config rules (sourced_items (by_place source 0 (take i jobs))) old middle (Ok done) → Shows {A = Unit {0}} form config rules (map (beside (source i)) job.items) middle new (Err why)
-    → Shows {A = Unit {0}} form config rules (sourced_items (by_place source 0 jobs)) old new (Err why)
+    → Shows (shown_in form config rules) (sourced_items (by_place source 0 (take i jobs))) old middle (Ok done) → Shows {A = Unit {0}} (shown_in form config rules) (map (beside (source i)) job.items) middle new (Err why)
+    → Shows {A = Unit {0}} (shown_in form config rules) (sourced_items (by_place source 0 jobs)) old new (Err why)
 jobs_part form config rules source jobs i job old middle new done why lt is so_far part =
     let front = take (i + 1) jobs in
     let back = drop (i + 1) jobs in
     let later = sourced_items (by_place source (0 + length front) back) in
-    subst (λ (x : List SourcedItem). Shows {A = Unit {0}} form config rules x old new (Err why))
+    subst (λ (x : List SourcedItem). Shows {A = Unit {0}} (shown_in form config rules) x old new (Err why))
     (sym (flat_map-append told_job (by_place source 0 front) (by_place source (0 + length front) back))
     ∙ ap sourced_items (sym (by_place-append source 0 front back)) ∙ ap (told_of source) (take-append-drop (i + 1) jobs))
     (shows_longer form config rules (told_of source front) later old new why (jobs_step form config rules source jobs i job old middle new done (Err why) lt is so_far part))

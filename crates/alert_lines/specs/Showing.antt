@@ -18,6 +18,7 @@ use Rattle.event_filters.specs.Standing.{IsGiven}
 use Rattle.record_jobs.specs.Way.{LinkedRecord}
 use Rattle.command_words.specs.declared.asked.Form.{Form}
 use Rattle.alert_lines.specs.declared.lines.Subject as code
+use Rattle.alert_lines.specs.declared.writer.Shown as lent
 use Rattle.alert_lines.specs.declared.writer.AlertWriter.{AlertWriter}
 use Rattle.alert_lines.specs.declared.tally.Tally.{Tally}
 use Rattle.alert_lines.specs.Beside.{Beside, beside, carried, whats}
@@ -118,12 +119,22 @@ showing a writer alerts = record { writer = writer; written = a.written alerts; 
 abbrev pub sending_of : Showing → Sending
 sending_of now = record { written = now.written; block = waiting_in now.writer; faults = now.faults }
 
+-- by what items are shown: in which form of alerts, by which configuration and rules
+pub record Shown : Type 0 where
+  pub form : Form
+  pub config : Config
+  pub rules : List Rule
+
+abbrev pub shown_by : lent.Shown → Shown
+shown_by by = record { form = by.form; config = by.config.now; rules = by.rules.now }
+
 -- whatever items were given before: the filters were given these too, and their lines are on their way
-pub record Shows {A : Type 0} (form : Form) (config : Config) (rules : List Rule) (items : List SourcedItem) (old new : Showing)
-    (outcome : Result A WriteFault) : Type 0 where
-  pub stands : OnOk outcome ((before : List Hits) → EventsStand config rules before old.writer
-      → EventsStand config rules (before ++ whats items) new.writer)
-  pub emits : EmitsBy (λ (before : Earlier config rules old.writer). items_lines form config rules before.items items)
+pub record Shows {A : Type 0} (by : Shown) (items : List SourcedItem) (old new : Showing) (outcome : Result A WriteFault) :
+    Type 0 where
+  pub stands : OnOk outcome ((before : List Hits) → EventsStand by.config by.rules before old.writer
+      → EventsStand by.config by.rules (before ++ whats items) new.writer)
+  pub emits : EmitsBy (λ (before : Earlier by.config by.rules old.writer).
+      items_lines by.form by.config by.rules before.items items)
       (sending_of old) (sending_of new) outcome
 
 -- the items of jobs, in the order of the jobs

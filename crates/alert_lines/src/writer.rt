@@ -5,7 +5,7 @@ ghost use Rattle.rule_types.specs.Sound.{IsSound};
 ghost use Rattle.alert_lines.specs.Beside.{beside, by_place};
 ghost use Rattle.alert_lines.specs.Gathering.{Emits};
 ghost use Rattle.alert_lines.specs.Matching.{ShowsMatches};
-ghost use Rattle.alert_lines.specs.Showing.{EventsStand, Shows, StandsFurther, sending_of, showing, tally_in, waiting_in};
+ghost use Rattle.alert_lines.specs.Showing.{EventsStand, Shows, StandsFurther, sending_of, showing, shown_by, tally_in, waiting_in};
 ghost use Rattle.alert_lines.specs.Sourcing.{source_by, sourced_items};
 
 use crate::fault::WriteFault;
@@ -81,7 +81,7 @@ impl AlertWriter {
         alerts: &mut A,
     ) -> Result<(), WriteFault>
         requires { All (IsSound by.now.config.now.classes) by.now.rules.now }
-        ensures { ShowsMatches by.now.form by.now.config.now by.now.rules.now (source_by sources.entry) found.now
+        ensures { ShowsMatches (shown_by by.now) (source_by sources.entry) found.now
             (showing A.Sink self.old alerts.old) (showing A.Sink self.new alerts.new) result }
     {
         let items = sum(self.tally.items, found.items)?;
@@ -111,7 +111,7 @@ impl AlertWriter {
         alerts: &mut A,
     ) -> Result<(), WriteFault>
         requires { All (IsSound by.now.config.now.classes) by.now.rules.now }
-        ensures { Shows by.now.form by.now.config.now by.now.rules.now
+        ensures { Shows (shown_by by.now)
             (sourced_items (by_place (source_by sources.entry) 0 jobs.now))
             (showing A.Sink self.old alerts.old) (showing A.Sink self.new alerts.new) result }
     {
@@ -134,7 +134,7 @@ impl AlertWriter {
         alerts: &mut A,
     ) -> Result<(), WriteFault>
         requires { All (IsSound by.now.config.now.classes) by.now.rules.now }
-        ensures { Shows by.now.form by.now.config.now by.now.rules.now (map (beside origin.now) items.now)
+        ensures { Shows (shown_by by.now) (map (beside origin.now) items.now)
             (showing A.Sink self.old alerts.old) (showing A.Sink self.new alerts.new) result }
     {
         for hits in items {
@@ -154,7 +154,7 @@ impl AlertWriter {
         alerts: &mut A,
     ) -> Result<(), WriteFault>
         requires { All (IsSound by.now.config.now.classes) by.now.rules.now }
-        ensures { Shows by.now.form by.now.config.now by.now.rules.now (beside origin.now hits.now ∷ [])
+        ensures { Shows (shown_by by.now) (beside origin.now hits.now ∷ [])
             (showing A.Sink self.old alerts.old) (showing A.Sink self.new alerts.new) result }
     {
         self.kept.clear();

@@ -32,7 +32,7 @@ use Rattle.alert_lines.specs.declared.fault.WriteFault.TheVariants as write
 use Rattle.alert_lines.specs.Beside.{beside, by_place, places_along, source_in, whats}
 use Rattle.alert_lines.specs.Events.{hit_count}
 use Rattle.alert_lines.specs.Gathering.{Sending, Emits}
-use Rattle.alert_lines.specs.Showing.{EventsStand, Showing, StandsFurther, items_lines, sending_of, tally_in, tally_of, waiting_in}
+use Rattle.alert_lines.specs.Showing.{EventsStand, Showing, Shown, StandsFurther, items_lines, sending_of, tally_in, tally_of, waiting_in}
 use Rattle.alert_lines.specs.Matching.{AreMatchesOf, Matched, ShowsMatches}
 use Rattle.alert_lines.specs.Sourcing.{sourced_items}
 use Rattle.alert_lines.proofs.Emitting.{emits_nothing, emits_same, emits_settled, emits_stopped, emits_then, emits_told, emptied}
@@ -121,6 +121,10 @@ stands_beside : (plan : Plan) (source : ℕ → LinkedRecord) (before batch : Li
 stands_beside plan source before batch inspection stands =
     subst (λ (x : List Job). InspectionStands plan (before ++ x) inspection) (sym (whats-by_place source 0 batch)) stands
 
+-- by what items are shown
+abbrev shown_in : Plan → Shown
+shown_in plan = record { form = plan.form; config = plan.config; rules = plan.rules }
+
 -- a writer, and a sink
 abbrev writing : AlertWriter → Option (List ℕ) → ℕ → Showing
 writing writer written faults = record { writer = writer; written = written; faults = faults }
@@ -128,7 +132,7 @@ writing writer written faults = record { writer = writer; written = written; fau
 -- the jobs of a batch were run, and the texts of what was found wait, or were written, or a part of them was
 runs_by : (outcome : Result (Unit {0}) WriteFault) (plan : Plan) (source : ℕ → LinkedRecord) (batch : List Job) (old new : Inspection) (first end : Option (List ℕ)) (faults after : ℕ) (out : Matches)
     → ((before : List Job) → LanesStand (detection_of plan) old.lanes before → IsBatchSearched (detection_of plan) before batch out new.lanes)
-    → new.tries ≡ old.tries + out.tries → ShowsMatches plan.form plan.config plan.rules source out (writing old.writer first faults) (writing new.writer end after) outcome
+    → new.tries ≡ old.tries + out.tries → ShowsMatches (shown_in plan) source out (writing old.writer first faults) (writing new.writer end after) outcome
     → Advances (jobs_stage plan) (by_place source 0 batch) old new (sending_of (writing old.writer first faults)) (sending_of (writing new.writer end after)) outcome
 runs_by outcome plan source batch old new first end faults after out answers tries shows = record {
   stands = by_outcome outcome shows.stands;
@@ -158,7 +162,7 @@ runs_by outcome plan source batch old new first end faults after out answers tri
 -- their lines were not all made
 pub runs_stopped : (plan : Plan) (source : ℕ → LinkedRecord) (batch : List Job) (old new : Inspection) (first end : Option (List ℕ)) (faults after : ℕ) (out : Matches) (why : WriteFault)
     → ((before : List Job) → LanesStand (detection_of plan) old.lanes before → IsBatchSearched (detection_of plan) before batch out new.lanes)
-    → new.tries ≡ old.tries + out.tries → ShowsMatches {A = Unit {0}} plan.form plan.config plan.rules source out (writing old.writer first faults) (writing new.writer end after) (Err why)
+    → new.tries ≡ old.tries + out.tries → ShowsMatches {A = Unit {0}} (shown_in plan) source out (writing old.writer first faults) (writing new.writer end after) (Err why)
     → waiting_in old.writer ≡ []
     → Advances {A = Unit {0}} (jobs_stage plan) (by_place source 0 batch) old new (record { written = first; block = []; faults = faults }) (record { written = end; block = []; faults = after }) (Err why)
 runs_stopped plan source batch old new first end faults after out why answers tries shows none =
@@ -168,7 +172,7 @@ runs_stopped plan source batch old new first end faults after out why answers tr
 pub runs_offered : (outcome : Result (Unit {0}) WriteFault) (plan : Plan) (source : ℕ → LinkedRecord) (batch : List Job) (old new : Inspection) (between : AlertWriter) (first second end : Option (List ℕ))
     (faults later after : ℕ) (out : Matches) (done : Unit {0})
     → ((before : List Job) → LanesStand (detection_of plan) old.lanes before → IsBatchSearched (detection_of plan) before batch out new.lanes)
-    → new.tries ≡ old.tries + out.tries → ShowsMatches plan.form plan.config plan.rules source out (writing old.writer first faults) (writing between second later) (Ok done)
+    → new.tries ≡ old.tries + out.tries → ShowsMatches (shown_in plan) source out (writing old.writer first faults) (writing between second later) (Ok done)
     → waiting_in old.writer ≡ [] → Emits [] (sending_of (writing between second later)) (sending_of (writing new.writer end after)) outcome → StandsFurther between new.writer
     → OnOk outcome (waiting_in new.writer ≡ [])
     → Advances (jobs_stage plan) (by_place source 0 batch) old new (record { written = first; block = []; faults = faults }) (record { written = end; block = []; faults = after }) outcome
