@@ -83,7 +83,9 @@ filling-start trie state at children e zeros = record {
   each = λ letter h. inl (ap (λ (c : List ℕ). slice_index c letter) zeros ∙ get_or-replicate {A = ℕ} trie.width letter 0 0 h, seek-start trie state letter at e);
 }
 
-pub filling-more : (trie : Trie) (state at next : ℕ) (children news : List ℕ) → 0 < at → IsFilling trie state at children → next ≡ min (step_at trie.steps.items (at - 1)).same (at - 1) → news ≡ set children (step_at trie.steps.items (at - 1)).by at → IsFilling trie state next news
+pub filling-more : (trie : Trie) (state at next : ℕ) (children news : List ℕ) → 0 < at → IsFilling trie state at children
+    → next ≡ min (step_at trie.steps.items (at - 1)).same (at - 1)
+    → news ≡ set children (step_at trie.steps.items (at - 1)).by at → IsFilling trie state next news
 filling-more trie state at next children news some is known e = record {
   count = ap length e ∙ length-set children by at ∙ is.count;
   own = λ words deep trie_is h.
@@ -120,7 +122,9 @@ filling-more trie state at next children news some is known e = record {
           record {
             lacks = λ none. absurd (omega arith);
             within = omega (arith, was.0, trie_is.count);
-            grown = λ more. ap (word_at words) back ∙ trie_is.told (at - 1) k ∙ ap (λ (b : ℕ). b ∷ word_at words (step_at trie.steps.items (at - 1)).up) here ∙ ap (λ (u : ℕ). letter ∷ word_at words u) (was.1 some);
+            grown = λ more. ap (word_at words) back ∙ trie_is.told (at - 1) k
+                ∙ ap (λ (b : ℕ). b ∷ word_at words (step_at trie.steps.items (at - 1)).up) here
+                ∙ ap (λ (u : ℕ). letter ∷ word_at words u) (was.1 some);
           };
     }
 

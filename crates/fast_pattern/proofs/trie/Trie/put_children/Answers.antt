@@ -11,7 +11,9 @@ loop-at-preserved c =
     let trie = c.args.self.now in
     let at = c.loop-at.at in
     let known : c.step_at-step.result ≡ step_at trie.steps.items (at - 1) = c.step_at-step.ensures ∙ ap (λ (ss : List Step). step_at ss (at - 1)) c.deref-in-loop-at.ensures.value in
-    filling-more trie c.args.state at c.min-at.result c.loop-at.children c.write.new.numbers (omega arith) c.loop-at.invariant (c.min-at.ensures ∙ ap (λ (s : Step). min s.same (at - 1)) known) (c.write.ensures ∙ ap (λ (s : Step). set c.loop-at.children s.by at) known)
+    filling-more trie c.args.state at c.min-at.result c.loop-at.children c.write.new.numbers (omega arith) c.loop-at.invariant
+    (c.min-at.ensures ∙ ap (λ (s : Step). min s.same (at - 1)) known)
+    (c.write.ensures ∙ ap (λ (s : Step). set c.loop-at.children s.by at) known)
 
 pub returns : goal.returns
 returns c = filling-end c.args.self.now c.args.state c.loop-at.at c.loop-at.children c.loop-at.invariant (omega arith)
