@@ -80,13 +80,12 @@ impl Tracker {
         ensures err { OnErr result (self.new ≡ self.old) }
     {
         let start = 8 * u64::from(ip.offset);
-        self.queue.reserve(start, part.len())?;
         let len = part.len() as u64;
         let bytes = self.bytes.saturating_add(len);
         let last = if ip.more { None } else { Some(start + len) };
         let end = self.end.or(last);
         let room = room_for(alloc, end, bytes)?;
-        self.queue.insert_reserved(start, part);
+        self.queue.insert(start, part)?;
         self.end = end;
         self.frags += 1;
         self.bytes = bytes;

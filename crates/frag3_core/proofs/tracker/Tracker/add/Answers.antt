@@ -13,12 +13,12 @@ use Rattle.frag3_core.proofs.tracker.Tracker.add.Goals as goal
 pub returns-clause-bytes : goal.returns-clause-bytes
 returns-clause-bytes c =
     let old = c.self.inside in
-    let queue = c.insert_reserved.new.self in
+    let queue = c.insert.new.self in
     let new : Segment = record { start = 8 * c.from-start.result; bytes = c.args.part.now } in
     let held = c.saturating_add-bytes.result in
     let t : TrackerState = record { preference = queue.preference; timeout = old.timeout; first = old.first.nanos; end = c.or-end.result; segments = queue.segments } in
     let segments : queue.segments ≡ old.queue.segments ++ new ∷ [] =
-    ap (λ (q : QueueState). q.segments) c.insert_reserved.ensures ∙ ap (λ (q : QueueState). q.segments ++ new ∷ []) c.in_ok-reserve.ensures.ok in
+    ap (λ (q : QueueState). q.segments) c.in_ok-insert.ensures.ok in
     let pushed = byte_count_push old.queue.segments new old.bytes c.self.invariant.bytes in
     let counted : min (byte_count queue.segments) (2 ^ 64 - 1) ≤ held = omega (arith, pushed, ap byte_count segments) in
     let within : ForSome c.or-end.result (λ e. e ≤ 65535) = grind (arith, common_steps) in
