@@ -207,7 +207,8 @@ matches_lines form config rules source found before jobs are =
     items_lines-matched form config rules before (sourced_items (by_place source 0 jobs)) ∙ ap (items_lines form config rules before) (sym (few_of_all source found jobs are))
 
 pub shows_matches : (form : Form) (config : Config) (rules : List Rule) (source : ℕ → LinkedRecord) (found : Matches) (old new : Showing) (done : Unit {0}) (count : ℕ) → count ≡ old.writer.tally.items + found.items
-    → Shows (shown_in form config rules) (sourced_items (by_place source 0 found.hits.items)) old new (Ok done) → ShowsMatches {A = Unit {0}} (shown_in form config rules) source found old (with_items new count) (Ok tt)
+    → Shows (shown_in form config rules) (sourced_items (by_place source 0 found.hits.items)) old new (Ok done)
+    → ShowsMatches {A = Unit {0}} (shown_in form config rules) source found old (with_items new count) (Ok tt)
 shows_matches form config rules source found old new done count counted shows = record {
   stands = λ jobs are before stands.
       let all : List SourcedItem = sourced_items (by_place source 0 jobs) in
@@ -217,7 +218,8 @@ shows_matches form config rules source found old new done count counted shows = 
 }
 
 pub matches_part : (form : Form) (config : Config) (rules : List Rule) (source : ℕ → LinkedRecord) (found : Matches) (old new : Showing) (why : WriteFault)
-    → Shows {A = Unit {0}} (shown_in form config rules) (sourced_items (by_place source 0 found.hits.items)) old new (Err why) → ShowsMatches {A = Unit {0}} (shown_in form config rules) source found old new (Err why)
+    → Shows {A = Unit {0}} (shown_in form config rules) (sourced_items (by_place source 0 found.hits.items)) old new (Err why)
+    → ShowsMatches {A = Unit {0}} (shown_in form config rules) source found old new (Err why)
 matches_part form config rules source found old new why shows = record {
   stands = tt;
   emits = emits_stopped shows.emits (λ known. (known.before, matches_lines form config rules source found known.before.items known.jobs known.are));

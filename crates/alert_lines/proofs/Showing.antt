@@ -376,7 +376,8 @@ told_more source jobs i job lt is =
 
 pub jobs_step : (form : Form) (config : Config) (rules : List Rule) (source : ℕ → LinkedRecord) (jobs : List JobHits) (i : ℕ) (job : JobHits) (old middle new : Showing) (done : Unit {0}) (outcome : Result (Unit {0}) WriteFault)
     → i < length jobs → job ≡ get_or jobs i job
-    → Shows (shown_in form config rules) (sourced_items (by_place source 0 (take i jobs))) old middle (Ok done) → Shows (shown_in form config rules) (map (beside (source i)) job.items) middle new outcome
+    → Shows (shown_in form config rules) (sourced_items (by_place source 0 (take i jobs))) old middle (Ok done)
+    → Shows (shown_in form config rules) (map (beside (source i)) job.items) middle new outcome
     → Shows (shown_in form config rules) (sourced_items (by_place source 0 (take (i + 1) jobs))) old new outcome
 jobs_step form config rules source jobs i job old middle new done outcome lt is so_far more =
     subst (λ (x : List SourcedItem). Shows (shown_in form config rules) x old new outcome) (told_more source jobs i job lt is)
@@ -384,7 +385,8 @@ jobs_step form config rules source jobs i job old middle new done outcome lt is 
 
 pub jobs_part : (form : Form) (config : Config) (rules : List Rule) (source : ℕ → LinkedRecord) (jobs : List JobHits) (i : ℕ) (job : JobHits) (old middle new : Showing) (done : Unit {0}) (why : WriteFault)
     → i < length jobs → job ≡ get_or jobs i job
-    → Shows (shown_in form config rules) (sourced_items (by_place source 0 (take i jobs))) old middle (Ok done) → Shows {A = Unit {0}} (shown_in form config rules) (map (beside (source i)) job.items) middle new (Err why)
+    → Shows (shown_in form config rules) (sourced_items (by_place source 0 (take i jobs))) old middle (Ok done)
+    → Shows {A = Unit {0}} (shown_in form config rules) (map (beside (source i)) job.items) middle new (Err why)
     → Shows {A = Unit {0}} (shown_in form config rules) (sourced_items (by_place source 0 jobs)) old new (Err why)
 jobs_part form config rules source jobs i job old middle new done why lt is so_far part =
     let front = take (i + 1) jobs in
