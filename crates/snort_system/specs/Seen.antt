@@ -7,10 +7,11 @@ use Rattle.edge_io.specs.Files.{Files}
 use Rattle.edge_io.specs.Answers.{left_behind, taken_of}
 use Rattle.edge_io.specs.declared.heard_host.HeardHost.{HeardHost}
 use Rattle.edge_io.specs.declared.heard_sink.HeardSink.{HeardSink}
+use Rattle.edge_io.specs.declared.host.Host.{Ghosts as HostOf}
 use Rattle.edge_io.specs.declared.pattern.Refusal.{Refusal}
 use Rattle.option_eval.specs.Places.{Means}
 use Rattle.snort_engine.specs.declared.status.Status.{Status}
-use Rattle.snort_engine.specs.Outside.{Outside}
+use Rattle.snort_engine.specs.Outside.{Outside, by}
 use Rattle.snort_engine.specs.Headline.{Headline}
 
 -- the files are these, and what is left of the open capture is what they leave behind the host's answers; the bytes
@@ -34,3 +35,9 @@ unfoldable pub HeadlineByAgreeing : List (List ℕ) → Means → (Files → Typ
     → Status → Type 0
 HeadlineByAgreeing words means agree before after ended =
     (files : Files) → agree files → Headline words means (before files) (after files) ended
+
+-- the same of any host, by all files that agree with what it answered: these are seen in its place
+abbrev pub HeadlineByAnswers : {H : Type 0} → HostOf H → H → List (List ℕ) → Means → (HostOf H → Outside) → (HostOf H → Outside)
+    → Status → Type 0
+HeadlineByAnswers h host words means before after ended =
+    HeadlineByAgreeing words means (h.agrees host) (λ files. before (by (Some files) h)) (λ files. after (by (Some files) h)) ended

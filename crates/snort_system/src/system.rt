@@ -1,8 +1,8 @@
 //! One run over real files and the two streams.
-ghost use Rattle.std.specs.Prelude.{Some, map, string_bytes};
+ghost use Rattle.std.specs.Prelude.{map, string_bytes};
 ghost use Rattle.edge_io.specs.Answers.{Agree};
-ghost use Rattle.snort_engine.specs.Outside.{by, outside};
-ghost use Rattle.snort_system.specs.Seen.{HeadlineByAgreeing, seen_by};
+ghost use Rattle.snort_engine.specs.Outside.{outside};
+ghost use Rattle.snort_system.specs.Seen.{HeadlineByAgreeing, HeadlineByAnswers, seen_by};
 
 use edge_io::{HeardHost, HeardSink, Host, OpenGate, PatternMaker, Sink};
 use snort_engine::{Status, run};
@@ -21,9 +21,9 @@ fn run_by_answers<H: Host, M: PatternMaker, A: Sink, E: Sink, R: Threads + Sync>
     alerts: &mut A,
     errors: &mut E,
 ) -> Status
-    ensures { HeadlineByAgreeing (map string_bytes words.now) (M.means maker.old) (H.agrees host.new)
-        (λ files. outside (by (Some files) H.Host) A.Sink E.Sink host.old alerts.old errors.old (M.refusals maker.old))
-        (λ files. outside (by (Some files) H.Host) A.Sink E.Sink host.new alerts.new errors.new (M.refusals maker.new)) result }
+    ensures { HeadlineByAnswers H.Host host.new (map string_bytes words.now) (M.means maker.old)
+        (λ h. outside h A.Sink E.Sink host.old alerts.old errors.old (M.refusals maker.old))
+        (λ h. outside h A.Sink E.Sink host.new alerts.new errors.new (M.refusals maker.new)) result }
 {
     run(rt, alloc, words, host, maker, alerts, errors, &OpenGate)
 }
