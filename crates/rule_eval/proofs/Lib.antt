@@ -14,3 +14,5 @@ pub mod ChangesKnownBits
 pub mod RuleMatches
 -- the candidates that match are all rules that do
 pub mod Picked
+-- the visits of a rule by its place
+pub mod Work

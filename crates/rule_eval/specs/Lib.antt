@@ -1,3 +1,4 @@
 -- The definitions that the contracts of rule_eval cite.
 pub mod Hits
 pub mod Picking
+pub mod Work

@@ -1,11 +1,12 @@
 //! One rule on one item.
 
-ghost use Rattle.std.specs.Prelude.{◌≡◌, ◌<◌, ◌↔◌, length, All, IsTrue, IfOk};
+ghost use Rattle.std.specs.Prelude.{◌≡◌, ◌+◌, ◌<◌, ◌≤◌, ◌↔◌, length, All, IsTrue, IfOk};
 ghost use Rattle.rule_types.specs.declared.rule.Rule.{Rule};
 ghost use Rattle.header_eval.specs.Fields.{field_holds};
-ghost use Rattle.option_eval.specs.Places.{Means, PayloadMatches};
+ghost use Rattle.option_eval.specs.Places.{Means};
 ghost use Rattle.option_eval.specs.RuleSet.{FindWhatIsMeant, IsRuleAt};
 ghost use Rattle.rule_eval.specs.Hits.{RuleMatches, flowbit_holds};
+ghost use Rattle.rule_eval.specs.Work.{visits_at};
 
 use edge_io::{NoMemory, Pattern};
 use flowbit_state::Bits;
@@ -14,8 +15,7 @@ use option_eval::{RuleSet, Steps, payload_matches};
 use packet_decode::ItemHead;
 use rule_types::Opt;
 use std::alloc::Global;
-use std::marker::Brand;
-use std::sync::ledger::{Blank, Ledger};
+use std::sync::ledger::Ledger;
 
 /// Whether every option that tests a field holds of an item with `len` bytes of payload.
 fn fields_hold(opts: &[Opt], head: &ItemHead, len: usize) -> bool
@@ -41,47 +41,32 @@ fn flowbits_hold(opts: &[Opt], bits: &Bits) -> bool
     opts.iter().all(|opt| flowbit_holds(opt, bits))
 }
 
-/// Whether some way leads through the rule's payload options, looked for with a count of its own.
-fn payload_holds<P: Pattern, L: Ledger>(
-    alloc: Global,
-    set: &RuleSet<P>,
-    rule: u32,
-    payload: &[u8],
-    blank: Blank,
-) -> Result<bool, NoMemory>
-    requires within { rule < length set.now.rules }
-    requires name { blank.name ≡ L.name }
-    requires parts { blank.parts ≡ L.parts }
-    requires blank { 0 < blank.parts }
-    ensures { (means : Means) → (chosen : Rule) → FindWhatIsMeant P.finds means set.now → IsRuleAt set.now rule chosen
-        → IfOk result (λ matches. IsTrue matches ↔ PayloadMatches means chosen payload.now) }
-{
-    let mut visits = Steps::<L>::new(blank);
-    payload_matches(alloc, set, rule, payload, &mut visits)
-}
-
 /// Whether the rule at a place of the set matches an item: its header, its tests of fields and of the
 /// session's bits hold, and its payload options lead through the payload (specs/Hits). An item without a
-/// session has no bits, `Bits::new()`. The payload is looked at last.
-pub fn rule_matches<P: Pattern>(
+/// session has no bits, `Bits::new()`. The payload is looked at last; the visits that this takes are counted, and are
+/// at most those of specs/Work.
+pub fn rule_matches<P: Pattern, L: Ledger>(
     alloc: Global,
     set: &RuleSet<P>,
     rule: u32,
     head: &ItemHead,
     payload: &[u8],
     bits: &Bits,
+    visits: &mut Steps<L>,
 ) -> Result<bool, NoMemory>
     requires { rule < length set.now.rules }
-    ensures { (means : Means) → (chosen : Rule) → FindWhatIsMeant P.finds means set.now → IsRuleAt set.now rule chosen
+    ensures right { (means : Means) → (chosen : Rule) → FindWhatIsMeant P.finds means set.now → IsRuleAt set.now rule chosen
         → IfOk result (λ matches. IsTrue matches
         ↔ RuleMatches means chosen (record { head = head.now; payload = payload.now }) bits.now) }
+    ensures visits { (means : Means) → FindWhatIsMeant P.finds means set.now
+        → visits.new ≤ visits.old + visits_at set.now.rules (length payload.now) rule }
 {
     let tried = &set.rules()[rule as usize];
     if header_matches(tried, head)
         && fields_hold(tried.opts.as_slice(), head, payload.len())
         && flowbits_hold(tried.opts.as_slice(), bits)
     {
-        return payload_holds::<P, Brand>(alloc, set, rule, payload, Blank::new(1));
+        return payload_matches(alloc, set, rule, payload, visits);
     }
     Ok(false)
 }

@@ -6,7 +6,7 @@ use Rattle.rule_eval.specs.Hits.{AreHits}
 use Rattle.rule_eval.specs.Picking.{bits_after_all, picked}
 use Rattle.rule_eval.proofs.Picked.{candidates-below, picked-hits}
 use Rattle.rule_eval.proofs.Tells.{test_of, test_of-tells}
-use Rattle.rule_eval.proofs.hits.matching_among.Goals as goal
+use Rattle.rule_eval.proofs.hits.matching_counted.Goals as goal
 
 pub pick_all-requires-clause-within : goal.pick_all-requires-clause-within
 pick_all-requires-clause-within g c κs within =
@@ -14,12 +14,12 @@ pick_all-requires-clause-within g c κs within =
 
 pub returns-clause-hits : goal.returns-clause-hits
 returns-clause-hits g c = λ means find.
-    let all = c.in_ok-found.ensures means (test_of means) find (test_of-tells means) in
+    let all = c.in_ok-found.ensures.picks means (test_of means) find (test_of-tells means) in
     subst (λ (xs : List ℕ). AreHits means c.args.set.now.rules (record { head = c.args.head.now; payload = c.args.payload.now }) c.args.bits.now xs)
     (sym (c.from_vec.ensures ∙ all.found ∙ ap (λ (xs : List ℕ). picked (test_of means) c.args.set.now.rules (record { head = c.args.head.now; payload = c.args.payload.now }) c.args.bits.now xs) c.requires.candidates))
     (picked-hits means (test_of means) (test_of-tells means) c.args.set.now.rules (record { head = c.args.head.now; payload = c.args.payload.now }) c.args.bits.now)
 
 pub returns-clause-bits : goal.returns-clause-bits
 returns-clause-bits g c = λ means find.
-    let all = c.in_ok-found.ensures means (test_of means) find (test_of-tells means) in
+    let all = c.in_ok-found.ensures.picks means (test_of means) find (test_of-tells means) in
     all.bits ∙ ap (λ (xs : List ℕ). bits_after_all c.args.set.now.rules c.args.bits.now xs) (sym c.from_vec.ensures)
