@@ -9,6 +9,7 @@ pub mod Reach
 pub mod Payloads
 pub mod Working
 pub mod ItemHits
+pub mod Work
 pub mod Tried
 pub mod Flows
 pub mod Detecting

@@ -1,5 +1,5 @@
 -- What a tally gains: items that are tried, with all rules that match them. All of them are told, or those that a
--- rule matches, and all are counted.
+-- rule matches, all are counted, and so are the visits of their payloads.
 --
 -- To try it on: where a rule sets a bit on the first of two items that are tried, the second sees it. Of two items
 -- with a candidate each, of which the second matches, a tally gains 2 items, 2 candidates, and the second item
@@ -18,6 +18,7 @@ use Rattle.flow_lanes.specs.Flows.{FlowState, all_items, hits_in}
 use Rattle.flow_lanes.specs.Given.{Inspection}
 use Rattle.flow_lanes.specs.ItemHits.{bits_after_items, hits_of, told}
 use Rattle.flow_lanes.specs.Items.{JobItems}
+use Rattle.flow_lanes.specs.Work.{visits_over}
 
 -- the rules of the set are tried, and it is told which of them match
 pub record TriesBy {P : Type 0} (finds : P → List ℕ → Option Span) (means : Means) (set : Rules P)
@@ -52,9 +53,10 @@ pub record SoFar : Type 0 where
   pub hits : List Hits
   pub items : ℕ
   pub tries : ℕ
+  pub visits : ℕ
 
-abbrev pub so_far : Tally → SoFar
-so_far tally = record { hits = tally.hits.items; items = tally.items; tries = tally.tries }
+abbrev pub so_far : {L : Type 0} → Tally L → SoFar
+so_far tally = record { hits = tally.hits.items; items = tally.items; tries = tally.tries; visits = tally.visits }
 
 -- a tally gains this
 pub record Tallies {P : Type 0} (by : Inspection P) (gain : Gain) (old new : SoFar) : Type 0 where
@@ -62,12 +64,15 @@ pub record Tallies {P : Type 0} (by : Inspection P) (gain : Gain) (old new : SoF
   pub more : length old.hits ≤ length new.hits
   pub items : new.items ≡ old.items + length gain.items
   pub tries : new.tries ≡ old.tries + candidates_of by.set.rules gain.items
+  pub visits : (means : Means) → FindWhatIsMeant by.finds means by.set
+      → new.visits ≤ old.visits + visits_over by.set.rules gain.items
 
 -- this is all that a tally has
 pub record Tallied {P : Type 0} (by : Inspection P) (gain : Gain) (all : SoFar) : Type 0 where
   pub hits : ByTest by (λ trying. all.hits ≡ told by.all (gain.hits trying))
   pub items : all.items ≡ length gain.items
   pub tries : all.tries ≡ candidates_of by.set.rules gain.items
+  pub visits : (means : Means) → FindWhatIsMeant by.finds means by.set → all.visits ≤ visits_over by.set.rules gain.items
 
 -- items of one session are tried, in order: a tally gains them, and they leave these bits
 pub record Tries {P : Type 0} (by : Inspection P) (items : List Item) (old new : Option Bits)

@@ -3,9 +3,11 @@
 ghost use Rattle.std.specs.Prelude.{◌≡◌, ◌+◌, ◌*◌, ◌≤◌, [], map, length, sum_by, OnOk};
 
 use edge_io::{Items, NoMemory};
+use option_eval::Steps;
 use ordered_merge::Numbered;
 use packet_decode::ItemHead;
 use std::alloc::Global;
+use std::sync::ledger::Ledger;
 
 /// An item, and the places of all rules that match it, in ascending order.
 #[derive(Debug, Drop)]
@@ -28,6 +30,16 @@ pub struct JobOut {
     pub hits: JobHits,
     /// How many candidates the job's items had.
     pub tries: u64,
+}
+
+/// The answer to one job, with how many visits of payloads it took.
+#[derive(Drop)]
+pub struct JobCounted<L: Ledger> {
+    pub hits: JobHits,
+    /// How many candidates the job's items had.
+    pub tries: u64,
+    /// How many visits of the items' payloads these took. It takes no bytes.
+    pub visits: Steps<L>,
 }
 
 /// What is found of one job: those of its items that are told, which are all of them or those that a rule matches.

@@ -21,6 +21,7 @@ use flowbit_state::Bits;
 use packet_decode::SessionFacts;
 use rule_eval::Item;
 use rule_types::Rule;
+use std::sync::ledger::Ledger;
 use stream5_sessions::Step;
 
 /// Takes the bits of the session at hand, which has none then.
@@ -56,13 +57,13 @@ fn bits_found(tracked: bool, found: &mut Option<FlowState>) -> Option<Bits>
 
 /// Tries the rules on the streams of the packet's session and then on the packet.
 #[inline(always)]
-fn try_current<P: Pattern>(
+fn try_current<P: Pattern, L: Ledger>(
     inspector: &Inspector<'_, P>,
     streams: &[Item],
     own: &Option<SessionFacts>,
     p: &Arrival,
     bits: &mut Option<Bits>,
-    tally: &mut Tally,
+    tally: &mut Tally<L>,
 ) -> Result<(), NoMemory>
     ensures { OnOk result (Tries (inspection_of P.finds inspector.now) (streams.now ++ own_item (packet_of p.now) own.now)
         bits.old bits.new (so_far tally.old) (so_far tally.new)) }
@@ -117,11 +118,11 @@ fn end_if(ends: bool, found: &mut Option<FlowState>)
 }
 
 /// Tries the rules on the items of a session that has ended, with its bits: no session stands then.
-pub(crate) fn try_at_end<P: Pattern>(
+pub(crate) fn try_at_end<P: Pattern, L: Ledger>(
     inspector: &Inspector<'_, P>,
     items: &[Item],
     found: &mut Option<FlowState>,
-    tally: &mut Tally,
+    tally: &mut Tally<L>,
 ) -> Result<(), NoMemory>
     ensures tallies { OnOk result (Tallies (inspection_of P.finds inspector.now)
         (of_session (bits_at_hand found.old) items.now) (so_far tally.old) (so_far tally.new)) }
@@ -137,14 +138,14 @@ pub(crate) fn try_at_end<P: Pattern>(
 /// as its rules ask, unless it ends.
 // In the line of each packet, so that nothing is passed through memory.
 #[inline(always)]
-pub(crate) fn try_and_settle<P: Pattern>(
+pub(crate) fn try_and_settle<P: Pattern, L: Ledger>(
     inspector: &Inspector<'_, P>,
     streams: &[Item],
     own: &Option<SessionFacts>,
     p: &Arrival,
     step: &Step,
     found: &mut Option<FlowState>,
-    tally: &mut Tally,
+    tally: &mut Tally<L>,
 ) -> Result<(), NoMemory>
     ensures tallies { OnOk result (Tallies (inspection_of P.finds inspector.now)
         (of_session (bits_now step.now.tracked found.old) (streams.now ++ own_item (packet_of p.now) own.now))

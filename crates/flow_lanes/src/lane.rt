@@ -1,6 +1,6 @@
 //! A lane: some flows, job by job.
 
-ghost use Rattle.std.specs.Prelude.{◌≡◌, ◌≤◌, All, IfOk, OnOk, length};
+ghost use Rattle.std.specs.Prelude.{◌≡◌, ◌<◌, ◌≤◌, All, IfOk, OnOk, length};
 ghost use Rattle.conf_types.specs.Sound.{IsStreamConfig};
 ghost use Rattle.fast_pattern.specs.Grouping.{StandFor};
 ghost use Rattle.rule_types.specs.Sound.{IsTriable};
@@ -8,8 +8,9 @@ ghost use Rattle.flow_lanes.specs.Given.{inspection_of};
 ghost use Rattle.flow_lanes.specs.Sound.{IsSoundFor};
 ghost use Rattle.flow_lanes.specs.Standing.{AnswersJob, CountsTries, LearnsJob, known_of, new_lane};
 ghost use Rattle.flow_lanes.specs.Batching.{SearchesJob};
+ghost use Rattle.flow_lanes.specs.Work.{CountsVisits};
 
-use crate::answer::{JobFound, JobHits, JobOut};
+use crate::answer::{JobCounted, JobFound, JobHits, JobOut};
 use crate::inspector::Inspector;
 use crate::job::Job;
 use crate::keeping::Flows;
@@ -19,10 +20,11 @@ use crate::working::do_work;
 use conf_types::StreamConfig;
 use edge_io::{Items, NoMemory, Pattern};
 use fast_pattern::Groups;
-use option_eval::RuleSet;
+use option_eval::{RuleSet, Steps};
 use std::alloc::Global;
 use std::collections::HashMap;
-use std::marker::Model;
+use std::marker::{Brand, Model};
+use std::sync::ledger::{Blank, Ledger};
 
 /// The flows that one thread at a time goes on with. Contracts see the settings and the flows that have
 /// not ended, by their numbers (`LaneState` of specs/Standing).
@@ -50,27 +52,37 @@ impl Model for Lane {
     ghost invariant = { λ lane. 1 ≤ lane.flush };
 }
 
+/// What is found of a job, and how many visits of payloads that took.
+#[derive(Drop)]
+struct Counted<L: Ledger> {
+    found: JobFound,
+    visits: Steps<L>,
+}
+
 /// What was found of a job.
-fn job_found(job: &Job, tally: Tally) -> JobFound
-    ensures number { result.hits.number ≡ job.now.number }
-    ensures told { result.hits.items ≡ tally.hits.items }
-    ensures items { result.items ≡ tally.items }
-    ensures tries { result.tries ≡ tally.tries }
+fn job_found<L: Ledger>(job: &Job, tally: Tally<L>) -> Counted<L>
+    ensures number { result.found.hits.number ≡ job.now.number }
+    ensures told { result.found.hits.items ≡ tally.hits.items }
+    ensures items { result.found.items ≡ tally.items }
+    ensures tries { result.found.tries ≡ tally.tries }
+    ensures visits { result.visits ≡ tally.visits }
 {
     let Tally {
         hits,
         items,
         tries,
         cost: _,
+        visits,
     } = tally;
-    JobFound {
+    let found = JobFound {
         hits: JobHits {
             number: job.number,
             items: Items::from_vec(hits),
         },
         items,
         tries,
-    }
+    };
+    Counted { found, visits }
 }
 
 impl Lane {
@@ -126,6 +138,44 @@ impl Lane {
         })
     }
 
+    /// The same, by the same code as `job` and a batch do it, with how many visits of payloads it takes: they are
+    /// counted in `visits`, which has none yet, and are at most the sum over the items and their candidates of what
+    /// each may take (specs/Work).
+    pub fn job_counted<'a, P: Pattern, L: Ledger>(
+        &mut self,
+        alloc: Global,
+        job: &Job,
+        stream: &'a StreamConfig,
+        set: &'a RuleSet<P>,
+        groups: &'a Groups,
+        visits: Steps<L>,
+    ) -> Result<JobCounted<L>, NoMemory>
+        requires sound { IsSoundFor (length stream.now.engines) (known_of self.old job.now) job.now }
+        requires config { IsStreamConfig stream.now }
+        requires groups { StandFor groups.now set.now.rules }
+        requires triable { All IsTriable set.now.rules }
+        requires none { visits ≡ 0 }
+        ensures answers { IfOk result (λ out. AnswersJob P.finds stream.now set.now self.old job.now out.hits self.new) }
+        ensures learns { OnOk result (LearnsJob self.old job.now self.new) }
+        ensures tries { IfOk result (λ out. CountsTries P.finds stream.now set.now self.old job.now out.tries) }
+        ensures visits { IfOk result (λ out. CountsVisits P.finds stream.now set.now self.old job.now out.visits) }
+    {
+        let inspector = Inspector {
+            alloc,
+            stream,
+            set,
+            groups,
+            all: true,
+        };
+        let counted = self.search_counted(job, &inspector, visits)?;
+        let Counted { found, visits } = counted;
+        Ok(JobCounted {
+            hits: found.hits,
+            tries: found.tries,
+            visits,
+        })
+    }
+
     /// About what all its jobs cost.
     pub(crate) fn cost(&self) -> u64 {
         self.cost
@@ -142,13 +192,51 @@ impl Lane {
         ensures finds { IfOk result (λ found. SearchesJob (inspection_of P.finds inspector.now) self.old job.now found self.new) }
         ensures learns { OnOk result (LearnsJob self.old job.now self.new) }
     {
+        self.search_anew::<P, Brand>(job, inspector, Blank::new(1))
+    }
+
+    /// The same with a count of its own.
+    #[inline(always)]
+    fn search_anew<P: Pattern, L: Ledger>(
+        &mut self,
+        job: &Job,
+        inspector: &Inspector<'_, P>,
+        blank: Blank,
+    ) -> Result<JobFound, NoMemory>
+        requires sound { IsSoundFor (length inspector.now.stream.now.engines) (known_of self.old job.now) job.now }
+        requires name { blank.name ≡ L.name }
+        requires parts { blank.parts ≡ L.parts }
+        requires blank { 0 < blank.parts }
+        ensures finds { IfOk result (λ found. SearchesJob (inspection_of P.finds inspector.now) self.old job.now found self.new) }
+        ensures learns { OnOk result (LearnsJob self.old job.now self.new) }
+    {
+        let counted = self.search_counted(job, inspector, Steps::<L>::new(blank))?;
+        Ok(counted.found)
+    }
+
+    /// The same with the visits that it takes.
+    #[inline(always)]
+    fn search_counted<P: Pattern, L: Ledger>(
+        &mut self,
+        job: &Job,
+        inspector: &Inspector<'_, P>,
+        visits: Steps<L>,
+    ) -> Result<Counted<L>, NoMemory>
+        requires sound { IsSoundFor (length inspector.now.stream.now.engines) (known_of self.old job.now) job.now }
+        requires none { visits ≡ 0 }
+        ensures finds { IfOk result (λ counted. SearchesJob (inspection_of P.finds inspector.now) self.old job.now
+            counted.found self.new) }
+        ensures learns { OnOk result (LearnsJob self.old job.now self.new) }
+        ensures visits { IfOk result (λ counted. CountsVisits P.finds inspector.now.stream.now inspector.now.set.now
+            self.old job.now counted.visits) }
+    {
         let settings = Settings {
             flush: self.flush,
             inserts: self.inserts,
             stream: inspector.stream,
         };
         let flows = &mut self.flows;
-        let tally = do_work(inspector, &settings, job.moment, &job.work, flows)?;
+        let tally = do_work(inspector, &settings, job.moment, &job.work, flows, visits)?;
         self.cost = self.cost.saturating_add(tally.cost);
         Ok(job_found(job, tally))
     }

@@ -33,7 +33,7 @@ mod worker;
 mod working;
 mod worth;
 
-pub use answer::{BatchFault, BatchOut, Hits, JobHits, JobOut, Matches};
+pub use answer::{BatchFault, BatchOut, Hits, JobCounted, JobHits, JobOut, Matches};
 pub use batch::Lanes;
 pub use facts::{EndWay, FlowEnds, FlowFacts};
 pub use job::{Job, Toward, Work};

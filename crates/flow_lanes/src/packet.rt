@@ -24,8 +24,10 @@ use crate::settings::Settings;
 use crate::steps::step_and_state;
 use crate::tally::Tally;
 use edge_io::{Moment, NoMemory, Pattern};
+use option_eval::Steps;
 use rule_eval::Item;
 use std::alloc::Global;
+use std::sync::ledger::Ledger;
 use stream5_sessions::{Session as Phases, Step};
 
 /// Appends the items of the session at hand, which has ended.
@@ -47,11 +49,11 @@ fn push_closing_items(
 }
 
 /// Ends the session at hand: the rules are tried on its items, and none stands then.
-pub(crate) fn end_session<P: Pattern>(
+pub(crate) fn end_session<P: Pattern, L: Ledger>(
     inspector: &Inspector<'_, P>,
     moment: Moment,
     found: &mut Option<FlowState>,
-    tally: &mut Tally,
+    tally: &mut Tally<L>,
 ) -> Result<(), NoMemory>
     requires { IsWithin (session_at_hand found.old) (2 ^ 63) }
     ensures tallies { OnOk result (Tallies (inspection_of P.finds inspector.now) (of_session (bits_at_hand found.old)
@@ -66,12 +68,12 @@ pub(crate) fn end_session<P: Pattern>(
 }
 
 /// Ends it, where it ended before the packet.
-fn end_before<P: Pattern>(
+fn end_before<P: Pattern, L: Ledger>(
     inspector: &Inspector<'_, P>,
     moment: Moment,
     ended: bool,
     found: &mut Option<FlowState>,
-    tally: &mut Tally,
+    tally: &mut Tally<L>,
 ) -> Result<(), NoMemory>
     requires { IsWithin (session_at_hand found.old) (2 ^ 63) }
     ensures tallies { OnOk result (Tallies (inspection_of P.finds inspector.now) (of_session (bits_at_hand found.old)
@@ -86,14 +88,14 @@ fn end_before<P: Pattern>(
 }
 
 /// The packet's session begins or goes on: the rules are tried on its items.
-fn go_on<P: Pattern>(
+fn go_on<P: Pattern, L: Ledger>(
     inspector: &Inspector<'_, P>,
     settings: &Settings,
     p: &Arrival,
     step: &Step,
     state: Phases,
     found: &mut Option<FlowState>,
-    tally: &mut Tally,
+    tally: &mut Tally<L>,
 ) -> Result<(), NoMemory>
     requires within { IsWithin (session_at_hand found.old) (2 ^ 63 - 2 ^ 31) }
     requires size { length p.now.payload.now ≤ 65535 }
@@ -113,13 +115,13 @@ fn go_on<P: Pattern>(
 
 /// A packet that left its session as it is: the rules are tried on its items.
 #[inline(always)]
-fn packet_stays<P: Pattern>(
+fn packet_stays<P: Pattern, L: Ledger>(
     inspector: &Inspector<'_, P>,
     settings: &Settings,
     p: &Arrival,
     step: &Step,
     found: &mut Option<FlowState>,
-    tally: &mut Tally,
+    tally: &mut Tally<L>,
 ) -> Result<(), NoMemory>
     requires within { IsWithin (session_at_hand found.old) (2 ^ 63 - 2 ^ 31) }
     requires size { length p.now.payload.now ≤ 65535 }
@@ -141,12 +143,12 @@ fn packet_stays<P: Pattern>(
 /// A packet of the flow of which this is found, with the rules that match its items.
 // Kept out of the line of the packets that leave their session as it is, which are most.
 #[inline(never)]
-fn packet_on<P: Pattern>(
+fn packet_on<P: Pattern, L: Ledger>(
     inspector: &Inspector<'_, P>,
     settings: &Settings,
     p: &Arrival,
     found: &mut Option<FlowState>,
-    tally: &mut Tally,
+    tally: &mut Tally<L>,
 ) -> Result<(), NoMemory>
     requires protocol { HasSessions p.now.head.now.body }
     requires found { IsFound (is_tcp p.now.head.now.body) (2 ^ 63 - 2 ^ 31) (session_at_hand found.old) }
@@ -167,12 +169,12 @@ fn packet_on<P: Pattern>(
 /// A packet of the flow of which this is found, with the rules that match its items: in place, where it leaves its
 /// session as it is.
 #[inline(always)]
-fn packet_found<P: Pattern>(
+fn packet_found<P: Pattern, L: Ledger>(
     inspector: &Inspector<'_, P>,
     settings: &Settings,
     p: &Arrival,
     found: &mut Option<FlowState>,
-    tally: &mut Tally,
+    tally: &mut Tally<L>,
 ) -> Result<(), NoMemory>
     requires protocol { HasSessions p.now.head.now.body }
     requires found { IsFound (is_tcp p.now.head.now.body) (2 ^ 63 - 2 ^ 31) (session_at_hand found.old) }
@@ -197,14 +199,16 @@ impl Flow {
     /// leaves it. Where memory is lacking it is as far as the packet came.
     // In the line of each packet, so that its tally isn't passed through memory.
     #[inline(always)]
-    pub fn packet<P: Pattern>(
+    pub fn packet<P: Pattern, L: Ledger>(
         &mut self,
         inspector: &Inspector<'_, P>,
         settings: &Settings,
         p: &Arrival,
-    ) -> Result<Tally, NoMemory>
-        requires { IsSoundPacket (length settings.now.stream.now.engines) (Some self.old.facts)
+        visits: Steps<L>,
+    ) -> Result<Tally<L>, NoMemory>
+        requires sound { IsSoundPacket (length settings.now.stream.now.engines) (Some self.old.facts)
             (packet_of p.now) }
+        requires none { visits ≡ 0 }
         ensures tallied { IfOk result (λ tally. Tallied (inspection_of P.finds inspector.now)
             (gain_of (making_of settings.now) (packet_of p.now) self.old.found) (so_far tally)) }
         ensures leaves { OnOk result (ByTest (inspection_of P.finds inspector.now) (λ trying. Leaves trying
@@ -212,22 +216,24 @@ impl Flow {
         ensures facts { self.new.facts ≡ record { ends = self.old.facts.ends; packets = self.old.facts.packets + 1 } }
     {
         self.facts.packets += 1;
-        let mut tally = Tally::new(inspector.alloc);
+        let mut tally = Tally::new(inspector.alloc, visits);
         packet_found(inspector, settings, p, &mut self.found, &mut tally)?;
         Ok(tally)
     }
 
     /// The end of the flow: the items of the session at hand with all rules that match them. No session stands
     /// then. Where memory is lacking the flow is as far as its end came.
-    pub fn finish<P: Pattern>(
+    pub fn finish<P: Pattern, L: Ledger>(
         &mut self,
         inspector: &Inspector<'_, P>,
         moment: Moment,
-    ) -> Result<Tally, NoMemory>
+        visits: Steps<L>,
+    ) -> Result<Tally<L>, NoMemory>
+        requires { visits ≡ 0 }
         ensures { IfOk result (λ tally. Tallied (inspection_of P.finds inspector.now)
             (of_job (finish_items moment (session_at_hand self.old.found)) self.old.found) (so_far tally)) }
     {
-        let mut tally = Tally::new(inspector.alloc);
+        let mut tally = Tally::new(inspector.alloc, visits);
         end_session(inspector, moment, &mut self.found, &mut tally)?;
         Ok(tally)
     }

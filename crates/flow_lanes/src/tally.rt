@@ -13,14 +13,15 @@ use crate::inspector::Inspector;
 use crate::worth::{effort_cost, item_cost, options_cost};
 use edge_io::{Items, NoMemory, Pattern};
 use flowbit_state::Bits;
-use option_eval::RuleSet;
+use option_eval::{RuleSet, Steps};
 use packet_decode::{ItemHead, SessionFacts};
 use rule_eval::{Item, matching_among};
 use std::alloc::Global;
+use std::sync::ledger::Ledger;
 
 /// What was found of the items of a job so far.
 #[derive(Drop)]
-pub(crate) struct Tally {
+pub(crate) struct Tally<L: Ledger> {
     /// The items that are told, with all rules that match them.
     pub hits: Vec<Hits>,
     /// How many items there were.
@@ -29,20 +30,25 @@ pub(crate) struct Tally {
     pub tries: u64,
     /// About what they cost, in nanoseconds.
     pub cost: u64,
+    /// How many visits of their payloads the candidates took. It takes no bytes.
+    pub visits: Steps<L>,
 }
 
-impl Tally {
-    /// Nothing was found. Takes no memory.
-    pub fn new(alloc: Global) -> Tally
+impl<L: Ledger> Tally<L> {
+    /// Nothing was found, and no visit made. Takes no memory.
+    pub fn new(alloc: Global, visits: Steps<L>) -> Tally<L>
+        requires { visits ≡ 0 }
         ensures hits { result.hits.items ≡ [] }
         ensures items { result.items ≡ 0 }
         ensures tries { result.tries ≡ 0 }
+        ensures visits { result.visits ≡ 0 }
     {
         Tally {
             hits: Vec::new(alloc),
             items: 0,
             tries: 0,
             cost: 0,
+            visits,
         }
     }
 
@@ -51,6 +57,7 @@ impl Tally {
     fn count(&mut self, tries: usize, cost: u64) -> Result<(), NoMemory>
         ensures counts { OnOk result ((self.new.items ≡ self.old.items + 1) × (self.new.tries ≡ self.old.tries + tries)) }
         ensures hits { self.new.hits.items ≡ self.old.hits.items }
+        ensures visits { self.new.visits ≡ self.old.visits }
     {
         self.cost = self.cost.saturating_add(item_cost(tries, cost));
         self.items = self.items.checked_add(1).ok_or(NoMemory)?;
@@ -64,6 +71,7 @@ impl Tally {
             ≡ self.old.hits.items ++ told all (record { head = head.now; rules = rules } ∷ [])) }
         ensures items { self.new.items ≡ self.old.items }
         ensures tries { self.new.tries ≡ self.old.tries }
+        ensures visits { self.new.visits ≡ self.old.visits }
         ensures more { OnOk result (length self.old.hits.items ≤ length self.new.hits.items) }
     {
         if all || !rules.as_slice().is_empty() {
@@ -105,19 +113,27 @@ fn cost_of_options<P: Pattern>(set: &RuleSet<P>, places: &[u32], bytes: usize) -
 
 /// Tries the candidates of an item.
 #[inline(never)]
-fn try_candidates<P: Pattern>(
+fn try_candidates<P: Pattern, L: Ledger>(
     inspector: &Inspector<'_, P>,
     places: &[u32],
     head: &ItemHead,
     payload: &[u8],
     bits: &mut Option<Bits>,
-    tally: &mut Tally,
+    tally: &mut Tally<L>,
 ) -> Result<(), NoMemory>
     requires { places.now ≡ candidates inspector.now.set.now.rules head.now.body payload.now }
     ensures { OnOk result (Tries (inspection_of P.finds inspector.now) (record { head = head.now; payload = payload.now } ∷ [])
         bits.old bits.new (so_far tally.old) (so_far tally.new)) }
 {
-    let rules = matching_among(inspector.alloc, inspector.set, places, head, payload, bits)?;
+    let rules = matching_among(
+        inspector.alloc,
+        inspector.set,
+        places,
+        head,
+        payload,
+        bits,
+        &mut tally.visits,
+    )?;
     let cost = cost_of_options(inspector.set, places, payload.len());
     tally.count(places.len(), cost)?;
     tally.tell(inspector.all, head, rules)?;
@@ -125,12 +141,12 @@ fn try_candidates<P: Pattern>(
 }
 
 /// Tries the rules on an item.
-pub(crate) fn try_item<P: Pattern>(
+pub(crate) fn try_item<P: Pattern, L: Ledger>(
     inspector: &Inspector<'_, P>,
     head: &ItemHead,
     payload: &[u8],
     bits: &mut Option<Bits>,
-    tally: &mut Tally,
+    tally: &mut Tally<L>,
 ) -> Result<(), NoMemory>
     ensures { OnOk result (Tries (inspection_of P.finds inspector.now) (record { head = head.now; payload = payload.now } ∷ [])
         bits.old bits.new (so_far tally.old) (so_far tally.new)) }
@@ -142,13 +158,13 @@ pub(crate) fn try_item<P: Pattern>(
 /// Tries the candidates of a packet with these facts of its session.
 // Kept out of the line of packets without a candidate, which otherwise pay for the head.
 #[inline(never)]
-fn try_with_facts<P: Pattern>(
+fn try_with_facts<P: Pattern, L: Ledger>(
     inspector: &Inspector<'_, P>,
     places: &[u32],
     facts: SessionFacts,
     p: &Arrival,
     bits: &mut Option<Bits>,
-    tally: &mut Tally,
+    tally: &mut Tally<L>,
 ) -> Result<(), NoMemory>
     requires { places.now ≡ candidates inspector.now.set.now.rules p.now.head.now.body p.now.payload.now }
     ensures { OnOk result (Tries (inspection_of P.finds inspector.now) (item_with (packet_of p.now) facts ∷ [])
@@ -165,12 +181,12 @@ fn try_with_facts<P: Pattern>(
 /// head says of the packet alone: where there is none and such an item is not told, no head is made with the
 /// facts.
 #[inline(always)]
-fn try_packet<P: Pattern>(
+fn try_packet<P: Pattern, L: Ledger>(
     inspector: &Inspector<'_, P>,
     facts: SessionFacts,
     p: &Arrival,
     bits: &mut Option<Bits>,
-    tally: &mut Tally,
+    tally: &mut Tally<L>,
 ) -> Result<(), NoMemory>
     ensures { OnOk result (Tries (inspection_of P.finds inspector.now) (item_with (packet_of p.now) facts ∷ [])
         bits.old bits.new (so_far tally.old) (so_far tally.new)) }
@@ -184,12 +200,12 @@ fn try_packet<P: Pattern>(
 
 /// Tries the rules on the packet's own item, if it is one.
 #[inline(always)]
-pub(crate) fn try_own<P: Pattern>(
+pub(crate) fn try_own<P: Pattern, L: Ledger>(
     inspector: &Inspector<'_, P>,
     own: &Option<SessionFacts>,
     p: &Arrival,
     bits: &mut Option<Bits>,
-    tally: &mut Tally,
+    tally: &mut Tally<L>,
 ) -> Result<(), NoMemory>
     ensures { OnOk result (Tries (inspection_of P.finds inspector.now) (own_item (packet_of p.now) own.now)
         bits.old bits.new (so_far tally.old) (so_far tally.new)) }
@@ -201,11 +217,11 @@ pub(crate) fn try_own<P: Pattern>(
 }
 
 /// Tries the rules on items of one session, in order.
-pub(crate) fn try_items<P: Pattern>(
+pub(crate) fn try_items<P: Pattern, L: Ledger>(
     inspector: &Inspector<'_, P>,
     items: &[Item],
     bits: &mut Option<Bits>,
-    tally: &mut Tally,
+    tally: &mut Tally<L>,
 ) -> Result<(), NoMemory>
     ensures { OnOk result (Tries (inspection_of P.finds inspector.now) items.now
         bits.old bits.new (so_far tally.old) (so_far tally.new)) }

@@ -16,8 +16,7 @@ use option_eval::{RuleSet, Steps};
 use packet_decode::ItemHead;
 use rule_types::{Opt, Rule};
 use std::alloc::Global;
-use std::marker::Brand;
-use std::sync::ledger::{Blank, Ledger};
+use std::sync::ledger::Ledger;
 
 /// The change that an option makes of a session's bits, if it makes one.
 fn change_bit(alloc: Global, bits: &mut Bits, opt: &Opt) -> Result<(), NoMemory>
@@ -135,7 +134,7 @@ fn pick_all<P: Pattern, L: Ledger>(
 /// at most the sum of those of each (specs/Work), also where memory is lacking.
 ///
 /// Where memory is lacking, some of the changes may have been made.
-pub fn matching_counted<P: Pattern, L: Ledger>(
+pub fn matching_among<P: Pattern, L: Ledger>(
     alloc: Global,
     set: &RuleSet<P>,
     places: &[u32],
@@ -157,49 +156,4 @@ pub fn matching_counted<P: Pattern, L: Ledger>(
     let item = Tried { head, payload };
     let found = pick_all(alloc, set, places, &item, bits, visits)?;
     Ok(Items::from_vec(found))
-}
-
-/// The same with a count of its own.
-fn matching_anew<P: Pattern, L: Ledger>(
-    alloc: Global,
-    set: &RuleSet<P>,
-    places: &[u32],
-    head: &ItemHead,
-    payload: &[u8],
-    bits: &mut Option<Bits>,
-    blank: Blank,
-) -> Result<Items<u32>, NoMemory>
-    requires candidates { places.now ≡ candidates set.now.rules head.now.body payload.now }
-    requires known { All ChangesKnownBits set.now.rules }
-    requires name { blank.name ≡ L.name }
-    requires parts { blank.parts ≡ L.parts }
-    requires blank { 0 < blank.parts }
-    ensures hits { (means : Means) → FindWhatIsMeant P.finds means set.now
-        → IfOk result (λ rules. AreHits means set.now.rules (record { head = head.now; payload = payload.now })
-        bits.old rules) }
-    ensures bits { (means : Means) → FindWhatIsMeant P.finds means set.now
-        → IfOk result (λ rules. bits.new ≡ bits_after_all set.now.rules bits.old rules) }
-{
-    let mut visits = Steps::<L>::new(blank);
-    matching_counted(alloc, set, places, head, payload, bits, &mut visits)
-}
-
-/// All rules of the set that match an item, as `matching_counted` finds them: each item has its own count.
-pub fn matching_among<P: Pattern>(
-    alloc: Global,
-    set: &RuleSet<P>,
-    places: &[u32],
-    head: &ItemHead,
-    payload: &[u8],
-    bits: &mut Option<Bits>,
-) -> Result<Items<u32>, NoMemory>
-    requires candidates { places.now ≡ candidates set.now.rules head.now.body payload.now }
-    requires known { All ChangesKnownBits set.now.rules }
-    ensures hits { (means : Means) → FindWhatIsMeant P.finds means set.now
-        → IfOk result (λ rules. AreHits means set.now.rules (record { head = head.now; payload = payload.now })
-        bits.old rules) }
-    ensures bits { (means : Means) → FindWhatIsMeant P.finds means set.now
-        → IfOk result (λ rules. bits.new ≡ bits_after_all set.now.rules bits.old rules) }
-{
-    matching_anew::<P, Brand>(alloc, set, places, head, payload, bits, Blank::new(1))
 }

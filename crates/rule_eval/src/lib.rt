@@ -11,7 +11,7 @@ mod item;
 mod laws;
 mod matching;
 
-pub use hits::{matching_among, matching_counted};
+pub use hits::matching_among;
 pub use item::Item;
 pub use laws::{
     hits_are_one, matching_is_decided, matching_rules_are_candidates, tests_tell_the_hits,

@@ -16,6 +16,7 @@ use Rattle.flow_lanes.specs.declared.answer.Hits.{Hits}
 use Rattle.flow_lanes.specs.Given.{Inspection}
 use Rattle.flow_lanes.specs.ItemHits.{bits_after_item, bits_after_items, hit, hits_of, told}
 use Rattle.flow_lanes.specs.Tried.{ByTest, Gain, SoFar, Tallied, Tallies, Tries, candidates_of, of_session}
+use Rattle.flow_lanes.specs.Work.{visits_on, visits_over}
 use Rattle.flow_lanes.proofs.ItemHits.Told.{told-append, told-none}
 
 -- the list of all rules that match is the one that the test finds
@@ -66,6 +67,12 @@ module _ {P : Type 0} (by : Inspection P) where
         let are : candidates_of by.set.rules both.items ≡ candidates_of by.set.rules g.items + candidates_of by.set.rules h.items =
         ap (candidates_of by.set.rules) items ∙ candidates_of-append by.set.rules g.items h.items in
         omega (arith, first_tries, second_tries, are);
+    visits = λ means made.
+        let first_visits = first.visits means made in
+        let second_visits = second.visits means made in
+        let are : visits_over by.set.rules both.items ≡ visits_over by.set.rules g.items + visits_over by.set.rules h.items =
+        ap (visits_over by.set.rules) items ∙ sum_by-append (visits_on by.set.rules) g.items h.items in
+        omega (arith, first_visits, second_visits, are);
   }
 
   -- what gives the same is gained
@@ -75,14 +82,16 @@ module _ {P : Type 0} (by : Inspection P) where
     more = gained.more;
     items = gained.items ∙ ap (λ (xs : List Item). one.items + length xs) (sym items);
     tries = gained.tries ∙ ap (λ (xs : List Item). one.tries + candidates_of by.set.rules xs) (sym items);
+    visits = λ means made. subst (λ (xs : List Item). two.visits ≤ one.visits + visits_over by.set.rules xs) (sym items) (gained.visits means made);
   }
 
   -- a tally that had nothing has what it gains
-  pub tallied-new : (gain : Gain) (none all : SoFar) → none.hits ≡ [] → none.items ≡ 0 → none.tries ≡ 0 → Tallies by gain none all → Tallied by gain all
-  tallied-new gain none all hits items tries gained = record {
+  pub tallied-new : (gain : Gain) (none all : SoFar) → none.hits ≡ [] → none.items ≡ 0 → none.tries ≡ 0 → none.visits ≡ 0 → Tallies by gain none all → Tallied by gain all
+  tallied-new gain none all hits items tries visits gained = record {
     hits = λ means trying tried. gained.hits means trying tried ∙ ap (λ (hs : List Hits). hs ++ told by.all (gain.hits trying)) hits;
     items = let more = gained.items in omega (arith, items, more);
     tries = let more = gained.tries in omega (arith, tries, more);
+    visits = λ means made. let more = gained.visits means made in omega (arith, visits, more);
   }
 
   -- no item gives nothing
@@ -93,6 +102,7 @@ module _ {P : Type 0} (by : Inspection P) where
     more = omega arith;
     items = sym (add-zero one.items);
     tries = sym (add-zero one.tries);
+    visits = λ means made. omega arith;
   }
 
   pub tries-none : (bits : Option Bits) (one : SoFar) → Tries by [] bits bits one one
@@ -103,9 +113,10 @@ module _ {P : Type 0} (by : Inspection P) where
       → ((means : Means) → FindWhatIsMeant by.finds means by.set → AreHits means by.set.rules item old places)
       → ((means : Means) → FindWhatIsMeant by.finds means by.set → new ≡ bits_after_all by.set.rules old places)
       → two.hits ≡ one.hits ++ told by.all (record { head = item.head; rules = places } ∷ []) → length one.hits ≤ length two.hits
-      → two.items ≡ one.items + 1 → two.tries ≡ one.tries + length (candidates by.set.rules item.head.body item.payload) → Tries by (item ∷ []) old new one two
+      → two.items ≡ one.items + 1 → two.tries ≡ one.tries + length (candidates by.set.rules item.head.body item.payload)
+      → ((means : Means) → FindWhatIsMeant by.finds means by.set → two.visits ≤ one.visits + visits_on by.set.rules item) → Tries by (item ∷ []) old new one two
   unfolding hits_of
-  tries-one item old new places one two are bits hits more items tries = record {
+  tries-one item old new places one two are bits hits more items tries visits = record {
     tallies = record {
       hits = λ means trying tried.
           let is = matching-is means trying by.set.rules item old places tried.rules tried.told (are means tried.made) in
@@ -113,6 +124,7 @@ module _ {P : Type 0} (by : Inspection P) where
       more = more;
       items = items;
       tries = omega (arith, tries);
+      visits = λ means made. let few = visits means made in omega (arith, few);
     };
     bits = λ means trying tried.
         let is = matching-is means trying by.set.rules item old places tried.rules tried.told (are means tried.made) in
@@ -121,9 +133,9 @@ module _ {P : Type 0} (by : Inspection P) where
 
   -- an item without a candidate is matched by no rule: where those that a rule matches are told, it is counted alone
   pub tries-nothing : (item : Item) (bits : Option Bits) (one two : SoFar) → by.all ≡ false → candidates by.set.rules item.head.body item.payload ≡ [] → two.hits ≡ one.hits
-      → two.items ≡ one.items + 1 → two.tries ≡ one.tries → Tries by (item ∷ []) bits bits one two
+      → two.items ≡ one.items + 1 → two.tries ≡ one.tries → two.visits ≡ one.visits → Tries by (item ∷ []) bits bits one two
   unfolding picked
-  tries-nothing item bits one two matched none kept items tries =
+  tries-nothing item bits one two matched none kept items tries visits =
       tries-one item bits bits [] one two
       (λ means made. subst (λ (places : List ℕ). AreHits means by.set.rules item bits (picked (test_of means) by.set.rules item bits places)) none
       (picked-hits means (test_of means) (test_of-tells means) by.set.rules item bits))
@@ -132,6 +144,7 @@ module _ {P : Type 0} (by : Inspection P) where
       (let same = ap length kept in omega (arith, same))
       items
       (let count = ap length none in omega (arith, tries, count))
+      (λ means made. omega (arith, visits))
 
   -- items and then others
   pub tries-append : (xs ys : List Item) (a b c : Option Bits) (one two three : SoFar) → Tries by xs a b one two → Tries by ys b c two three → Tries by (xs ++ ys) a c one three

@@ -1,5 +1,5 @@
 -- A job that is done by what is kept of flows is answered, whatever jobs the lane stood for.
-use Rattle.std.proofs.Common.{◌≡◌, ℕ, ◌==◌, Bool, true, false, cond, List, [], ◌∷◌, Option, Some, None, refl, sym, ap, subst, ◌∙◌, arith, ◌+◌, length-append}
+use Rattle.std.proofs.Common.{◌≡◌, ℕ, ◌==◌, Bool, true, false, cond, List, [], ◌∷◌, Option, Some, None, refl, sym, ap, subst, ◌∙◌, arith, ◌+◌, ◌≤◌, length-append}
 use Rattle.std.specs.Prelude.{fold, length, option_and_then}
 use Rattle.std.specs.List.{filter}
 use Rattle.std.proofs.lemmas.Bool.Decides.{nat_tests}
@@ -27,6 +27,7 @@ use Rattle.flow_lanes.specs.Sessions.{Packet}
 use Rattle.flow_lanes.specs.Sound.{FlowFacts, IsSoundFor, facts_behind, facts_behind_work}
 use Rattle.flow_lanes.specs.Standing.{AnswersJob, CountsTries, DetectsBy, KeptFlow, LaneState, LearnsJob, Stands, facts_kept, kept_of, state_kept}
 use Rattle.flow_lanes.specs.Tried.{ByTest, SoFar, Tallied, TriesBy, candidates_of, of_job}
+use Rattle.flow_lanes.specs.Work.{CountsVisits, visits, visits_over}
 use Rattle.flow_lanes.specs.Whole.{IsDone, KeepsBy, found_for, kept_by}
 use Rattle.flow_lanes.proofs.Jobs.Stands.{HasDone-stands, Stands-finds}
 use Rattle.flow_lanes.proofs.Sessions.AreShort.{job_short}
@@ -182,6 +183,16 @@ module _ {P : Type 0} (by : Inspection P) (old new : LaneState) (job : Job) (giv
         short = job_short d engines facts before job sound;
         stands = HasDone-stands d old job new before (record { flush = flush; inserts = inserts; flows = keeps }) stands;
       }
+
+  -- the visits of the job are those of its items at most
+  pub counts-visits : CountsVisits by.finds by.stream by.set old job given.visits
+  unfolding visits items
+  counts-visits means d before detects stands =
+      let same : making ≡ d.making = one_making means d before detects stands in
+      let at_hand = found-is d old before job.number job.moment job.work stands in
+      subst (λ (n : ℕ). given.visits ≤ n)
+      (λ j. visits_over (sym detects.rules j) (all_items (work_items (same j) job.moment job.work (session_at_hand (at_hand j)))))
+      (done.tallied.visits means detects.made)
 
   pub learns-job : LearnsJob old job new
   learns-job other = by_flow (flow_of other)

@@ -1,5 +1,5 @@
 -- The items of a job, tried one after another in place, give what the definition of the job gives, and leave what it leaves.
-use Rattle.std.proofs.Common.{◌≡◌, ℕ, Bool, true, false, cond, drop, List, [], ◌∷◌, ◌++◌, length, Option, Some, None, unwrap_or, not, refl, sym, ap, ◌∙◌}
+use Rattle.std.proofs.Common.{◌≡◌, ℕ, Bool, true, false, cond, drop, List, [], ◌∷◌, ◌++◌, length, Option, Some, None, unwrap_or, not, refl, sym, ap, ◌∙◌, arith}
 use Rattle.std.specs.Option.{option_map_or}
 use Rattle.std.proofs.lemmas.Bool.{false≢true}
 use Rattle.std.proofs.lemmas.List.{append-nil}
@@ -159,7 +159,7 @@ module _ (making : Making) (p : Packet) (found mid : Option FlowState) (step : S
       ∙ (λ i. option_map (after_items trying (bits_are i) (current-is i)) (cond {A = Option Session} step.ends None (session_behind p step (session i))))
       ∙ ap (λ (items : JobItems). state_after trying items found) told-is
 
-module _ {P : Type 0} (by : Inspection P) (none : SoFar) (hits : none.hits ≡ []) (items : none.items ≡ 0) (tries : none.tries ≡ 0) where
+module _ {P : Type 0} (by : Inspection P) (none : SoFar) (hits : none.hits ≡ []) (items : none.items ≡ 0) (tries : none.tries ≡ 0) (visits : none.visits ≡ 0) where
   -- the end of a flow
   pub finished : (moment : Moment) (found : Option FlowState) (all : SoFar)
       → Tallies by (of_session (bits_at_hand found) (ended_items moment true (session_at_hand found))) none all
@@ -167,14 +167,14 @@ module _ {P : Type 0} (by : Inspection P) (none : SoFar) (hits : none.hits ≡ [
   unfolding hits_in finish_items hits_of
   finished moment found all gained =
       let ended : List Item = ended_items moment true (session_at_hand found) in
-      tallied-new by (of_job (finish_items moment (session_at_hand found)) found) none all hits items tries
+      tallied-new by (of_job (finish_items moment (session_at_hand found)) found) none all hits items tries visits
       (tallies-same by (of_session (bits_at_hand found) ended) (of_job (finish_items moment (session_at_hand found)) found) none all (append-nil ended)
       (λ means trying tried. append-nil (hits_of trying (bits_at_hand found) ended)) gained)
 
   -- nothing ends where nothing is kept
   pub nothing : (moment : Moment) → Tallied by (of_job (finish_items moment None) None) none
   unfolding hits_in finish_items hits_of
-  nothing moment = record { hits = λ means trying tried. hits ∙ sym (told-none by.all); items = items; tries = tries }
+  nothing moment = record { hits = λ means trying tried. hits ∙ sym (told-none by.all); items = items; tries = tries; visits = λ means made. omega (arith, visits) }
 
   -- an item by itself
   pub alone : (head : ItemHead) (payload : List ℕ) (old new : Option Bits) (all : SoFar) → old ≡ None
@@ -182,6 +182,6 @@ module _ {P : Type 0} (by : Inspection P) (none : SoFar) (hits : none.hits ≡ [
   unfolding hits_in hits_of
   alone head payload old new all bits tried =
       let item : Item = record { head = head; payload = payload } in
-      tallied-new by (of_job (alone_items head payload) None) none all hits items tries
+      tallied-new by (of_job (alone_items head payload) None) none all hits items tries visits
       (tallies-same by (of_session old (item ∷ [])) (of_job (alone_items head payload) None) none all refl
       (λ means trying tells. ap (λ (b : Option Bits). hits_of trying b (item ∷ [])) (sym bits)) tried.tallies)

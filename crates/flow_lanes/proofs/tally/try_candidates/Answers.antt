@@ -1,6 +1,7 @@
 -- Triable rules change known bits alone, so that `matching_among` may be asked; what it finds among the candidates are all
 -- rules that match, and the item is tried with these (`tries-one`).
 use Rattle.std.proofs.Common.{◌∷◌, [], ◌++◌, length, ap, ◌∙◌, List, arith}
+use Rattle.rule_eval.specs.Work.{visits_among}
 use Rattle.rule_eval.proofs.ChangesKnownBits.{known_where_triable}
 use Rattle.flow_lanes.specs.declared.answer.Hits.{Hits}
 use Rattle.flow_lanes.specs.Given.{inspection_of}
@@ -23,3 +24,7 @@ returns g c =
     (omega (arith, same, more))
     (c.tell.ensures.items ∙ c.in_ok-count.ensures.counts.0)
     (let size = ap length c.requires in omega (arith, size, c.tell.ensures.tries, c.in_ok-count.ensures.counts.1))
+    (λ means made.
+    let few = c.matching_among.ensures.visits means made in
+    let is = ap (visits_among c.args.inspector.now.set.now.rules (length c.args.payload.now)) c.requires in
+    omega (arith, few, is, c.count.ensures.visits, c.tell.ensures.visits))

@@ -17,5 +17,5 @@ returns-then-not-inspector g c =
     sym c.in_ok-places.ensures ∙ no_element c.in_ok-places.places.items (omega (arith, size, c.in_ok-places.places.ok.0)) in
     on_ok_weaker c.count.result
     (λ counts. tries-nothing (inspection_of g.P.Pattern.finds c.args.inspector.now) (item_with p c.args.facts) c.args.bits.now (so_far c.args.tally.now) (so_far c.count.new.self)
-    c.if-not-inspector.true none c.count.ensures.hits counts.0 (counts.1 ∙ add-zero c.args.tally.now.tries))
+    c.if-not-inspector.true none c.count.ensures.hits counts.0 (counts.1 ∙ add-zero c.args.tally.now.tries) c.count.ensures.visits)
     c.count.ensures.counts

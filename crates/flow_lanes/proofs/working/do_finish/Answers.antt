@@ -28,4 +28,4 @@ returns-in-None g c = λ making.
     let none : kept_in old c.args.flow ≡ None = sym (looked_up c.args.flow old) ∙ sym c.in-None.ensures.value in
     do-finish (inspection_of g.P.Pattern.finds c.args.inspector.now) making c.args.moment c.args.flow old new None (so_far c.new.result)
     (sym none) (λ other. (λ i. kept_in (c.get_mut.follows.holds-at-none i).entries other) ∙ sets-none c.args.flow old none other)
-    (nothing (inspection_of g.P.Pattern.finds c.args.inspector.now) (so_far c.new.result) c.new.ensures.hits c.new.ensures.items c.new.ensures.tries c.args.moment)
+    (nothing (inspection_of g.P.Pattern.finds c.args.inspector.now) (so_far c.new.result) c.new.ensures.hits c.new.ensures.items c.new.ensures.tries c.new.ensures.visits c.args.moment)

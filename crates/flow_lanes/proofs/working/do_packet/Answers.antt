@@ -15,8 +15,11 @@ packet-requires g c = (
   search rules,
   (
     search rules,
-    subst (λ (f : Option KeptFlow). IsSoundPacket (length c.args.settings.now.stream.now.engines) (facts_kept f) (packet_of c.args.p.now))
-        (sym (looked_up c.args.flow c.args.flows.now.entries) ∙ sym c.in-Some.ensures.value) c.requires,
+    (
+      subst (λ (f : Option KeptFlow). IsSoundPacket (length c.args.settings.now.stream.now.engines) (facts_kept f) (packet_of c.args.p.now))
+          (sym (looked_up c.args.flow c.args.flows.now.entries) ∙ sym c.in-Some.ensures.value) c.requires.sound,
+      c.requires.none,
+    ),
   ),
 )
 
@@ -32,7 +35,7 @@ returns-in_ok-tally-in-Some g c =
     let kept = c.in-Some.kept.now in
     let updates = (c.get_mut.follows.holds c.packet.new.self).3 (search rules) in
     let is = c.in-Some.ensures.value ∙ looked_up c.args.flow old in
-    let sound = subst (λ (f : Option KeptFlow). IsSoundPacket (length c.args.settings.now.stream.now.engines) (facts_kept f) (packet_of p)) (sym is) c.requires in
+    let sound = subst (λ (f : Option KeptFlow). IsSoundPacket (length c.args.settings.now.stream.now.engines) (facts_kept f) (packet_of p)) (sym is) c.requires.sound in
     do-packet (inspection_of g.P.Pattern.finds c.args.inspector.now) (making_of c.args.settings.now) p.moment c.args.flow p.head.now p.payload.now p.to_dst p.to_src old new (Some kept)
     c.packet.new.self (so_far c.in_ok-tally-in-Some.tally)
     is (sets-from c.args.flow (Some c.packet.new.self) old new (λ other. updates.0 other))

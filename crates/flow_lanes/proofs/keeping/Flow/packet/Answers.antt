@@ -14,19 +14,19 @@ use Rattle.flow_lanes.proofs.keeping.Flow.packet.Goals as goal
 pub packet_found-requires-clause-found : goal.packet_found-requires-clause-found
 packet_found-requires-clause-found g c κs found =
     let p = packet_of c.args.p.now in
-    let sound = subst (λ (k : KeptFlow). IsSoundPacket (length c.args.settings.now.stream.now.engines) (Some k.facts) p) (sym c.self.view_is) c.requires in
+    let sound = subst (λ (k : KeptFlow). IsSoundPacket (length c.args.settings.now.stream.now.engines) (Some k.facts) p) (sym c.self.view_is) c.requires.sound in
     found-sound p c.self.inside.facts (session_at_hand c.self.inside.found) c.self.invariant sound.same_ends sound.few
 
 pub invariant_of-self : goal.invariant_of-self
 invariant_of-self g c =
     let p = packet_of c.args.p.now in
-    let sound = subst (λ (k : KeptFlow). IsSoundPacket (length c.args.settings.now.stream.now.engines) (Some k.facts) p) (sym c.self.view_is) c.requires in
+    let sound = subst (λ (k : KeptFlow). IsSoundPacket (length c.args.settings.now.stream.now.engines) (Some k.facts) p) (sym c.self.view_is) c.requires.sound in
     kept-more p c.self.inside.facts (session_at_hand c.self.inside.found) (session_at_hand c.packet_found.new.found) c.self.invariant sound.same_ends sound.few c.packet_found.ensures.grows
 
 pub invariant_of-self-2 : goal.invariant_of-self-2
 invariant_of-self-2 g c =
     let p = packet_of c.args.p.now in
-    let sound = subst (λ (k : KeptFlow). IsSoundPacket (length c.args.settings.now.stream.now.engines) (Some k.facts) p) (sym c.self.view_is) c.requires in
+    let sound = subst (λ (k : KeptFlow). IsSoundPacket (length c.args.settings.now.stream.now.engines) (Some k.facts) p) (sym c.self.view_is) c.requires.sound in
     kept-more p c.self.inside.facts (session_at_hand c.self.inside.found) (session_at_hand c.packet_found.new.found) c.self.invariant sound.same_ends sound.few c.packet_found.ensures.grows
 
 pub returns-clause-tallied : goal.returns-clause-tallied
@@ -36,7 +36,7 @@ returns-clause-tallied g c =
     let p = packet_of c.args.p.now in
     subst (λ (k : KeptFlow). Tallied by (gain_of making p k.found) (so_far c.packet_found.new.tally)) c.self.view_is
     (tallied-new by (gain_of making p c.self.inside.found) (so_far c.new-tally.result) (so_far c.packet_found.new.tally) c.new-tally.ensures.hits c.new-tally.ensures.items
-    c.new-tally.ensures.tries c.in_ok-packet_found.ensures.tallies)
+    c.new-tally.ensures.tries c.new-tally.ensures.visits c.in_ok-packet_found.ensures.tallies)
 
 pub returns-clause-leaves : goal.returns-clause-leaves
 returns-clause-leaves g c = λ means trying tried.

@@ -6,7 +6,7 @@ use Rattle.rule_eval.specs.Hits.{AreHits}
 use Rattle.rule_eval.specs.Picking.{bits_after_all, picked}
 use Rattle.rule_eval.proofs.Picked.{candidates-below, picked-hits}
 use Rattle.rule_eval.proofs.Tells.{test_of, test_of-tells}
-use Rattle.rule_eval.proofs.hits.matching_counted.Goals as goal
+use Rattle.rule_eval.proofs.hits.matching_among.Goals as goal
 
 pub pick_all-requires-clause-within : goal.pick_all-requires-clause-within
 pick_all-requires-clause-within g c κs within =
