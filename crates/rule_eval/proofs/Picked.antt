@@ -11,7 +11,7 @@ use Rattle.rule_types.specs.declared.rule.Rule.{Rule}
 use Rattle.option_eval.specs.Places.{Means}
 use Rattle.fast_pattern.specs.Candidates.{candidates, is_candidate, places_from as candidates_from}
 use Rattle.rule_eval.specs.Hits.{AreHits, Bits, Item, Tells, Test, bits_after, bits_seen, places_from}
-use Rattle.rule_eval.specs.Picking.{Picks, PicksAll, bits_after_all, bits_behind_at, matches_at, picked}
+use Rattle.rule_eval.specs.Picking.{Picks, PicksAll, bits_after_all, bits_behind_at, come_to, matches_at, picked}
 use Rattle.rule_eval.proofs.AreHits.{places_from-are}
 use Rattle.rule_eval.proofs.Candidates.{matching-candidate}
 
@@ -114,7 +114,8 @@ unfolding picked
 picks_all-none test rules item bits = record { found = refl; bits = refl }
 
 pub picks_all-more : (test : Test) (rules : List Rule) (item : Item) (xs : List ℕ) (place : ℕ) (old mid new : Option Bits) (found behind : List ℕ)
-    → PicksAll test rules item xs old mid found → Picks test rules item place mid new found behind → PicksAll test rules item (xs ++ place ∷ []) old new behind
+    → PicksAll test rules item xs old mid found → Picks test rules item place (come_to mid found) (come_to new behind)
+    → PicksAll test rules item (xs ++ place ∷ []) old new behind
 picks_all-more test rules item xs place old mid new found behind all one = record {
   found =
       one.found ∙ found_if (matches_at test rules item mid place) found place

@@ -38,11 +38,18 @@ IsKnownChange option = ⊤
 abbrev pub ChangesKnownBits : Rule → Type 0
 ChangesKnownBits rule = All IsKnownChange rule.opts
 
+-- how far places were tried: the bits that the rules so far left, and those of the places that were picked
+pub record Progress : Type 0 where
+  pub bits : Option Bits
+  pub found : List ℕ
+
+abbrev pub come_to : Option Bits → List ℕ → Progress
+come_to bits found = record { bits = bits; found = found }
+
 -- one more place is tried: it is picked and its changes are made where its rule matches
-pub record Picks (test : Test) (rules : List Rule) (item : Item) (place : ℕ) (old new : Option Bits)
-    (found_old found_new : List ℕ) : Type 0 where
-  pub found : found_new ≡ (if matches_at test rules item old place then found_old ++ place ∷ [] else found_old)
-  pub bits : new ≡ (if matches_at test rules item old place then bits_behind_at rules old place else old)
+pub record Picks (test : Test) (rules : List Rule) (item : Item) (place : ℕ) (old new : Progress) : Type 0 where
+  pub found : new.found ≡ (if matches_at test rules item old.bits place then old.found ++ place ∷ [] else old.found)
+  pub bits : new.bits ≡ (if matches_at test rules item old.bits place then bits_behind_at rules old.bits place else old.bits)
 
 -- places are tried one after another: those of them are picked at which the rule matches
 pub record PicksAll (test : Test) (rules : List Rule) (item : Item) (places : List ℕ) (old new : Option Bits)

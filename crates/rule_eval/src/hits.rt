@@ -6,7 +6,7 @@ ghost use Rattle.fast_pattern.specs.Candidates.{candidates};
 ghost use Rattle.option_eval.specs.Places.{Means};
 ghost use Rattle.option_eval.specs.RuleSet.{FindWhatIsMeant};
 ghost use Rattle.rule_eval.specs.Hits.{AreHits, Tells, Test, bits_after, bits_behind, bits_seen};
-ghost use Rattle.rule_eval.specs.Picking.{ChangesKnownBits, IsKnownChange, Picks, PicksAll, bits_after_all};
+ghost use Rattle.rule_eval.specs.Picking.{ChangesKnownBits, IsKnownChange, Picks, PicksAll, bits_after_all, come_to};
 ghost use Rattle.rule_eval.specs.Work.{visits_among, visits_at};
 
 use crate::matching::rule_matches;
@@ -83,7 +83,7 @@ fn pick<P: Pattern, L: Ledger>(
     requires known { All ChangesKnownBits set.now.rules }
     ensures picks { (means : Means) → (test : Test) → FindWhatIsMeant P.finds means set.now → Tells means test
         → OnOk result (Picks test set.now.rules (record { head = item.now.head.now; payload = item.now.payload.now }) place
-        bits.old bits.new found.old.items found.new.items) }
+        (come_to bits.old found.old.items) (come_to bits.new found.new.items)) }
     ensures visits { (means : Means) → FindWhatIsMeant P.finds means set.now
         → visits.new ≤ visits.old + visits_at set.now.rules (length item.now.payload.now) place }
 {

@@ -41,7 +41,9 @@ returns-in_err-pick-clause-visits g c = λ means find.
 pub returns-clause-picks : goal.returns-clause-picks
 returns-clause-picks g c = λ means test find tells.
     let all : take c.loop-place.place-index c.args.places.now ≡ c.args.places.now = take_all c.loop-place.place-index c.args.places.now (omega arith) in
-    subst (λ (xs : List ℕ). PicksAll test c.args.set.now.rules (record { head = c.args.item.now.head.now; payload = c.args.item.now.payload.now }) xs c.args.bits.now c.loop-place.bits c.loop-place.found.items) all
+    subst
+    (λ (xs : List ℕ). PicksAll test c.args.set.now.rules (record { head = c.args.item.now.head.now; payload = c.args.item.now.payload.now }) xs c.args.bits.now c.loop-place.bits
+    c.loop-place.found.items) all
     (c.loop-place.invariant.picks means test find tells)
 
 pub returns-clause-visits : goal.returns-clause-visits
