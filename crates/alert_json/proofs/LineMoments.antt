@@ -1,4 +1,6 @@
 -- The moment of a line's time, by the kit's calendar.
+-- lines one after another, each at its moment
+pub mod Walks
 use Rattle.std.proofs.Common.{◌≡◌, ℕ, ◌+◌, ◌*◌, ◌/◌, ◌%◌, ◌<◌, ◌≤◌, ◌^◌, inl, inr, refl, sym, ◌∙◌, subst, arith, rules, pos}
 use Rattle.std.proofs.lemmas.Bool.{cases_lt}
 use Rattle.jiff_core.specs.declared.civil.datetime.DateTime.{DateTime}

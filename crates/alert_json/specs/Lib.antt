@@ -9,3 +9,4 @@ pub mod Tokens
 pub mod LineEvents
 pub mod LineMoments
 pub mod LineYears
+pub mod LineWalks
