@@ -170,9 +170,9 @@ def alert_of_line(line, years):
     moment = years.second_of(second) * 1000000 + int(micro)  # last, since dates of what is no alert don't count
     return new_tuple(Alert, (moment, False, *rule, *ends, None, None))
 
-def of_lines(file, name, years, tell):
-    """The alerts of the lines of a file; of a line that is none, `tell` hears."""
-    for number, line in enumerate(file, 1):
+def of_lines(file, name, years, tell, first=1):
+    """The alerts of the lines of a file, from the one of this number on; of a line that is none, `tell` hears."""
+    for number, line in enumerate(file, first):
         try:
             if line[-1:] != b"\n":
                 raise Wrong("no line feed ends the line, so it may be cut off")
@@ -194,9 +194,10 @@ def colon_text(data):
 def address_of(data):
     return ".".join(map(str, data)) if len(data) == 4 else colon_text(data)
 
-def is_fragment(link, data):
+def is_unbroken(link, data):
+    """Whether a packet is read in these bytes, and is no fragment."""
     heads = packet_heads.heads_of(link, data)
-    return bool(heads and heads.fragment)
+    return bool(heads and heads.is_whole and not heads.fragment)
 
 def is_record(kind, length, body):
     """Whether a body is whole, and of the length that its kind has."""
@@ -227,8 +228,8 @@ def alert_of_event(kind, body, packet, rules):
     second, micro, sid, gid, rev, place, priority = fields[2:9]
     source, target, sport, dport, protocol, _, _, blocked = fields[9:]
     ports = icmp = (None, None)
-    # A fragment has 0 in the place of ports, or of type and code; without the packet 0 and 0 may be those of one.
-    if sport or dport or packet and not is_fragment(*packet):
+    # A fragment has 0 in the place of ports, or of type and code; without a packet that is read 0 and 0 may be those of one.
+    if sport or dport or packet and is_unbroken(*packet):
         ports, icmp = (sport, dport), (sport, dport)
     sport, dport = ports if protocol in WITH_PORTS else (None, None)
     has_icmp = protocol in (ICMP, ICMP6) and icmp[0] is not None
@@ -349,10 +350,14 @@ class Input:
     def of_file(self, file, name):
         if self.form_of(file) == "unified2":
             return of_unified2(file, name, self.rules, self.tell)
+        return of_lines(file, name, self.years_of(name), self.tell)
+
+    def years_of(self, name):
+        """The dates of the lines of a file that begins."""
         def guessed(year):
             print(f"{name}: {year} is a guess, since lines have no year: --year N or --capture FILE tells it",
                   file=sys.stderr, flush=True)
-        return of_lines(file, name, Years(self.words.year, self.known, guessed), self.tell)
+        return Years(self.words.year, self.known, guessed)
 
 def standard_input():
     if sys.stdin is None:

@@ -1,4 +1,4 @@
-"""Unified2 events of random bytes, each with the fields that its JSON line must have. Used by test_eve and eve_speed.
+"""Unified2 events and alert lines of random bytes, with the fields that their JSON lines must have. For test_eve, eve_speed.
 
 What a line must have comes from the values that an event is made of, by docs/manual/snort_eve.md and field.md, and nothing of
 it from a program; the identifiers of flows are those of flow_ids.py, which is tested by the values of their specification.
@@ -183,7 +183,7 @@ def event(random, seed, more):
     body = struct.pack(">9I", sensor, number, second, micro, sid, gid, rev, place, priority) + source + target
     body += struct.pack(">2HB", *pair, protocol) + flags
     behind, packet = records_behind(random, (sensor, number, second))
-    is_known = any(pair) or packet is not None and not packet.is_fragment
+    is_known = any(pair) or packet is not None and packet.payload is not None and not packet.is_fragment
     moment = EPOCH + timedelta(microseconds=second * 10**6 + micro)
     fields = {"timestamp": f"{moment:%Y-%m-%dT%H:%M:%S}.{moment.microsecond:06}+0000",
               **flow_fields(protocol, (source_text, target_text), pair if is_known else None, seed.to_bytes(2, "big")),
@@ -194,3 +194,50 @@ def event(random, seed, more):
 def events(random, count, seed=0, more=()):
     """So many events, each its records and the fields of its line."""
     return (event(random, seed, dict(more)) for _ in range(count))
+
+# --- Alert lines
+
+NAMES = {TCP: "TCP", UDP: "UDP", ICMP: "ICMP"}  # of protocols; others have their number
+LIKE_A_LINE = b'a "b" [**] [Classification: c] [Priority: 1] {UDP} 10.0.0.1:1 -> 10.0.0.2:2'
+
+def step(random):
+    """From one line to the next at most half a year passes, or times run back."""
+    if random.random() < 0.02:
+        return timedelta(days=random.randrange(-20, 150))
+    return timedelta(seconds=random.choice((0, random.randrange(60), random.randrange(3600))))
+
+def message(random):
+    texts = random.randbytes(random.randrange(40)), "é€\U0001f600".encode() * random.randrange(4), b"login seen", LIKE_A_LINE
+    return random.choice(texts).replace(b"\n", b" ")
+
+def told_text(data):
+    """UTF-8, or else each byte as the character of its number."""
+    try:
+        return data.decode()
+    except UnicodeDecodeError:
+        return data.decode("latin-1")
+
+def line_event(random, moment, seed, more):
+    """An alert line of this moment, and the fields of its record. The year isn't in the line."""
+    gid, sid, rev, priority = (word(random) for _ in range(4))
+    msg, category = message(random), random.choice((None, b"Misc activity", b"\xe9\xff{} -> \x00"))
+    protocol, address = random.choice((*USUAL, random.randrange(256))), random.choice((address_4, address_6))
+    texts = [address(random)[1] for _ in range(2)]
+    has_ports = protocol in (TCP, UDP) and (address is address_6 or random.random() < 0.9)
+    pair = (word(random, 16), word(random, 16)) if has_ports else None
+    ends = [f"{text}:{port}" for text, port in zip(texts, pair)] if has_ports else texts
+    named = b"" if category is None else b"[Classification: %b] " % category
+    line = b"%b  [**] [%d:%d:%d] %b [**] %b[Priority: %d] {%b} %b\n" % (
+        f"{moment:%m/%d-%H:%M:%S.%f}".encode(), gid, sid, rev, msg, named, priority,
+        NAMES.get(protocol, f"PROTO:{protocol:03}").encode(), " -> ".join(ends).encode())
+    rule = {**rule_fields(False, gid, sid, rev, category is not None, priority), "signature": told_text(msg),
+            "category": told_text(category or b"")}
+    return line, {"timestamp": f"{moment:%Y-%m-%dT%H:%M:%S.%f}+0000",
+                  **flow_fields(protocol, texts, pair, seed.to_bytes(2, "big")), "alert": rule, **more}
+
+def line_events(random, count, year, seed=0, more=()):
+    """So many lines, the first of this year, each with the fields of its record."""
+    moment = datetime(year, 2, 28, 23, 59, 59)
+    for _ in range(count):
+        yield line_event(random, moment.replace(microsecond=random.randrange(10**6)), seed, dict(more))
+        moment = max(moment + step(random), datetime(year, 1, 1))

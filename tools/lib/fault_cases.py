@@ -8,7 +8,7 @@ snort_eve reads, and its lines, are those of tools/lib/field_cases.py.
 import collections, struct
 from base64 import b64encode
 
-from field_cases import EVE, EVENT, FRAME, PACKET
+from field_cases import EVE, EVENT, FRAME, LINE, PACKET
 
 # Packets: C is 10.0.0.1, S is 10.0.0.2; moments are whole seconds.
 C, S = bytes([10, 0, 0, 1]), bytes([10, 0, 0, 2])
@@ -76,6 +76,10 @@ def unified2_ends(records):
         at += 8 + struct.unpack_from(">I", records, at + 4)[0]
         ends += [at] * (at <= len(records))
     return ends
+
+def line_ends(lines):
+    """The same of lines."""
+    return [at for at, byte in enumerate(lines, 1) if byte == 10]
 
 def record_ends(capture):
     """How many bytes of a capture are read where each of its whole records is."""
@@ -206,6 +210,13 @@ def eve_case(name, *counts, cut=0):
         files[f"f{len(made) - 1}"], lines = made[-1][0][:-cut], lines[:-1]
     return Case(name, " ".join(files), files, lines, 2 if cut else 0, False, None, "snort_eve")
 
+def eve_lines(name, *counts, last=b""):
+    """A case of snort_eve over files of so many alert lines, the last file with what is no whole one."""
+    files = {f"l{place}": it * (LINE + "\n").encode() for place, it in enumerate(counts)}
+    files[f"l{len(counts) - 1}"] += last
+    lines = [(f"l{place}", number, (EVE % ("t", "")).encode()) for place, it in enumerate(counts) for number in range(it)]
+    return Case(name, f"--lines --year 1970 {' '.join(files)}", files, lines, 2 if last else 0, False, None, "snort_eve")
+
 # A case: its name, its words, its files, its lines, the status, and whether it is run with several lanes.
 # `faults` names the groups of faults that a case is for, where these aren't all; `program` is the one that runs. A line of
 # snort_eve has the name of its file in front.
@@ -282,5 +293,6 @@ CASES = [
     Case("words", "-c r", status=1, spread=False),
     Case("version", "-V", spread=False),
     eve_case("eve", 2), eve_case("eve-files", 1, 2), eve_case("eve-blocks", 470), eve_case("eve-cut", 1, 1, cut=1),
+    eve_lines("eve-lines", 1, 700), eve_lines("eve-no-line", 2, 1, last=LINE.encode()),
     Case("eve-words", "--host", status=1, spread=False, program="snort_eve"),
 ]

@@ -12,9 +12,10 @@ use Rattle.snort_setup.specs.Words.{Words}
 use Rattle.snort_eve.specs.declared.outcome.Outcome.{Outcome}
 use Rattle.snort_eve.specs.declared.outcome.Outcome.TheVariants as outcome
 use Rattle.snort_eve.specs.declared.texts.Texts.{Texts as Kept}
+use Rattle.snort_eve.specs.Endings.{of_records}
 use Rattle.snort_eve.specs.Asking.{Wanted, lines}
 use Rattle.snort_eve.specs.Confs.{AreReadyTexts, AreTextsOf, Given, GivenTexts, GiveTexts, halted}
-use Rattle.snort_eve.specs.Runs.{AreRun, IsLinesRun, IfNone, OnUnread, UnlessFault, UnlessShort, UnlessUnread, Writes, line_of}
+use Rattle.snort_eve.specs.Runs.{AreRun, IsInputRun, IsLinesRun, IfNone, OnUnread, UnlessFault, UnlessShort, UnlessUnread, Writes, line_of}
 use Rattle.snort_eve.specs.Texts.{AreTexts, Texts, texts_of}
 
 -- ---- what a setup gives
@@ -79,10 +80,13 @@ quiet-as P stop.NoMemory holds = tt
 -- ---- runs
 
 abbrev pub BareRuns : Texts → Wanted → (Files → Type 0) → Option (List ℕ) → Option (List ℕ) → Outcome → Type 0
-BareRuns texts wanted agrees old new ended = Writes agrees old new (λ files wrote. AreRun (line_of texts wanted.run) files wanted.files wrote ended)
+BareRuns texts wanted agrees old new ended = Writes agrees old new (λ files wrote. AreRun (of_records (line_of texts wanted.run)) files wanted.files wrote ended)
 
 abbrev pub LinesRun : Option Words → Wanted → (Files → Type 0) → Option (List ℕ) → Option (List ℕ) → Outcome → Type 0
 LinesRun conf wanted agrees old new ended = Writes agrees old new (λ files wrote. IsLinesRun conf wanted files wrote ended)
+
+abbrev pub InputRun : Option ℕ → Wanted → (Files → Type 0) → Option (List ℕ) → Option (List ℕ) → Outcome → Type 0
+InputRun year wanted agrees old new ended = Writes agrees old new (λ files wrote. IsInputRun year wanted files wrote ended)
 
 pub run-bare : (texts : Texts) (wanted : Wanted) (agrees : Files → Type 0) (old new : Option (List ℕ)) (ended : Outcome)
     → AreTexts texts [] [] → BareRuns texts wanted agrees old new ended → LinesRun None wanted agrees old new ended
@@ -130,6 +134,7 @@ short-weaker P Q outcome.CommandLine weaker holds = weaker holds
 short-weaker P Q (outcome.Refused message) weaker holds = weaker holds
 short-weaker P Q (outcome.NoConf name) weaker holds = tt
 short-weaker P Q (outcome.Bad name at) weaker holds = weaker holds
+short-weaker P Q (outcome.NoLine name at) weaker holds = weaker holds
 short-weaker P Q (outcome.Unread name) weaker holds = tt
 short-weaker P Q outcome.Unwritten weaker holds = weaker holds
 short-weaker P Q (outcome.TooLong name) weaker holds = weaker holds
@@ -142,6 +147,7 @@ fault-bare P wanted outcome.CommandLine none holds = holds
 fault-bare P wanted (outcome.Refused message) none holds = holds
 fault-bare P wanted (outcome.NoConf name) none holds = tt
 fault-bare P wanted (outcome.Bad name at) none holds = holds
+fault-bare P wanted (outcome.NoLine name at) none holds = holds
 fault-bare P wanted (outcome.Unread name) none holds = tt
 fault-bare P wanted outcome.Unwritten none holds = holds
 fault-bare P wanted (outcome.TooLong name) none holds = holds
@@ -154,7 +160,25 @@ fault-conf P wanted words outcome.CommandLine some holds = holds
 fault-conf P wanted words (outcome.Refused message) some holds = holds
 fault-conf P wanted words (outcome.NoConf name) some holds = tt
 fault-conf P wanted words (outcome.Bad name at) some holds = holds
+fault-conf P wanted words (outcome.NoLine name at) some holds = holds
 fault-conf P wanted words (outcome.Unread name) some holds = tt
 fault-conf P wanted words outcome.Unwritten some holds = holds
 fault-conf P wanted words (outcome.TooLong name) some holds = holds
 fault-conf P wanted words outcome.NoMemory some holds = subst (λ (c : Option Words). IfNone c P) (sym some) tt
+
+if-none : (P : Type 0) (conf : Option Words) → P → IfNone conf P
+if-none P None holds = holds
+if-none P (Some words) holds = tt
+
+pub fault-any : (P : Type 0) (wanted : Wanted) (ended : Outcome) → UnlessUnread ended P → UnlessFault (Some (lines wanted)) ended P
+fault-any P wanted outcome.Done holds = holds
+fault-any P wanted outcome.Help holds = holds
+fault-any P wanted outcome.CommandLine holds = holds
+fault-any P wanted (outcome.Refused message) holds = holds
+fault-any P wanted (outcome.NoConf name) holds = tt
+fault-any P wanted (outcome.Bad name at) holds = holds
+fault-any P wanted (outcome.NoLine name at) holds = holds
+fault-any P wanted (outcome.Unread name) holds = tt
+fault-any P wanted outcome.Unwritten holds = holds
+fault-any P wanted (outcome.TooLong name) holds = holds
+fault-any P wanted outcome.NoMemory holds = if-none P wanted.conf holds

@@ -2,6 +2,8 @@
 pub mod Joining
 pub mod FrontSteps
 pub mod Pieces
+pub mod Recording
+pub mod LineForming
 pub mod Copying
 pub mod Running
 pub mod Named

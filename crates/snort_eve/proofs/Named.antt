@@ -10,7 +10,7 @@ use Rattle.net_lists.specs.Variables.{IsName, is_name}
 use Rattle.command_words.specs.CommandLine.{Defined, maybe, named, definition}
 use Rattle.snort_setup.specs.Words.{HasName}
 use Rattle.snort_eve.specs.Command.{clap_rows}
-use Rattle.snort_eve.specs.Asking.{Asked, AskNamed, IsNamed, asked_in, asked_of, conf_with, definition_of, given_in, help, seed_of, with_values}
+use Rattle.snort_eve.specs.Asking.{Asked, AskNamed, IsNamed, asked_in, asked_of, conf_with, definition_of, given_in, help, seed_of, with_values, year_in}
 
 abbrev IfNamed : Option Defined → Type 0
 IfNamed None = ⊤
@@ -44,12 +44,13 @@ conf_named None defined is = tt
 conf_named (Some name) None is = tt
 conf_named (Some name) (Some defined) is = is
 
-by_help : (rows : List Row) (on : Bool) (seed : Option ℕ) (defined : Option (Option Defined)) → ((d : Option Defined) → defined ≡ Some d → IfNamed d)
-    → AskNamed (if on then Some help else option_and_then (λ (s : ℕ). option_map (with_values rows s) defined) seed)
-by_help rows true seed defined has = tt
-by_help rows false None defined has = tt
-by_help rows false (Some s) None has = tt
-by_help rows false (Some s) (Some d) has = conf_named (given_in rows (codes "c")) d (has d refl)
+by_help : (rows : List Row) (on : Bool) (seed : Option ℕ) (defined : Option (Option Defined)) (year : Option (Option ℕ)) → ((d : Option Defined) → defined ≡ Some d → IfNamed d)
+    → AskNamed (if on then Some help else option_and_then (λ (s : ℕ). option_and_then (λ (d : Option Defined). option_map (with_values rows s d) year) defined) seed)
+by_help rows true seed defined year has = tt
+by_help rows false None defined year has = tt
+by_help rows false (Some s) None year has = tt
+by_help rows false (Some s) (Some d) None has = tt
+by_help rows false (Some s) (Some d) (Some y) has = conf_named (given_in rows (codes "c")) d (has d refl)
 
 pub asked_named : (words : List (List ℕ)) → AskNamed (asked_of words)
 asked_named words = by_rows (clap_rows words)
@@ -58,4 +59,4 @@ asked_named words = by_rows (clap_rows words)
     by_rows None = tt
     by_rows (Some rows) =
         by_help rows (is_some (given_in rows (codes "help"))) (seed_of (given_in rows (codes "community-id-seed")))
-        (maybe definition (given_in rows (codes "S"))) (maybe_named (given_in rows (codes "S")))
+        (maybe definition (given_in rows (codes "S"))) (year_in rows) (maybe_named (given_in rows (codes "S")))

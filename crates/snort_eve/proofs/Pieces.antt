@@ -23,9 +23,9 @@ come-none line none = record {
 }
 
 -- a further piece
-pub come-more : (line : Joined → List ℕ) (bytes waited piece rest : List ℕ) (held now : Option U2Event) (written new : List ℕ)
-    → HasCome line bytes waited held written → Feeds line waited held piece rest now written new → HasCome line (bytes ++ piece) rest now new
-come-more line bytes waited piece rest held now written new come fed =
+pub come-more : (line : Joined → List ℕ) (bytes waited piece rest : List ℕ) (held now : Option U2Event) (written lines : List ℕ)
+    → HasCome line bytes waited held written → Feeds line waited held piece rest now lines → HasCome line (bytes ++ piece) rest now (written ++ lines)
+come-more line bytes waited piece rest held now written lines come fed =
     let first = come.entries in
     let more = fed.entries in
     let joined : joined_text (first ++ more) ≡ joined_text first ++ joined_text more = flat_map-append unified2_text first more in
@@ -42,7 +42,7 @@ come-more line bytes waited piece rest held now written new come fed =
         none = fed.taken.none;
       };
       waits = fed.waits ∙ ap (λ (h : Option U2Event). held_after h more) come.waits ∙ sym (held_after-append None first more);
-      lines = fed.written
+      lines = ap (λ (b : List ℕ). written ++ b) fed.written
           ∙ ap (λ (b : List ℕ). b ++ lines_of line (completed_by held more)) come.lines
           ∙ ap (λ (h : Option U2Event). lines_of line (completed_by None first) ++ lines_of line (completed_by h more)) come.waits
           ∙ sym (ap (lines_of line) (completed_by-append None first more) ∙ flat_map-append line (completed_by None first) (completed_by (held_after None first) more));

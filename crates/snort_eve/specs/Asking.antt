@@ -4,7 +4,7 @@
 -- by the name that the system has for it.
 -- A configuration is read with the variable that `-S` defines, and what `--skip-refused` would skip is skipped.
 -- To try it on: `--host a --community-id-seed 7 f -` asks for the files `f` and `/dev/stdin`, the host `a` and the seed 7;
--- `--community-id-seed 65536` and `-S A` ask for nothing, and are refused.
+-- `--community-id-seed 65536`, `-S A` and `--lines` without a year ask for nothing, and are refused.
 use Rattle.std.specs.Prelude.{ℕ, ⊤, Bool, true, if◌then◌else◌, List, [], ◌∷◌, map, Option, Some, None, bytes_eq, codes, find, is_some, option_map, option_and_then, slice_get}
 use Rattle.std.specs.Borrow.{Bor}
 use Rattle.clap.specs.Walk.{Row, Text, all_of}
@@ -21,11 +21,12 @@ use Rattle.snort_eve.specs.declared.words.Asked.{Asked as Kept}
 use Rattle.snort_eve.specs.declared.words.Asked.TheVariants as kept
 use Rattle.snort_eve.specs.declared.words.Wanted.{Wanted as KeptWanted}
 
--- what all records have alike, the configuration that has the texts, if there is one, and the names of the files, in their
--- order
+-- what all records have alike; the configuration that has the texts, if there is one; the year of a file's first line, where
+-- files are alert lines and not records; and the names of the files, in their order
 pub record Wanted : Type 0 where
   pub run : RunFacts
   pub conf : Option Words
+  pub year : Option ℕ
   pub files : List (List ℕ)
 
 -- the usage, or lines
@@ -74,9 +75,19 @@ definition_of defined = record { name = defined.name; value = defined.value }
 abbrev pub conf_with : Option Defined → List ℕ → Words
 conf_with defined name = record { conf = name; definition = option_map definition_of defined; host_table = None; skips = true }
 
-abbrev pub with_values : List Row → ℕ → Option Defined → Asked
-with_values rows seed defined = lines (record {
+-- the year of alert lines, which they need: in 2554 and later moments don't have 64 bits
+abbrev pub year_by : Bool → Bool → Option ℕ → Option (Option ℕ)
+year_by is_lines is_records year = if is_lines then (if is_records then None else option_map Some year) else Some None
+
+abbrev pub year_in : List Row → Option (Option ℕ)
+year_in rows =
+    option_and_then (year_by (is_some (given_in rows (codes "lines"))) (is_some (given_in rows (codes "unified2"))))
+    (maybe (number_in 1970 2553) (given_in rows (codes "year")))
+
+abbrev pub with_values : List Row → ℕ → Option Defined → Option ℕ → Asked
+with_values rows seed defined year = lines (record {
   conf = option_map (conf_with defined) (given_in rows (codes "c"));
+  year = year;
   run = record { seed = seed; host = given_in rows (codes "host"); pcap_filename = given_in rows (codes "pcap-filename") };
   files = files_of (all_of (codes "FILE") rows);
 })
@@ -85,8 +96,8 @@ with_values rows seed defined = lines (record {
 abbrev pub asked_in : List Row → Option Asked
 asked_in rows =
     if is_some (given_in rows (codes "help")) then Some help
-    else option_and_then (λ seed. option_map (with_values rows seed) (maybe definition (given_in rows (codes "S"))))
-    (seed_of (given_in rows (codes "community-id-seed")))
+    else option_and_then (λ seed. option_and_then (λ defined. option_map (with_values rows seed defined) (year_in rows))
+    (maybe definition (given_in rows (codes "S")))) (seed_of (given_in rows (codes "community-id-seed")))
 
 -- what the words ask for, the program's name among them; None where they are no command line
 abbrev pub asked_of : List (List ℕ) → Option Asked
@@ -104,6 +115,7 @@ abbrev pub wanted_facts : KeptWanted → Wanted
 wanted_facts wanted = record {
   run = run_facts wanted.run;
   conf = option_map conf_facts wanted.conf;
+  year = wanted.year;
   files = map (λ (name : Bor (List ℕ)). name.now) wanted.files.items;
 }
 

@@ -44,6 +44,9 @@ abbrev pub known : List Rule
 known =
     letter_rule (codes "c") 99
     ∷ letter_rule (codes "S") 83
+    ∷ option_rule (codes "year")
+    ∷ flag_rule (codes "lines")
+    ∷ flag_rule (codes "unified2")
     ∷ option_rule (codes "host")
     ∷ option_rule (codes "pcap-filename")
     ∷ option_rule (codes "community-id-seed")

@@ -1,52 +1,38 @@
--- Records of a file that are copied as lines, piece by piece.
+-- A file that is copied as lines, piece by piece, whatever form of input it has.
 --
--- The bytes that came are records and bytes that wait (`Streams`); what was written is the lines of the events that these
--- records complete, or a beginning of them where a write failed. By files that agree with what a host answered, the bytes that
--- came are the front of the file.
--- To try it on: of an event and half of its packet one event waits, and no line was written.
-use Rattle.std.specs.Prelude.{◌≡◌, ℕ, ◌+◌, ◌^◌, ◌<◌, ◌≤◌, ◌⊎◌, List, [], ◌++◌, length, Option, Some}
-use Rattle.edge_io.specs.Told.{before, behind, NothingLeft}
+-- What was written is the lines that the bytes gave which came, or a beginning of them where a write failed. By files that
+-- agree with what a host answered, the bytes that came are the front of the file.
+-- To try it on: of a file of records that a fault cuts in its last piece, the lines are a beginning of those of the whole.
+use Rattle.std.specs.Prelude.{◌≡◌, ℕ, ◌^◌, ◌≤◌, ◌⊎◌, List, ◌++◌, length, Option, Some, Result, IsErrOf}
+use Rattle.edge_io.specs.Told.{before, behind, NothingLeft, Rose}
+use Rattle.edge_io.specs.declared.host.Host.{Ghosts as HostOf}
 use Rattle.edge_io.specs.Files.{Files}
-use Rattle.unified2_out.specs.declared.record.U2Event.{U2Event}
-use Rattle.unified2_out.specs.declared.record.U2.{U2}
-use Rattle.unified2_out.specs.Reading.{joined_text}
-use Rattle.snort_eve.specs.Joins.{Joined, flushed, joined, lines_of}
-use Rattle.snort_eve.specs.Streams.{Feeds, HasCome, IsSplit, IsForeign}
-use Rattle.snort_eve.specs.declared.copy.Ending.{Ending}
-use Rattle.snort_eve.specs.declared.copy.Ending.TheVariants.{Done, Bad}
+use Rattle.snort_eve.specs.Forms.{HasBegun, IsLast, Meaning}
+use Rattle.snort_eve.specs.declared.form.Ending.{Ending}
+use Rattle.snort_eve.specs.declared.copy.Stop.{Stop}
+use Rattle.snort_eve.specs.declared.copy.Stop.TheVariants.{Unread, Unwritten}
 
--- a text begins with another one
-pub record BeginsWith (text front : List ℕ) : Type 0 where
-  pub rest : List ℕ
-  pub is : text ≡ front ++ rest
+-- ---- what is written
 
--- a piece came, and the lines of the events that it completes were written
-pub record Passes (line : Joined → List ℕ) (waited : List ℕ) (held : Option U2Event) (piece rest : List ℕ) (now : Option U2Event)
-    (old new : Option (List ℕ)) : Type 0 where
-  pub lines : List ℕ
-  pub feeds : Feeds line waited held piece rest now [] lines
-  pub told : new ≡ behind old lines
-
--- a beginning of the lines of a piece
-pub record IsPartOf (line : Joined → List ℕ) (waited : List ℕ) (held : Option U2Event) (piece wrote : List ℕ) : Type 0 where
-  pub rest : List ℕ
-  pub now : Option U2Event
-  pub lines : List ℕ
-  pub feeds : Feeds line waited held piece rest now [] lines
-  pub part : BeginsWith lines wrote
-
--- a piece came, and nothing or a beginning of its lines was written
-pub record Breaks (line : Joined → List ℕ) (waited : List ℕ) (held : Option U2Event) (piece : List ℕ)
-    (old new : Option (List ℕ)) : Type 0 where
+-- lines were written of which this holds
+pub record Tells (old new : Option (List ℕ)) (Holds : List ℕ → Type 0) : Type 0 where
   pub wrote : List ℕ
+  pub holds : Holds wrote
   pub told : new ≡ behind old wrote
-  pub part : (wrote ≡ []) ⊎ IsPartOf line waited held piece wrote
 
--- the lines of the event that waits at the end, or a beginning of them, were written
-pub record BreaksLast (line : Joined → List ℕ) (held : Option U2Event) (old new : Option (List ℕ)) : Type 0 where
-  pub wrote : List ℕ
-  pub told : new ≡ behind old wrote
-  pub part : BeginsWith (lines_of line (flushed held)) wrote
+-- nothing or a beginning of the lines of a piece
+abbrev pub BreaksIn : (List ℕ → List ℕ → Type 0) → Meaning → List ℕ → List ℕ → Type 0
+BreaksIn was means piece wrote =
+    (bytes earlier : List ℕ) → was bytes earlier → HasBegun means bytes earlier
+    → HasBegun means (bytes ++ piece) (earlier ++ wrote)
+
+-- nothing or a beginning of the last lines
+abbrev pub BreaksLast : (List ℕ → List ℕ → Type 0) → Type 0 → Meaning → List ℕ → Type 0
+BreaksLast came foreign means wrote =
+    (bytes earlier more : List ℕ) → came bytes earlier → HasBegun means bytes earlier → IsLast foreign more
+    → means.begins (bytes ++ more) (earlier ++ wrote)
+
+-- ---- what is read
 
 -- a file has more bytes than can be counted, by all files that agree
 abbrev pub IsLong : (Files → Type 0) → (Files → Option (List ℕ)) → Type 0
@@ -60,62 +46,73 @@ Took agrees from to bytes = (files : Files) → agrees files → from files ≡ 
 abbrev pub IsAtEnd : (Files → Type 0) → (Files → Option (List ℕ)) → Type 0
 IsAtEnd agrees to = (files : Files) → agrees files → NothingLeft (to files)
 
--- what came since the beginning: these bytes wait, and this event
-pub record Comes (line : Joined → List ℕ) (agrees : Files → Type 0) (from to : Files → Option (List ℕ)) (rest : List ℕ)
-    (held : Option U2Event) (read : ℕ) (old new : Option (List ℕ)) : Type 0 where
+-- no byte is left, or what follows makes no difference
+abbrev pub IsOver : Type 0 → (Files → Type 0) → (Files → Option (List ℕ)) → Type 0
+IsOver foreign agrees to = foreign ⊎ IsAtEnd agrees to
+
+-- a host was only read from: its files stay, and those that agree with it agreed before
+pub record Stays {H : Type 0} (g : HostOf H) (old new : H) : Type 0 where
+  pub same_contents : g.contents new ≡ g.contents old
+  pub earlier : (files : Files) → g.agrees new files → g.agrees old files
+
+-- ---- how far the copying is
+
+-- which bytes may have come with which lines, by which files, and what of these is left; how many bytes were read, and what
+-- was written
+pub record Point : Type 1 where
+  pub came : List ℕ → List ℕ → Type 0
+  pub agrees : Files → Type 0
+  pub left : Files → Option (List ℕ)
+  pub read : ℕ
+  pub written : Option (List ℕ)
+
+abbrev pub point : (List ℕ → List ℕ → Type 0) → (Files → Type 0) → (Files → Option (List ℕ)) → ℕ → Option (List ℕ) → Point
+point came agrees left read written =
+    record { came = came; agrees = agrees; left = left; read = read; written = written }
+
+-- bytes came since the beginning, and their lines were written
+pub record Comes (means : Meaning) (from : Files → Option (List ℕ)) (begun : Option (List ℕ)) (here : Point) : Type 0 where
   pub taken : List ℕ
-  pub took : Took agrees from to taken
+  pub took : Took here.agrees from here.left taken
   pub wrote : List ℕ
-  pub come : HasCome line taken rest held wrote
+  pub come : here.came taken wrote
+  pub parts : HasBegun means taken wrote
+  pub told : here.written ≡ behind begun wrote
+  pub read_is : here.read ≡ length taken
+
+-- a beginning of the lines of the open file was written, by all files that agree
+pub record Stops (means : Meaning) (agrees : Files → Type 0) (from : Files → Option (List ℕ)) (old new : Option (List ℕ)) :
+    Type 0 where
+  pub wrote : List ℕ
   pub told : new ≡ behind old wrote
-  pub read_is : read ≡ length taken
+  pub are : (files : Files) → agrees files → (bytes : List ℕ) → from files ≡ Some bytes → means.begins bytes wrote
 
--- how it ends where so many bytes were read, and these wait
-abbrev pub EndsBy : List ℕ → ℕ → Ending → Type 0
-EndsBy rest read Done = rest ≡ []
-EndsBy rest read (Bad at) = (0 < length rest) × (at + length rest ≡ read)
-
--- no byte is left, or no record begins at those that wait
-abbrev pub IsOver : (Files → Type 0) → (Files → Option (List ℕ)) → List ℕ → Type 0
-IsOver agrees to rest = IsForeign rest ⊎ IsAtEnd agrees to
-
--- the lines of the records at the front of these bytes, and of the event that waits for its packet behind them
-pub record AreLinesOf (line : Joined → List ℕ) (bytes : List ℕ) (entries : List U2) (rest wrote : List ℕ) : Type 0 where
-  pub split : IsSplit bytes entries rest
-  pub lines : wrote ≡ lines_of line (joined entries)
-
--- all bytes are records
-pub record IsDone (line : Joined → List ℕ) (bytes wrote : List ℕ) : Type 0 where
-  pub entries : List U2
-  pub are : AreLinesOf line bytes entries [] wrote
-
--- bytes are left at this place, and no record begins there
-pub record IsBad (line : Joined → List ℕ) (bytes wrote : List ℕ) (at : ℕ) : Type 0 where
-  pub entries : List U2
-  pub rest : List ℕ
-  pub are : AreLinesOf line bytes entries rest wrote
-  pub left : 0 < length rest
-  pub place : at ≡ length (joined_text entries)
-
-abbrev pub IsEnding : (Joined → List ℕ) → List ℕ → List ℕ → Ending → Type 0
-IsEnding line bytes wrote Done = IsDone line bytes wrote
-IsEnding line bytes wrote (Bad at) = IsBad line bytes wrote at
-
--- the lines are a beginning of those that all of the bytes have
-abbrev pub IsBeginning : (Joined → List ℕ) → List ℕ → List ℕ → Type 0
-IsBeginning line bytes wrote =
-    (entries : List U2) (rest : List ℕ) → IsSplit bytes entries rest → BeginsWith (lines_of line (joined entries)) wrote
-
--- the open file was copied to its end, by all files that agree
-pub record Copies (line : Joined → List ℕ) (agrees : Files → Type 0) (from : Files → Option (List ℕ)) (old new : Option (List ℕ))
+-- or it was copied to its end
+pub record Copies (means : Meaning) (agrees : Files → Type 0) (from : Files → Option (List ℕ)) (old new : Option (List ℕ))
     (ending : Ending) : Type 0 where
   pub wrote : List ℕ
   pub told : new ≡ behind old wrote
-  pub ends : (files : Files) → agrees files → (bytes : List ℕ) → from files ≡ Some bytes → IsEnding line bytes wrote ending
+  pub are : (files : Files) → agrees files → (bytes : List ℕ) → from files ≡ Some bytes → means.ends bytes wrote ending
 
--- or a beginning of the lines was written
-pub record Stops (line : Joined → List ℕ) (agrees : Files → Type 0) (from : Files → Option (List ℕ))
-    (old new : Option (List ℕ)) : Type 0 where
-  pub wrote : List ℕ
-  pub told : new ≡ behind old wrote
-  pub begins : (files : Files) → agrees files → (bytes : List ℕ) → from files ≡ Some bytes → IsBeginning line bytes wrote
+-- wherever the copying began: it goes on from one point to another; it stops behind a point; it can't count further
+abbrev pub GoesOn : Meaning → Point → Point → Type 0
+GoesOn means here next =
+    (from : Files → Option (List ℕ)) (begun : Option (List ℕ)) → Comes means from begun here → Comes means from begun next
+
+abbrev pub StopsBehind : Meaning → Point → (Files → Type 0) → Option (List ℕ) → Type 0
+StopsBehind means here agrees new =
+    (from : Files → Option (List ℕ)) (begun : Option (List ℕ)) → Comes means from begun here
+    → Stops means agrees from begun new
+
+abbrev pub IsLongBehind : Meaning → Point → (Files → Type 0) → Type 0
+IsLongBehind means here agrees =
+    (from : Files → Option (List ℕ)) (begun : Option (List ℕ)) → Comes means from begun here → IsLong agrees from
+
+-- ---- faults
+
+-- a read that failed raised its count, a write that failed its own, and nothing else did
+pub record Counts {A : Type 0} (answer : Result A Stop) (reads reads_now writes writes_now : ℕ) : Type 0 where
+  pub unread : IsErrOf answer Unread → Rose reads reads_now
+  pub unwritten : IsErrOf answer Unwritten → Rose writes writes_now
+  pub quiet : (IsErrOf answer Unread → ⊥) → reads_now ≡ reads
+  pub quiet_alerts : (IsErrOf answer Unwritten → ⊥) → writes_now ≡ writes

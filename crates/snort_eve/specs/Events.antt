@@ -1,9 +1,9 @@
 -- What is told of an event of Unified2.
 --
 -- An event has two ports, or type and code of an ICMP message, and zeros in their place where it is of a fragment (Snort
--- Users Manual 2.9, "Unified2 IDS Event"). Own: zeros are no ports where the packet is a fragment or isn't there. The packet
--- is read as the detector reads a record (`record_decoded`), without a checksum verified. The texts of rules and classes
--- stand in no record of Unified2: they are those of a configuration, or empty.
+-- Users Manual 2.9, "Unified2 IDS Event"). Own: zeros are ports only where the packet is there, is read, and is no
+-- fragment. It is read as the detector reads a record (`record_decoded`), without a checksum verified. The texts of rules and
+-- classes stand in no record of Unified2: they are those of a configuration, or empty.
 -- To try it on: of an event over UDP with the ports 0 and 0 and no packet neither port is told; with the packet, and it is
 -- no fragment, both are told as 0.
 use Rattle.std.specs.Prelude.{ℕ, ◌+◌, ◌*◌, ◌==◌, ◌||◌, Bool, true, false, not, if◌then◌else◌, List, [], Option, None, Some, option_map, option_and_then, Result, Ok, Err}
@@ -20,9 +20,11 @@ use Rattle.unified2_out.specs.declared.record.U2Packet.{U2Packet}
 use Rattle.alert_json.specs.declared.event.Flow.{Flow}
 use Rattle.alert_json.specs.declared.event.Pair.{Pair}
 use Rattle.alert_json.specs.declared.event.Pair.TheVariants.{Unknown, Ports, Message}
-use Rattle.alert_json.specs.Facts.{AlertFacts, PacketFacts, EventFacts}
+use Rattle.alert_json.specs.Facts.{AlertFacts, PacketFacts, EventFacts, run_facts}
+use Rattle.alert_json.specs.Value.{event_line}
+use Rattle.snort_eve.specs.declared.events.Lines.{Lines}
 use Rattle.snort_eve.specs.Joins.{Joined}
-use Rattle.snort_eve.specs.Texts.{Texts, class_text, message_of}
+use Rattle.snort_eve.specs.Texts.{Texts, class_text, message_of, texts_of}
 
 -- the link type of this number, where packets are read over it
 unfoldable pub link_of : ℕ → Option Link
@@ -51,15 +53,15 @@ is_fragment Other = false
 is_fragment Fragment = true
 is_fragment (Stream sport dport) = false
 
--- a fragment is read in a record's bytes
-abbrev pub is_part : Option Fields → Bool
-is_part None = false
-is_part (Some fields) = is_fragment fields.body
+-- a packet is read in a record's bytes, and is no fragment
+abbrev pub is_unbroken : Option Fields → Bool
+is_unbroken None = false
+is_unbroken (Some fields) = not (is_fragment fields.body)
 
--- the packet of an event is there, and is no fragment
+-- the packet of an event is there, is read, and is no fragment
 abbrev pub is_whole : Option U2Packet → Bool
 is_whole None = false
-is_whole (Some packet) = not (is_part (packet_in packet.link packet.bytes))
+is_whole (Some packet) = is_unbroken (packet_in packet.link packet.bytes)
 
 -- both numbers of an event are known to be ports, or type and code
 unfoldable pub has_pair : U2Event → Bool → Bool
@@ -120,3 +122,7 @@ event_of texts it = record {
   packet = option_map captured_of it.packet;
   count = None;
 }
+
+-- the line of an event, by texts and names that are lent
+abbrev pub line_by : Lines → Joined → List ℕ
+line_by lines it = event_line (event_of (texts_of lines.texts.now) it) (run_facts lines.run)

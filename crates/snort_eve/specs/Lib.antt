@@ -3,6 +3,9 @@ pub mod Joins
 pub mod Texts
 pub mod Events
 pub mod Streams
+pub mod Forms
+pub mod Endings
+pub mod LineForms
 pub mod Copies
 pub mod Command
 pub mod Asking

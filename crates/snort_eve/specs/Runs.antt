@@ -1,9 +1,10 @@
--- A run: files of Unified2 records become JSON lines.
+-- A run: files of Unified2 records, or of alert lines, become JSON lines.
 --
 -- The words name the files, and what all records have alike (`Asking`). The lines are those of the events of the files'
--- records (`event_line` of alert_json), file by file in their order, each event once. A run ends at the first file that isn't
--- records up to its end, that can't be opened or read, or behind which a write fails or memory is lacking: the files before
--- are done, and of this one the lines of what is whole, or a beginning of the lines, are written.
+-- records, or of their alert lines (`event_line` of alert_json), file by file in their order, each event once. A run ends at
+-- the first file that isn't records, or alert lines, up to its end, that can't be opened or read, or behind which a write fails
+-- or memory is lacking: the files before are done, and of this one the lines of what is whole, or a beginning of the lines, are
+-- written.
 -- To try it on: of a file with two events, and one with an event and a packet of which a byte is lacking, the lines of three
 -- events are written, and the status is 2.
 use Rattle.std.specs.Prelude.{◌≡◌, ◌⊎◌, ⊤, ℕ, ◌^◌, ◌≤◌, length, List, [], ◌∷◌, ◌++◌, Option, Some, None, codes, decimal, Result, Ok, Err}
@@ -22,11 +23,14 @@ use Rattle.snort_eve.specs.Events.{event_of}
 use Rattle.snort_eve.specs.Asking.{Asked, Wanted, help, lines}
 use Rattle.snort_eve.specs.Texts.{Texts, AreTexts}
 use Rattle.snort_eve.specs.Confs.{IsReady, IsRefusedBy, IsUnreadBy}
-use Rattle.snort_eve.specs.Copies.{IsDone, IsBad, IsBeginning}
+use Rattle.alert_json.specs.declared.line_year.YearFrom.TheVariants.{Given}
+use Rattle.snort_eve.specs.Forms.{Meaning}
+use Rattle.snort_eve.specs.Endings.{of_records}
+use Rattle.snort_eve.specs.LineForms.{of_lines}
 use Rattle.snort_eve.specs.declared.outcome.Outcome.{Outcome}
 use Rattle.snort_eve.specs.declared.outcome.Outcome.TheVariants as outcome
-use Rattle.snort_eve.specs.declared.copy.Ending.{Ending}
-use Rattle.snort_eve.specs.declared.copy.Ending.TheVariants.{Done, Bad}
+use Rattle.snort_eve.specs.declared.form.Ending.{Ending}
+use Rattle.snort_eve.specs.declared.form.Ending.TheVariants.{Done, Bad, NoLine}
 use Rattle.snort_eve.specs.declared.copy.Stop.{Stop}
 use Rattle.snort_eve.specs.declared.copy.Stop.TheVariants.{Unread, Unwritten, TooLong, NoMemory}
 
@@ -42,36 +46,39 @@ pub record HasBytes (name : List ℕ) (files : Files) (Holds : List ℕ → Type
   pub has : get files name ≡ Some bytes
   pub holds : Holds bytes
 
--- a beginning of the lines of the file's events
-abbrev pub IsCut : (Joined → List ℕ) → Files → List ℕ → List ℕ → Type 0
-IsCut line files name wrote = (bytes : List ℕ) → get files name ≡ Some bytes → IsBeginning line bytes wrote
+-- a beginning of the file's lines
+abbrev pub IsCut : Meaning → Files → List ℕ → List ℕ → Type 0
+IsCut means files name wrote = (bytes : List ℕ) → get files name ≡ Some bytes → means.begins bytes wrote
 
 -- where there is such a file, it has more bytes than can be counted
 abbrev pub IsTooLong : List ℕ → Files → Type 0
 IsTooLong name files = (bytes : List ℕ) → get files name ≡ Some bytes → 2 ^ 64 ≤ length bytes
 
 -- what was written of a file, by how its copying ended
-abbrev pub IsFileRun : (Joined → List ℕ) → Files → List ℕ → List ℕ → Outcome → Type 0
-IsFileRun line files name wrote outcome.Done = HasBytes name files (λ bytes. IsDone line bytes wrote)
-IsFileRun line files name wrote outcome.Help = ⊥
-IsFileRun line files name wrote outcome.CommandLine = ⊥
-IsFileRun line files name wrote (outcome.Refused message) = ⊥
-IsFileRun line files name wrote (outcome.NoConf told) = ⊥
-IsFileRun line files name wrote (outcome.Bad told at) =
-    (told.now ≡ name) × HasBytes name files (λ bytes. IsBad line bytes wrote at)
-IsFileRun line files name wrote (outcome.Unread told) = (told.now ≡ name) × IsCut line files name wrote
-IsFileRun line files name wrote outcome.Unwritten = IsCut line files name wrote
-IsFileRun line files name wrote (outcome.TooLong told) = (told.now ≡ name) × (IsCut line files name wrote × IsTooLong name files)
-IsFileRun line files name wrote outcome.NoMemory = IsCut line files name wrote
+abbrev pub IsFileRun : Meaning → Files → List ℕ → List ℕ → Outcome → Type 0
+IsFileRun means files name wrote outcome.Done = HasBytes name files (λ bytes. means.ends bytes wrote Done)
+IsFileRun means files name wrote outcome.Help = ⊥
+IsFileRun means files name wrote outcome.CommandLine = ⊥
+IsFileRun means files name wrote (outcome.Refused message) = ⊥
+IsFileRun means files name wrote (outcome.NoConf told) = ⊥
+IsFileRun means files name wrote (outcome.Bad told at) =
+    (told.now ≡ name) × HasBytes name files (λ bytes. means.ends bytes wrote (Bad at))
+IsFileRun means files name wrote (outcome.NoLine told number) =
+    (told.now ≡ name) × HasBytes name files (λ bytes. means.ends bytes wrote (NoLine number))
+IsFileRun means files name wrote (outcome.Unread told) = (told.now ≡ name) × IsCut means files name wrote
+IsFileRun means files name wrote outcome.Unwritten = IsCut means files name wrote
+IsFileRun means files name wrote (outcome.TooLong told) =
+    (told.now ≡ name) × (IsCut means files name wrote × IsTooLong name files)
+IsFileRun means files name wrote outcome.NoMemory = IsCut means files name wrote
 
 -- ---- files
 
--- files that are records up to their ends, one after another
-abbrev pub AreDone : (Joined → List ℕ) → Files → List (List ℕ) → List ℕ → Type 0
-AreDone line files [] wrote = wrote ≡ []
-AreDone line files (name ∷ names) wrote =
+-- files that are of their form up to their ends, one after another
+abbrev pub AreDone : Meaning → Files → List (List ℕ) → List ℕ → Type 0
+AreDone means files [] wrote = wrote ≡ []
+AreDone means files (name ∷ names) wrote =
     (first : List ℕ) × (later : List ℕ) × (wrote ≡ first ++ later)
-    × IsFileRun line files name first outcome.Done × AreDone line files names later
+    × IsFileRun means files name first outcome.Done × AreDone means files names later
 
 -- how a run ends that has no file left
 abbrev pub IsAtEnd : Outcome → Type 0
@@ -80,21 +87,21 @@ IsAtEnd outcome.NoMemory = ⊤
 IsAtEnd other = ⊥
 
 -- where these files are left, the run ended at the first one
-abbrev pub EndsAt : (Joined → List ℕ) → Files → List (List ℕ) → List ℕ → Outcome → Type 0
-EndsAt line files [] wrote ended = (wrote ≡ []) × IsAtEnd ended
-EndsAt line files (name ∷ names) wrote ended = (ended ≡ outcome.Done → ⊥) × IsFileRun line files name wrote ended
+abbrev pub EndsAt : Meaning → Files → List (List ℕ) → List ℕ → Outcome → Type 0
+EndsAt means files [] wrote ended = (wrote ≡ []) × IsAtEnd ended
+EndsAt means files (name ∷ names) wrote ended = (ended ≡ outcome.Done → ⊥) × IsFileRun means files name wrote ended
 
 -- the first files are done, and the run ended at those that are left
-pub record AreRun (line : Joined → List ℕ) (files : Files) (names : List (List ℕ)) (wrote : List ℕ)
-    (ended : Outcome) : Type 0 where
+pub record AreRun (means : Meaning) (files : Files) (names : List (List ℕ)) (wrote : List ℕ) (ended : Outcome) :
+    Type 0 where
   pub done : List (List ℕ)
   pub left : List (List ℕ)
   pub names_are : names ≡ done ++ left
   pub before : List ℕ
   pub now : List ℕ
   pub split : wrote ≡ before ++ now
-  pub are : AreDone line files done before
-  pub ends : EndsAt line files left now ended
+  pub are : AreDone means files done before
+  pub last : EndsAt means files left now ended
 
 -- ---- a run
 
@@ -114,7 +121,7 @@ pub record CopiedBy (rules : List Rule) (classes : List Class) (wanted : Wanted)
     (ended : Outcome) : Type 0 where
   pub texts : Texts
   pub are : AreTexts texts rules classes
-  pub run : AreRun (line_of texts wanted.run) files wanted.files wrote ended
+  pub run : AreRun (of_records (line_of texts wanted.run)) files wanted.files wrote ended
 
 -- how a run ends whose configuration isn't ready
 abbrev pub IsHalted : Words → Files → Outcome → Type 0
@@ -135,11 +142,17 @@ IsLinesRun None wanted files wrote ended = CopiedBy [] [] wanted files wrote end
 IsLinesRun (Some words) wanted files wrote ended =
     ((wrote ≡ []) × IsHalted words files ended) ⊎ CopiedByReady words wanted files wrote ended
 
+-- files of alert lines were copied, each of which begins in this year; or files of records
+abbrev pub IsInputRun : Option ℕ → Wanted → Files → List ℕ → Outcome → Type 0
+IsInputRun None wanted files wrote ended = IsLinesRun wanted.conf wanted files wrote ended
+IsInputRun (Some year) wanted files wrote ended =
+    AreRun (of_lines wanted.run (Given year)) files wanted.files wrote ended
+
 -- what a run has written at its end, by what its words ask for
 abbrev pub IsRun : Option Asked → Files → List ℕ → Outcome → Type 0
 IsRun None files wrote ended = (wrote ≡ []) × IsRefused ended
 IsRun (Some help) files wrote ended = (wrote ≡ []) × IsHelp ended
-IsRun (Some (lines wanted)) files wrote ended = IsLinesRun wanted.conf wanted files wrote ended
+IsRun (Some (lines wanted)) files wrote ended = IsInputRun wanted.year wanted files wrote ended
 
 -- what was written between two states of a sink, by all files that agree
 pub record Writes (agrees : Files → Type 0) (old new : Option (List ℕ)) (Holds : Files → List ℕ → Type 0) : Type 0 where
@@ -155,6 +168,7 @@ Runs asked agrees old new ended = Writes agrees old new (λ files wrote. IsRun a
 abbrev pub outcome_of : Bor (List ℕ) → Result Ending Stop → Outcome
 outcome_of name (Ok Done) = outcome.Done
 outcome_of name (Ok (Bad at)) = outcome.Bad name at
+outcome_of name (Ok (NoLine number)) = outcome.NoLine name number
 outcome_of name (Err Unread) = outcome.Unread name
 outcome_of name (Err Unwritten) = outcome.Unwritten
 outcome_of name (Err TooLong) = outcome.TooLong name
@@ -201,15 +215,21 @@ place_text at = decimal at ++ codes "\n"
 abbrev pub bad_text : List ℕ → ℕ → List ℕ
 bad_text name at = bad_front name ++ place_text at
 
+-- the line of this number of this file gives no record
+abbrev pub no_line_text : List ℕ → ℕ → List ℕ
+no_line_text name number = codes "ERROR: " ++ name ++ codes "(" ++ decimal number ++ codes ") no alert line\n"
+
 -- the message of a run
 unfoldable pub message_text : Outcome → List ℕ
 message_text outcome.Done = []
 message_text outcome.Help =
-    codes "usage: snort_eve [-c CONF] [-S NAME=VALUE] [--host NAME] [--pcap-filename NAME] [--community-id-seed N] [FILE..]\n"
+    codes "usage: snort_eve [-c CONF] [-S NAME=VALUE] [--year N] [--lines|--unified2] [--host NAME] "
+    ++ codes "[--pcap-filename NAME] [--community-id-seed N] [FILE..]\n"
 message_text outcome.CommandLine = codes "ERROR: command line\n"
 message_text (outcome.Refused message) = message
 message_text (outcome.NoConf name) = codes "ERROR: cannot read " ++ name ++ codes "\n"
 message_text (outcome.Bad name at) = bad_text name.now at
+message_text (outcome.NoLine name number) = no_line_text name.now number
 message_text (outcome.Unread name) = codes "ERROR: cannot read " ++ name.now ++ codes "\n"
 message_text outcome.Unwritten = codes "ERROR: cannot write\n"
 message_text (outcome.TooLong name) = codes "ERROR: unified2 file " ++ name.now ++ codes " is too long\n"

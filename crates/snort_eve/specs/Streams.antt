@@ -50,13 +50,13 @@ pub record IsSplit (bytes : List ℕ) (entries : List U2) (rest : List ℕ) : Ty
   pub split : bytes ≡ joined_text entries ++ rest
   pub none : HasNoRecord rest
 
--- a piece came behind bytes that waited, and these records were taken
+-- a piece came behind bytes that waited, these records were taken, and they gave these lines
 pub record Feeds (line : Joined → List ℕ) (waited : List ℕ) (held : Option U2Event) (piece rest : List ℕ)
-    (now : Option U2Event) (old new : List ℕ) : Type 0 where
+    (now : Option U2Event) (lines : List ℕ) : Type 0 where
   pub entries : List U2
   pub taken : IsSplit (waited ++ piece) entries rest
   pub waits : now ≡ held_after held entries
-  pub written : new ≡ old ++ lines_of line (completed_by held entries)
+  pub written : lines ≡ lines_of line (completed_by held entries)
 
 -- all bytes that came so far are these records and what waits, and the lines are those of the events so far
 pub record HasCome (line : Joined → List ℕ) (bytes rest : List ℕ) (held : Option U2Event) (written : List ℕ) : Type 0 where

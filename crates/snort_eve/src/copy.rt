@@ -1,15 +1,11 @@
-//! The records of an open file, copied as lines.
-ghost use Rattle.std.specs.Prelude.{◌≡◌, ◌+◌, ◌^◌, ◌<◌, ◌≤◌, List, ℕ, Option, [], None, Ok, true, false, IfOk, OnOk, OnErr, IsErrOf, length};
+//! An open file, copied as the lines that it has.
+ghost use Rattle.std.specs.Prelude.{◌≡◌, ◌+◌, ◌^◌, ◌<◌, ◌≤◌, List, [], ℕ, Option, Ok, true, false, IfOk, OnOk, OnErr, IsErrOf, length};
 ghost use Rattle.edge_io.specs.Told.{Rose};
 ghost use Rattle.edge_io.specs.Files.{Files};
-ghost use Rattle.snort_eve.specs.Streams.{IsForeign};
-ghost use Rattle.snort_eve.specs.Joins.{flushed, lines_of};
-ghost use Rattle.snort_eve.specs.Streams.{Feeds};
-ghost use Rattle.edge_io.specs.Told.{behind};
-ghost use Rattle.snort_eve.specs.Copies.{Passes, Breaks, BreaksLast, Comes, IsLong, IsOver, EndsBy, Copies, Stops};
+ghost use Rattle.snort_eve.specs.Copies.{BreaksIn, BreaksLast, Comes, Copies, Counts, GoesOn, IsLong, IsLongBehind, IsOver, Stays, Stops, StopsBehind, Tells, point};
+ghost use Rattle.snort_eve.specs.Forms.{Closes, Gives};
 
-use crate::joins::Teller;
-use crate::stream::{Fed, Stream};
+use crate::form::{Ending, Form};
 use edge_io::{Failed, Host, NoMemory, Sink, WriteStop, write_all};
 use std::alloc::{AllocError, Global};
 
@@ -73,61 +69,26 @@ impl From<WriteStop> for Stop {
     }
 }
 
-/// How far a file is records.
-#[derive(Clone, Copy)]
-pub(crate) enum Ending {
-    /// All of it.
-    Done,
-    /// Up to this byte, at which no record begins.
-    Bad { at: u64 },
-}
-
-// Whether more may come behind such bytes.
-fn goes_on(fed: Fed) -> bool
-    ensures { result ≡ false → fed ≡ Fed.Foreign }
-{
-    match fed {
-        Fed::Waits => true,
-        Fed::Foreign => false,
-    }
-}
-
-// The lines of a piece.
-fn piece_lines<T: Teller>(
-    alloc: Global,
-    teller: &T,
-    piece: &[u8],
-    stream: &mut Stream,
-    lines: &mut Vec<u8>,
-) -> Result<bool, NoMemory>
-    ensures fed { OnOk result (Feeds (T.line teller.now) stream.old.rest.items stream.old.held piece.now
-        stream.new.rest.items stream.new.held lines.old.items lines.new.items) }
-    ensures foreign { result ≡ Ok false → IsForeign stream.new.rest.items }
-{
-    let fed = stream.feed(alloc, teller, piece, lines)?;
-    Ok(goes_on(fed))
-}
-
 // Writes the lines of a piece, and tells whether more may come.
-fn pass_piece<T: Teller, A: Sink>(
+fn pass_piece<F: Form, A: Sink>(
     alloc: Global,
-    teller: &T,
+    form: &F,
     piece: &[u8],
-    stream: &mut Stream,
+    state: &mut F::State,
     alerts: &mut A,
 ) -> Result<bool, Stop>
-    ensures passes { OnOk result (Passes (T.line teller.now) stream.old.rest.items stream.old.held piece.now
-        stream.new.rest.items stream.new.held (A.written alerts.old) (A.written alerts.new)) }
-    ensures breaks { OnErr result (Breaks (T.line teller.now) stream.old.rest.items stream.old.held piece.now
-        (A.written alerts.old) (A.written alerts.new)) }
-    ensures foreign { result ≡ Ok false → IsForeign stream.new.rest.items }
+    ensures passes { OnOk result (Tells (A.written alerts.old) (A.written alerts.new)
+        (Gives (F.came form.now state.old) (F.came form.now state.new) (F.means form.now) piece.now)) }
+    ensures breaks { OnErr result (Tells (A.written alerts.old) (A.written alerts.new)
+        (BreaksIn (F.came form.now state.old) (F.means form.now) piece.now)) }
+    ensures over { result ≡ Ok false → F.foreign form.now state.new }
     ensures unwritten { IsErrOf result Stop.Unwritten → Rose (A.faults alerts.old) (A.faults alerts.new) }
     ensures read { IsErrOf result Stop.Unread → ⊥ }
     ensures short { IsErrOf result Stop.TooLong → ⊥ }
     ensures quiet { (IsErrOf result Stop.Unwritten → ⊥) → A.faults alerts.new ≡ A.faults alerts.old }
 {
     let mut lines = Vec::new(alloc);
-    let more = piece_lines(alloc, teller, piece, stream, &mut lines)?;
+    let more = form.feed(alloc, state, piece, &mut lines)?;
     write_all(alerts, &lines)?;
     Ok(more)
 }
@@ -144,151 +105,100 @@ fn count_bytes(read: u64, more: usize) -> Result<u64, Stop>
     }
 }
 
-/// Reads a piece of the open file, and writes its lines: false where the file is at its end, or where no record begins
-/// behind those that came.
-fn next_piece<H: Host, T: Teller, A: Sink>(
+/// Reads a piece of the open file, and writes its lines: false where the file is at its end, or where whatever follows makes
+/// no difference.
+fn next_piece<H: Host, F: Form, A: Sink>(
     alloc: Global,
     host: &mut H,
-    teller: &T,
+    form: &F,
     block: &mut [u8],
-    stream: &mut Stream,
+    state: &mut F::State,
     read: &mut u64,
     alerts: &mut A,
 ) -> Result<bool, Stop>
     requires { 0 < length block.old }
-    ensures comes { OnOk result ((from : Files → Option (List ℕ)) (begun : Option (List ℕ))
-        → Comes (T.line teller.now) (H.agrees host.old) from (H.left_of host.old) stream.old.rest.items stream.old.held read.old
-        begun (A.written alerts.old)
-        → Comes (T.line teller.now) (H.agrees host.new) from (H.left_of host.new) stream.new.rest.items stream.new.held read.new
-        begun (A.written alerts.new)) }
-    ensures stops { OnErr result ((from : Files → Option (List ℕ)) (begun : Option (List ℕ))
-        → Comes (T.line teller.now) (H.agrees host.old) from (H.left_of host.old) stream.old.rest.items stream.old.held read.old
-        begun (A.written alerts.old)
-        → Stops (T.line teller.now) (H.agrees host.new) from begun (A.written alerts.new)) }
-    ensures over { result ≡ Ok false → IsOver (H.agrees host.new) (H.left_of host.new) stream.new.rest.items }
-    ensures long { IsErrOf result Stop.TooLong → (from : Files → Option (List ℕ)) → (begun : Option (List ℕ))
-        → Comes (T.line teller.now) (H.agrees host.old) from (H.left_of host.old) stream.old.rest.items stream.old.held read.old
-        begun (A.written alerts.old)
-        → IsLong (H.agrees host.new) from }
-    ensures further { result ≡ Ok true → read.old < read.new }
-    ensures small { result ≡ Ok true → read.new < 2 ^ 64 }
+    ensures comes { OnOk result (GoesOn (F.means form.now)
+        (point (F.came form.now state.old) (H.agrees host.old) (H.left_of host.old) read.old (A.written alerts.old))
+        (point (F.came form.now state.new) (H.agrees host.new) (H.left_of host.new) read.new (A.written alerts.new))) }
+    ensures stops { OnErr result (StopsBehind (F.means form.now)
+        (point (F.came form.now state.old) (H.agrees host.old) (H.left_of host.old) read.old (A.written alerts.old))
+        (H.agrees host.new) (A.written alerts.new)) }
+    ensures over { result ≡ Ok false → IsOver (F.foreign form.now state.new) (H.agrees host.new) (H.left_of host.new) }
+    ensures long { IsErrOf result Stop.TooLong → IsLongBehind (F.means form.now)
+        (point (F.came form.now state.old) (H.agrees host.old) (H.left_of host.old) read.old (A.written alerts.old))
+        (H.agrees host.new) }
+    ensures further { result ≡ Ok true → (read.old < read.new) × (read.new < 2 ^ 64) }
     ensures room { length block.new ≡ length block.old }
-    ensures earlier { (files : Files) → H.agrees host.new files → H.agrees host.old files }
-    ensures same_contents { H.contents host.new ≡ H.contents host.old }
-    ensures unread { IsErrOf result Stop.Unread → Rose (H.faults host.old) (H.faults host.new) }
-    ensures unwritten { IsErrOf result Stop.Unwritten → Rose (A.faults alerts.old) (A.faults alerts.new) }
-    ensures quiet { (IsErrOf result Stop.Unread → ⊥) → H.faults host.new ≡ H.faults host.old }
-    ensures quiet_alerts { (IsErrOf result Stop.Unwritten → ⊥) → A.faults alerts.new ≡ A.faults alerts.old }
+    ensures stays { Stays H.Host host.old host.new }
+    ensures counts { Counts result (H.faults host.old) (H.faults host.new) (A.faults alerts.old) (A.faults alerts.new) }
 {
     let count = host.read(block)?;
     if count == 0 {
         return Ok(false);
     }
     *read = count_bytes(*read, count)?;
-    pass_piece(alloc, teller, &block[..count], stream, alerts)
+    pass_piece(alloc, form, &block[..count], state, alerts)
 }
 
 /// Copies the open file piece by piece, and gives how many bytes were read.
-fn copy_pieces<H: Host, T: Teller, A: Sink>(
+fn copy_pieces<H: Host, F: Form, A: Sink>(
     alloc: Global,
     host: &mut H,
-    teller: &T,
+    form: &F,
     block: &mut [u8],
-    stream: &mut Stream,
+    state: &mut F::State,
     alerts: &mut A,
 ) -> Result<u64, Stop>
     requires room { 0 < length block.old }
-    requires empty { stream.old.rest.items ≡ [] }
-    requires free { stream.old.held ≡ None }
-    ensures comes { IfOk result (λ read. Comes (T.line teller.now) (H.agrees host.new) (H.left_of host.old) (H.left_of host.new)
-        stream.new.rest.items stream.new.held read (A.written alerts.old) (A.written alerts.new)) }
+    requires nothing { F.came form.now state.old [] [] }
+    ensures comes { IfOk result (λ read. Comes (F.means form.now) (H.left_of host.old) (A.written alerts.old)
+        (point (F.came form.now state.new) (H.agrees host.new) (H.left_of host.new) read (A.written alerts.new))) }
     ensures stops { OnErr result
-        (Stops (T.line teller.now) (H.agrees host.new) (H.left_of host.old) (A.written alerts.old) (A.written alerts.new)) }
-    ensures over { OnOk result (IsOver (H.agrees host.new) (H.left_of host.new) stream.new.rest.items) }
+        (Stops (F.means form.now) (H.agrees host.new) (H.left_of host.old) (A.written alerts.old) (A.written alerts.new)) }
+    ensures over { OnOk result (IsOver (F.foreign form.now state.new) (H.agrees host.new) (H.left_of host.new)) }
     ensures long { IsErrOf result Stop.TooLong → IsLong (H.agrees host.new) (H.left_of host.old) }
-    ensures earlier { (files : Files) → H.agrees host.new files → H.agrees host.old files }
-    ensures same_contents { H.contents host.new ≡ H.contents host.old }
-    ensures unread { IsErrOf result Stop.Unread → Rose (H.faults host.old) (H.faults host.new) }
-    ensures unwritten { IsErrOf result Stop.Unwritten → Rose (A.faults alerts.old) (A.faults alerts.new) }
-    ensures quiet { (IsErrOf result Stop.Unread → ⊥) → H.faults host.new ≡ H.faults host.old }
-    ensures quiet_alerts { (IsErrOf result Stop.Unwritten → ⊥) → A.faults alerts.new ≡ A.faults alerts.old }
+    ensures stays { Stays H.Host host.old host.new }
+    ensures counts { Counts result (H.faults host.old) (H.faults host.new) (A.faults alerts.old) (A.faults alerts.new) }
 {
     let mut read = 0;
-    'pieces: while next_piece(alloc, host, teller, block, stream, &mut read, alerts)? {}
+    'pieces: while next_piece(alloc, host, form, block, state, &mut read, alerts)? {}
     Ok(read)
 }
 
-/// Writes the line of the event that waits at the end.
-fn write_last<T: Teller, A: Sink>(
+/// Writes the last lines, behind so many bytes, and tells how far the file is of its form.
+fn finish_copy<F: Form, A: Sink>(
     alloc: Global,
-    teller: &T,
-    stream: &Stream,
+    form: &F,
+    state: &F::State,
+    read: u64,
     alerts: &mut A,
-) -> Result<(), Stop>
-    ensures writes { OnOk result (A.written alerts.new
-        ≡ behind (A.written alerts.old) (lines_of (T.line teller.now) (flushed stream.now.held))) }
-    ensures breaks { OnErr result
-        (BreaksLast (T.line teller.now) stream.now.held (A.written alerts.old) (A.written alerts.new)) }
+) -> Result<Ending, Stop>
+    ensures ends { IfOk result (λ ending. Tells (A.written alerts.old) (A.written alerts.new)
+        (Closes (F.came form.now state.now) (F.foreign form.now state.now) (F.means form.now) read ending)) }
+    ensures breaks { OnErr result (Tells (A.written alerts.old) (A.written alerts.new)
+        (BreaksLast (F.came form.now state.now) (F.foreign form.now state.now) (F.means form.now))) }
     ensures unwritten { IsErrOf result Stop.Unwritten → Rose (A.faults alerts.old) (A.faults alerts.new) }
     ensures read { IsErrOf result Stop.Unread → ⊥ }
     ensures short { IsErrOf result Stop.TooLong → ⊥ }
     ensures quiet { (IsErrOf result Stop.Unwritten → ⊥) → A.faults alerts.new ≡ A.faults alerts.old }
 {
     let mut lines = Vec::new(alloc);
-    stream.finish(alloc, teller, &mut lines)?;
+    let ending = form.finish(alloc, state, read, &mut lines)?;
     write_all(alerts, &lines)?;
-    Ok(())
+    Ok(ending)
 }
 
-fn ending_of(rest: &[u8], read: u64) -> Ending
-    requires { length rest.now ≤ read }
-    ensures { EndsBy rest.now read result }
-{
-    if rest.is_empty() {
-        Ending::Done
-    } else {
-        Ending::Bad {
-            at: read - rest.len() as u64,
-        }
-    }
-}
-
-/// Writes the line of the event that waits at the end, and tells how far the file is records.
-fn finish_copy<T: Teller, A: Sink>(
-    alloc: Global,
-    teller: &T,
-    stream: &Stream,
-    read: u64,
-    alerts: &mut A,
-) -> Result<Ending, Stop>
-    requires { length stream.now.rest.items ≤ read }
-    ensures ends { IfOk result (λ ending. EndsBy stream.now.rest.items read ending) }
-    ensures writes { OnOk result (A.written alerts.new
-        ≡ behind (A.written alerts.old) (lines_of (T.line teller.now) (flushed stream.now.held))) }
-    ensures breaks { OnErr result
-        (BreaksLast (T.line teller.now) stream.now.held (A.written alerts.old) (A.written alerts.new)) }
-    ensures unwritten { IsErrOf result Stop.Unwritten → Rose (A.faults alerts.old) (A.faults alerts.new) }
-    ensures read { IsErrOf result Stop.Unread → ⊥ }
-    ensures short { IsErrOf result Stop.TooLong → ⊥ }
-    ensures quiet { (IsErrOf result Stop.Unwritten → ⊥) → A.faults alerts.new ≡ A.faults alerts.old }
-{
-    match write_last(alloc, teller, stream, alerts) {
-        Ok(()) => Ok(ending_of(&stream.rest, read)),
-        Err(stop) => Err(stop),
-    }
-}
-
-/// Copies what is left of the open file as the lines of its events, and tells how far it is records.
-pub(crate) fn copy_records<H: Host, T: Teller, A: Sink>(
+/// Copies what is left of the open file as lines, and tells how far it is of its form.
+pub(crate) fn copy_records<H: Host, F: Form, A: Sink>(
     alloc: Global,
     host: &mut H,
-    teller: &T,
+    form: &F,
     alerts: &mut A,
 ) -> Result<Ending, Stop>
-    ensures copies { IfOk result (λ ending. Copies (T.line teller.now) (H.agrees host.new) (H.left_of host.old)
+    ensures copies { IfOk result (λ ending. Copies (F.means form.now) (H.agrees host.new) (H.left_of host.old)
         (A.written alerts.old) (A.written alerts.new) ending) }
     ensures stops { OnErr result
-        (Stops (T.line teller.now) (H.agrees host.new) (H.left_of host.old) (A.written alerts.old) (A.written alerts.new)) }
+        (Stops (F.means form.now) (H.agrees host.new) (H.left_of host.old) (A.written alerts.old) (A.written alerts.new)) }
     ensures long { IsErrOf result Stop.TooLong → IsLong (H.agrees host.new) (H.left_of host.old) }
     ensures earlier { (files : Files) → H.agrees host.new files → H.agrees host.old files }
     ensures same_contents { H.contents host.new ≡ H.contents host.old }
@@ -298,9 +208,9 @@ pub(crate) fn copy_records<H: Host, T: Teller, A: Sink>(
     ensures quiet_alerts { (IsErrOf result Stop.Unwritten → ⊥) → A.faults alerts.new ≡ A.faults alerts.old }
 {
     let mut block = vec![in alloc; 0; BLOCK]?;
-    let mut stream = Stream::new(alloc);
-    match copy_pieces(alloc, host, teller, &mut block, &mut stream, alerts) {
-        Ok(read) => finish_copy(alloc, teller, &stream, read, alerts),
+    let mut state = form.start(alloc);
+    match copy_pieces(alloc, host, form, &mut block, &mut state, alerts) {
+        Ok(read) => finish_copy(alloc, form, &state, read, alerts),
         Err(stop) => Err(stop),
     }
 }

@@ -1,12 +1,11 @@
 //! What is told of an event of Unified2.
 ghost use Rattle.std.specs.Prelude.{◌≡◌, Option, Some, None, option_map, not};
-ghost use Rattle.alert_json.specs.Facts.{event_facts, run_facts, packet_facts, alert_facts};
-ghost use Rattle.alert_json.specs.Value.{event_line};
+ghost use Rattle.alert_json.specs.Facts.{event_facts, packet_facts, alert_facts};
 ghost use Rattle.packet_decode.specs.Decoding.{seen, fields_of};
 ghost use Rattle.ipv6_decode.specs.Versions.{record_decoded};
 ghost use Rattle.snort_eve.specs.Joins.{joined_of};
 ghost use Rattle.snort_eve.specs.Texts.{texts_of};
-ghost use Rattle.snort_eve.specs.Events.{link_of, unchecked, packet_of, packet_in, is_fragment, is_part, is_whole, has_pair, pair_by, pair_of, flow_of, class_of, rule_of, captured_of, event_of, nanos_of};
+ghost use Rattle.snort_eve.specs.Events.{link_of, unchecked, packet_of, packet_in, is_fragment, is_unbroken, is_whole, has_pair, pair_by, pair_of, flow_of, class_of, rule_of, captured_of, event_of, line_by, nanos_of};
 
 use crate::joins::Teller;
 use crate::texts::Texts;
@@ -25,7 +24,7 @@ pub(crate) struct Lines<'a> {
 }
 
 impl<'a> Teller for Lines<'a> {
-    ghost line = { λ lines it. event_line (event_of (texts_of lines.texts.now) it) (run_facts lines.run) };
+    ghost line = { line_by };
 
     fn push_line(
         &self,
@@ -87,12 +86,12 @@ fn packet_of<'a>(answer: Result<Packet<'a>, Skip>) -> Option<Packet<'a>>
     }
 }
 
-fn is_part(packet: Option<Packet<'_>>) -> bool
-    ensures { result ≡ is_part (option_map fields_of packet.entry) }
+fn is_unbroken(packet: Option<Packet<'_>>) -> bool
+    ensures { result ≡ is_unbroken (option_map fields_of packet.entry) }
 {
     match packet {
         None => false,
-        Some(packet) => is_fragment(packet.body),
+        Some(packet) => !is_fragment(packet.body),
     }
 }
 
@@ -112,7 +111,7 @@ fn is_whole(packet: Option<&U2Packet>) -> bool
 {
     match packet {
         None => false,
-        Some(packet) => !is_part(packet_in(packet.link, packet.bytes.bytes())),
+        Some(packet) => is_unbroken(packet_in(packet.link, packet.bytes.bytes())),
     }
 }
 

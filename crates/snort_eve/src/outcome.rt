@@ -1,9 +1,10 @@
 //! How a run ends, its status and its message.
 ghost use Rattle.std.specs.Prelude.{◌≡◌, ◌++◌, true, false, IfOk, OnOk};
 ghost use Rattle.edge_io.specs.Told.{behind};
-ghost use Rattle.snort_eve.specs.Runs.{bad_front, bad_text, message_text, outcome_of, place_text};
+ghost use Rattle.snort_eve.specs.Runs.{bad_front, bad_text, message_text, no_line_text, outcome_of, place_text};
 
-use crate::copy::{Ending, Stop};
+use crate::copy::Stop;
+use crate::form::Ending;
 use alert_fast::Piece::{Bytes, Number};
 use alert_fast::push_pieces;
 use edge_io::{NoMemory, Sink, Text, write_all};
@@ -24,6 +25,8 @@ pub(crate) enum Outcome<'a> {
     NoConf { name: Text },
     /// No whole record begins at this byte of this file.
     Bad { name: &'a str, at: u64 },
+    /// The line of this number of this file gives no record.
+    NoLine { name: &'a str, number: u64 },
     /// This file can't be opened, or a read of it failed.
     Unread { name: &'a str },
     /// A write failed.
@@ -40,7 +43,7 @@ impl<'a> Outcome<'a> {
         match self {
             Outcome::Done | Outcome::Help => 0,
             Outcome::CommandLine | Outcome::Refused { .. } => 1,
-            Outcome::Bad { .. } => 2,
+            Outcome::Bad { .. } | Outcome::NoLine { .. } => 2,
             Outcome::NoConf { .. } | Outcome::Unread { .. } | Outcome::TooLong { .. } => 3,
             Outcome::Unwritten => 4,
             Outcome::NoMemory => 5,
@@ -60,6 +63,7 @@ pub(crate) fn is_done(outcome: &Outcome<'_>) -> bool
         | Outcome::Refused { .. }
         | Outcome::NoConf { .. }
         | Outcome::Bad { .. }
+        | Outcome::NoLine { .. }
         | Outcome::Unread { .. }
         | Outcome::Unwritten
         | Outcome::TooLong { .. }
@@ -74,6 +78,7 @@ pub(crate) fn outcome_of<'a>(name: &'a str, copied: Result<Ending, Stop>) -> Out
     match copied {
         Ok(Ending::Done) => Outcome::Done,
         Ok(Ending::Bad { at }) => Outcome::Bad { name, at },
+        Ok(Ending::NoLine { number }) => Outcome::NoLine { name, number },
         Err(Stop::Unread) => Outcome::Unread { name },
         Err(Stop::Unwritten) => Outcome::Unwritten,
         Err(Stop::TooLong) => Outcome::TooLong { name },
@@ -81,9 +86,11 @@ pub(crate) fn outcome_of<'a>(name: &'a str, copied: Result<Ending, Stop>) -> Out
     }
 }
 
-/// The usage.
+/// The usage, and what follows its first words.
 const USAGE: &[u8] =
-    b"usage: snort_eve [-c CONF] [-S NAME=VALUE] [--host NAME] [--pcap-filename NAME] [--community-id-seed N] [FILE..]\n";
+    b"usage: snort_eve [-c CONF] [-S NAME=VALUE] [--year N] [--lines|--unified2] [--host NAME] ";
+
+const USAGE_END: &[u8] = b"[--pcap-filename NAME] [--community-id-seed N] [FILE..]\n";
 
 fn push_bad_front(name: &[u8], out: &mut Vec<u8>) -> Result<(), NoMemory>
     ensures { OnOk result (out.new.items ≡ out.old.items ++ bad_front name.now) }
@@ -111,13 +118,28 @@ fn push_bad(name: &[u8], at: u64, out: &mut Vec<u8>) -> Result<(), NoMemory>
     push_place(at, out)
 }
 
+fn push_no_line(name: &[u8], number: u64, out: &mut Vec<u8>) -> Result<(), NoMemory>
+    ensures { OnOk result (out.new.items ≡ out.old.items ++ no_line_text name.now number) }
+{
+    push_pieces(
+        out,
+        &[
+            Bytes(b"ERROR: "),
+            Bytes(name),
+            Bytes(b"("),
+            Number(number),
+            Bytes(b") no alert line\n"),
+        ],
+    )
+}
+
 #[tactic(auto, unfolding(crate::specs::Runs::message_text))]
 fn push_message(outcome: &Outcome<'_>, out: &mut Vec<u8>) -> Result<(), NoMemory>
     ensures { OnOk result (out.new.items ≡ out.old.items ++ message_text outcome.now) }
 {
     match outcome {
         Outcome::Done => Ok(()),
-        Outcome::Help => push_pieces(out, &[Bytes(USAGE)]),
+        Outcome::Help => push_pieces(out, &[Bytes(USAGE), Bytes(USAGE_END)]),
         Outcome::CommandLine => push_pieces(out, &[Bytes(b"ERROR: command line\n")]),
         Outcome::Refused { message } => push_pieces(out, &[Bytes(message.bytes())]),
         Outcome::NoConf { name } => push_pieces(
@@ -129,6 +151,7 @@ fn push_message(outcome: &Outcome<'_>, out: &mut Vec<u8>) -> Result<(), NoMemory
             ],
         ),
         Outcome::Bad { name, at } => push_bad(name.as_bytes(), *at, out),
+        Outcome::NoLine { name, number } => push_no_line(name.as_bytes(), *number, out),
         Outcome::Unread { name } => push_pieces(
             out,
             &[

@@ -3,31 +3,34 @@ ghost use Rattle.std.specs.Prelude.{◌≡◌, ◌⊎◌, None, Some, map, strin
 ghost use Rattle.edge_io.specs.Files.{Files, Lacks, IsOpened};
 ghost use Rattle.edge_io.specs.Told.{Rose};
 ghost use Rattle.snort_setup.specs.Words.{HasName};
-ghost use Rattle.snort_eve.specs.Runs.{AreRun, IsFileRun, IsLinesRun, OnUnread, Runs, UnlessFault, UnlessShort, UnlessUnread, Writes, line_of};
+ghost use Rattle.snort_eve.specs.Runs.{AreRun, IsFileRun, IsInputRun, IsLinesRun, OnUnread, Runs, UnlessFault, UnlessShort, UnlessUnread, Writes, line_of};
 ghost use Rattle.snort_eve.specs.Asking.{AskNamed, IsNamed, asked_facts, asked_of, conf_facts, lines, wanted_facts};
 ghost use Rattle.snort_eve.specs.Texts.{texts_of};
+ghost use Rattle.snort_eve.specs.Endings.{of_records};
 
 use crate::conf::{halted, read_texts};
 use crate::copy::copy_records;
 use crate::events::Lines;
-use crate::joins::Teller;
+use crate::form::Form;
+use crate::line_form::AlertLines;
 use crate::outcome::{Outcome, is_done, outcome_of};
 use crate::texts::Texts;
 use crate::words::{Asked, Conf, Wanted, asked_of};
+use alert_json::YearFrom;
 use edge_io::{Failed, Host, NoMemory, Sink};
 use std::alloc::Global;
 
 /// Writes the lines of the events of the file that is open, of this name.
-fn copy_open<'a, H: Host, T: Teller, A: Sink>(
+fn copy_open<'a, H: Host, F: Form, A: Sink>(
     alloc: Global,
     host: &mut H,
-    teller: &T,
+    form: &F,
     name: &'a str,
     alerts: &mut A,
 ) -> Outcome<'a>
     ensures runs { ((files : Files) → H.agrees host.old files → IsOpened (Some files) name.entry.now (H.left_of host.old files))
         → Writes (H.agrees host.new) (A.written alerts.old) (A.written alerts.new)
-        (λ files wrote. IsFileRun (T.line teller.now) files name.entry.now wrote result) }
+        (λ files wrote. IsFileRun (F.means form.now) files name.entry.now wrote result) }
     ensures earlier { (files : Files) → H.agrees host.new files → H.agrees host.old files }
     ensures same_contents { H.contents host.new ≡ H.contents host.old }
     ensures unread { OnUnread result (λ name. Rose (H.faults host.old) (H.faults host.new)) }
@@ -35,19 +38,19 @@ fn copy_open<'a, H: Host, T: Teller, A: Sink>(
     ensures quiet { UnlessUnread result (H.faults host.new ≡ H.faults host.old) }
     ensures quiet_alerts { (result ≡ Outcome.Unwritten → ⊥) → A.faults alerts.new ≡ A.faults alerts.old }
 {
-    outcome_of(name, copy_records(alloc, host, teller, alerts))
+    outcome_of(name, copy_records(alloc, host, form, alerts))
 }
 
 /// Writes the lines of the events of the file of this name.
-fn copy_file<'a, H: Host, T: Teller, A: Sink>(
+fn copy_file<'a, H: Host, F: Form, A: Sink>(
     alloc: Global,
     host: &mut H,
-    teller: &T,
+    form: &F,
     name: &'a str,
     alerts: &mut A,
 ) -> Outcome<'a>
     ensures runs { Writes (H.agrees host.new) (A.written alerts.old) (A.written alerts.new)
-        (λ files wrote. IsFileRun (T.line teller.now) files name.entry.now wrote result) }
+        (λ files wrote. IsFileRun (F.means form.now) files name.entry.now wrote result) }
     ensures earlier { (files : Files) → H.agrees host.new files → H.agrees host.old files }
     ensures same_contents { H.contents host.new ≡ H.contents host.old }
     ensures unread { OnUnread result (λ name. Rose (H.faults host.old) (H.faults host.new) ⊎ Lacks (H.contents host.old) name) }
@@ -56,21 +59,21 @@ fn copy_file<'a, H: Host, T: Teller, A: Sink>(
     ensures quiet_alerts { (result ≡ Outcome.Unwritten → ⊥) → A.faults alerts.new ≡ A.faults alerts.old }
 {
     match host.open(name) {
-        Ok(()) => copy_open(alloc, host, teller, name, alerts),
+        Ok(()) => copy_open(alloc, host, form, name, alerts),
         Err(Failed) => Outcome::Unread { name },
     }
 }
 
 /// Writes the lines of the events of files, one after another, up to the first that isn't done.
-fn copy_files<'a, H: Host, T: Teller, A: Sink>(
+fn copy_files<'a, H: Host, F: Form, A: Sink>(
     alloc: Global,
     host: &mut H,
-    teller: &T,
+    form: &F,
     names: &[&'a str],
     alerts: &mut A,
 ) -> Outcome<'a>
     ensures runs { Writes (H.agrees host.new) (A.written alerts.old) (A.written alerts.new)
-        (λ files wrote. AreRun (T.line teller.now) files (map (λ name. name.now) names.now) wrote result) }
+        (λ files wrote. AreRun (F.means form.now) files (map (λ name. name.now) names.now) wrote result) }
     ensures earlier { (files : Files) → H.agrees host.new files → H.agrees host.old files }
     ensures unread { OnUnread result (λ name. Rose (H.faults host.old) (H.faults host.new) ⊎ Lacks (H.contents host.old) name) }
     ensures unwritten { result ≡ Outcome.Unwritten → Rose (A.faults alerts.old) (A.faults alerts.new) }
@@ -78,7 +81,7 @@ fn copy_files<'a, H: Host, T: Teller, A: Sink>(
     ensures quiet_alerts { (result ≡ Outcome.Unwritten → ⊥) → A.faults alerts.new ≡ A.faults alerts.old }
 {
     for name in names {
-        let outcome = copy_file(alloc, host, teller, *name, alerts);
+        let outcome = copy_file(alloc, host, form, *name, alerts);
         if !is_done(&outcome) {
             return outcome;
         }
@@ -95,7 +98,7 @@ fn copy_by<'a, H: Host, A: Sink>(
     alerts: &mut A,
 ) -> Outcome<'a>
     ensures runs { Writes (H.agrees host.new) (A.written alerts.old) (A.written alerts.new)
-        (λ files wrote. AreRun (line_of (texts_of texts.now) (wanted_facts wanted.now).run) files
+        (λ files wrote. AreRun (of_records (line_of (texts_of texts.now) (wanted_facts wanted.now).run)) files
         (wanted_facts wanted.now).files wrote result) }
     ensures earlier { (files : Files) → H.agrees host.new files → H.agrees host.old files }
     ensures unread { OnUnread result (λ name. Rose (H.faults host.old) (H.faults host.new) ⊎ Lacks (H.contents host.old) name) }
@@ -103,11 +106,11 @@ fn copy_by<'a, H: Host, A: Sink>(
     ensures quiet { UnlessUnread result (H.faults host.new ≡ H.faults host.old) }
     ensures quiet_alerts { (result ≡ Outcome.Unwritten → ⊥) → A.faults alerts.new ≡ A.faults alerts.old }
 {
-    let teller = Lines {
+    let form = Lines {
         run: wanted.run,
         texts,
     };
-    copy_files(alloc, host, &teller, &wanted.files, alerts)
+    copy_files(alloc, host, &form, &wanted.files, alerts)
 }
 
 /// Writes the lines that are wanted, without texts.
@@ -149,6 +152,49 @@ fn copy_with<'a, H: Host, A: Sink>(
     }
 }
 
+/// Writes the lines of the events of records.
+fn copy_events<'a, H: Host, A: Sink>(
+    alloc: Global,
+    wanted: &Wanted<'a>,
+    host: &mut H,
+    alerts: &mut A,
+) -> Outcome<'a>
+    requires { IsNamed (wanted_facts wanted.now).conf }
+    ensures runs { Writes (H.agrees host.new) (A.written alerts.old) (A.written alerts.new)
+        (λ files wrote. IsLinesRun (wanted_facts wanted.now).conf (wanted_facts wanted.now) files wrote result) }
+    ensures unread { OnUnread result (λ name. Rose (H.faults host.old) (H.faults host.new) ⊎ Lacks (H.contents host.old) name) }
+    ensures unwritten { result ≡ Outcome.Unwritten → Rose (A.faults alerts.old) (A.faults alerts.new) }
+    ensures quiet { UnlessFault (Some (lines (wanted_facts wanted.now))) result (H.faults host.new ≡ H.faults host.old) }
+    ensures quiet_alerts { (result ≡ Outcome.Unwritten → ⊥) → A.faults alerts.new ≡ A.faults alerts.old }
+{
+    match wanted.conf {
+        None => copy_bare(alloc, wanted, host, alerts),
+        Some(conf) => copy_with(alloc, wanted, &conf, host, alerts),
+    }
+}
+
+/// Writes the records of alert lines, the first of each file in this year.
+fn copy_lines<'a, H: Host, A: Sink>(
+    alloc: Global,
+    wanted: &Wanted<'a>,
+    year: u16,
+    host: &mut H,
+    alerts: &mut A,
+) -> Outcome<'a>
+    ensures runs { Writes (H.agrees host.new) (A.written alerts.old) (A.written alerts.new)
+        (λ files wrote. IsInputRun (Some year) (wanted_facts wanted.now) files wrote result) }
+    ensures unread { OnUnread result (λ name. Rose (H.faults host.old) (H.faults host.new) ⊎ Lacks (H.contents host.old) name) }
+    ensures unwritten { result ≡ Outcome.Unwritten → Rose (A.faults alerts.old) (A.faults alerts.new) }
+    ensures quiet { UnlessUnread result (H.faults host.new ≡ H.faults host.old) }
+    ensures quiet_alerts { (result ≡ Outcome.Unwritten → ⊥) → A.faults alerts.new ≡ A.faults alerts.old }
+{
+    let form = AlertLines {
+        run: wanted.run,
+        from: YearFrom::Given { year },
+    };
+    copy_files(alloc, host, &form, &wanted.files, alerts)
+}
+
 /// Writes the lines that are wanted.
 fn copy_wanted<'a, H: Host, A: Sink>(
     alloc: Global,
@@ -164,9 +210,9 @@ fn copy_wanted<'a, H: Host, A: Sink>(
     ensures quiet { UnlessFault (Some (lines (wanted_facts wanted.now))) result (H.faults host.new ≡ H.faults host.old) }
     ensures quiet_alerts { (result ≡ Outcome.Unwritten → ⊥) → A.faults alerts.new ≡ A.faults alerts.old }
 {
-    match wanted.conf {
-        None => copy_bare(alloc, wanted, host, alerts),
-        Some(conf) => copy_with(alloc, wanted, &conf, host, alerts),
+    match wanted.year {
+        None => copy_events(alloc, wanted, host, alerts),
+        Some(year) => copy_lines(alloc, wanted, year, host, alerts),
     }
 }
 

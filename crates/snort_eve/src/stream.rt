@@ -1,5 +1,6 @@
 //! The lines of Unified2 records that come piece by piece.
 ghost use Rattle.std.specs.Prelude.{◌≡◌, ◌++◌, [], None, IfOk, OnOk, true};
+ghost use Rattle.snort_eve.specs.Forms.{Adds};
 ghost use Rattle.snort_eve.specs.Joins.{flushed, lines_of};
 ghost use Rattle.snort_eve.specs.Streams.{Feeds, IsForeign};
 
@@ -48,8 +49,8 @@ impl Stream {
         piece: &[u8],
         out: &mut Vec<u8>,
     ) -> Result<Fed, NoMemory>
-        ensures fed { OnOk result (Feeds (T.line teller.now) self.old.rest.items self.old.held piece.now
-            self.new.rest.items self.new.held out.old.items out.new.items) }
+        ensures fed { OnOk result (Adds out.old.items out.new.items (Feeds (T.line teller.now) self.old.rest.items self.old.held
+            piece.now self.new.rest.items self.new.held)) }
         ensures foreign { IfOk result (λ fed. fed ≡ Fed.Foreign → IsForeign self.new.rest.items) }
     {
         self.rest.extend_from_slice(piece)?;

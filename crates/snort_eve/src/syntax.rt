@@ -18,9 +18,12 @@ pub(crate) enum Choice {
     Names(&'static str),
 }
 
-const CHOICES: [Choice; 7] = [
+const CHOICES: [Choice; 10] = [
     Choice::LetterOption("c", 'c'),
     Choice::LetterOption("S", 'S'),
+    Choice::NameOption("year"),
+    Choice::NameFlag("lines"),
+    Choice::NameFlag("unified2"),
     Choice::NameOption("host"),
     Choice::NameOption("pcap-filename"),
     Choice::NameOption("community-id-seed"),

@@ -1,10 +1,11 @@
 //! What the words of the command ask for.
-ghost use Rattle.std.specs.Prelude.{◌≡◌, ◌++◌, codes, is_some, map, option_map, string_bytes, IfOk, OnOk};
+ghost use Rattle.std.specs.Prelude.{◌≡◌, ◌++◌, codes, map, option_and_then, option_map, string_bytes, IfOk, OnOk};
 ghost use Rattle.clap.specs.Words.{found_of, rows_of};
 ghost use Rattle.clap.specs.Walk.{all_of};
 ghost use Rattle.alert_json.specs.Facts.{bytes_of};
-ghost use Rattle.snort_eve.specs.Asking.{asked_facts, asked_in, asked_of, conf_facts, conf_with, defined_facts, file_of, files_of, given_in, if_given, seed_of, with_values};
+ghost use Rattle.snort_eve.specs.Asking.{asked_facts, asked_in, asked_of, conf_facts, conf_with, defined_facts, file_of, files_of, given_in, if_given, seed_of, with_values, year_by, year_in};
 ghost use Rattle.command_words.specs.CommandLine.{definition, maybe, named};
+ghost use Rattle.net_lists.specs.Numbers.{number_in};
 
 use crate::syntax::matches;
 use alert_json::Run;
@@ -28,11 +29,13 @@ pub(crate) struct Conf<'a> {
     pub(crate) defined: Option<Variable<'a>>,
 }
 
-/// What all records have alike, the configuration, if there is one, and the names of the files, in their order.
+/// What all records have alike; the configuration, if there is one; the year of a file's first line, where files are alert lines
+/// and not records; and the names of the files, in their order.
 #[derive(Drop)]
 pub(crate) struct Wanted<'a> {
     pub(crate) run: Run<'a>,
     pub(crate) conf: Option<Conf<'a>>,
+    pub(crate) year: Option<u16>,
     pub(crate) files: Vec<&'a str>,
 }
 
@@ -162,15 +165,48 @@ fn files_of<'a>(alloc: Global, matches: &ArgMatches<'a>) -> Result<Vec<&'a str>,
     Ok(files)
 }
 
-/// The lines that are asked for, with this seed and this variable.
+/// The year, if it is there.
+fn maybe_year(text: Option<&str>) -> Option<Option<u16>>
+    ensures { result ≡ maybe (number_in 1970 2553) (option_map (λ t. t.now) text.entry) }
+{
+    match text {
+        None => Some(None),
+        Some(text) => Some(Some(number_in(1970, 2553, text.as_bytes())? as u16)),
+    }
+}
+
+/// The year of alert lines, if files have these.
+fn year_by(lines: bool, unified2: bool, year: Option<u16>) -> Option<Option<u16>>
+    ensures { result ≡ year_by lines unified2 year }
+{
+    if lines {
+        if unified2 { None } else { Some(Some(year?)) }
+    } else {
+        Some(None)
+    }
+}
+
+fn year_in<'a>(matches: &ArgMatches<'a>) -> Option<Option<u16>>
+    ensures { result ≡ year_in (rows_of (found_of matches.now)) }
+{
+    let year = maybe_year(given(matches, "year"))?;
+    year_by(
+        given(matches, "lines").is_some(),
+        given(matches, "unified2").is_some(),
+        year,
+    )
+}
+
+/// The lines that are asked for, with this seed, this variable and this year.
 fn with_values<'a>(
     alloc: Global,
     matches: &ArgMatches<'a>,
     seed: u16,
     defined: Option<Variable<'a>>,
+    year: Option<u16>,
 ) -> Result<Asked<'a>, NoMemory>
     ensures { IfOk result (λ asked. asked_facts asked
-        ≡ with_values (rows_of (found_of matches.now)) seed (option_map defined_facts defined.entry)) }
+        ≡ with_values (rows_of (found_of matches.now)) seed (option_map defined_facts defined.entry) year) }
 {
     let files = files_of(alloc, matches)?;
     Ok(Asked::Lines(Wanted {
@@ -180,8 +216,26 @@ fn with_values<'a>(
             pcap_filename: bytes_of(given(matches, "pcap-filename")),
         },
         conf: conf_of(given(matches, "c"), defined),
+        year,
         files,
     }))
+}
+
+/// What is asked for beside this seed and this variable.
+fn dated_in<'a>(
+    alloc: Global,
+    matches: &ArgMatches<'a>,
+    seed: u16,
+    defined: Option<Variable<'a>>,
+) -> Result<Option<Asked<'a>>, NoMemory>
+    ensures { IfOk result (λ asked. option_map asked_facts asked
+        ≡ option_map (with_values (rows_of (found_of matches.now)) seed (option_map defined_facts defined.entry))
+        (year_in (rows_of (found_of matches.now)))) }
+{
+    match year_in(matches) {
+        None => Ok(None),
+        Some(year) => Ok(Some(with_values(alloc, matches, seed, defined, year)?)),
+    }
 }
 
 /// What is asked for beside this seed.
@@ -191,12 +245,12 @@ fn defined_in<'a>(
     seed: u16,
 ) -> Result<Option<Asked<'a>>, NoMemory>
     ensures { IfOk result (λ asked. option_map asked_facts asked
-        ≡ option_map (with_values (rows_of (found_of matches.now)) seed)
-        (maybe definition (given_in (rows_of (found_of matches.now)) (codes "S")))) }
+        ≡ option_and_then (λ defined. option_map (with_values (rows_of (found_of matches.now)) seed defined)
+        (year_in (rows_of (found_of matches.now)))) (maybe definition (given_in (rows_of (found_of matches.now)) (codes "S")))) }
 {
     match maybe_definition(given(matches, "S")) {
         None => Ok(None),
-        Some(defined) => Ok(Some(with_values(alloc, matches, seed, defined)?)),
+        Some(defined) => dated_in(alloc, matches, seed, defined),
     }
 }
 

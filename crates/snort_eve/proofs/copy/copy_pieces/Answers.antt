@@ -6,7 +6,8 @@ use Rattle.snort_eve.proofs.copy.copy_pieces.Goals as goal
 
 pub pieces-init : goal.pieces-init
 pieces-init g c = record {
-  comes = come-start (g.T.Teller.line c.args.teller.now) (g.H.Host.agrees c.args.host.now) (g.H.Host.left_of c.args.host.now) _ _ _ c.requires.empty c.requires.free;
+  comes = come-start (g.F.Form.means c.args.form.now) (g.F.Form.came c.args.form.now c.args.state.now) (g.H.Host.agrees c.args.host.now) (g.H.Host.left_of c.args.host.now) _
+      c.requires.nothing (g.met.F.Form.nothing c.args.form.now);
   room = c.requires.room;
   earlier = λ files a. a;
   same_contents = refl;
@@ -17,7 +18,7 @@ pieces-init g c = record {
 pub pieces-smaller : goal.pieces-smaller
 pieces-smaller g c =
     let more = c.in_ok-next_piece.was ∙ ap Ok c.if-branch.true in
-    omega (arith, c.next_piece.ensures.small more, c.next_piece.ensures.further more)
+    omega (arith, c.next_piece.ensures.further more)
 
 pub returns-in_err-next_piece-clause-long : goal.returns-in_err-next_piece-clause-long
 returns-in_err-next_piece-clause-long g c =

@@ -1,6 +1,6 @@
 -- Why `Stream::feed` keeps `fed`.
 use Rattle.std.proofs.Common.{◌∙◌, sym}
-use Rattle.snort_eve.proofs.Copying.{feed-step}
+use Rattle.snort_eve.proofs.Recording.{feed-step}
 use Rattle.snort_eve.proofs.stream.Stream.feed.Goals as goal
 
 pub returns-clause-fed : goal.returns-clause-fed

@@ -1,0 +1,7 @@
+-- Why `start_records` does what its contract says.
+use Rattle.snort_eve.specs.Events.{line_by}
+use Rattle.snort_eve.proofs.Recording.{come-empty}
+use Rattle.snort_eve.proofs.record_form.start_records.Goals as goal
+
+pub returns : goal.returns
+returns c = come-empty (line_by c.args.lines.now) _ _ c.new.ensures.rest c.new.ensures.held
