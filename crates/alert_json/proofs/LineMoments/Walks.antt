@@ -6,7 +6,7 @@ use Rattle.std.proofs.lemmas.List.{length-take, length-drop, take-append-drop, t
 use Rattle.std.proofs.lemmas.List.Folds.{concat-append}
 use Rattle.std.proofs.Math.Seq.{take-add}
 use Rattle.alert_fast.specs.Fronts.{IsWord, Lacks}
-use Rattle.alert_fast.proofs.Fronts.{first_same, rest_same, word_only, lacks-none}
+use Rattle.alert_fast.proofs.ReadBack.Fronts.{first_same, rest_same, word_only, lacks-none}
 use Rattle.edge_io.specs.declared.fault.NoMemory.{NoMemory}
 use Rattle.alert_json.specs.declared.line_walk.LinesTaken.{LinesTaken}
 use Rattle.alert_json.specs.declared.line_walk.Step.{Step}

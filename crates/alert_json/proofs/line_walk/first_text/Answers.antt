@@ -1,8 +1,9 @@
--- Why `first_text` does what its contract says.
+-- The place that `memchr` finds is that of the first line feed, so that the bytes before it have none (`first_place`); where
+-- it finds none, all bytes lack it (`no_place`).
 use Rattle.std.proofs.Common.{◌+◌, ◌-◌, length, drop, arith, take_all}
 use Rattle.std.proofs.lemmas.List.{length-drop}
 use Rattle.std.proofs.lemmas.Bool.{eqb-true}
-use Rattle.alert_fast.proofs.Places.{no_place, first_place}
+use Rattle.alert_fast.proofs.ReadBack.Places.{no_place, first_place}
 use Rattle.alert_json.proofs.line_walk.first_text.Goals as goal
 
 pub returns-in_err-place : goal.returns-in_err-place

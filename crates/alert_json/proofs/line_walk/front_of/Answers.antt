@@ -1,4 +1,5 @@
--- Why `front_of` does what its contract says.
+-- A line ends at the first line feed: without one none is there yet (`no-line`), and where too many bytes come before it,
+-- there never is one, whatever follows (`too-long`, `none-ever`).
 use Rattle.std.proofs.Common.{◌∷◌, length, ap, arith, length-append}
 use Rattle.alert_json.proofs.LineMoments.Walks.{no-line, none-ever, too-long}
 use Rattle.alert_json.proofs.line_walk.front_of.Goals as goal

@@ -1,4 +1,5 @@
--- Why `push_front` does what its contract says.
+-- What a line gives by itself it gives at the front of bytes too, and one that gives no record never does, whatever follows
+-- (`front-step`); where no line can ever begin, none gives a record (`none-ever-told`).
 use Rattle.std.proofs.Common.{refl}
 use Rattle.alert_json.specs.Facts.{run_facts}
 use Rattle.alert_json.proofs.LineMoments.Walks.{front-step, none-ever-told}

@@ -1,4 +1,4 @@
--- Why `read_rules` keeps `given` and `earlier`.
+-- Where no pattern is made none is refused, so that what `read_setup` gives is the setup without any refusal: `setup-given`.
 use Rattle.std.proofs.Common.{Some}
 use Rattle.edge_io.specs.Told.{Rose}
 use Rattle.snort_setup.specs.Whole.{ready_of}

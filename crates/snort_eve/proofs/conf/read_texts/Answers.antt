@@ -1,4 +1,5 @@
--- Why `read_texts` keeps `given`, `cause` and `quiet`.
+-- Texts that are made are those of the setup that was read, and only want of memory may come between; a stop of `read_rules`
+-- is handed on, with what is known of it.
 use Rattle.edge_io.specs.Told.{Rose}
 use Rattle.std.proofs.Common.{◌≡◌}
 use Rattle.snort_setup.specs.Whole.{ready_of}

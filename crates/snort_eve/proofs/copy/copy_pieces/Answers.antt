@@ -1,4 +1,5 @@
--- Why `copy_pieces` keeps `long`.
+-- Before the first piece nothing has come (`come-start`), and each piece raises the count, which stays below 2^64, so that
+-- the loop ends; that a file is too long is what `next_piece` tells.
 use Rattle.std.proofs.Common.{Ok, refl, ap, ◌∙◌, arith}
 use Rattle.std.proofs.lemmas.Result.{err_from_is_err_and}
 use Rattle.snort_eve.proofs.Copying.{come-start, other-stop}

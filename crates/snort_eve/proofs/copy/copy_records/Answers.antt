@@ -1,4 +1,5 @@
--- Why `copy_records` keeps `stops`, `copies`, `quiet_alerts`, `quiet` and others.
+-- All pieces and then the last lines are the lines of the file (`copied-last`); where the last lines stop, a beginning of
+-- the file's lines was written (`stop-last`), and without memory for the block none (`stop-start`).
 use Rattle.std.proofs.Common.{refl, ◌∙◌}
 use Rattle.std.proofs.lemmas.Result.{on_err_weaker}
 use Rattle.snort_eve.proofs.Copying.{on_err, stop-start, stop-last, copied-last, other-stop}

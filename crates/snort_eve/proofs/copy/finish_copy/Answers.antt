@@ -1,4 +1,5 @@
--- Why `finish_copy` keeps `ends` and `breaks`.
+-- Nothing is written before all of the last lines are made, so that want of memory leaves none (`last-unbegun`) and a write
+-- that failed a beginning of them (`last-broken`).
 use Rattle.snort_eve.proofs.Copying.{all-written, on_err, last-broken, last-unbegun}
 use Rattle.snort_eve.proofs.copy.finish_copy.Goals as goal
 

@@ -1,4 +1,5 @@
--- Why `next_piece` keeps `stops`, `comes`, `over` and `long`.
+-- A piece adds its bytes and lines to those that came (`come-step`), and a read of no bytes is the end; where a step stops,
+-- what was written begins the lines of all bytes (`stop-now`, `stop-part`).
 use Rattle.std.proofs.Common.{ℕ, inr, ◌∙◌, refl, sym, ap, subst, take, [], arith}
 use Rattle.std.proofs.lemmas.Result.{on_ok_weaker, on_err_weaker}
 use Rattle.edge_io.specs.Told.{before, NothingLeft}

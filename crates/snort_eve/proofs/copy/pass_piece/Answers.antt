@@ -1,4 +1,5 @@
--- Why `pass_piece` keeps `passes` and `breaks`.
+-- Nothing is written before all lines of the piece are made, so that want of memory leaves none (`piece-unbegun`) and a
+-- write that failed a beginning of them (`piece-broken`).
 use Rattle.snort_eve.proofs.Copying.{all-written, on_err, piece-broken, piece-unbegun}
 use Rattle.snort_eve.proofs.copy.pass_piece.Goals as goal
 

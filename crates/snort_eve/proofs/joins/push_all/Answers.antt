@@ -1,4 +1,5 @@
--- Why `push_all` does what its contract says.
+-- The event that waits after the records so far is all that the next one needs: it tells the lines that this one adds
+-- (`lines_more`) and the event that waits then (`held_more`).
 use Rattle.std.proofs.Common.{◌++◌, ◌∙◌, ap}
 use Rattle.unified2_out.specs.declared.record.U2.{U2}
 use Rattle.snort_eve.specs.Joins.{waiting, completed, lines_of}

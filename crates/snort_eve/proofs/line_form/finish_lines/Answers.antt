@@ -1,4 +1,5 @@
--- Why `finish_lines` does what its contract says.
+-- The end appends nothing, and bytes that wait are of the line after those counted; fewer than 2^64 bytes were read, so that
+-- the count of lines is exact: `lines-close`.
 use Rattle.std.proofs.Common.{arith}
 use Rattle.alert_json.specs.Facts.{run_facts}
 use Rattle.snort_eve.proofs.LineForming.{lines-close}

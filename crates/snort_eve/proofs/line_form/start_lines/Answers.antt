@@ -1,4 +1,4 @@
--- Why `start_lines` does what its contract says.
+-- Before any bytes none wait, no line is counted, and the first year follows from what the form tells: `lines-empty`.
 use Rattle.std.proofs.Common.{refl}
 use Rattle.alert_json.specs.Facts.{run_facts}
 use Rattle.snort_eve.proofs.LineForming.{lines-empty}

@@ -1,4 +1,4 @@
--- Why `push_bad` does what its contract says.
+-- The front is appended first and then the place, which joined are the text of the definition: `append_assoc`.
 use Rattle.std.proofs.Common.{List, ℕ, ◌++◌, ◌∙◌, ap, append_assoc}
 use Rattle.std.proofs.lemmas.Result.{on_ok_weaker}
 use Rattle.snort_eve.specs.Runs.{bad_front, place_text}

@@ -1,4 +1,5 @@
--- Why `feed_records` keeps `gives`.
+-- Whatever follows, the records so far are the first ones of all, so that their lines, or a part of those that the piece
+-- adds, are a beginning of all lines: `piece-gives`.
 use Rattle.snort_eve.specs.Events.{line_by}
 use Rattle.snort_eve.proofs.Recording.{piece-gives}
 use Rattle.snort_eve.proofs.record_form.feed_records.Goals as goal

@@ -1,4 +1,5 @@
--- Why `finish_records` does what its contract says.
+-- The event that waits gives the last line, after which the lines are those of all records; no record begins at the bytes
+-- that wait, and their place is the number of bytes read before them: `end-closes`.
 use Rattle.snort_eve.specs.Events.{line_by}
 use Rattle.snort_eve.proofs.Recording.{end-closes}
 use Rattle.snort_eve.proofs.record_form.finish_records.Goals as goal

@@ -1,4 +1,5 @@
--- Why `frame_of` does what its contract says.
+-- The number that is read at place 4 is the body's length, and what comes after the header is 8 bytes shorter than all
+-- bytes, so that the tests are those of the definition.
 use Rattle.std.proofs.Common.{◌∙◌, ap, length, arith}
 use Rattle.std.proofs.lemmas.List.{take_rest, length-drop}
 use Rattle.byteorder.specs.Endian.{big_number}

@@ -1,4 +1,5 @@
--- Why `push_front` does what its contract says.
+-- Where the header or a part of the body is lacking there is no record yet (`waits-none`), and where the header tells too
+-- long a body there never is one (`large-none`).
 use Rattle.std.proofs.Common.{refl}
 use Rattle.snort_eve.proofs.FrontSteps.{waits-none, large-none}
 use Rattle.snort_eve.proofs.records.push_front.Goals as goal

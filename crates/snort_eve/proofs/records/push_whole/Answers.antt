@@ -1,4 +1,5 @@
--- Why `push_whole` does what its contract says.
+-- The first `size` bytes are what the header tells, so that what is read of them is one record (`whole-record`); where that
+-- is refused, the bytes begin with none, whatever follows them (`whole-foreign`).
 use Rattle.std.proofs.Common.{subst, take}
 use Rattle.unified2_out.specs.Reading.{IsCauseOf}
 use Rattle.snort_eve.proofs.FrontSteps.{whole-record, whole-foreign}

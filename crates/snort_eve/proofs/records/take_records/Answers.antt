@@ -1,4 +1,5 @@
--- Why `take_records` keeps `taken` and `foreign`.
+-- Each record takes the walk further by its bytes (`walk-step`), at least 8 of them, so that the loop ends; what is left
+-- then has no record at its front.
 use Rattle.std.proofs.Common.{[], ◌-◌, ◌∙◌, length, take, drop, subst, append-nil, arith}
 use Rattle.std.proofs.lemmas.List.{take_rest}
 use Rattle.unified2_out.specs.Fronts.{HasNoRecord}

@@ -1,4 +1,4 @@
--- Why `copy_asked` keeps `runs`.
+-- Words that are refused, or that ask for the usage, end the run with nothing written: `run-refused` and `run-help`.
 use Rattle.std.proofs.Common.{Option, subst, ap}
 use Rattle.std.specs.Prelude.{option_map}
 use Rattle.snort_eve.specs.Asking.{Asked, asked_facts}

@@ -1,4 +1,5 @@
--- Why `copy_bare` keeps `runs`.
+-- The texts of `Texts::none` are those of no rules and no classes, by which a run without a
+-- configuration copies: `run-bare`.
 use Rattle.snort_eve.specs.Asking.{wanted_facts}
 use Rattle.snort_eve.specs.Texts.{texts_of}
 use Rattle.snort_eve.proofs.Configured.{run-bare}

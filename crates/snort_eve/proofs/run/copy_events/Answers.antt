@@ -1,4 +1,5 @@
--- Why `copy_events` keeps `runs` and `quiet`, and may call `copy_with`.
+-- In each branch it is known whether there is a configuration, so that the promise of the function that is called is what is
+-- asked, of faults too (`fault-bare`, `fault-conf`).
 use Rattle.std.proofs.Common.{◌≡◌, Option, ap, sym, subst}
 use Rattle.std.specs.Prelude.{option_map}
 use Rattle.snort_eve.specs.declared.words.Conf.{Conf}

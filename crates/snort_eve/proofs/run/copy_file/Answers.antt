@@ -1,4 +1,4 @@
--- Why `copy_file` keeps `runs`.
+-- Of a file that can't be opened nothing is written, which is a beginning of whatever lines it has: `file-unopened`.
 use Rattle.snort_eve.proofs.Running.{file-unopened}
 use Rattle.snort_eve.proofs.run.copy_file.Goals as goal
 

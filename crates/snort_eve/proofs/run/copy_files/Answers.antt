@@ -1,4 +1,5 @@
--- Why `copy_files` keeps `runs`.
+-- The files so far are done, and one more that is done adds its lines after theirs (`done-more`); the first that isn't ends
+-- the run, with what it wrote after the others' lines (`run-stops`).
 use Rattle.std.proofs.Common.{◌≡◌, ◌∙◌, refl, arith}
 use Rattle.snort_eve.proofs.Running.{done-none, done-more, other-end, run-stops, run-done, unless-done}
 use Rattle.snort_eve.proofs.run.copy_files.Goals as goal

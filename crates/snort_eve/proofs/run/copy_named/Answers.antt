@@ -1,4 +1,5 @@
--- Why `copy_named` keeps `runs`, and may call `copy_asked`.
+-- No variable that words define lacks a name (`asked_named`), so that `copy_asked` may be called; where memory is lacking
+-- before it, nothing is written.
 use Rattle.std.proofs.Common.{map, subst, sym}
 use Rattle.std.specs.Prelude.{string_bytes}
 use Rattle.snort_eve.specs.Asking.{AskNamed, asked_of}

@@ -1,4 +1,5 @@
--- Why `copy_open` keeps `runs`, `unread` and `quiet`.
+-- What is left of a file that was just opened is all of it, so that what `copy_records` says of the bytes left holds of the
+-- file, by each way that copying ends (`file-copied`).
 use Rattle.std.proofs.Common.{◌≡◌, List, ℕ, sym, subst}
 use Rattle.snort_eve.specs.declared.outcome.Outcome.{Outcome}
 use Rattle.edge_io.specs.Told.{Rose}

@@ -1,4 +1,5 @@
--- Why `copy_wanted` keeps `runs` and `quiet`.
+-- What is asked of a run has one case with a year and one without, and in each branch the case is known: so the promise of
+-- the function that is called is what is asked, and of faults `copy_lines` promises no less (`fault-any`).
 use Rattle.std.proofs.Common.{◌≡◌, ℕ, Option, sym, subst}
 use Rattle.snort_eve.specs.Asking.{wanted_facts}
 use Rattle.snort_eve.proofs.Configured.{InputRun, fault-any}

@@ -1,4 +1,5 @@
--- Why `copy_with` keeps `runs`, `quiet`, `unread` and `unwritten`.
+-- The files that agree in the end agreed when the configuration was read, so that its texts are theirs (`run-ready`); where
+-- it isn't ready, nothing is written and the stop tells why (`run-halted`).
 use Rattle.std.proofs.Common.{◌≡◌, ◌⊎◌, List, ℕ, Some, inl, inr, sym, subst, ◌∙◌, ap}
 use Rattle.edge_io.specs.Files.{Lacks}
 use Rattle.edge_io.specs.Told.{Rose}

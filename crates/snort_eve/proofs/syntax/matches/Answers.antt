@@ -1,4 +1,5 @@
--- Why `matches` does what its contract says.
+-- Of a command like `eve_command` (`simple`, `free`) `clap` tells the matches and the kinds of faults; an error that isn't
+-- want of memory has one of these kinds, and so there are no matches.
 use Rattle.std.proofs.Common.{◌≡◌, ◌∙◌, true, refl, sym, ap, map, ℕ, List, [], ◌∷◌, Some, None, inl, inr}
 use Rattle.std.specs.Prelude.{string_bytes}
 use Rattle.clap.specs.Faults.{fault_of, is_simple_and_free}

@@ -1,4 +1,5 @@
--- Why `keep_messages` does what its contract says.
+-- The rules that are left, added to what is kept so far, give what all rules give; keeping the next rule's message under its
+-- mark leaves that as it is (`kept-more`).
 use Rattle.std.proofs.Common.{◌∙◌}
 use Rattle.std.specs.Ordering.{nat_cmp}
 use Rattle.std.specs.BTreeMap.{get}

@@ -1,4 +1,4 @@
--- Why `text_at` does what its contract says.
+-- A place that isn't below the number of classes has no class, and so an empty text: `slice_get_past`.
 use Rattle.std.proofs.Common.{List, [], ℕ, ◌≤◌, Option, length, ap, sym, arith}
 use Rattle.std.specs.Prelude.{option_map, unwrap_or}
 use Rattle.std.proofs.lemmas.Option.{slice_get_past}

@@ -1,4 +1,5 @@
--- Why `given` does what its contract says.
+-- The rows are the entries of the matches one by one, so that the entry that is found by an id has the row that is found by
+-- it, with the same source and first value.
 use Rattle.std.proofs.Common.{◌≡◌, ◌∙◌, refl, sym, ap, ap₂, Option, Some, None}
 use Rattle.std.specs.Prelude.{option_and_then, option_map, find, slice_get}
 use Rattle.std.specs.Str.{bytes_eq}

@@ -1,4 +1,5 @@
--- Why `Stream::feed` keeps `fed`.
+-- The records taken from what waited and the piece split these bytes, what is after them waits, and the lines are those of
+-- the events that they complete: `feed-step`.
 use Rattle.std.proofs.Common.{◌∙◌, sym}
 use Rattle.snort_eve.proofs.Recording.{feed-step}
 use Rattle.snort_eve.proofs.stream.Stream.feed.Goals as goal
