@@ -8,8 +8,8 @@ use edge_io::MemHost;
 /// The name of the file that is read as a capture.
 pub(crate) const CAPTURE: &str = "p";
 
-/// Appends the bytes of pairs of digits.
-fn push_digits(page: &mut Page, bytes: &mut Vec<u8>, digits: &[u8]) {
+/// Appends the bytes of pairs of digits, or writes what is wrong with them.
+pub(crate) fn push_digits(page: &mut Page, bytes: &mut Vec<u8>, digits: &[u8]) {
     match hex::decode(page.alloc, digits) {
         Ok(more) => page.note(bytes.extend_from_slice(&more)),
         Err(fault) => page.debug(&fault),

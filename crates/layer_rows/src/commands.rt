@@ -35,16 +35,6 @@ fn show_flags(page: &mut Page, words: &Words) {
     page.put(mark(words.form == Form::Unified2, "u"));
 }
 
-/// The words of a line.
-fn words_of(page: &mut Page, line: &str) -> Vec<String> {
-    let mut words = Vec::new(page.alloc);
-    for word in line.split(' ') {
-        let word = page.copied(word);
-        page.note(words.push(word));
-    }
-    words
-}
-
 /// Shows what a run is given.
 fn show_run(page: &mut Page, words: &Words) {
     show_given(page, words);
@@ -64,7 +54,7 @@ fn show_command(page: &mut Page, command: &Command) {
 
 /// `command WORDS`: what they ask for.
 pub(crate) fn command(page: &mut Page, line: &str) {
-    let words = words_of(page, line);
+    let words = page.words(line);
     match read_words(page.alloc, words.as_slice()) {
         Ok(command) => show_command(page, &command),
         Err(WordsFault::CommandLine) => page.put("refused"),

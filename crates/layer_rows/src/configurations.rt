@@ -6,7 +6,7 @@ use crate::row::Row;
 use conf_parser::{
     ConfKind, Config, FragEngine, LoadStop, Loaded, StreamConfig, StreamEngine, Suppress, load,
 };
-use edge_io::MemHost;
+use edge_io::{Host, MemHost};
 use net_lists::{PortList, Vars};
 
 /// What the rows call a kind.
@@ -174,10 +174,10 @@ fn host_with(page: &mut Page, row: &Row, lines: &str) -> MemHost {
     host
 }
 
-/// Loads a file; the answer.
-pub(crate) fn load_file(
+/// Loads a file from any host, so that what is promised of one is not worked out for the one of the rows; the answer.
+pub(crate) fn load_file<H: Host>(
     page: &Page,
-    host: &mut MemHost,
+    host: &mut H,
     name: &str,
     vars: &mut Vars,
     out: &mut Loaded,

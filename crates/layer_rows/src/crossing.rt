@@ -3,7 +3,7 @@
 use command_words::{ChecksumMode, Command, WordsFault};
 use conf_parser::{LoadStop, Loaded};
 use edge_io::Literal;
-use edge_io::crossing::{sendable, shareable};
+use edge_io::crossing::sendable;
 use event_filters::Filters;
 use fast_pattern::Groups;
 use flow_lanes::Lane;
@@ -16,81 +16,57 @@ use pcapng_input::{NgFault, NgReader, NgRecord};
 use snort_setup::Setup;
 use stream5_sessions::{End, Flows, Key, Session, SessionRules, Step, Touch};
 
+/// Proved only for a type that may move to another thread, and that threads may share.
+fn crosses<T: Send + Sync>() {}
+
 /// Types of captures.
 fn captures() {
-    sendable::<CaptureFault>();
-    shareable::<CaptureFault>();
-    sendable::<CaptureHead>();
-    shareable::<CaptureHead>();
-    sendable::<CaptureReader>();
-    shareable::<CaptureReader>();
-    sendable::<Record>();
-    shareable::<Record>();
-    sendable::<NgFault>();
-    shareable::<NgFault>();
-    sendable::<NgReader>();
-    shareable::<NgReader>();
-    sendable::<NgRecord>();
-    shareable::<NgRecord>();
+    crosses::<CaptureFault>();
+    crosses::<CaptureHead>();
+    crosses::<CaptureReader>();
+    crosses::<Record>();
+    crosses::<NgFault>();
+    crosses::<NgReader>();
+    crosses::<NgRecord>();
 }
 
 /// Types of packets.
 fn packets() {
-    sendable::<Checks>();
-    shareable::<Checks>();
-    sendable::<Packet<'static>>();
-    shareable::<Packet<'static>>();
-    sendable::<Skip>();
-    shareable::<Skip>();
-    sendable::<ItemHead>();
-    shareable::<ItemHead>();
+    crosses::<Checks>();
+    crosses::<Packet<'static>>();
+    crosses::<Skip>();
+    crosses::<ItemHead>();
 }
 
 /// Types of the readers.
 fn readers() {
-    sendable::<AddrList>();
-    shareable::<AddrList>();
-    sendable::<PortList>();
-    shareable::<PortList>();
-    sendable::<Vars>();
-    shareable::<Vars>();
-    sendable::<Hosts>();
-    shareable::<Hosts>();
-    sendable::<Loaded>();
-    shareable::<Loaded>();
+    crosses::<AddrList>();
+    crosses::<PortList>();
+    crosses::<Vars>();
+    crosses::<Hosts>();
+    crosses::<Loaded>();
     sendable::<LoadStop>();
-    sendable::<Command>();
-    shareable::<Command>();
+    crosses::<Command>();
     sendable::<WordsFault>();
     sendable::<ChecksumMode>();
 }
 
 /// Types of flows and sessions.
 fn sessions() {
-    sendable::<End>();
-    shareable::<End>();
-    sendable::<Key>();
-    shareable::<Key>();
-    sendable::<Flows>();
-    shareable::<Flows>();
-    sendable::<Touch>();
-    shareable::<Touch>();
-    sendable::<Session>();
-    shareable::<Session>();
-    sendable::<SessionRules>();
-    shareable::<SessionRules>();
-    sendable::<Step>();
-    shareable::<Step>();
+    crosses::<End>();
+    crosses::<Key>();
+    crosses::<Flows>();
+    crosses::<Touch>();
+    crosses::<Session>();
+    crosses::<SessionRules>();
+    crosses::<Step>();
 }
 
 /// Types of what is ready and goes on.
 fn detectors() {
-    sendable::<Setup<Literal>>();
-    shareable::<Setup<Literal>>();
-    sendable::<RuleSet<Literal>>();
-    shareable::<RuleSet<Literal>>();
-    sendable::<Groups>();
-    shareable::<Groups>();
+    crosses::<Setup<Literal>>();
+    crosses::<RuleSet<Literal>>();
+    crosses::<Groups>();
     sendable::<Filters>();
     sendable::<Lane>();
 }

@@ -1,113 +1,100 @@
 //! The lines of a file of rows.
 
+use crate::page::Page;
 use crate::row::Row;
 use row_files::{RowLine, cut};
-use std::alloc::{AllocError, Global};
 
 /// The name of the configuration.
 pub(crate) const CONF: &str = "r";
 
-/// What became of a line.
-#[derive(Clone, Copy, PartialEq, Eq)]
-pub(crate) enum Applied {
-    /// The row has what it says.
-    Taken,
-    /// It is wrong.
-    Wrong,
-    /// It has no key, so it is a call.
-    Call,
-}
-
 /// The line, with its stand-ins for a tab, a line feed and a carriage return written out.
-pub(crate) fn written(alloc: Global, line: &str) -> Result<String, AllocError> {
-    let line = line.replace(alloc, "\u{2409}", "\t")?;
-    let line = line.replace(alloc, "\u{240a}", "\n")?;
-    line.replace(alloc, "\u{240d}", "\r")
+pub(crate) fn written(page: &mut Page, line: &str) -> String {
+    let line = page.replaced(line, "\u{2409}", "\t");
+    let line = page.replaced(&line, "\u{240a}", "\n");
+    page.replaced(&line, "\u{240d}", "\r")
 }
 
-/// Applies a line to a row, as often as it stands, or up to the first time that it isn't taken.
-pub(crate) fn apply(
-    alloc: Global,
-    row: &mut Row,
-    line: RowLine<'_>,
-) -> Result<Applied, AllocError> {
+/// Applies a line to a row, as often as it stands; false where it says nothing of the row, so that it is a call.
+pub(crate) fn apply(page: &mut Page, row: &mut Row, line: RowLine<'_>) -> bool {
+    let mut is_taken = true;
     for turn in 0..line.times {
-        let line = line.at(alloc, turn)?;
-        let applied = apply_once(row, line.as_str())?;
-        if applied != Applied::Taken {
-            return Ok(applied);
-        }
+        let line = page.line_at(line, turn);
+        is_taken &= apply_once(page, row, line.as_str());
     }
-    Ok(Applied::Taken)
+    is_taken
 }
 
-fn apply_once(row: &mut Row, line: &str) -> Result<Applied, AllocError> {
+/// Applies a line: what a call is given, or a run and a call alike.
+fn apply_once(page: &mut Page, row: &mut Row, line: &str) -> bool {
     let (key, rest) = cut(line, ' ');
     match key {
-        "conf" => append_line(row, CONF, rest),
-        "conf-" => append_part(row, CONF, rest),
-        "file" => append_file_line(row, rest),
-        "file-" => append_file_part(row, rest),
-        "item" => set_text(&mut row.item, rest),
-        "front" => push_text(&mut row.front, rest),
-        "step" => push_step(row, rest),
-        "host" => push_number(&mut row.host, rest),
-        "maker" => push_number(&mut row.maker, rest),
-        _ => Ok(Applied::Call),
+        "item" => set_text(page, &mut row.item, rest),
+        "front" => push_text(page, &mut row.front, rest),
+        "step" => return push_step(page, row, rest),
+        _ => return apply_given(page, row, key, rest),
+    }
+    true
+}
+
+/// Applies a line of the files, or of the failing calls.
+pub(crate) fn apply_given(page: &mut Page, row: &mut Row, key: &str, rest: &str) -> bool {
+    match key {
+        "conf" | "conf-" => append(page, row, CONF, rest, key == "conf"),
+        "file" | "file-" => append_named(page, row, rest, key == "file"),
+        "host" => return push_number(page, &mut row.host, rest),
+        "maker" => return push_number(page, &mut row.maker, rest),
+        _ => return false,
+    }
+    true
+}
+
+/// Appends a text to the file of this name, and where it is a whole line a line feed.
+fn append(page: &mut Page, row: &mut Row, name: &str, text: &str, is_whole: bool) {
+    page.note(row.files.append(name, text.as_bytes()));
+    if is_whole {
+        page.note(row.files.append(name, b"\n"));
     }
 }
 
-fn append_part(row: &mut Row, name: &str, text: &str) -> Result<Applied, AllocError> {
-    row.files.append(name, text.as_bytes())?;
-    Ok(Applied::Taken)
-}
-
-fn append_line(row: &mut Row, name: &str, line: &str) -> Result<Applied, AllocError> {
-    row.files.append_line(name, line)?;
-    Ok(Applied::Taken)
-}
-
-/// `NAME TEXT`: a line of the file of this name.
-fn append_file_line(row: &mut Row, rest: &str) -> Result<Applied, AllocError> {
-    let (name, line) = cut(rest, ' ');
-    append_line(row, name, line)
-}
-
-/// `NAME TEXT`: a line without its line feed.
-fn append_file_part(row: &mut Row, rest: &str) -> Result<Applied, AllocError> {
+/// `NAME TEXT`
+fn append_named(page: &mut Page, row: &mut Row, rest: &str, is_whole: bool) {
     let (name, text) = cut(rest, ' ');
-    append_part(row, name, text)
+    append(page, row, name, text, is_whole);
 }
 
-fn push_text(text: &mut String, more: &str) -> Result<Applied, AllocError> {
-    text.push_str(more)?;
-    Ok(Applied::Taken)
+fn push_text(page: &mut Page, text: &mut String, more: &str) {
+    page.note(text.push_str(more));
 }
 
-fn set_text(text: &mut String, new: &str) -> Result<Applied, AllocError> {
+fn set_text(page: &mut Page, text: &mut String, new: &str) {
     text.clear();
-    push_text(text, new)
+    push_text(page, text, new);
 }
 
-fn push_line(text: &mut String, line: &str) -> Result<(), AllocError> {
-    text.push_str(line)?;
-    text.push_str("\n")
+fn push_line(page: &mut Page, text: &mut String, line: &str) {
+    push_text(page, text, line);
+    push_text(page, text, "\n");
 }
 
 /// `GIVEN@WANTED`: a line for the next call, and the line that it must give for it.
-fn push_step(row: &mut Row, rest: &str) -> Result<Applied, AllocError> {
-    let Some((given, wanted)) = rest.split_once('@') else {
-        return Ok(Applied::Wrong);
-    };
-    push_line(&mut row.steps, given)?;
-    push_line(&mut row.wanted, wanted)?;
-    Ok(Applied::Taken)
+fn push_step(page: &mut Page, row: &mut Row, rest: &str) -> bool {
+    match rest.split_once('@') {
+        Some((given, wanted)) => {
+            push_line(page, &mut row.steps, given);
+            push_line(page, &mut row.wanted, wanted);
+            true
+        }
+        None => false,
+    }
 }
 
-fn push_number(numbers: &mut Vec<u32>, text: &str) -> Result<Applied, AllocError> {
-    let Ok(number) = text.parse::<u32>() else {
-        return Ok(Applied::Wrong);
-    };
-    numbers.push(number)?;
-    Ok(Applied::Taken)
+/// Appends the number that a text is; false where it is none.
+pub(crate) fn push_number(page: &mut Page, numbers: &mut Vec<u32>, text: &str) -> bool {
+    match text.parse::<u32>() {
+        Ok(number) => {
+            page.note(numbers.push(number));
+            true
+        }
+        Err(_) => false,
+    }
 }

@@ -3,7 +3,7 @@
 use crate::page::Page;
 use edge_io::{LiteralMaker, MemHost, NoMemory};
 use row_files::Files;
-use std::alloc::{AllocError, Global};
+use std::alloc::Global;
 
 /// What the calls of a row are given.
 #[derive(Drop)]
@@ -38,15 +38,20 @@ impl Row {
         }
     }
 
-    /// Becomes a row with a label and nothing else.
-    pub fn begin(&mut self, alloc: Global, label: &str) -> Result<(), AllocError> {
-        self.files = Files::new(alloc);
-        self.item.clear();
+    /// Becomes a row with a label that has the files of the one before.
+    pub fn again(&mut self, page: &mut Page, label: &str) {
         self.host.clear();
         self.maker.clear();
-        self.close_call();
         self.label.clear();
-        self.label.push_str(label)
+        page.note(self.label.push_str(label));
+    }
+
+    /// Becomes a row with a label and nothing else.
+    pub fn begin(&mut self, page: &mut Page, label: &str) {
+        self.again(page, label);
+        self.files = Files::new(page.alloc);
+        self.item.clear();
+        self.close_call();
     }
 
     /// Drops what was given to one call alone.

@@ -13,10 +13,11 @@ use crate::events::events;
 use crate::notation::CONF;
 use crate::page::Page;
 use crate::row::Row;
-use edge_io::{Items, Literal, Text};
+use edge_io::{Host, Items, Literal, PatternMaker, Text};
 use net_lists::is_name;
 use row_files::cut;
 use snort_setup::{Setup, SetupStop, SetupWords, read_setup};
+use std::alloc::Global;
 use std::thread::Threads;
 
 /// The variable that the words define.
@@ -85,8 +86,23 @@ fn show_setup<R: Threads + Sync>(
     }
 }
 
-/// The setup of these words over the row's files, or why nothing is ready.
+/// The setup of these words over any host, or why nothing is ready.
 #[tactic(auto, using(crate::proofs::Triable::all_triable))]
+fn ready_over<H: Host, M: PatternMaker>(
+    alloc: Global,
+    words: &SetupWords<'_>,
+    host: &mut H,
+    maker: &mut M,
+    warnings: &mut Items<Text>,
+) -> Result<Setup<M::Made>, SetupStop>
+    requires { HasName (option_map (λ pair. record { name = pair.0.now; value = pair.1.now }) words.now.defined) }
+    ensures config { IfOk result (λ setup. IsSound setup.config) }
+    ensures rules { IfOk result (λ setup. All IsTriable setup.set.rules) }
+{
+    read_setup(alloc, words, host, maker, warnings)
+}
+
+/// The setup of these words over the row's files, or why nothing is ready.
 fn ready(
     page: &mut Page,
     row: &Row,
@@ -99,7 +115,7 @@ fn ready(
 {
     let mut host = row.host(page);
     let mut maker = row.maker(page);
-    read_setup(page.alloc, words, &mut host, &mut maker, warnings)
+    ready_over(page.alloc, words, &mut host, &mut maker, warnings)
 }
 
 /// Shows what a call finds of the setup of these words, or why nothing is ready; for `setup` the warnings, too.

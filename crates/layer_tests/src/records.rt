@@ -1,5 +1,5 @@
 //! Records of Unified2 with the bytes that the format's tables give, worked out by hand. The borders of what is read
-//! are rows of snort_rows.
+//! are rows of layer_rows.
 
 ghost use Rattle.std.specs.Prelude.{◌<◌};
 ghost use Rattle.unified2_out.specs.Records.{AreOfOneVersion};

@@ -1,22 +1,22 @@
-//! A row: a run, and what it must leave.
-use row_files::Files;
-use std::alloc::{AllocError, Global};
+//! A row of a whole run: the run, and what it must leave.
+
+use crate::page::Page;
+use crate::row::Row;
+use std::alloc::Global;
 
 /// A run, and what it must leave.
 #[derive(Drop)]
-pub(crate) struct Row {
-    pub label: String,
+pub(crate) struct RunRow {
+    /// The label, the files, and the calls of the host and of the maker of patterns that fail.
+    pub given: Row,
     /// The words of the command, between single blanks; empty for `snort -c r -r p`.
     pub words: String,
-    pub files: Files,
     /// How many records the capture has, and the moment of the next one where it is told.
     pub records: u32,
     pub moment: Option<(u32, u32)>,
     /// How many bytes a sink takes at a call.
     pub step: u32,
-    /// The calls that fail, counted from 0.
-    pub host: Vec<u32>,
-    pub maker: Vec<u32>,
+    /// The calls of the sinks that fail, counted from 0.
     pub alerts: Vec<u32>,
     pub errors: Vec<u32>,
     /// What must be left: the status, the bytes in both sinks, and the bytes left of the capture.
@@ -26,18 +26,15 @@ pub(crate) struct Row {
     pub left: Option<u32>,
 }
 
-impl Row {
+impl RunRow {
     /// A row without a label.
-    pub fn new(alloc: Global) -> Row {
-        Row {
-            label: String::new(alloc),
+    pub fn new(alloc: Global) -> RunRow {
+        RunRow {
+            given: Row::new(alloc),
             words: String::new(alloc),
-            files: Files::new(alloc),
             records: 0,
             moment: None,
             step: 10,
-            host: Vec::new(alloc),
-            maker: Vec::new(alloc),
             alerts: Vec::new(alloc),
             errors: Vec::new(alloc),
             status: 0,
@@ -48,26 +45,24 @@ impl Row {
     }
 
     /// Becomes a row with a label that is given what it was, but for the calls that fail; nothing must be left.
-    pub fn again(&mut self, label: &str) -> Result<(), AllocError> {
+    pub fn again(&mut self, page: &mut Page, label: &str) {
+        page.clear();
+        self.given.again(page, label);
         self.moment = None;
         self.status = 0;
         self.left = None;
-        self.host.clear();
-        self.maker.clear();
         self.alerts.clear();
         self.errors.clear();
         self.alert_bytes.clear();
         self.error_bytes.clear();
-        self.label.clear();
-        self.label.push_str(label)
     }
 
     /// Becomes a row with a label and nothing else.
-    pub fn begin(&mut self, alloc: Global, label: &str) -> Result<(), AllocError> {
+    pub fn begin(&mut self, page: &mut Page, label: &str) {
+        self.again(page, label);
+        self.given.begin(page, label);
         self.words.clear();
-        self.files = Files::new(alloc);
         self.records = 0;
         self.step = 10;
-        self.again(label)
     }
 }

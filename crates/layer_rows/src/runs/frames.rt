@@ -1,7 +1,7 @@
 //! The packets of rows: over Ethernet II and IPv4, from C, 10.0.0.1, to S, 10.0.0.2, or back.
 
+use crate::page::Page;
 use row_files::{Parts, cut};
-use std::alloc::AllocError;
 
 /// An end of a packet: C or S, and a port.
 #[derive(Clone, Copy)]
@@ -49,12 +49,16 @@ pub(crate) fn ends_of(parts: &mut Parts<'_>) -> (End, End) {
     (end_of(parts, source), end_of(parts, target))
 }
 
+/// Appends bytes.
+fn push(page: &mut Page, packet: &mut Vec<u8>, bytes: &[u8]) {
+    page.note(packet.extend_from_slice(bytes));
+}
+
 /// Appends the bytes of numbers, most significant first.
-fn push_words(packet: &mut Vec<u8>, words: &[u16]) -> Result<(), AllocError> {
+fn push_words(page: &mut Page, packet: &mut Vec<u8>, words: &[u16]) {
     for word in words {
-        packet.extend_from_slice(&word.to_be_bytes())?;
+        push(page, packet, &word.to_be_bytes());
     }
-    Ok(())
 }
 
 /// The sum of words.
@@ -105,7 +109,7 @@ fn addresses_of(source: u16, target: u16) -> [u16; 4] {
 }
 
 /// Appends a link header and an IPv4 header.
-fn push_head(packet: &mut Vec<u8>, fields: Fields) -> Result<(), AllocError> {
+fn push_head(page: &mut Page, packet: &mut Vec<u8>, fields: Fields) {
     let ttl_and_protocol = 0x4000 + fields.protocol % 256;
     let front = [
         0x4500,
@@ -116,18 +120,14 @@ fn push_head(packet: &mut Vec<u8>, fields: Fields) -> Result<(), AllocError> {
     ];
     let addresses = addresses_of(fields.source, fields.target);
     let sum = checksum(sum_of(&front).wrapping_add(sum_of(&addresses)));
-    packet.extend_from_slice(LINK)?;
-    push_words(packet, &front)?;
-    push_words(packet, &[sum])?;
-    push_words(packet, &addresses)
+    push(page, packet, LINK);
+    push_words(page, packet, &front);
+    push_words(page, packet, &[sum]);
+    push_words(page, packet, &addresses);
 }
 
 /// Appends a UDP packet without a checksum.
-pub(crate) fn push_udp(
-    packet: &mut Vec<u8>,
-    ends: (End, End),
-    text: &[u8],
-) -> Result<(), AllocError> {
+pub(crate) fn push_udp(page: &mut Page, packet: &mut Vec<u8>, ends: (End, End), text: &[u8]) {
     let (source, target) = ends;
     let size = size_of(text).saturating_add(8);
     let fields = Fields {
@@ -138,9 +138,9 @@ pub(crate) fn push_udp(
         target: target.host,
         size: size.saturating_add(20),
     };
-    push_head(packet, fields)?;
-    push_words(packet, &[source.port, target.port, size, 0])?;
-    packet.extend_from_slice(text)
+    push_head(page, packet, fields);
+    push_words(page, packet, &[source.port, target.port, size, 0]);
+    push(page, packet, text);
 }
 
 /// The upper and the lower half of a number.
@@ -166,12 +166,13 @@ fn tcp_front(ends: (End, End), flags: u16, numbers: (u32, u32)) -> [u16; 8] {
 
 /// Appends a TCP packet with a header of 20 bytes, window 65535 and its checksum.
 pub(crate) fn push_tcp(
+    page: &mut Page,
     packet: &mut Vec<u8>,
     ends: (End, End),
     flags: u16,
     numbers: (u32, u32),
     text: &[u8],
-) -> Result<(), AllocError> {
+) {
     let front = tcp_front(ends, flags, numbers);
     let addresses = addresses_of(ends.0.host, ends.1.host);
     let size = size_of(text).saturating_add(20);
@@ -187,19 +188,20 @@ pub(crate) fn push_tcp(
         target: ends.1.host,
         size: size.saturating_add(20),
     };
-    push_head(packet, fields)?;
-    push_words(packet, &front)?;
-    push_words(packet, &[checksum(sum), 0])?;
-    packet.extend_from_slice(text)
+    push_head(page, packet, fields);
+    push_words(page, packet, &front);
+    push_words(page, packet, &[checksum(sum), 0]);
+    push(page, packet, text);
 }
 
 /// Appends a fragment from C to S: number 7, protocol 253, the offset in bytes.
 pub(crate) fn push_fragment(
+    page: &mut Page,
     packet: &mut Vec<u8>,
     offset: u16,
     has_more: bool,
     text: &[u8],
-) -> Result<(), AllocError> {
+) {
     let more = if has_more { 0x2000 } else { 0 };
     let fields = Fields {
         id: 7,
@@ -209,8 +211,8 @@ pub(crate) fn push_fragment(
         target: 2,
         size: size_of(text).saturating_add(20),
     };
-    push_head(packet, fields)?;
-    packet.extend_from_slice(text)
+    push_head(page, packet, fields);
+    push(page, packet, text);
 }
 
 /// The header of a record with these bytes: numbers, least significant byte first.
