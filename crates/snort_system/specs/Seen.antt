@@ -40,4 +40,5 @@ HeadlineByAgreeing words means agree before after ended =
 abbrev pub HeadlineByAnswers : {H : Type 0} → HostOf H → H → List (List ℕ) → Means → (HostOf H → Outside) → (HostOf H → Outside)
     → Status → Type 0
 HeadlineByAnswers h host words means before after ended =
-    HeadlineByAgreeing words means (h.agrees host) (λ files. before (by (Some files) h)) (λ files. after (by (Some files) h)) ended
+    HeadlineByAgreeing words means (h.agrees host) (λ files. before (by (Some files) h)) (λ files. after (by (Some files) h))
+    ended
