@@ -47,6 +47,7 @@ TYPED = [  # what is typed, and the words of it in bash, and in zsh where they a
     ("snort_eve --pc\tsp\t --com\t7 d/b\t", "--pcap-filename sp_ace.pcap --community-id-seed 7 d/b.conf",
      "--pcap-filename=sp_ace.pcap --community-id-seed=7 d/b.conf"),
     ("snort_eve --host d\t --hos\t d/b\t", "--host d --hos d/b.conf"),
+    ("snort_eve --li\t --y\t2023 d/b\t", "--lines --year 2023 d/b.conf", "--lines --year=2023 d/b.conf"),
     ("snort_eve --hel\t", "--help"),
     ("snort_eve -c d/b\t -S d\t --hel\t", "-c d/b.conf -S d --hel"),
 ]
