@@ -72,7 +72,8 @@ pub event-group : (event : EventFacts) (run : RunFacts) (old a b c d new : List 
 unfolding event_fields
 event-group event run old a b c d new h1 h2 h3 h4 h5 = then (then (then (then h1 h2) h3) h4) h5
 
--- no community ID
-pub no-community : (seed : ℕ) (flow : Flow) (old : List Token) → None ≡ community_hash seed flow flow.pair → Adds old old (maybe_text (codes "community_id") (community_id seed flow))
-no-community seed flow old is =
-    subst (λ (h : Option (List ℕ)). Adds old old (maybe_text (codes "community_id") (option_map community_text h))) is (none old)
+-- the ID of a hash that is the flow's
+pub same-community : (seed : ℕ) (flow : Flow) (hash : Option (List ℕ)) (old new : List Token) → hash ≡ community_hash seed flow flow.pair
+    → Adds old new (maybe_text (codes "community_id") (option_map community_text hash)) → Adds old new (maybe_text (codes "community_id") (community_id seed flow))
+same-community seed flow hash old new is h =
+    subst (λ (h : Option (List ℕ)). Adds old new (maybe_text (codes "community_id") (option_map community_text h))) is h

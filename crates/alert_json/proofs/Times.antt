@@ -1,5 +1,5 @@
 -- The text of the time of a record.
-use Rattle.std.proofs.Common.{◌≡◌, ℕ, ◌/◌, ◌%◌, ◌<◌, [], ◌∷◌, ◌++◌, append_assoc, append-nil, arith}
+use Rattle.std.proofs.Common.{◌≡◌, ℕ, ◌/◌, ◌%◌, ◌<◌, List, [], ◌∷◌, ◌++◌, get_or, refl, arith}
 use Rattle.alert_fast.specs.Calendar.{date_of}
 use Rattle.alert_fast.specs.Pieces.{digits}
 use Rattle.alert_fast.specs.Line.{clock_text}
@@ -19,10 +19,13 @@ digits-4 number small =
     let fourth : number % 10 ≡ number % 100 % 10 = omega arith in
     rw (first, second, third, fourth)
 
--- the time of a record as the pieces that are appended
-pub timestamp-pieces : (nanos year month day hour minute second micros : ℕ) → year ≡ (date_of (nanos / DAY)).year → month ≡ (date_of (nanos / DAY)).month → day ≡ (date_of (nanos / DAY)).day
-    → hour ≡ nanos / 3_600_000_000_000 % 24 → minute ≡ nanos / 60_000_000_000 % 60 → second ≡ nanos / 1_000_000_000 % 60 → micros ≡ nanos / 1_000 % 1_000_000
-    → digits 4 year ++ (45 ∷ (digits 2 month ++ (45 ∷ (digits 2 day ++ (84 ∷ (digits 2 hour ++ (58 ∷ (digits 2 minute ++ (58 ∷ (digits 2 second ++ (46 ∷ (digits 6 micros ++ (43 ∷ 48 ∷ 48 ∷ 48 ∷ 48 ∷ []))))))))))))) ≡ timestamp_text nanos
-unfolding timestamp_text full_date_text clock_text
-timestamp-pieces nanos year month day hour minute second micros y m d h n s u =
-    rw (y, m, d, h, n, s, u) (simp (append_assoc, append-nil))
+-- the time of a record by its digits and signs
+pub timestamp-items : (nanos : ℕ) (year month day hour minute second micro : List ℕ) → year ≡ digits 4 (date_of (nanos / DAY)).year → month ≡ digits 2 (date_of (nanos / DAY)).month
+    → day ≡ digits 2 (date_of (nanos / DAY)).day → hour ≡ digits 2 (nanos / 3_600_000_000_000 % 24) → minute ≡ digits 2 (nanos / 60_000_000_000 % 60)
+    → second ≡ digits 2 (nanos / 1_000_000_000 % 60) → micro ≡ digits 6 (nanos / 1_000 % 1_000_000)
+    → get_or year 0 0 ∷ get_or year 1 0 ∷ get_or year 2 0 ∷ get_or year 3 0 ∷ 45 ∷ get_or month 0 0 ∷ get_or month 1 0 ∷ 45 ∷ get_or day 0 0 ∷ get_or day 1 0 ∷ 84
+    ∷ get_or hour 0 0 ∷ get_or hour 1 0 ∷ 58 ∷ get_or minute 0 0 ∷ get_or minute 1 0 ∷ 58 ∷ get_or second 0 0 ∷ get_or second 1 0 ∷ 46
+    ∷ get_or micro 0 0 ∷ get_or micro 1 0 ∷ get_or micro 2 0 ∷ get_or micro 3 0 ∷ get_or micro 4 0 ∷ get_or micro 5 0 ∷ 43 ∷ 48 ∷ 48 ∷ 48 ∷ 48 ∷ []
+    ≡ timestamp_text nanos
+unfolding timestamp_text full_date_text clock_text digits
+timestamp-items nanos year month day hour minute second micro y m d h n s u = rw (y, m, d, h, n, s, u) refl

@@ -5,14 +5,14 @@ ghost use Rattle.alert_json.specs.Stamps.{timestamp_text};
 ghost use Rattle.alert_json.specs.Texts.{text_of, printable_text};
 ghost use Rattle.alert_json.specs.Tokens.{Adds};
 ghost use Rattle.alert_json.specs.Value.{text_field, maybe_text, known_name, protocol_name, time_fields, source_port, target_port, message_kind, message_code, flow_fields, action, severity, alert_fields, packet_fields, run_fields, object_field, number_field};
-ghost use Rattle.alert_json.specs.FlowNumbers.{community_id};
+ghost use Rattle.alert_json.specs.FlowNumbers.{community_text, number_hash};
 ghost use Rattle.base64.specs.GeneralPurpose.{encode_of};
 ghost use Rattle.base64.specs.Engines.{standard};
 ghost use Rattle.alert_fast.specs.Line.{address_text};
 ghost use Rattle.edge_io.specs.declared.address.Addr.TheVariants.{V4, V6};
 
 use crate::event::{Alert, Captured, Event, Flow, Pair, Run};
-use crate::flow_ids::{community_hash, community_text, flow_number};
+use crate::flow_ids::{community_hash, community_text, number_of};
 use crate::members::{
     push_ascii, push_bytes, push_digits, push_maybe_number, push_number, push_text,
 };
@@ -27,29 +27,27 @@ use std::alloc::{AllocError, Global};
 /// Writes the members of when.
 #[tactic(auto, unfolding(crate::specs::Value::time_fields))]
 pub(crate) fn push_time(
-    alloc: Global,
     writer: &mut Writer,
     event: Event<'_>,
-) -> Result<(), NoMemory>
+    hash: Option<[u8; 20]>,
+) -> Result<(), AllocError>
+    requires { hash ≡ number_hash event.flow event.flow.pair }
     ensures added { OnOk result (Adds writer.old.tokens writer.new.tokens
         (time_fields (event_facts event.entry))) }
     ensures before { writer.new.before ≡ writer.old.before }
 {
-    push_moment(alloc, writer, event.moment)?;
-    push_maybe_number(writer, "flow_id", flow_number(event.flow))?;
+    push_moment(writer, event.moment)?;
+    push_maybe_number(writer, "flow_id", number_of(hash))?;
     push_maybe_number(writer, "pcap_cnt", event.count)?;
-    push_text(writer, "event_type", "alert")?;
-    Ok(())
+    push_text(writer, "event_type", "alert")
 }
 
-fn push_moment(alloc: Global, writer: &mut Writer, moment: Moment) -> Result<(), NoMemory>
+fn push_moment(writer: &mut Writer, moment: Moment) -> Result<(), AllocError>
     ensures added { OnOk result (Adds writer.old.tokens writer.new.tokens
         (text_field (codes "timestamp") (timestamp_text moment.nanos))) }
     ensures before { writer.new.before ≡ writer.old.before }
 {
-    let text = timestamp(alloc, moment)?;
-    push_ascii(writer, "timestamp", &text)?;
-    Ok(())
+    push_ascii(writer, "timestamp", &timestamp(moment))
 }
 
 /// Writes the members of between whom.
@@ -59,7 +57,9 @@ pub(crate) fn push_flow(
     writer: &mut Writer,
     seed: u16,
     flow: Flow,
+    hash: Option<[u8; 20]>,
 ) -> Result<(), NoMemory>
+    requires { hash ≡ number_hash flow flow.pair }
     ensures added { OnOk result (Adds writer.old.tokens writer.new.tokens (flow_fields seed flow)) }
     ensures before { writer.new.before ≡ writer.old.before }
 {
@@ -70,7 +70,7 @@ pub(crate) fn push_flow(
     push_protocol(writer, flow.protocol)?;
     push_maybe_number(writer, "icmp_type", message_kind(flow.pair))?;
     push_maybe_number(writer, "icmp_code", message_code(flow.pair))?;
-    push_community(alloc, writer, seed, flow)?;
+    push_community(alloc, writer, community_hash(seed, flow, hash))?;
     Ok(())
 }
 
@@ -196,14 +196,13 @@ fn push_protocol(writer: &mut Writer, protocol: u8) -> Result<(), AllocError>
 fn push_community(
     alloc: Global,
     writer: &mut Writer,
-    seed: u16,
-    flow: Flow,
+    hash: Option<[u8; 20]>,
 ) -> Result<(), AllocError>
     ensures added { OnOk result (Adds writer.old.tokens writer.new.tokens
-        (maybe_text (codes "community_id") (community_id seed flow))) }
+        (maybe_text (codes "community_id") (option_map community_text hash))) }
     ensures before { writer.new.before ≡ writer.old.before }
 {
-    match community_hash(seed, flow) {
+    match hash {
         None => Ok(()),
         Some(hash) => push_text(
             writer,

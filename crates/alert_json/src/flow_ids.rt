@@ -1,7 +1,8 @@
 //! What names a flow: hashes over its ends.
 ghost use Rattle.std.specs.Prelude.{◌≡◌, ◌++◌, List, ℕ, IfOk, string_bytes, option_map};
 ghost use Rattle.sha1.specs.Sha1.{Holds};
-ghost use Rattle.alert_json.specs.FlowNumbers.{address_number, address_bytes, is_in_order, turned, in_order, addresses_text, plain_hash, port_hash, partner, partner4, partner6, ends_of, message_ends, has_ports, wants_pair, community_hash, number_hash, community_text, first_bits, flow_number};
+ghost use Rattle.alert_json.specs.declared.event.Pair.TheVariants.{Ports};
+ghost use Rattle.alert_json.specs.FlowNumbers.{address_number, address_bytes, is_in_order, turned, in_order, addresses_text, plain_hash, port_hash, partner, partner4, partner6, ends_of, message_ends, has_ports, wants_pair, community_hash, number_hash, community_text, first_bits};
 
 use crate::event::{Flow, Pair};
 use base64::engine::general_purpose::STANDARD;
@@ -176,17 +177,33 @@ fn wants_pair(protocol: u8) -> bool
     has_ports(protocol) || (protocol == 1 || (protocol == 58 || protocol == 132))
 }
 
-/// The hash in a flow's community ID, where it has one.
+// The hash in the community ID of a flow with these ports: with the seed 0 the one in its number, which is known.
+#[tactic(auto, unfolding(crate::specs::FlowNumbers::community_hash, crate::specs::FlowNumbers::number_hash))]
+fn ports_hash(
+    seed: u16,
+    flow: Flow,
+    sport: u16,
+    dport: u16,
+    number: Option<[u8; 20]>,
+) -> Option<[u8; 20]>
+    requires { number ≡ number_hash flow (Ports sport dport) }
+    ensures { result ≡ community_hash seed flow (Ports sport dport) }
+{
+    if seed == 0 {
+        number
+    } else {
+        Some(port_hash(seed, flow.protocol, in_order(ends_of(flow, sport, dport))))
+    }
+}
+
+/// The hash in a flow's community ID, where it has one, by that in its number.
 #[tactic(auto, unfolding(crate::specs::FlowNumbers::community_hash))]
-pub(crate) fn community_hash(seed: u16, flow: Flow) -> Option<[u8; 20]>
+pub(crate) fn community_hash(seed: u16, flow: Flow, number: Option<[u8; 20]>) -> Option<[u8; 20]>
+    requires { number ≡ number_hash flow flow.pair }
     ensures { result ≡ community_hash seed flow flow.pair }
 {
     match flow.pair {
-        Pair::Ports { sport, dport } => Some(port_hash(
-            seed,
-            flow.protocol,
-            in_order(ends_of(flow, sport, dport)),
-        )),
+        Pair::Ports { sport, dport } => ports_hash(seed, flow, sport, dport, number),
         Pair::Message { kind, code } => Some(port_hash(
             seed,
             flow.protocol,
@@ -204,7 +221,7 @@ pub(crate) fn community_hash(seed: u16, flow: Flow) -> Option<[u8; 20]>
 
 /// The hash in a flow's number, where it has one.
 #[tactic(auto, unfolding(crate::specs::FlowNumbers::number_hash))]
-fn number_hash(flow: Flow) -> Option<[u8; 20]>
+pub(crate) fn number_hash(flow: Flow) -> Option<[u8; 20]>
     ensures { result ≡ number_hash flow flow.pair }
 {
     match flow.pair {
@@ -224,11 +241,11 @@ fn number_hash(flow: Flow) -> Option<[u8; 20]>
     }
 }
 
-/// A flow's number.
-pub(crate) fn flow_number(flow: Flow) -> Option<u64>
-    ensures { result ≡ flow_number flow }
+/// The number that a hash makes.
+pub(crate) fn number_of(hash: Option<[u8; 20]>) -> Option<u64>
+    ensures { result ≡ option_map first_bits hash }
 {
-    match number_hash(flow) {
+    match hash {
         Some(hash) => Some(first_bits(hash)),
         None => None,
     }
@@ -242,12 +259,16 @@ fn first_bits(hash: [u8; 20]) -> u64
     u64::from_be_bytes([0, 0, a, b, c, d, e, f])
 }
 
+// The bytes of a community ID.
+const LENGTH: usize = 30;
+
 /// The community ID that a hash makes.
 #[tactic(auto, unfolding(crate::specs::FlowNumbers::community_text))]
 pub(crate) fn community_text(alloc: Global, hash: [u8; 20]) -> Result<String, AllocError>
     ensures { IfOk result (λ text. string_bytes text ≡ community_text hash) }
 {
-    let mut text = String::from_str(alloc, "1:")?;
+    let mut text = String::with_capacity(alloc, LENGTH)?;
+    text.push_str("1:")?;
     STANDARD.encode_string(&hash, &mut text)?;
     Ok(text)
 }

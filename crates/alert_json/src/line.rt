@@ -7,9 +7,13 @@ ghost use Rattle.alert_json.specs.Reading.{IsTextOf};
 
 use crate::event::{Event, Run};
 use crate::fields::{push_alert, push_flow, push_packet, push_run, push_time};
+use crate::flow_ids::number_hash;
 use edge_io::NoMemory;
 use json::Writer;
 use std::alloc::Global;
+
+// How many bytes a line has room for at first. Most events fit, so that it needn't grow step by step.
+const ROOM: usize = 1024;
 
 /// Appends the line of an event: a JSON object, and a line feed.
 ///
@@ -40,7 +44,8 @@ fn event_bytes(alloc: Global, event: Event<'_>, run: Run<'_>) -> Result<Vec<u8>,
         (IsTextOf (event_value (event_facts event.entry) (run_facts run.entry))
         (event_text (event_facts event.entry) (run_facts run.entry))) }
 {
-    let mut writer = Writer::new(Vec::new(alloc));
+    let text = Vec::with_capacity(alloc, ROOM)?;
+    let mut writer = Writer::new(text);
     writer.begin_object()?;
     push_members(alloc, &mut writer, event, run)?;
     writer.end_object()?;
@@ -58,8 +63,9 @@ fn push_members(
         (event_fields (event_facts event.entry) (run_facts run.entry))) }
     ensures before { writer.new.before ≡ writer.old.before }
 {
-    push_time(alloc, writer, event)?;
-    push_flow(alloc, writer, run.seed, event.flow)?;
+    let hash = number_hash(event.flow);
+    push_time(writer, event, hash)?;
+    push_flow(alloc, writer, run.seed, event.flow, hash)?;
     push_alert(alloc, writer, event.alert)?;
     push_packet(alloc, writer, event.packet)?;
     push_run(alloc, writer, run)?;

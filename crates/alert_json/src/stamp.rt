@@ -1,49 +1,39 @@
 //! The time of a record.
-ghost use Rattle.std.specs.Prelude.{◌≡◌, ◌<◌, ◌++◌, IfOk, OnOk, IsAscii};
+ghost use Rattle.std.specs.Prelude.{◌≡◌, ◌<◌, IsAscii};
 ghost use Rattle.alert_fast.specs.Pieces.{digits};
 ghost use Rattle.alert_json.specs.Stamps.{timestamp_text};
 
-use alert_fast::Piece::Bytes;
-use alert_fast::{push_pieces, six_digits, two_digits, utc_time};
-use edge_io::{Moment, NoMemory};
-use std::alloc::Global;
+use alert_fast::{six_digits, two_digits, utc_time};
+use edge_io::Moment;
 
 // The bytes of a time.
 const LENGTH: usize = 31;
 
 /// The text of a moment, as 2009-02-13T23:31:30.123456+0000.
-pub(crate) fn timestamp(alloc: Global, moment: Moment) -> Result<Vec<u8>, NoMemory>
-    ensures text { IfOk result (λ text. text.items ≡ timestamp_text moment.nanos) }
-    ensures ascii { IfOk result (λ text. IsAscii text.items) }
+pub(crate) fn timestamp(moment: Moment) -> [u8; LENGTH]
+    ensures text { result ≡ timestamp_text moment.nanos }
+    ensures ascii { IsAscii result }
 {
-    let mut text = Vec::with_capacity(alloc, LENGTH)?;
-    push_stamp(moment, &mut text)?;
-    Ok(text)
+    stamp(moment)
 }
 
-fn push_stamp(moment: Moment, out: &mut Vec<u8>) -> Result<(), NoMemory>
-    ensures { OnOk result (out.new.items ≡ out.old.items ++ timestamp_text moment.nanos) }
+// All digits and signs at once: appended one after another they would cost most of what a time costs.
+fn stamp(moment: Moment) -> [u8; LENGTH]
+    ensures { result ≡ timestamp_text moment.nanos }
 {
     let utc = utc_time(moment);
-    push_pieces(
-        out,
-        &[
-            Bytes(&four_digits(utc.year)),
-            Bytes(b"-"),
-            Bytes(&two_digits(utc.month)),
-            Bytes(b"-"),
-            Bytes(&two_digits(utc.day)),
-            Bytes(b"T"),
-            Bytes(&two_digits(utc.hour)),
-            Bytes(b":"),
-            Bytes(&two_digits(utc.minute)),
-            Bytes(b":"),
-            Bytes(&two_digits(utc.second)),
-            Bytes(b"."),
-            Bytes(&six_digits(utc.microsecond)),
-            Bytes(b"+0000"),
-        ],
-    )
+    let [year_1, year_2, year_3, year_4] = four_digits(utc.year);
+    let [month_1, month_2] = two_digits(utc.month);
+    let [day_1, day_2] = two_digits(utc.day);
+    let [hour_1, hour_2] = two_digits(utc.hour);
+    let [minute_1, minute_2] = two_digits(utc.minute);
+    let [second_1, second_2] = two_digits(utc.second);
+    let [micro_1, micro_2, micro_3, micro_4, micro_5, micro_6] = six_digits(utc.microsecond);
+    [
+        year_1, year_2, year_3, year_4, b'-', month_1, month_2, b'-', day_1, day_2, b'T', hour_1,
+        hour_2, b':', minute_1, minute_2, b':', second_1, second_2, b'.', micro_1, micro_2,
+        micro_3, micro_4, micro_5, micro_6, b'+', b'0', b'0', b'0', b'0',
+    ]
 }
 
 fn four_digits(number: u16) -> [u8; 4]

@@ -3,4 +3,4 @@ use Rattle.alert_json.proofs.AsciiTexts.{IsAscii-timestamp}
 use Rattle.alert_json.proofs.stamp.timestamp.Goals as goal
 
 pub returns-clause-ascii : goal.returns-clause-ascii
-returns-clause-ascii c = rw (c.in_ok-push_stamp.ensures, c.in_ok-text.ensures.items) (IsAscii-timestamp c.args.moment.nanos)
+returns-clause-ascii c = rw c.stamp.ensures (IsAscii-timestamp c.args.moment.nanos)
