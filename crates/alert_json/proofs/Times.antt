@@ -1,8 +1,10 @@
--- The text of the time of a record.
-use Rattle.std.proofs.Common.{◌≡◌, ℕ, ◌/◌, ◌%◌, ◌<◌, List, [], ◌∷◌, ◌++◌, get_or, refl, arith}
+-- The texts of times and of addresses of version 4, by their digits.
+use Rattle.std.proofs.Common.{◌≡◌, ℕ, ◌+◌, ◌/◌, ◌%◌, ◌<◌, ◌≤◌, List, [], ◌∷◌, ◌++◌, get_or, refl, sym, ap, ◌∙◌, append_assoc, append-nil, arith}
+use Rattle.std.specs.Prelude.{decimal}
+use Rattle.std.proofs.lemmas.Fmt.{decimal_digit, decimal_step}
 use Rattle.alert_fast.specs.Calendar.{date_of}
 use Rattle.alert_fast.specs.Pieces.{digits}
-use Rattle.alert_fast.specs.Line.{clock_text}
+use Rattle.alert_fast.specs.Line.{clock_text, dotted_text}
 use Rattle.alert_json.specs.Stamps.{full_date_text, timestamp_text}
 
 -- a day has so many nanoseconds
@@ -29,3 +31,28 @@ pub timestamp-items : (nanos : ℕ) (year month day hour minute second micro : L
     ≡ timestamp_text nanos
 unfolding timestamp_text full_date_text clock_text digits
 timestamp-items nanos year month day hour minute second micro y m d h n s u = rw (y, m, d, h, n, s, u) refl
+
+-- a byte in one, two or three digits
+pub octet-1 : (octet : ℕ) → octet < 10 → (48 + octet) ∷ [] ≡ decimal octet
+octet-1 octet small = sym (decimal_digit octet small)
+
+two-digits : (octet : ℕ) → 10 ≤ octet → octet < 100 → decimal octet ≡ (48 + octet / 10) ∷ (48 + octet % 10) ∷ []
+two-digits octet large small =
+    decimal_step octet large (omega arith) ∙ ap (λ (x : List ℕ). x ++ ((48 + octet % 10) ∷ [])) (decimal_digit (octet / 10) (omega arith))
+
+pub octet-2 : (octet : ℕ) → 10 ≤ octet → octet < 100 → (48 + octet / 10) ∷ (48 + octet % 10) ∷ [] ≡ decimal octet
+octet-2 octet large small = sym (two-digits octet large small)
+
+pub octet-3 : (octet : ℕ) → 100 ≤ octet → octet < 1000 → (48 + octet / 100) ∷ (48 + octet / 10 % 10) ∷ (48 + octet % 10) ∷ [] ≡ decimal octet
+octet-3 octet large small =
+    let hundreds : octet / 10 / 10 ≡ octet / 100 = omega arith in
+    sym (decimal_step octet (omega arith) (omega arith)
+    ∙ ap (λ (x : List ℕ). x ++ ((48 + octet % 10) ∷ [])) (two-digits (octet / 10) (omega arith) (omega arith) ∙ ap (λ (n : ℕ). (48 + n) ∷ (48 + octet / 10 % 10) ∷ []) hundreds))
+
+-- the four numbers with dots between them, appended one after another
+pub dots-appended : (old a b c d e f new bytes : List ℕ) (address : ℕ)
+    → decimal (get_or bytes 0 0) ++ (46 ∷ (decimal (get_or bytes 1 0) ++ (46 ∷ (decimal (get_or bytes 2 0) ++ (46 ∷ (decimal (get_or bytes 3 0) ++ [])))))) ≡ dotted_text address
+    → a ≡ old ++ decimal (get_or bytes 0 0) → b ≡ a ++ 46 ∷ [] → c ≡ b ++ decimal (get_or bytes 1 0) → d ≡ c ++ 46 ∷ []
+    → e ≡ d ++ decimal (get_or bytes 2 0) → f ≡ e ++ 46 ∷ [] → new ≡ f ++ decimal (get_or bytes 3 0) → new ≡ old ++ dotted_text address
+dots-appended old a b c d e f new bytes address whole h1 h2 h3 h4 h5 h6 h7 =
+    rw (h7, h6, h5, h4, h3, h2, h1) (rw (sym whole) (simp (append_assoc, append-nil)))

@@ -17,7 +17,7 @@ use crate::members::{
     push_ascii, push_bytes, push_digits, push_maybe_number, push_number, push_text,
 };
 use crate::stamp::timestamp;
-use crate::texts::printed;
+use crate::texts::{printed, push_dots};
 use alert_fast::push_address;
 use base64::engine::general_purpose::STANDARD;
 use edge_io::{Addr, Moment, NoMemory};
@@ -80,7 +80,7 @@ fn push_end(alloc: Global, writer: &mut Writer, key: &str, address: Addr) -> Res
     ensures before { writer.new.before ≡ writer.old.before }
 {
     match address {
-        Addr::V4(address) => push_dotted(alloc, writer, key, address),
+        Addr::V4(address) => Ok(push_dotted(alloc, writer, key, address)?),
         Addr::V6(address) => push_colons(alloc, writer, key, address),
     }
 }
@@ -88,12 +88,13 @@ fn push_end(alloc: Global, writer: &mut Writer, key: &str, address: Addr) -> Res
 // The most bytes of an address: eight groups of four, and seven colons.
 const LONGEST_ADDRESS: usize = 39;
 
-fn dotted(alloc: Global, address: u32) -> Result<Vec<u8>, NoMemory>
+#[tactic(auto, unfolding(alert_fast::specs::Line::address_text))]
+fn dotted(alloc: Global, address: u32) -> Result<Vec<u8>, AllocError>
     ensures text { IfOk result (λ text. text.items ≡ address_text (V4 address)) }
     ensures ascii { IfOk result (λ text. IsAscii text.items) }
 {
     let mut text = Vec::with_capacity(alloc, LONGEST_ADDRESS)?;
-    push_address(Addr::V4(address), &mut text)?;
+    push_dots(&mut text, address)?;
     Ok(text)
 }
 
@@ -106,14 +107,18 @@ fn colons(alloc: Global, address: u128) -> Result<Vec<u8>, NoMemory>
     Ok(text)
 }
 
-fn push_dotted(alloc: Global, writer: &mut Writer, key: &str, address: u32) -> Result<(), NoMemory>
+fn push_dotted(
+    alloc: Global,
+    writer: &mut Writer,
+    key: &str,
+    address: u32,
+) -> Result<(), AllocError>
     ensures added { OnOk result (Adds writer.old.tokens writer.new.tokens
         (text_field key.now (address_text (V4 address)))) }
     ensures before { writer.new.before ≡ writer.old.before }
 {
     let text = dotted(alloc, address)?;
-    push_ascii(writer, key, &text)?;
-    Ok(())
+    push_ascii(writer, key, &text)
 }
 
 fn push_colons(alloc: Global, writer: &mut Writer, key: &str, address: u128) -> Result<(), NoMemory>

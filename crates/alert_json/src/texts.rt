@@ -1,6 +1,7 @@
 //! Bytes made into texts.
-ghost use Rattle.std.specs.Prelude.{◌≡◌, IfOk, IsAscii, string_bytes};
+ghost use Rattle.std.specs.Prelude.{◌≡◌, ◌++◌, IfOk, OnOk, IsAscii, decimal, string_bytes};
 ghost use Rattle.std.specs.Str.{encode_utf8_all};
+ghost use Rattle.alert_fast.specs.Line.{dotted_text};
 ghost use Rattle.alert_json.specs.Texts.{is_printable, printable, printable_text};
 
 use std::alloc::{AllocError, Global};
@@ -53,4 +54,39 @@ fn is_printable(byte: u8) -> bool
     ensures { result ≡ is_printable byte }
 {
     (32 <= byte && byte < 127) || (byte == b'\n' || byte == b'\r')
+}
+
+// Appends the decimal digits of a byte.
+fn push_octet(text: &mut Vec<u8>, octet: u8) -> Result<(), AllocError>
+    ensures { OnOk result (text.new.items ≡ text.old.items ++ decimal octet) }
+{
+    if octet < 10 {
+        text.extend_from_slice(&[b'0' + octet])?;
+        return Ok(());
+    }
+    if octet < 100 {
+        text.extend_from_slice(&[b'0' + octet / 10, b'0' + octet % 10])?;
+        return Ok(());
+    }
+    text.extend_from_slice(&[
+        b'0' + octet / 100,
+        b'0' + octet / 10 % 10,
+        b'0' + octet % 10,
+    ])?;
+    Ok(())
+}
+
+/// Appends an address of version 4 in dotted decimal.
+pub(crate) fn push_dots(text: &mut Vec<u8>, address: u32) -> Result<(), AllocError>
+    ensures { OnOk result (text.new.items ≡ text.old.items ++ dotted_text address) }
+{
+    let [a, b, c, d] = address.to_be_bytes();
+    push_octet(text, a)?;
+    text.extend_from_slice(b".")?;
+    push_octet(text, b)?;
+    text.extend_from_slice(b".")?;
+    push_octet(text, c)?;
+    text.extend_from_slice(b".")?;
+    push_octet(text, d)?;
+    Ok(())
 }
