@@ -5,7 +5,7 @@ ghost use Rattle.packet_decode.specs.Decoding.{seen, fields_of};
 ghost use Rattle.ipv6_decode.specs.Versions.{record_decoded};
 ghost use Rattle.snort_eve.specs.Joins.{joined_of};
 ghost use Rattle.snort_eve.specs.Texts.{texts_of};
-ghost use Rattle.snort_eve.specs.Events.{link_of, unchecked, packet_of, packet_in, is_fragment, is_unbroken, is_whole, has_pair, pair_by, pair_of, flow_of, class_of, rule_of, captured_of, event_of, line_by, nanos_of};
+ghost use Rattle.snort_eve.specs.Events.{link_of, unchecked, packet_of, packet_in, is_fragment, is_unbroken, has_pair, pair_by, pair_of, flow_of, class_of, rule_of, captured_of, event_of, line_by, nanos_of};
 
 use crate::joins::Teller;
 use crate::texts::Texts;
@@ -106,15 +106,6 @@ fn is_fragment(body: Body) -> bool
     }
 }
 
-fn is_whole(packet: Option<&U2Packet>) -> bool
-    ensures { result ≡ is_whole (option_map (λ p. p.now) packet.entry) }
-{
-    match packet {
-        None => false,
-        Some(packet) => is_unbroken(packet_in(packet.link, packet.bytes.bytes())),
-    }
-}
-
 #[tactic(auto, unfolding(crate::specs::Events::has_pair))]
 fn has_pair(event: &U2Event, whole: bool) -> bool
     ensures { result ≡ has_pair event.now whole }
@@ -193,14 +184,14 @@ fn rule_of<'a>(texts: &'a Texts, event: &U2Event) -> Alert<'a>
     }
 }
 
-fn captured_of(packet: &U2Packet) -> Captured<'_>
+fn captured_of<'a>(packet: &'a U2Packet, read: Option<Packet<'a>>) -> Captured<'a>
+    requires { option_map fields_of read ≡ packet_in packet.now.link packet.now.bytes }
     ensures { packet_facts result ≡ captured_of packet.entry.now }
 {
-    let bytes = packet.bytes.bytes();
     Captured {
         link: packet.link,
-        bytes,
-        payload: payload_of(packet_in(packet.link, bytes)),
+        bytes: packet.bytes.bytes(),
+        payload: payload_of(read),
     }
 }
 
@@ -213,25 +204,40 @@ fn payload_of<'a>(packet: Option<Packet<'a>>) -> Option<&'a [u8]>
     }
 }
 
-fn captured<'a>(packet: Option<&'a U2Packet>) -> Option<Captured<'a>>
-    ensures { option_map packet_facts result ≡ option_map captured_of (option_map (λ p. p.now) packet.entry) }
+// What is told of an event without its packet.
+fn told_alone<'a>(texts: &'a Texts, event: &U2Event) -> Event<'a>
+    ensures { event_facts result ≡ event_of (texts_of texts.entry.now) (joined_of event.now None) }
 {
-    match packet {
-        None => None,
-        Some(packet) => Some(captured_of(packet)),
+    Event {
+        moment: moment_of(event),
+        flow: flow_of(event, false),
+        alert: rule_of(texts, event),
+        packet: None,
+        count: None,
     }
 }
 
-/// What is told of an event with its packet.
+// What is told of an event with its packet, which is read once.
+fn told_with<'a>(texts: &'a Texts, event: &U2Event, packet: &'a U2Packet) -> Event<'a>
+    ensures { event_facts result ≡ event_of (texts_of texts.entry.now) (joined_of event.now (Some packet.entry.now)) }
+{
+    let read = packet_in(packet.link, packet.bytes.bytes());
+    Event {
+        moment: moment_of(event),
+        flow: flow_of(event, is_unbroken(read)),
+        alert: rule_of(texts, event),
+        packet: Some(captured_of(packet, read)),
+        count: None,
+    }
+}
+
+/// What is told of an event, with its packet where one follows it.
 fn told<'a>(texts: &'a Texts, event: &U2Event, packet: Option<&'a U2Packet>) -> Event<'a>
     ensures { event_facts result
         ≡ event_of (texts_of texts.entry.now) (joined_of event.now (option_map (λ p. p.now) packet.entry)) }
 {
-    Event {
-        moment: moment_of(event),
-        flow: flow_of(event, is_whole(packet)),
-        alert: rule_of(texts, event),
-        packet: captured(packet),
-        count: None,
+    match packet {
+        None => told_alone(texts, event),
+        Some(packet) => told_with(texts, event, packet),
     }
 }
