@@ -137,11 +137,11 @@ def ends(source, target, has_ports):
 
 @functools.lru_cache(maxsize=65536)
 def rule_part(text):
-    """gid, sid, rev, msg, class and priority."""
+    """gid, sid, rev, msg, class, its place and priority. The place is 0 without a class, and unknown where a line names one."""
     if not (found := RULE.fullmatch(text)):
         raise Wrong("no alert line")
     gid, sid, rev, msg, category, priority = found.groups()
-    return int(gid), int(sid), int(rev), text_of(msg), text_of(category or b""), 0, int(priority)
+    return int(gid), int(sid), int(rev), text_of(msg), text_of(category or b""), 0 if category is None else None, int(priority)
 
 @functools.lru_cache(maxsize=16384)
 def ends_part(text):
