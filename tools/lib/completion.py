@@ -41,6 +41,7 @@ EVE_WORDS = (
     Word("-c", "configuration with the texts of rules and classes", "CONF", FILES),
     Word("-S", "variable for the configuration", "NAME=VALUE", "a name and a text"),
     Word("--year", "year of the first alert line", "N", "1970 to 2553"),
+    Word("--capture", "capture whose first record tells that year", "FILE", FILES),
     Word("--lines", "read alert lines instead of records"),
     Word("--unified2", "read Unified2 records"),
     Word("--host", "name that each line has", "NAME", "a text"),
@@ -48,7 +49,7 @@ EVE_WORDS = (
     Word("--community-id-seed", "seed of community IDs", "N", "0 to 65535"),
     Word("--help", "show the usage"),
 )
-EVE_APART = (("--lines", "--unified2"),)
+EVE_APART = (("--lines", "--unified2"), ("--year", "--capture"))
 # The words of a program; which stand alone, and which apart; and whether names of files may stand between them.
 Command = namedtuple("Command", "words alone apart has_files")
 COMMANDS = {"snort": Command(WORDS, ALONE, APART, False), "snort_eve": Command(EVE_WORDS, ("--help",), EVE_APART, True)}

@@ -210,12 +210,16 @@ def eve_case(name, *counts, cut=0):
         files[f"f{len(made) - 1}"], lines = made[-1][0][:-cut], lines[:-1]
     return Case(name, " ".join(files), files, lines, 2 if cut else 0, False, None, "snort_eve")
 
-def eve_lines(name, *counts, last=b""):
-    """A case of snort_eve over files of so many alert lines, the last file with what is no whole one."""
+def eve_lines(name, *counts, last=b"", capture=None):
+    """A case of snort_eve over files of so many alert lines, the last file with what is no whole one.
+
+    Their year is that of a capture, if one is given, which is read before them.
+    """
     files = {f"l{place}": it * (LINE + "\n").encode() for place, it in enumerate(counts)}
     files[f"l{len(counts) - 1}"] += last
     lines = [(f"l{place}", number, (EVE % ("t", "")).encode()) for place, it in enumerate(counts) for number in range(it)]
-    return Case(name, f"--lines --year 1970 {' '.join(files)}", files, lines, 2 if last else 0, False, None, "snort_eve")
+    words = f"--lines {'--capture p' if capture else '--year 1970'} {' '.join(files)}"
+    return Case(name, words, {"p": capture, **files} if capture else files, lines, 2 if last else 0, False, None, "snort_eve")
 
 # A case: its name, its words, its files, its lines, the status, and whether it is run with several lanes.
 # `faults` names the groups of faults that a case is for, where these aren't all; `program` is the one that runs. A line of
@@ -294,5 +298,8 @@ CASES = [
     Case("version", "-V", spread=False),
     eve_case("eve", 2), eve_case("eve-files", 1, 2), eve_case("eve-blocks", 470), eve_case("eve-cut", 1, 1, cut=1),
     eve_lines("eve-lines", 1, 700), eve_lines("eve-no-line", 2, 1, last=LINE.encode()),
+    eve_lines("eve-capture", 1, 1, capture=pcap([U(b"abc")] * 2, [0, 40000000])),  # the second record is of 1971
+    eve_lines("eve-capture-ng", 1, capture=pcapng([U(b"abc")])),
+    Case("eve-no-record", "--lines --capture p l", {"p": pcap([]), "l": f"{LINE}\n".encode()}, [], 2, False, None, "snort_eve"),
     Case("eve-words", "--host", status=1, spread=False, program="snort_eve"),
 ]

@@ -1,6 +1,7 @@
--- A run by the texts of a configuration, or by none.
-use Rattle.std.proofs.Common.{◌≡◌, ℕ, ◌≤◌, inl, inr, List, [], ◌∷◌, Option, None, Some, length, refl, sym, subst, arith}
-use Rattle.std.specs.Prelude.{◌⊎◌, IfErr, Result, Ok, Err}
+-- A run by the texts of a configuration, or by none, or after a capture.
+use Rattle.std.proofs.Common.{◌≡◌, ℕ, inl, inr, List, [], ◌∷◌, Option, None, Some, refl, sym, subst, arith}
+use Rattle.std.specs.Prelude.{◌⊎◌, IfErr, IsErrOf, Result, Ok, Err}
+use Rattle.std.specs.Borrow.{Bor}
 use Rattle.edge_io.specs.Files.{Files, Lacks}
 use Rattle.edge_io.proofs.Told.{behind-nil}
 use Rattle.conf_parser.specs.Reading.{Ended, Whole, Refused as RefusedAt, Asks, told}
@@ -13,9 +14,14 @@ use Rattle.snort_eve.specs.declared.outcome.Outcome.{Outcome}
 use Rattle.snort_eve.specs.declared.outcome.Outcome.TheVariants as outcome
 use Rattle.snort_eve.specs.declared.texts.Texts.{Texts as Kept}
 use Rattle.snort_eve.specs.Endings.{of_records}
-use Rattle.snort_eve.specs.Asking.{Wanted, lines}
-use Rattle.snort_eve.specs.Confs.{AreReadyTexts, AreTextsOf, Given, GivenTexts, GiveTexts, halted}
-use Rattle.snort_eve.specs.Runs.{AreRun, IsInputRun, IsLinesRun, IfNone, OnUnread, UnlessFault, UnlessShort, UnlessUnread, Writes, line_of}
+use Rattle.edge_io.specs.declared.moment.Moment.{Moment}
+use Rattle.alert_json.specs.declared.line_year.YearFrom.{YearFrom}
+use Rattle.snort_eve.specs.Asking.{Since, Wanted, lines, of_capture}
+use Rattle.snort_eve.specs.Captures.{GivesFirst, after_moment}
+use Rattle.snort_eve.specs.declared.capture.CaptureStop.{CaptureStop}
+use Rattle.snort_eve.specs.declared.capture.CaptureStop.TheVariants as capture_stop
+use Rattle.snort_eve.specs.Confs.{AreReadyTexts, Given, GivenTexts, GiveTexts, halted}
+use Rattle.snort_eve.specs.Runs.{AreLinesRun, AreRun, IsInputRun, IsLinesRun, IfNone, OnUnread, UnlessFault, UnlessShort, UnlessUnread, Writes, line_of, undated}
 use Rattle.snort_eve.specs.Texts.{AreTexts, Texts, texts_of}
 
 -- ---- what a setup gives
@@ -85,8 +91,11 @@ BareRuns texts wanted agrees old new ended = Writes agrees old new (λ files wro
 abbrev pub LinesRun : Option Words → Wanted → (Files → Type 0) → Option (List ℕ) → Option (List ℕ) → Outcome → Type 0
 LinesRun conf wanted agrees old new ended = Writes agrees old new (λ files wrote. IsLinesRun conf wanted files wrote ended)
 
-abbrev pub InputRun : Option ℕ → Wanted → (Files → Type 0) → Option (List ℕ) → Option (List ℕ) → Outcome → Type 0
-InputRun year wanted agrees old new ended = Writes agrees old new (λ files wrote. IsInputRun year wanted files wrote ended)
+abbrev pub InputRun : Option Since → Wanted → (Files → Type 0) → Option (List ℕ) → Option (List ℕ) → Outcome → Type 0
+InputRun since wanted agrees old new ended = Writes agrees old new (λ files wrote. IsInputRun since wanted files wrote ended)
+
+abbrev pub LinesFrom : YearFrom → Wanted → (Files → Type 0) → Option (List ℕ) → Option (List ℕ) → Outcome → Type 0
+LinesFrom from wanted agrees old new ended = Writes agrees old new (λ files wrote. AreLinesRun from wanted files wrote ended)
 
 pub run-bare : (texts : Texts) (wanted : Wanted) (agrees : Files → Type 0) (old new : Option (List ℕ)) (ended : Outcome)
     → AreTexts texts [] [] → BareRuns texts wanted agrees old new ended → LinesRun None wanted agrees old new ended
@@ -110,7 +119,42 @@ run-halted (stop.Refused message) words wanted agrees old given = record { wrote
 run-halted (stop.CannotRead name) words wanted agrees old given = record { wrote = []; told = sym (behind-nil old); holds = λ files a. inl (refl, given files a) }
 run-halted stop.NoMemory words wanted agrees old given = record { wrote = []; told = sym (behind-nil old); holds = λ files a. inl (refl, tt) }
 
+-- after a capture, and where that doesn't tell its first record
+pub run-after : (name : List ℕ) (moment : Moment) (wanted : Wanted) (agrees now_agrees : Files → Type 0) (old new : Option (List ℕ)) (ended : Outcome)
+    → ((files : Files) → agrees files → GivesFirst files name (Ok moment)) → ((files : Files) → now_agrees files → agrees files)
+    → LinesFrom (after_moment moment.nanos) wanted now_agrees old new ended → InputRun (Some (of_capture name)) wanted now_agrees old new ended
+run-after name moment wanted agrees now_agrees old new ended given earlier writes = record {
+  wrote = writes.wrote;
+  told = writes.told;
+  holds = λ files a. inr (record { moment = moment; first = given files (earlier files a); run = writes.holds files a });
+}
+
+pub run-undated : (name : Bor (List ℕ)) (stop : CaptureStop) (wanted : Wanted) (agrees : Files → Type 0) (old : Option (List ℕ))
+    → ((files : Files) → agrees files → GivesFirst files name.now (Err stop)) → InputRun (Some (of_capture name.now)) wanted agrees old old (undated name stop)
+run-undated name (capture_stop.Without why) wanted agrees old given = record { wrote = []; told = sym (behind-nil old); holds = λ files a. inl (refl, given files a) }
+run-undated name capture_stop.Unread wanted agrees old given = record { wrote = []; told = sym (behind-nil old); holds = λ files a. inl (refl, refl) }
+run-undated name capture_stop.NoMemory wanted agrees old given = record { wrote = []; told = sym (behind-nil old); holds = λ files a. inl (refl, tt) }
+
 -- ---- causes
+
+-- the answer that tells it
+abbrev stopped : CaptureStop → Result Moment CaptureStop
+stopped stop = Err stop
+
+pub undated-cause : (P : List ℕ → Type 0) (name : Bor (List ℕ)) (stop : CaptureStop) → (IsErrOf (stopped stop) capture_stop.Unread → P name.now) → OnUnread (undated name stop) P
+undated-cause P name (capture_stop.Without why) cause = tt
+undated-cause P name capture_stop.Unread cause = cause refl
+undated-cause P name capture_stop.NoMemory cause = tt
+
+pub undated-quiet : (P : Type 0) (name : Bor (List ℕ)) (stop : CaptureStop) → ((IsErrOf (stopped stop) capture_stop.Unread → ⊥) → P) → UnlessUnread (undated name stop) P
+undated-quiet P name (capture_stop.Without why) holds = holds (λ same. absurd cc)
+undated-quiet P name capture_stop.Unread holds = tt
+undated-quiet P name capture_stop.NoMemory holds = holds (λ same. absurd cc)
+
+pub undated-written : (name : Bor (List ℕ)) (stop : CaptureStop) → undated name stop ≡ outcome.Unwritten → ⊥
+undated-written name (capture_stop.Without why) is = absurd cc
+undated-written name capture_stop.Unread is = absurd cc
+undated-written name capture_stop.NoMemory is = absurd cc
 
 pub halted-cause : (rose : Type 0) (contents : Option Files) (stop : SetupStop) → HasCause rose contents stop → OnUnread (halted stop) (λ name. rose ⊎ Lacks contents name)
 halted-cause rose contents (stop.Refused message) cause = tt
@@ -135,6 +179,7 @@ short-weaker P Q (outcome.Refused message) weaker holds = weaker holds
 short-weaker P Q (outcome.NoConf name) weaker holds = tt
 short-weaker P Q (outcome.Bad name at) weaker holds = weaker holds
 short-weaker P Q (outcome.NoLine name at) weaker holds = weaker holds
+short-weaker P Q (outcome.BadCapture why) weaker holds = weaker holds
 short-weaker P Q (outcome.Unread name) weaker holds = tt
 short-weaker P Q outcome.Unwritten weaker holds = weaker holds
 short-weaker P Q (outcome.TooLong name) weaker holds = weaker holds
@@ -148,6 +193,7 @@ fault-bare P wanted (outcome.Refused message) none holds = holds
 fault-bare P wanted (outcome.NoConf name) none holds = tt
 fault-bare P wanted (outcome.Bad name at) none holds = holds
 fault-bare P wanted (outcome.NoLine name at) none holds = holds
+fault-bare P wanted (outcome.BadCapture why) none holds = holds
 fault-bare P wanted (outcome.Unread name) none holds = tt
 fault-bare P wanted outcome.Unwritten none holds = holds
 fault-bare P wanted (outcome.TooLong name) none holds = holds
@@ -161,6 +207,7 @@ fault-conf P wanted words (outcome.Refused message) some holds = holds
 fault-conf P wanted words (outcome.NoConf name) some holds = tt
 fault-conf P wanted words (outcome.Bad name at) some holds = holds
 fault-conf P wanted words (outcome.NoLine name at) some holds = holds
+fault-conf P wanted words (outcome.BadCapture why) some holds = holds
 fault-conf P wanted words (outcome.Unread name) some holds = tt
 fault-conf P wanted words outcome.Unwritten some holds = holds
 fault-conf P wanted words (outcome.TooLong name) some holds = holds
@@ -178,6 +225,7 @@ fault-any P wanted (outcome.Refused message) holds = holds
 fault-any P wanted (outcome.NoConf name) holds = tt
 fault-any P wanted (outcome.Bad name at) holds = holds
 fault-any P wanted (outcome.NoLine name at) holds = holds
+fault-any P wanted (outcome.BadCapture why) holds = holds
 fault-any P wanted (outcome.Unread name) holds = tt
 fault-any P wanted outcome.Unwritten holds = holds
 fault-any P wanted (outcome.TooLong name) holds = holds

@@ -6,6 +6,7 @@ pub mod Recording
 pub mod LineForming
 pub mod Copying
 pub mod Running
+pub mod FirstRecords
 pub mod Named
 pub mod Texting
 pub mod Configured

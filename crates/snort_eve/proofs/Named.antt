@@ -4,13 +4,12 @@ use Rattle.std.specs.Prelude.{⊤, codes, is_some, if◌then◌else◌}
 use Rattle.std.specs.Option.{option_map, option_and_then}
 use Rattle.std.proofs.lemmas.Bool.{and_parts}
 use Rattle.std.proofs.lemmas.Option.{option_and_then_some, cond_some}
-use Rattle.clap.specs.Walk.{Row, Text}
+use Rattle.clap.specs.Walk.{Row, all_of}
 use Rattle.net_lists.specs.Addresses.{cut}
 use Rattle.net_lists.specs.Variables.{IsName, is_name}
 use Rattle.command_words.specs.CommandLine.{Defined, maybe, named, definition}
-use Rattle.snort_setup.specs.Words.{HasName}
 use Rattle.snort_eve.specs.Command.{clap_rows}
-use Rattle.snort_eve.specs.Asking.{Asked, AskNamed, IsNamed, asked_in, asked_of, conf_with, definition_of, given_in, help, seed_of, with_values, year_in}
+use Rattle.snort_eve.specs.Asking.{AskNamed, IsNamed, Since, asked_in, asked_of, conf_with, files_of, given_in, help, if_apart, is_apart, lines, seed_of, since_in, wanted_in}
 
 abbrev IfNamed : Option Defined → Type 0
 IfNamed None = ⊤
@@ -44,13 +43,21 @@ conf_named None defined is = tt
 conf_named (Some name) None is = tt
 conf_named (Some name) (Some defined) is = is
 
-by_help : (rows : List Row) (on : Bool) (seed : Option ℕ) (defined : Option (Option Defined)) (year : Option (Option ℕ)) → ((d : Option Defined) → defined ≡ Some d → IfNamed d)
-    → AskNamed (if on then Some help else option_and_then (λ (s : ℕ). option_and_then (λ (d : Option Defined). option_map (with_values rows s d) year) defined) seed)
-by_help rows true seed defined year has = tt
-by_help rows false None defined year has = tt
-by_help rows false (Some s) None year has = tt
+apart_named : (rows : List Row) (seed : ℕ) (defined : Option Defined) (since : Option Since) → IfNamed defined → AskNamed (if_apart (wanted_in rows seed defined since))
+apart_named rows seed defined since is = by (is_apart since (files_of (all_of (codes "FILE") rows)))
+  where
+    by : (apart : Bool) → AskNamed (if apart then Some (lines (wanted_in rows seed defined since)) else None)
+    by true = conf_named (given_in rows (codes "c")) defined is
+    by false = tt
+
+by_help : (rows : List Row) (on : Bool) (seed : Option ℕ) (defined : Option (Option Defined)) (since : Option (Option Since)) → ((d : Option Defined) → defined ≡ Some d → IfNamed d)
+    → AskNamed (if on then Some help else option_and_then (λ (s : ℕ). option_and_then (λ (d : Option Defined).
+    option_and_then (λ (o : Option Since). if_apart (wanted_in rows s d o)) since) defined) seed)
+by_help rows true seed defined since has = tt
+by_help rows false None defined since has = tt
+by_help rows false (Some s) None since has = tt
 by_help rows false (Some s) (Some d) None has = tt
-by_help rows false (Some s) (Some d) (Some y) has = conf_named (given_in rows (codes "c")) d (has d refl)
+by_help rows false (Some s) (Some d) (Some o) has = apart_named rows s d o (has d refl)
 
 pub asked_named : (words : List (List ℕ)) → AskNamed (asked_of words)
 asked_named words = by_rows (clap_rows words)
@@ -59,4 +66,4 @@ asked_named words = by_rows (clap_rows words)
     by_rows None = tt
     by_rows (Some rows) =
         by_help rows (is_some (given_in rows (codes "help"))) (seed_of (given_in rows (codes "community-id-seed")))
-        (maybe definition (given_in rows (codes "S"))) (year_in rows) (maybe_named (given_in rows (codes "S")))
+        (maybe definition (given_in rows (codes "S"))) (since_in rows) (maybe_named (given_in rows (codes "S")))

@@ -1,5 +1,5 @@
 -- How a run ends, by how the copying of each of its files ends.
-use Rattle.std.proofs.Common.{◌≡◌, ℕ, ◌+◌, ◌<◌, ◌≤◌, inl, List, [], ◌∷◌, ◌++◌, Option, None, Some, refl, sym, subst, ◌∙◌, ap, append_assoc, append-nil, get_or, map, take, drop, length, arith}
+use Rattle.std.proofs.Common.{◌≡◌, ℕ, ◌+◌, ◌<◌, ◌≤◌, inl, List, [], ◌∷◌, ◌++◌, Option, None, Some, refl, sym, subst, ◌∙◌, ap, append_assoc, append-nil, get_or, map, take, drop, length}
 use Rattle.std.specs.Prelude.{Result, Ok, Err, IfOk, OnErr, IsSome, IsErrOf}
 use Rattle.std.specs.Borrow.{Bor}
 use Rattle.edge_io.specs.Files.{Files, IsOpened}
@@ -14,11 +14,12 @@ use Rattle.snort_eve.specs.declared.outcome.Outcome.TheVariants as outcome
 use Rattle.snort_eve.specs.Copies.{Copies, Stops, IsLong}
 use Rattle.snort_eve.specs.Forms.{Meaning}
 use Rattle.snort_eve.specs.Endings.{of_records}
-use Rattle.snort_eve.specs.Asking.{Asked, Wanted, help, lines}
+use Rattle.snort_eve.specs.Asking.{Asked, Since, Wanted, help, in_year, lines, of_capture}
 use Rattle.snort_setup.specs.Words.{Words}
 use Rattle.snort_eve.specs.Texts.{Texts}
-use Rattle.snort_eve.specs.Runs.{IsCut, IsInputRun, IsLinesRun, line_of, IsFileRun, AreDone, EndsAt, AreRun, Writes, Runs, OnUnread, UnlessUnread, outcome_of}
+use Rattle.snort_eve.specs.Runs.{AreLinesRun, IsCut, IsInputRun, IsLinesRun, line_of, IsFileRun, AreDone, EndsAt, AreRun, Writes, Runs, OnUnread, UnlessUnread, outcome_of}
 use Rattle.std.proofs.lemmas.List.{drop_more, map-append, take-append-drop, take_all, take_more}
+use Rattle.alert_json.specs.declared.line_year.YearFrom.{YearFrom}
 use Rattle.alert_json.specs.declared.line_year.YearFrom.TheVariants.{Given}
 use Rattle.snort_eve.specs.LineForms.{of_lines}
 use Rattle.snort_eve.proofs.Recording.{nothing-begins}
@@ -113,6 +114,7 @@ on-weaker P Q (outcome.Refused message) weaker cause = tt
 on-weaker P Q (outcome.NoConf name) weaker cause = weaker name cause
 on-weaker P Q (outcome.Bad name at) weaker cause = tt
 on-weaker P Q (outcome.NoLine name at) weaker cause = tt
+on-weaker P Q (outcome.BadCapture why) weaker cause = tt
 on-weaker P Q (outcome.Unread name) weaker cause = weaker name.now cause
 on-weaker P Q outcome.Unwritten weaker cause = tt
 on-weaker P Q (outcome.TooLong name) weaker cause = tt
@@ -126,6 +128,7 @@ unless-weaker P Q (outcome.Refused message) weaker holds = weaker holds
 unless-weaker P Q (outcome.NoConf name) weaker holds = tt
 unless-weaker P Q (outcome.Bad name at) weaker holds = weaker holds
 unless-weaker P Q (outcome.NoLine name at) weaker holds = weaker holds
+unless-weaker P Q (outcome.BadCapture why) weaker holds = weaker holds
 unless-weaker P Q (outcome.Unread name) weaker holds = tt
 unless-weaker P Q outcome.Unwritten weaker holds = weaker holds
 unless-weaker P Q (outcome.TooLong name) weaker holds = weaker holds
@@ -267,9 +270,8 @@ lines-unbegun None wanted files = record {
   };
 }
 
-input-unbegun : (year : Option ℕ) (wanted : Wanted) (files : Files) → IsInputRun year wanted files [] outcome.NoMemory
-input-unbegun None wanted files = lines-unbegun wanted.conf wanted files
-input-unbegun (Some year) wanted files = record {
+lines-from-unbegun : (from : YearFrom) (wanted : Wanted) (files : Files) → AreLinesRun from wanted files [] outcome.NoMemory
+lines-from-unbegun from wanted files = record {
   done = [];
   left = wanted.files;
   names_are = refl;
@@ -277,14 +279,19 @@ input-unbegun (Some year) wanted files = record {
   now = [];
   split = refl;
   are = refl;
-  last = ends-unbegun (of_lines wanted.run (Given year)) files wanted.files (λ bytes. no-lines wanted.run (Given year) bytes);
+  last = ends-unbegun (of_lines wanted.run from) files wanted.files (λ bytes. no-lines wanted.run from bytes);
 }
+
+input-unbegun : (since : Option Since) (wanted : Wanted) (files : Files) → IsInputRun since wanted files [] outcome.NoMemory
+input-unbegun None wanted files = lines-unbegun wanted.conf wanted files
+input-unbegun (Some (in_year year)) wanted files = lines-from-unbegun (Given year) wanted files
+input-unbegun (Some (of_capture name)) wanted files = inl (refl, tt)
 
 -- memory is lacking before the first file
 pub run-unbegun : (asked : Option Asked) (agrees : Files → Type 0) (old : Option (List ℕ)) → Runs asked agrees old old outcome.NoMemory
 run-unbegun None agrees old = record { wrote = []; told = sym (behind-nil old); holds = λ files a. (refl, tt) }
 run-unbegun (Some help) agrees old = record { wrote = []; told = sym (behind-nil old); holds = λ files a. (refl, tt) }
-run-unbegun (Some (lines wanted)) agrees old = record { wrote = []; told = sym (behind-nil old); holds = λ files a. input-unbegun wanted.year wanted files }
+run-unbegun (Some (lines wanted)) agrees old = record { wrote = []; told = sym (behind-nil old); holds = λ files a. input-unbegun wanted.since wanted files }
 
 -- nothing is copied, by how the run ended
 pub run-refused : (agrees : Files → Type 0) (old : Option (List ℕ)) → Runs None agrees old old outcome.CommandLine

@@ -45,6 +45,7 @@ known =
     letter_rule (codes "c") 99
     ∷ letter_rule (codes "S") 83
     ∷ option_rule (codes "year")
+    ∷ option_rule (codes "capture")
     ∷ flag_rule (codes "lines")
     ∷ flag_rule (codes "unified2")
     ∷ option_rule (codes "host")

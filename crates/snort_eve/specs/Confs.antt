@@ -2,7 +2,7 @@
 --
 -- To try it on: of a configuration with the rule 1:10 whose message is `a` a run has the message `a` for 1:10; one that is
 -- refused ends the run with the message of that line.
-use Rattle.std.specs.Prelude.{◌≡◌, ◌⊎◌, ⊤, List, ℕ, [], Result, Ok, Err}
+use Rattle.std.specs.Prelude.{◌⊎◌, ⊤, List, ℕ, [], Result, Ok, Err}
 use Rattle.edge_io.specs.Files.{Files}
 use Rattle.snort_setup.specs.declared.stop.SetupStop.{SetupStop}
 use Rattle.snort_setup.specs.declared.stop.SetupStop.TheVariants as stop

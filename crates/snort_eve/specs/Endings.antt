@@ -2,7 +2,7 @@
 --
 -- All bytes are records, or from a place on none begins; the lines are those of the events of the records.
 -- To try it on: of an event and half of its packet the line of the event is written, and the bytes are bad at the packet.
-use Rattle.std.specs.Prelude.{◌≡◌, ℕ, ◌-◌, ◌<◌, List, [], ◌++◌, length}
+use Rattle.std.specs.Prelude.{◌≡◌, ℕ, ◌-◌, ◌<◌, List, [], length}
 use Rattle.unified2_out.specs.declared.record.U2.{U2}
 use Rattle.unified2_out.specs.Reading.{joined_text}
 use Rattle.snort_eve.specs.Joins.{Joined, joined, lines_of}

@@ -6,7 +6,7 @@
 -- classes stand in no record of Unified2: they are those of a configuration, or empty.
 -- To try it on: of an event over UDP with the ports 0 and 0 and no packet neither port is told; with the packet, and it is
 -- no fragment, both are told as 0.
-use Rattle.std.specs.Prelude.{ℕ, ◌+◌, ◌*◌, ◌==◌, ◌||◌, Bool, true, false, not, if◌then◌else◌, List, [], Option, None, Some, option_map, option_and_then, Result, Ok, Err}
+use Rattle.std.specs.Prelude.{ℕ, ◌+◌, ◌*◌, ◌==◌, ◌||◌, Bool, true, false, not, if◌then◌else◌, List, Option, None, Some, option_map, option_and_then, Result, Ok, Err}
 use Rattle.edge_io.specs.declared.link.Link.{Link}
 use Rattle.edge_io.specs.declared.link.Link.TheVariants.{Ethernet, RawIp, Cooked}
 use Rattle.packet_decode.specs.declared.checks.Checks.{Checks}

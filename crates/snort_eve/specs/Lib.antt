@@ -10,4 +10,5 @@ pub mod Copies
 pub mod Command
 pub mod Asking
 pub mod Confs
+pub mod Captures
 pub mod Runs

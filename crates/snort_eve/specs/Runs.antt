@@ -1,7 +1,8 @@
 -- A run: files of Unified2 records, or of alert lines, become JSON lines.
 --
 -- The words name the files, and what all records have alike (`Asking`). The lines are those of the events of the files'
--- records, or of their alert lines (`event_line` of alert_json), file by file in their order, each event once. A run ends at
+-- records, or of their alert lines (`event_line` of alert_json), file by file in their order, each event once. The year of
+-- alert lines is given, or follows from the first record of a capture; where that isn't told, nothing is written. A run ends at
 -- the first file that isn't records, or alert lines, up to its end, that can't be opened or read, or behind which a write fails
 -- or memory is lacking: the files before are done, and of this one the lines of what is whole, or a beginning of the lines, are
 -- written.
@@ -20,10 +21,17 @@ use Rattle.alert_json.specs.Facts.{RunFacts}
 use Rattle.alert_json.specs.Value.{event_line}
 use Rattle.snort_eve.specs.Joins.{Joined}
 use Rattle.snort_eve.specs.Events.{event_of}
-use Rattle.snort_eve.specs.Asking.{Asked, Wanted, help, lines}
+use Rattle.snort_eve.specs.Asking.{Asked, Since, Wanted, help, in_year, lines, of_capture}
 use Rattle.snort_eve.specs.Texts.{Texts, AreTexts}
 use Rattle.snort_eve.specs.Confs.{IsReady, IsRefusedBy, IsUnreadBy}
+use Rattle.edge_io.specs.declared.moment.Moment.{Moment}
+use Rattle.alert_json.specs.declared.line_year.YearFrom.{YearFrom}
 use Rattle.alert_json.specs.declared.line_year.YearFrom.TheVariants.{Given}
+use Rattle.snort_eve.specs.Captures.{IsFirst, after_moment}
+use Rattle.snort_eve.specs.declared.capture.CaptureStop.{CaptureStop}
+use Rattle.snort_eve.specs.declared.capture.CaptureStop.TheVariants as capture_stop
+use Rattle.snort_eve.specs.declared.capture.NoRecord.{NoRecord}
+use Rattle.snort_eve.specs.declared.capture.NoRecord.TheVariants as no_record
 use Rattle.snort_eve.specs.Forms.{Meaning}
 use Rattle.snort_eve.specs.Endings.{of_records}
 use Rattle.snort_eve.specs.LineForms.{of_lines}
@@ -65,6 +73,7 @@ IsFileRun means files name wrote (outcome.Bad told at) =
     (told.now ≡ name) × HasBytes name files (λ bytes. means.ends bytes wrote (Bad at))
 IsFileRun means files name wrote (outcome.NoLine told number) =
     (told.now ≡ name) × HasBytes name files (λ bytes. means.ends bytes wrote (NoLine number))
+IsFileRun means files name wrote (outcome.BadCapture why) = ⊥
 IsFileRun means files name wrote (outcome.Unread told) = (told.now ≡ name) × IsCut means files name wrote
 IsFileRun means files name wrote outcome.Unwritten = IsCut means files name wrote
 IsFileRun means files name wrote (outcome.TooLong told) =
@@ -142,17 +151,35 @@ IsLinesRun None wanted files wrote ended = CopiedBy [] [] wanted files wrote end
 IsLinesRun (Some words) wanted files wrote ended =
     ((wrote ≡ []) × IsHalted words files ended) ⊎ CopiedByReady words wanted files wrote ended
 
--- files of alert lines were copied, each of which begins in this year; or files of records
-abbrev pub IsInputRun : Option ℕ → Wanted → Files → List ℕ → Outcome → Type 0
+-- files of alert lines were copied, and the year of each one's first line follows from this
+abbrev pub AreLinesRun : YearFrom → Wanted → Files → List ℕ → Outcome → Type 0
+AreLinesRun from wanted files wrote ended = AreRun (of_lines wanted.run from) files wanted.files wrote ended
+
+-- how a run ends whose capture doesn't tell its first record
+abbrev pub IsUndated : List ℕ → Files → Outcome → Type 0
+IsUndated name files (outcome.BadCapture why) = IsFirst files name (Err (capture_stop.Without why))
+IsUndated name files (outcome.Unread told) = told.now ≡ name
+IsUndated name files outcome.NoMemory = ⊤
+IsUndated name files other = ⊥
+
+-- or the first line of each file comes after the date of its first record
+pub record IsRunAfter (name : List ℕ) (wanted : Wanted) (files : Files) (wrote : List ℕ) (ended : Outcome) : Type 0 where
+  pub moment : Moment
+  pub first : IsFirst files name (Ok moment)
+  pub run : AreLinesRun (after_moment moment.nanos) wanted files wrote ended
+
+-- files of records were copied; or of alert lines, each of which begins in this year, or after this capture
+abbrev pub IsInputRun : Option Since → Wanted → Files → List ℕ → Outcome → Type 0
 IsInputRun None wanted files wrote ended = IsLinesRun wanted.conf wanted files wrote ended
-IsInputRun (Some year) wanted files wrote ended =
-    AreRun (of_lines wanted.run (Given year)) files wanted.files wrote ended
+IsInputRun (Some (in_year year)) wanted files wrote ended = AreLinesRun (Given year) wanted files wrote ended
+IsInputRun (Some (of_capture name)) wanted files wrote ended =
+    ((wrote ≡ []) × IsUndated name files ended) ⊎ IsRunAfter name wanted files wrote ended
 
 -- what a run has written at its end, by what its words ask for
 abbrev pub IsRun : Option Asked → Files → List ℕ → Outcome → Type 0
 IsRun None files wrote ended = (wrote ≡ []) × IsRefused ended
 IsRun (Some help) files wrote ended = (wrote ≡ []) × IsHelp ended
-IsRun (Some (lines wanted)) files wrote ended = IsInputRun wanted.year wanted files wrote ended
+IsRun (Some (lines wanted)) files wrote ended = IsInputRun wanted.since wanted files wrote ended
 
 -- what was written between two states of a sink, by all files that agree
 pub record Writes (agrees : Files → Type 0) (old new : Option (List ℕ)) (Holds : Files → List ℕ → Type 0) : Type 0 where
@@ -173,6 +200,12 @@ outcome_of name (Err Unread) = outcome.Unread name
 outcome_of name (Err Unwritten) = outcome.Unwritten
 outcome_of name (Err TooLong) = outcome.TooLong name
 outcome_of name (Err NoMemory) = outcome.NoMemory
+
+-- how a run ends whose capture, of this name, doesn't tell its first record
+abbrev pub undated : Bor (List ℕ) → CaptureStop → Outcome
+undated name (capture_stop.Without why) = outcome.BadCapture why
+undated name capture_stop.Unread = outcome.Unread name
+undated name capture_stop.NoMemory = outcome.NoMemory
 
 -- a file wasn't opened or read, and this holds of its name; else nothing is said
 abbrev pub OnUnread : Outcome → (List ℕ → Type 0) → Type 0
@@ -219,17 +252,32 @@ bad_text name at = bad_front name ++ place_text at
 abbrev pub no_line_text : List ℕ → ℕ → List ℕ
 no_line_text name number = codes "ERROR: " ++ name ++ codes "(" ++ decimal number ++ codes ") no alert line\n"
 
+-- the capture has no first record, for this: as `snort` says it of one that it refuses
+abbrev pub numbered_text : List ℕ → ℕ → List ℕ
+numbered_text front number = front ++ (decimal number ++ codes "\n")
+
+abbrev pub no_record_text : NoRecord → List ℕ
+no_record_text no_record.Empty = codes "ERROR: capture has no record\n"
+no_record_text no_record.NotPcap = codes "ERROR: capture is not a pcap file\n"
+no_record_text (no_record.LinkType link) = numbered_text (codes "ERROR: capture has link type ") link
+no_record_text (no_record.Truncated at) = numbered_text (codes "ERROR: capture is truncated at byte ") at
+no_record_text (no_record.BadBlock at) = numbered_text (codes "ERROR: capture has a bad block at byte ") at
+no_record_text (no_record.TooLong at len) =
+    codes "ERROR: capture has a record of " ++ (decimal len ++ numbered_text (codes " bytes at byte ") at)
+no_record_text no_record.TooMany = codes "ERROR: capture has too many records\n"
+
 -- the message of a run
 unfoldable pub message_text : Outcome → List ℕ
 message_text outcome.Done = []
 message_text outcome.Help =
-    codes "usage: snort_eve [-c CONF] [-S NAME=VALUE] [--year N] [--lines|--unified2] [--host NAME] "
-    ++ codes "[--pcap-filename NAME] [--community-id-seed N] [FILE..]\n"
+    codes "usage: snort_eve [-c CONF] [-S NAME=VALUE] [--year N|--capture FILE] [--lines|--unified2] "
+    ++ codes "[--host NAME] [--pcap-filename NAME] [--community-id-seed N] [FILE..]\n"
 message_text outcome.CommandLine = codes "ERROR: command line\n"
 message_text (outcome.Refused message) = message
 message_text (outcome.NoConf name) = codes "ERROR: cannot read " ++ name ++ codes "\n"
 message_text (outcome.Bad name at) = bad_text name.now at
 message_text (outcome.NoLine name number) = no_line_text name.now number
+message_text (outcome.BadCapture why) = no_record_text why
 message_text (outcome.Unread name) = codes "ERROR: cannot read " ++ name.now ++ codes "\n"
 message_text outcome.Unwritten = codes "ERROR: cannot write\n"
 message_text (outcome.TooLong name) = codes "ERROR: unified2 file " ++ name.now ++ codes " is too long\n"

@@ -1,8 +1,8 @@
 //! The program `snort_eve`: the alerts in files of Unified2 records become JSON lines.
 //!
 //! `snort_eve FILE..`, or standard input without a name, writes one line an event to standard output, in the form of
-//! Suricata's EVE records. What the lines are is the contract of `copy_on_system`: that of `copy_named`, by any files that
-//! give all that the system answered.
+//! Suricata's EVE records; with `--lines` it reads alert lines, whose year is given or follows from a capture. What the lines
+//! are is the contract of `copy_on_system`: that of `copy_named`, by any files that give all that the system answered.
 #![tactic(auto)]
 
 ghost use Rattle.std.specs.Prelude.{◌≡◌, Some, map, string_bytes};
@@ -11,6 +11,7 @@ ghost use Rattle.edge_io.specs.Answers.{Agree, taken_of};
 ghost use Rattle.snort_eve.specs.Runs.{OnUnread, Runs, UnlessFault};
 ghost use Rattle.snort_eve.specs.Asking.{asked_of};
 
+mod capture;
 mod conf;
 mod copy;
 mod events;

@@ -3,19 +3,20 @@ ghost use Rattle.std.specs.Prelude.{◌≡◌, ◌⊎◌, None, Some, map, strin
 ghost use Rattle.edge_io.specs.Files.{Files, Lacks, IsOpened};
 ghost use Rattle.edge_io.specs.Told.{Rose};
 ghost use Rattle.snort_setup.specs.Words.{HasName};
-ghost use Rattle.snort_eve.specs.Runs.{AreRun, IsFileRun, IsInputRun, IsLinesRun, OnUnread, Runs, UnlessFault, UnlessShort, UnlessUnread, Writes, line_of};
-ghost use Rattle.snort_eve.specs.Asking.{AskNamed, IsNamed, asked_facts, asked_of, conf_facts, lines, wanted_facts};
+ghost use Rattle.snort_eve.specs.Runs.{AreLinesRun, AreRun, IsFileRun, IsInputRun, IsLinesRun, OnUnread, Runs, UnlessFault, UnlessShort, UnlessUnread, Writes, line_of};
+ghost use Rattle.snort_eve.specs.Asking.{AskNamed, IsNamed, asked_facts, asked_of, conf_facts, lines, of_capture, wanted_facts};
 ghost use Rattle.snort_eve.specs.Texts.{texts_of};
 ghost use Rattle.snort_eve.specs.Endings.{of_records};
 
+use crate::capture::{after_moment, first_moment};
 use crate::conf::{halted, read_texts};
 use crate::copy::copy_records;
 use crate::events::Lines;
 use crate::form::Form;
 use crate::line_form::AlertLines;
-use crate::outcome::{Outcome, is_done, outcome_of};
+use crate::outcome::{Outcome, is_done, outcome_of, undated};
 use crate::texts::Texts;
-use crate::words::{Asked, Conf, Wanted, asked_of};
+use crate::words::{Asked, Conf, Since, Wanted, asked_of};
 use alert_json::YearFrom;
 use edge_io::{Failed, Host, NoMemory, Sink};
 use std::alloc::Global;
@@ -173,16 +174,17 @@ fn copy_events<'a, H: Host, A: Sink>(
     }
 }
 
-/// Writes the records of alert lines, the first of each file in this year.
+/// Writes the records of alert lines; the year of the first one of each file follows from this.
 fn copy_lines<'a, H: Host, A: Sink>(
     alloc: Global,
     wanted: &Wanted<'a>,
-    year: u16,
+    from: YearFrom,
     host: &mut H,
     alerts: &mut A,
 ) -> Outcome<'a>
     ensures runs { Writes (H.agrees host.new) (A.written alerts.old) (A.written alerts.new)
-        (λ files wrote. IsInputRun (Some year) (wanted_facts wanted.now) files wrote result) }
+        (λ files wrote. AreLinesRun from (wanted_facts wanted.now) files wrote result) }
+    ensures earlier { (files : Files) → H.agrees host.new files → H.agrees host.old files }
     ensures unread { OnUnread result (λ name. Rose (H.faults host.old) (H.faults host.new) ⊎ Lacks (H.contents host.old) name) }
     ensures unwritten { result ≡ Outcome.Unwritten → Rose (A.faults alerts.old) (A.faults alerts.new) }
     ensures quiet { UnlessUnread result (H.faults host.new ≡ H.faults host.old) }
@@ -190,9 +192,30 @@ fn copy_lines<'a, H: Host, A: Sink>(
 {
     let form = AlertLines {
         run: wanted.run,
-        from: YearFrom::Given { year },
+        from,
     };
     copy_files(alloc, host, &form, &wanted.files, alerts)
+}
+
+/// Writes the records of alert lines, the first of each file after the date of the first record of this capture.
+fn copy_after<'a, H: Host, A: Sink>(
+    alloc: Global,
+    wanted: &Wanted<'a>,
+    capture: &'a str,
+    host: &mut H,
+    alerts: &mut A,
+) -> Outcome<'a>
+    ensures runs { Writes (H.agrees host.new) (A.written alerts.old) (A.written alerts.new)
+        (λ files wrote. IsInputRun (Some (of_capture capture.entry.now)) (wanted_facts wanted.now) files wrote result) }
+    ensures unread { OnUnread result (λ name. Rose (H.faults host.old) (H.faults host.new) ⊎ Lacks (H.contents host.old) name) }
+    ensures unwritten { result ≡ Outcome.Unwritten → Rose (A.faults alerts.old) (A.faults alerts.new) }
+    ensures quiet { UnlessUnread result (H.faults host.new ≡ H.faults host.old) }
+    ensures quiet_alerts { (result ≡ Outcome.Unwritten → ⊥) → A.faults alerts.new ≡ A.faults alerts.old }
+{
+    match first_moment(alloc, host, capture) {
+        Ok(moment) => copy_lines(alloc, wanted, after_moment(moment), host, alerts),
+        Err(stop) => undated(capture, stop),
+    }
 }
 
 /// Writes the lines that are wanted.
@@ -210,9 +233,12 @@ fn copy_wanted<'a, H: Host, A: Sink>(
     ensures quiet { UnlessFault (Some (lines (wanted_facts wanted.now))) result (H.faults host.new ≡ H.faults host.old) }
     ensures quiet_alerts { (result ≡ Outcome.Unwritten → ⊥) → A.faults alerts.new ≡ A.faults alerts.old }
 {
-    match wanted.year {
+    match wanted.since {
         None => copy_events(alloc, wanted, host, alerts),
-        Some(year) => copy_lines(alloc, wanted, year, host, alerts),
+        Some(Since::Year(year)) => {
+            copy_lines(alloc, wanted, YearFrom::Given { year }, host, alerts)
+        }
+        Some(Since::Capture(name)) => copy_after(alloc, wanted, name, host, alerts),
     }
 }
 

@@ -18,10 +18,11 @@ pub(crate) enum Choice {
     Names(&'static str),
 }
 
-const CHOICES: [Choice; 10] = [
+const CHOICES: [Choice; 11] = [
     Choice::LetterOption("c", 'c'),
     Choice::LetterOption("S", 'S'),
     Choice::NameOption("year"),
+    Choice::NameOption("capture"),
     Choice::NameFlag("lines"),
     Choice::NameFlag("unified2"),
     Choice::NameOption("host"),

@@ -1,9 +1,10 @@
 //! What the words of the command ask for.
-ghost use Rattle.std.specs.Prelude.{◌≡◌, ◌++◌, codes, map, option_and_then, option_map, string_bytes, IfOk, OnOk};
+ghost use Rattle.std.specs.Prelude.{◌≡◌, ◌++◌, bytes_eq, codes, map, option_and_then, option_map, string_bytes, IfOk, OnOk};
+ghost use Rattle.std.specs.List.{list_any};
 ghost use Rattle.clap.specs.Words.{found_of, rows_of};
 ghost use Rattle.clap.specs.Walk.{all_of};
 ghost use Rattle.alert_json.specs.Facts.{bytes_of};
-ghost use Rattle.snort_eve.specs.Asking.{asked_facts, asked_in, asked_of, conf_facts, conf_with, defined_facts, file_of, files_of, given_in, if_given, seed_of, with_values, year_by, year_in};
+ghost use Rattle.snort_eve.specs.Asking.{asked_facts, asked_in, asked_of, conf_facts, conf_with, defined_facts, file_of, files_of, given_in, if_apart, if_given, is_apart, needed_by, seed_of, since_by, since_facts, since_in, wanted_facts, wanted_in};
 ghost use Rattle.command_words.specs.CommandLine.{definition, maybe, named};
 ghost use Rattle.net_lists.specs.Numbers.{number_in};
 
@@ -29,13 +30,22 @@ pub(crate) struct Conf<'a> {
     pub(crate) defined: Option<Variable<'a>>,
 }
 
-/// What all records have alike; the configuration, if there is one; the year of a file's first line, where files are alert lines
-/// and not records; and the names of the files, in their order.
+/// What the year of a file's first line follows from.
+#[derive(Clone, Copy, Debug)]
+pub(crate) enum Since<'a> {
+    /// It is this one.
+    Year(u16),
+    /// The capture of this name.
+    Capture(&'a str),
+}
+
+/// What all records have alike; the configuration, if there is one; what the year of a file's first line follows from, where
+/// files are alert lines and not records; and the names of the files, in their order.
 #[derive(Drop)]
 pub(crate) struct Wanted<'a> {
     pub(crate) run: Run<'a>,
     pub(crate) conf: Option<Conf<'a>>,
-    pub(crate) year: Option<u16>,
+    pub(crate) since: Option<Since<'a>>,
     pub(crate) files: Vec<&'a str>,
 }
 
@@ -175,50 +185,97 @@ fn maybe_year(text: Option<&str>) -> Option<Option<u16>>
     }
 }
 
-/// The year of alert lines, if files have these.
-fn year_by(lines: bool, unified2: bool, year: Option<u16>) -> Option<Option<u16>>
-    ensures { result ≡ year_by lines unified2 year }
+/// What the year of a file's first line follows from: a year or a capture, and not both.
+fn since_by<'a>(year: Option<u16>, capture: Option<&'a str>) -> Option<Option<Since<'a>>>
+    ensures { option_map (option_map since_facts) result ≡ since_by year (option_map (λ t. t.now) capture.entry) }
+{
+    match (year, capture) {
+        (None, None) => Some(None),
+        (Some(year), None) => Some(Some(Since::Year(year))),
+        (None, Some(name)) => Some(Some(Since::Capture(file_of(name)))),
+        (Some(_), Some(_)) => None,
+    }
+}
+
+/// The same, which alert lines need, if files have these.
+fn needed_by<'a>(lines: bool, unified2: bool, since: Option<Since<'a>>) -> Option<Option<Since<'a>>>
+    ensures { option_map (option_map since_facts) result ≡ needed_by lines unified2 (option_map since_facts since.entry) }
 {
     if lines {
-        if unified2 { None } else { Some(Some(year?)) }
+        if unified2 { None } else { Some(Some(since?)) }
     } else {
         Some(None)
     }
 }
 
-fn year_in<'a>(matches: &ArgMatches<'a>) -> Option<Option<u16>>
-    ensures { result ≡ year_in (rows_of (found_of matches.now)) }
+fn since_in<'a>(matches: &ArgMatches<'a>) -> Option<Option<Since<'a>>>
+    ensures { option_map (option_map since_facts) result ≡ since_in (rows_of (found_of matches.now)) }
 {
     let year = maybe_year(given(matches, "year"))?;
-    year_by(
+    let since = since_by(year, given(matches, "capture"))?;
+    needed_by(
         given(matches, "lines").is_some(),
         given(matches, "unified2").is_some(),
-        year,
+        since,
     )
 }
 
-/// The lines that are asked for, with this seed, this variable and this year.
-fn with_values<'a>(
+/// Whether a name is among those of files.
+fn is_among(name: &str, files: &[&str]) -> bool
+    ensures { result ≡ list_any (λ file. bytes_eq file name.now) (map (λ file. file.now) files.now) }
+{
+    for file in files {
+        if *file == name {
+            return true;
+        }
+    }
+    false
+}
+
+/// Whether a capture is none of the files.
+fn is_apart(since: Option<Since<'_>>, files: &[&str]) -> bool
+    ensures { result ≡ is_apart (option_map since_facts since.entry) (map (λ file. file.now) files.now) }
+{
+    match since {
+        None | Some(Since::Year(_)) => true,
+        Some(Since::Capture(name)) => !is_among(name, files),
+    }
+}
+
+/// The lines that are asked for, with this seed, this variable and what the year follows from.
+fn wanted_in<'a>(
     alloc: Global,
     matches: &ArgMatches<'a>,
     seed: u16,
     defined: Option<Variable<'a>>,
-    year: Option<u16>,
-) -> Result<Asked<'a>, NoMemory>
-    ensures { IfOk result (λ asked. asked_facts asked
-        ≡ with_values (rows_of (found_of matches.now)) seed (option_map defined_facts defined.entry) year) }
+    since: Option<Since<'a>>,
+) -> Result<Wanted<'a>, NoMemory>
+    ensures { IfOk result (λ wanted. wanted_facts wanted
+        ≡ wanted_in (rows_of (found_of matches.now)) seed (option_map defined_facts defined.entry)
+        (option_map since_facts since.entry)) }
 {
     let files = files_of(alloc, matches)?;
-    Ok(Asked::Lines(Wanted {
+    Ok(Wanted {
         run: Run {
             seed,
             host: bytes_of(given(matches, "host")),
             pcap_filename: bytes_of(given(matches, "pcap-filename")),
         },
         conf: conf_of(given(matches, "c"), defined),
-        year,
+        since,
         files,
-    }))
+    })
+}
+
+/// What is wanted, if the capture is none of the files.
+fn if_apart<'a>(wanted: Wanted<'a>) -> Option<Asked<'a>>
+    ensures { option_map asked_facts result ≡ if_apart (wanted_facts wanted.entry) }
+{
+    if is_apart(wanted.since, &wanted.files) {
+        Some(Asked::Lines(wanted))
+    } else {
+        None
+    }
 }
 
 /// What is asked for beside this seed and this variable.
@@ -229,12 +286,12 @@ fn dated_in<'a>(
     defined: Option<Variable<'a>>,
 ) -> Result<Option<Asked<'a>>, NoMemory>
     ensures { IfOk result (λ asked. option_map asked_facts asked
-        ≡ option_map (with_values (rows_of (found_of matches.now)) seed (option_map defined_facts defined.entry))
-        (year_in (rows_of (found_of matches.now)))) }
+        ≡ option_and_then (λ since. if_apart (wanted_in (rows_of (found_of matches.now)) seed
+        (option_map defined_facts defined.entry) since)) (since_in (rows_of (found_of matches.now)))) }
 {
-    match year_in(matches) {
+    match since_in(matches) {
         None => Ok(None),
-        Some(year) => Ok(Some(with_values(alloc, matches, seed, defined, year)?)),
+        Some(since) => Ok(if_apart(wanted_in(alloc, matches, seed, defined, since)?)),
     }
 }
 
@@ -244,9 +301,9 @@ fn defined_in<'a>(
     matches: &ArgMatches<'a>,
     seed: u16,
 ) -> Result<Option<Asked<'a>>, NoMemory>
-    ensures { IfOk result (λ asked. option_map asked_facts asked
-        ≡ option_and_then (λ defined. option_map (with_values (rows_of (found_of matches.now)) seed defined)
-        (year_in (rows_of (found_of matches.now)))) (maybe definition (given_in (rows_of (found_of matches.now)) (codes "S")))) }
+    ensures { IfOk result (λ a. option_map asked_facts a ≡ option_and_then (λ defined.
+        option_and_then (λ since. if_apart (wanted_in (rows_of (found_of matches.now)) seed defined since))
+        (since_in (rows_of (found_of matches.now)))) (maybe definition (given_in (rows_of (found_of matches.now)) (codes "S")))) }
 {
     match maybe_definition(given(matches, "S")) {
         None => Ok(None),

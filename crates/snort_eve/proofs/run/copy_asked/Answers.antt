@@ -1,9 +1,4 @@
 -- Words that are refused, or that ask for the usage, end the run with nothing written: `run-refused` and `run-help`.
-use Rattle.std.proofs.Common.{Option, subst, ap}
-use Rattle.std.specs.Prelude.{option_map}
-use Rattle.snort_eve.specs.Asking.{Asked, asked_facts}
-use Rattle.snort_eve.specs.Runs.{Runs}
-use Rattle.snort_eve.specs.declared.outcome.Outcome.TheVariants as outcome
 use Rattle.snort_eve.proofs.Running.{run-refused, run-help}
 use Rattle.snort_eve.proofs.run.copy_asked.Goals as goal
 

@@ -1,11 +1,10 @@
 -- The files that agree in the end agreed when the configuration was read, so that its texts are theirs (`run-ready`); where
 -- it isn't ready, nothing is written and the stop tells why (`run-halted`).
-use Rattle.std.proofs.Common.{◌≡◌, ◌⊎◌, List, ℕ, Some, inl, inr, sym, subst, ◌∙◌, ap}
+use Rattle.std.proofs.Common.{◌≡◌, ◌⊎◌, List, ℕ, Some, sym, subst, ◌∙◌}
 use Rattle.edge_io.specs.Files.{Lacks}
 use Rattle.edge_io.specs.Told.{Rose}
 use Rattle.snort_eve.specs.declared.outcome.Outcome.{Outcome}
 use Rattle.snort_eve.specs.Asking.{conf_facts, wanted_facts}
-use Rattle.snort_eve.specs.Confs.{halted}
 use Rattle.snort_eve.specs.Runs.{OnUnread, UnlessShort}
 use Rattle.snort_eve.proofs.Configured.{LinesRun, halted-cause, halted-quiet, halted-written, run-halted, run-ready, short-weaker}
 use Rattle.snort_eve.proofs.run.copy_with.Goals as goal

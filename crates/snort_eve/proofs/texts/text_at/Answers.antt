@@ -1,5 +1,5 @@
 -- A place that isn't below the number of classes has no class, and so an empty text: `slice_get_past`.
-use Rattle.std.proofs.Common.{List, [], ℕ, ◌≤◌, Option, length, ap, sym, arith}
+use Rattle.std.proofs.Common.{[], ◌≤◌, Option, length, ap, sym, arith}
 use Rattle.std.specs.Prelude.{option_map, unwrap_or}
 use Rattle.std.proofs.lemmas.Option.{slice_get_past}
 use Rattle.conf_types.specs.declared.classes.Class.{Class}

@@ -1,6 +1,6 @@
 -- The names that `clap` has for `FILE` are those of the rows (`raw_values-rows`), and the list
 -- that they are added to was empty.
-use Rattle.std.proofs.Common.{List, ℕ, Option, ap, map, ◌++◌, ◌∙◌}
+use Rattle.std.proofs.Common.{List, ℕ, ap, map, ◌++◌, ◌∙◌}
 use Rattle.std.specs.Prelude.{codes, option_map}
 use Rattle.std.specs.Borrow.{Bor}
 use Rattle.clap.specs.Matches.{found_of}
