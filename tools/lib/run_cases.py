@@ -21,6 +21,13 @@ def needs(*programs):
 needs_root = unittest.skipIf(os.getuid(), "skipped: not root")
 needs_detector = unittest.skipUnless(os.access(SNORT, os.X_OK), "skipped: the detector isn't built")
 
+def heed(*numbers):
+    """Lets children end by these signals: who starts a test may ignore some, as `nohup` does and a shell in what runs beside it,
+    and each child takes that over."""
+    for number in numbers:
+        if signal.getsignal(number) == signal.SIG_IGN:
+            signal.signal(number, signal.SIG_DFL)
+
 def head(order="<", magic=MICRO, link=1, version=2):
     """A classic capture's header: magic, version, zone, accuracy, snap length, link type."""
     return struct.pack(order + "IHHiIII", magic, version, 4, 0, 0, 65535, link)
